@@ -1,0 +1,3 @@
+mod Rows
+pub mod Steps
+pub mod Skip

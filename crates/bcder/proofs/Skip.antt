@@ -1,0 +1,157 @@
+-- What reading a value gives, at each way that it can go.
+use Rattle.std.proofs.Common.{◌≡◌, ℕ, suc, ◌+◌, ◌<◌, ◌≤◌, Bool, true, false, List, [], ◌∷◌, ◌++◌, length, take, drop, Option, Some, None, MatchOption, IfSome, IfNone, refl, sym, ap, subst, ◌∙◌, arith}
+use Rattle.std.proofs.lemmas.Bool.{lt-ltb, le-ltb}
+use Rattle.std.proofs.lemmas.List.{length-append}
+use Rattle.bcder.specs.declared.mode.Mode.{Mode}
+use Rattle.bcder.specs.declared.length.Length.{Length}
+use Rattle.bcder.specs.declared.length.Length.TheVariants.{Definite, Indefinite}
+use Rattle.bcder.specs.Identifier.{AreOctets, Tag}
+use Rattle.bcder.specs.Tree.{Tree, primitive, constructed, Trees, no_trees, ◌∷ₜ◌}
+use Rattle.bcder.specs.Encoding.{may_have, IsEncoding, AreEncodings}
+use Rattle.bcder.specs.laws.Lists.{AreEncodings-one}
+use Rattle.bcder.specs.Grammar.{IsOnly}
+use Rattle.bcder.specs.Reading.{Header, read_header, read_end, read_contents, read_value, at_end, read_list, read_tree}
+use Rattle.bcder.specs.laws.Complete.{header_size, BeginsValue-encoding, tree_complete, one_encoding}
+use Rattle.bcder.specs.laws.Sound.{end_sound, some_inj, none_is}
+use Rattle.bcder.specs.laws.Stands.{Stands, header_sound, tree_sound}
+use Rattle.bcder.proofs.Steps.{read_tree_step, read_list_step}
+
+-- what a function of the program gives for a value, and for a list of values
+abbrev pub TreeRead : Mode → List ℕ → List ℕ → Type 0
+TreeRead mode w x = (t : Tree) × (read_tree mode w ≡ Some (t, x))
+
+abbrev pub ListRead : Mode → Bool → List ℕ → List ℕ → Type 0
+ListRead mode marked w x = (ts : Trees) × (read_list mode marked w ≡ Some (ts, x))
+
+pub header_less : (mode : Mode) (h : Header) (w z : List ℕ) → AreOctets w → read_header mode w ≡ Some (h, z) → length z + 2 ≤ length w
+header_less mode h w z o e =
+    let d = header_sound mode w (h, z) o e in
+    omega (arith, header_size mode h.tag h.form h.len d.octets d.is_header, ap length d.is, length-append d.octets z)
+
+pub no_header : (mode : Mode) (w : List ℕ) → AreOctets w → read_header mode w ≡ None → read_tree mode w ≡ None
+unfolding read_value
+no_header mode w o e = read_tree_step mode w o ∙ rw e refl
+
+from_header : (mode : Mode) (t : Tag) (f : Bool) (len : Length) (w z : List ℕ) → AreOctets w → read_header mode w ≡ Some (record { tag = t; form = f; len = len }, z) → read_tree mode w ≡ read_contents (read_list mode) t f len z
+unfolding read_value
+from_header mode t f len w z o e = read_tree_step mode w o ∙ rw e refl
+
+pub too_short : (mode : Mode) (t : Tag) (f : Bool) (n : ℕ) (w z : List ℕ) → AreOctets w → read_header mode w ≡ Some (record { tag = t; form = f; len = Definite n }, z) → length z < n → read_tree mode w ≡ None
+too_short mode t false n w z o e h = from_header mode t false (Definite n) w z o e ∙ rw (lt-ltb _ _ h) refl
+too_short mode t true n w z o e h = from_header mode t true (Definite n) w z o e ∙ rw (lt-ltb _ _ h) refl
+
+pub bad_contents : (mode : Mode) (t : Tag) (n : ℕ) (w z : List ℕ) → AreOctets w → read_header mode w ≡ Some (record { tag = t; form = true; len = Definite n }, z) → n ≤ length z → read_list mode false (take n z) ≡ None → read_tree mode w ≡ None
+bad_contents mode t n w z o e h l = from_header mode t true (Definite n) w z o e ∙ rw (le-ltb _ _ h, l) refl
+
+pub primitive_read : (mode : Mode) (t : Tag) (n : ℕ) (w z : List ℕ) → AreOctets w → read_header mode w ≡ Some (record { tag = t; form = false; len = Definite n }, z) → n ≤ length z → TreeRead mode w (drop n z)
+primitive_read mode t n w z o e h = (primitive t (take n z), from_header mode t false (Definite n) w z o e ∙ rw (le-ltb _ _ h) refl)
+
+pub definite_read : (mode : Mode) (t : Tag) (n : ℕ) (w z y : List ℕ) → AreOctets w → read_header mode w ≡ Some (record { tag = t; form = true; len = Definite n }, z) → n ≤ length z → ListRead mode false (take n z) y → TreeRead mode w (drop n z)
+definite_read mode t n w z y o e h l = (constructed t l.0, from_header mode t true (Definite n) w z o e ∙ rw (le-ltb _ _ h, l.1) refl)
+
+marked_form : (mode : Mode) (f : Bool) → may_have mode f Indefinite ≡ true → f ≡ true
+marked_form mode false e = e
+marked_form mode true e = refl
+
+at_marked : (mode : Mode) (t : Tag) (f : Bool) (w z : List ℕ) → AreOctets w → read_header mode w ≡ Some (record { tag = t; form = f; len = Indefinite }, z) → read_tree mode w ≡ read_contents (read_list mode) t true Indefinite z
+at_marked mode t f w z o e =
+    let d = header_sound mode w (record { tag = t; form = f; len = Indefinite }, z) o e in
+    let m : f ≡ true = marked_form mode f d.is_header.allowed in
+    from_header mode t f Indefinite w z o e ∙ rw m refl
+
+pub indefinite_read : {X : Type 0} (r : Option X) (now : X → List ℕ) (mode : Mode) (t : Tag) (f : Bool) (w z : List ℕ) → AreOctets w → read_header mode w ≡ Some (record { tag = t; form = f; len = Indefinite }, z) → MatchOption r (read_list mode true z ≡ None) (λ x. ListRead mode true z (now x)) → MatchOption r (read_tree mode w ≡ None) (λ x. TreeRead mode w (now x))
+indefinite_read None now mode t f w z o e h = at_marked mode t f w z o e ∙ rw h refl
+indefinite_read (Some x) now mode t f w z o e h = (constructed t h.0, at_marked mode t f w z o e ∙ rw h.1 refl)
+
+-- ---- lists
+
+pub list_ends : (mode : Mode) (marked : Bool) (w x : List ℕ) → AreOctets w → at_end mode marked w ≡ Some x → ListRead mode marked w x
+list_ends mode marked w x o e = (no_trees, read_list_step mode marked w o ∙ rw e refl)
+
+pub list_fails : (mode : Mode) (marked : Bool) (w : List ℕ) → AreOctets w → at_end mode marked w ≡ None → read_tree mode w ≡ None → read_list mode marked w ≡ None
+list_fails mode marked w o e f = read_list_step mode marked w o ∙ rw (e, f) refl
+
+pub list_goes_on : {X : Type 0} (r : Option X) (now : X → List ℕ) (mode : Mode) (marked : Bool) (w y : List ℕ) → AreOctets w → at_end mode marked w ≡ None → TreeRead mode w y → MatchOption r (read_list mode marked y ≡ None) (λ x. ListRead mode marked y (now x)) → MatchOption r (read_list mode marked w ≡ None) (λ x. ListRead mode marked w (now x))
+list_goes_on None now mode marked w y o e t h = read_list_step mode marked w o ∙ rw (e, t.1, h) refl
+list_goes_on (Some x) now mode marked w y o e t h = (t.0 ∷ₜ h.0, read_list_step mode marked w o ∙ rw (e, t.1, h.1) refl)
+
+pub at_end-marked : (mode : Mode) (w : List ℕ) → at_end mode true w ≡ read_end mode w
+unfolding at_end
+at_end-marked mode w = refl
+
+pub at_end-nil : (mode : Mode) (w : List ℕ) → length w ≡ 0 → at_end mode false w ≡ Some w
+unfolding at_end
+at_end-nil mode [] e = refl
+at_end-nil mode (b ∷ w) e = absurd (omega arith)
+
+pub at_end-some : (mode : Mode) (w : List ℕ) → 0 < length w → at_end mode false w ≡ None
+unfolding at_end
+at_end-some mode [] e = absurd (omega arith)
+at_end-some mode (b ∷ w) e = refl
+
+pub at_end_less : (mode : Mode) (marked : Bool) (w x : List ℕ) → AreOctets w → at_end mode marked w ≡ Some x → length x ≤ length w
+unfolding at_end
+at_end_less mode true w x o e = let m = end_sound mode w x o e in omega (arith, ap length m.is, length-append m.marker x)
+at_end_less mode false [] x o e = omega (arith, ap length (some_inj _ _ e))
+at_end_less mode false (b ∷ w) x o e = absurd (none_is _ e)
+
+-- what the program knows of a header that it read
+pub record HasHeader (mode : Mode) (w : List ℕ) (t : Tag) (f : Bool) (len : Length) (z : List ℕ) : Type 0 where
+  pub octets : AreOctets w
+  pub read : read_header mode w ≡ Some (record { tag = t; form = f; len = len }, z)
+
+pub too_short_at : (mode : Mode) (w : List ℕ) (t : Tag) (f : Bool) (len : Length) (z : List ℕ) (n : ℕ) → HasHeader mode w t f len z → len ≡ Definite n → length z < n → read_tree mode w ≡ None
+too_short_at mode w t f len z n h e l = too_short mode t f n w z h.octets (rw e at h.read) l
+
+pub primitive_at : (mode : Mode) (w : List ℕ) (t : Tag) (f : Bool) (len : Length) (z : List ℕ) (n : ℕ) (rest : List ℕ) → HasHeader mode w t f len z → len ≡ Definite n → n ≤ length z → f ≡ false → rest ≡ drop n z → TreeRead mode w rest
+primitive_at mode w t f len z n rest h e l form is = rw is (primitive_read mode t n w z h.octets (rw (form, e) at h.read) l)
+
+pub definite_at : (mode : Mode) (w : List ℕ) (t : Tag) (f : Bool) (len : Length) (z : List ℕ) (n : ℕ) (contents y rest : List ℕ) → HasHeader mode w t f len z → len ≡ Definite n → n ≤ length z → f ≡ true → contents ≡ take n z → rest ≡ drop n z → ListRead mode false contents y → TreeRead mode w rest
+definite_at mode w t f len z n contents y rest h e l form front back r = rw back (definite_read mode t n w z y h.octets (rw (form, e) at h.read) l (subst (λ c. ListRead mode false c y) front r))
+
+pub bad_contents_at : (mode : Mode) (w : List ℕ) (t : Tag) (f : Bool) (len : Length) (z : List ℕ) (n : ℕ) (contents : List ℕ) → HasHeader mode w t f len z → len ≡ Definite n → n ≤ length z → f ≡ true → contents ≡ take n z → read_list mode false contents ≡ None → read_tree mode w ≡ None
+bad_contents_at mode w t f len z n contents h e l form front r = bad_contents mode t n w z h.octets (rw (form, e) at h.read) l (subst (λ c. read_list mode false c ≡ None) front r)
+
+pub indefinite_at : {X : Type 0} (r : Option X) (now : X → List ℕ) (mode : Mode) (w : List ℕ) (t : Tag) (f : Bool) (len : Length) (z : List ℕ) → HasHeader mode w t f len z → len ≡ Indefinite → MatchOption r (read_list mode true z ≡ None) (λ x. ListRead mode true z (now x)) → MatchOption r (read_tree mode w ≡ None) (λ x. TreeRead mode w (now x))
+indefinite_at r now mode w t f len z h e m = indefinite_read r now mode t f w z h.octets (rw e at h.read) m
+
+-- ---- the clauses of a public function
+
+abbrev pub Found : Mode → List ℕ → List ℕ → Type 0
+Found mode octets rest = (t : Tree) × (w : List ℕ) × IsEncoding mode t w × (octets ≡ w ++ rest) × IsOnly mode t w octets
+
+abbrev pub NothingFound : Mode → List ℕ → Type 0
+NothingFound mode octets = (t : Tree) (w x : List ℕ) → IsEncoding mode t w → octets ≡ w ++ x → ⊥
+
+found : (mode : Mode) (octets rest : List ℕ) → AreOctets octets → TreeRead mode octets rest → Found mode octets rest
+found mode octets rest o r =
+    let s = tree_sound mode octets (r.0, rest) o r.1 in
+    (r.0, s.front, s.is_encoding, s.is, λ u v y e is. let same = one_encoding mode u r.0 v s.front y rest e s.is_encoding (sym is ∙ s.is) in (same.tree, same.front))
+
+nothing_found : (mode : Mode) (octets : List ℕ) → read_tree mode octets ≡ None → NothingFound mode octets
+nothing_found mode octets e t w x h is = let q = sym (tree_complete mode t w x h) ∙ ap (read_tree mode) (sym is) ∙ e in none_is _ (sym q)
+
+pub if_found : {X : Type 0} (r : Option X) (now : X → List ℕ) (mode : Mode) (octets : List ℕ) → AreOctets octets → MatchOption r (read_tree mode octets ≡ None) (λ x. TreeRead mode octets (now x)) → IfSome r (λ x. Found mode octets (now x))
+if_found None now mode octets o h = tt
+if_found (Some x) now mode octets o h = found mode octets (now x) o h
+
+pub if_nothing_found : {X : Type 0} (r : Option X) (now : X → List ℕ) (mode : Mode) (octets : List ℕ) → MatchOption r (read_tree mode octets ≡ None) (λ x. TreeRead mode octets (now x)) → IfNone r (NothingFound mode octets)
+if_nothing_found None now mode octets h = nothing_found mode octets h
+if_nothing_found (Some x) now mode octets h = tt
+
+abbrev pub Listed : Mode → List ℕ → List ℕ → Type 0
+Listed mode octets rest = (t : Tree) × (w : List ℕ) × AreEncodings mode (t ∷ₜ no_trees) w × (octets ≡ w ++ rest)
+
+pub if_listed : {X : Type 0} (r : Option X) (now : X → List ℕ) (mode : Mode) (octets : List ℕ) → AreOctets octets → MatchOption r (read_tree mode octets ≡ None) (λ x. TreeRead mode octets (now x)) → IfSome r (λ x. Listed mode octets (now x))
+if_listed None now mode octets o h = tt
+if_listed (Some x) now mode octets o h = let s = tree_sound mode octets (h.0, now x) o h.1 in (h.0, s.front, AreEncodings-one mode h.0 s.front s.is_encoding, s.is)
+
+no_marker : (mode : Mode) (t : Tree) (octets rest : List ℕ) → Stands mode t octets rest → octets ≡ 0 ∷ 0 ∷ [] → ⊥
+no_marker mode t octets rest s e =
+    let b = BeginsValue-encoding mode t s.front rest s.is_encoding in
+    let p : ◌≡◌ {A = List ℕ} (0 ∷ 0 ∷ []) (suc b.first ∷ b.others) = sym e ∙ s.is ∙ b.is in
+    cc
+
+pub if_no_marker : {X : Type 0} (r : Option X) (now : X → List ℕ) (mode : Mode) (octets : List ℕ) → AreOctets octets → MatchOption r (read_tree mode octets ≡ None) (λ x. TreeRead mode octets (now x)) → IfSome r (λ x. octets ≡ 0 ∷ 0 ∷ [] → ⊥)
+if_no_marker None now mode octets o h = tt
+if_no_marker (Some x) now mode octets o h = no_marker mode h.0 octets (now x) (tree_sound mode octets (h.0, now x) o h.1)

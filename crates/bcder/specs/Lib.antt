@@ -1,0 +1,9 @@
+pub mod Identifier
+pub mod Length
+pub mod Tree
+pub mod Encoding
+pub mod Preorder
+pub mod Grammar
+pub mod Reading
+pub mod Classes
+pub mod laws

@@ -1,0 +1,103 @@
+//! Length octets and end-of-contents octets (X.690, 8.1.3, 8.1.5, 9.1, 10.1).
+ghost use Rattle.std.specs.Prelude.{◌≡◌, ℕ, ◌<◌, ◌≤◌, ◌^◌, ◌↔◌, Bool, List, length, IsTrue, Some, None, IfSome, IfNone, MatchOption};
+ghost use Rattle.bcder.specs.Length.{big_endian};
+ghost use Rattle.bcder.specs.Reading.{least, may_tell, read_length, read_long, read_end};
+
+use crate::mode::Mode;
+
+/// What length octets say.
+#[derive(Clone, Copy, PartialEq, Eq)]
+pub(crate) enum Length {
+    /// The number of contents octets (8.1.3.3).
+    Definite(usize),
+
+    /// The contents octets end at end-of-contents octets (8.1.3.6).
+    Indefinite,
+}
+
+/// The number that at most four octets are.
+fn number_of(octets: &[u8]) -> usize
+    requires { length octets.now ≤ 4 }
+    ensures value { result ≡ big_endian octets.now }
+{
+    match octets {
+        [] => 0,
+        [a] => usize::from(*a),
+        [a, b] => usize::from(*a) * 0x100 + usize::from(*b),
+        [a, b, c] => usize::from(*a) * 0x10000 + usize::from(*b) * 0x100 + usize::from(*c),
+        [a, b, c, d, ..] => usize::from(*a) * 0x1000000
+            + usize::from(*b) * 0x10000
+            + usize::from(*c) * 0x100
+            + usize::from(*d),
+    }
+}
+
+#[tactic(auto, using(std::proofs::lemmas::Bool::Decides::nat_tests), unfolding(crate::specs::Reading::may_tell))]
+fn may_be_told(mode: Mode, count: usize, len: usize) -> bool
+    requires some { 1 ≤ count }
+    requires limit { count ≤ 4 }
+    ensures { result ≡ may_tell mode count len }
+{
+    if mode == Mode::Ber {
+        return true;
+    }
+    match count {
+        1 => len >= 0x80,
+        2 => len >= 0x100,
+        3 => len >= 0x10000,
+        _ => len >= 0x1000000,
+    }
+}
+
+#[tactic(auto, using(std::proofs::lemmas::Bool::Decides::nat_tests), unfolding(crate::specs::Reading::read_long))]
+fn long_at(mode: Mode, count: usize, octets: &[u8]) -> Option<(Length, &[u8])>
+    requires { 1 ≤ count }
+    ensures { MatchOption result (read_long mode count octets.now ≡ None) (λ r. read_long mode count octets.now ≡ Some (r.0, r.1.now)) }
+{
+    if count > 4 {
+        return None;
+    }
+    if octets.len() < count {
+        return None;
+    }
+    let (digits, rest) = octets.split_at(count);
+    let len = number_of(digits);
+    if may_be_told(mode, count, len) {
+        Some((Length::Definite(len), rest))
+    } else {
+        None
+    }
+}
+
+/// The length at the front, and the octets after it.
+#[tactic(auto, using(std::proofs::lemmas::Bool::Decides::nat_tests), unfolding(crate::specs::Reading::read_length))]
+pub(crate) fn length_at(mode: Mode, octets: &[u8]) -> Option<(Length, &[u8])>
+    ensures { MatchOption result (read_length mode octets.now ≡ None) (λ r. read_length mode octets.now ≡ Some (r.0, r.1.now)) }
+{
+    match octets {
+        [] => None,
+        [first, rest @ ..] => {
+            if *first < 0x80 {
+                Some((Length::Definite(usize::from(*first)), rest))
+            } else if *first == 0x80 {
+                Some((Length::Indefinite, rest))
+            } else {
+                long_at(mode, usize::from(*first - 0x80), rest)
+            }
+        }
+    }
+}
+
+/// The octets after the end marker at the front.
+#[tactic(auto, unfolding(crate::specs::Reading::read_end))]
+pub(crate) fn after_end(mode: Mode, octets: &[u8]) -> Option<&[u8]>
+    ensures { MatchOption result (read_end mode octets.now ≡ None) (λ r. read_end mode octets.now ≡ Some r.now) }
+{
+    match octets {
+        [0, rest @ ..] => match length_at(mode, rest) {
+            Some((Length::Definite(0), rest)) => Some(rest),
+            _ => None,
+        },
+        _ => None,
+    }
+}

@@ -1,0 +1,17 @@
+//! Reading and writing data in the Basic, Canonical and Distinguished Encoding Rules of ASN.1
+//! (ITU-T X.690).
+//!
+//! What every call promises is written in its contract, over the definitions in `specs/`, and is
+//! proved. The README says crate by crate what that comes to.
+#![tactic(auto)]
+
+pub mod laws;
+
+mod length;
+mod mode;
+#[doc(hidden)]
+pub mod plain;
+mod tag;
+
+pub use mode::Mode;
+pub use tag::Tag;

@@ -1,0 +1,479 @@
+//! Tags and identifier octets (X.690, 8.1.2).
+ghost use Rattle.std.specs.Prelude.{◌≡◌, ℕ, ◌<◌, ◌≤◌, ◌^◌, ◌↔◌, Bool, Some, None, IfSome, MatchOption, IsTrue};
+ghost use Rattle.bcder.specs.Identifier.{universal as universal_class, application as application_class, context_specific as context_specific_class, private as private_class};
+ghost use Rattle.bcder.specs.Reading.{is_value_tag, read_identifier, read_number, second_digit, third_digit, class_of};
+ghost use Rattle.bcder.specs.Classes.{class_meant};
+
+use std::marker::Model;
+
+/// The class of a tag (8.1.2.2, table 1).
+#[derive(Clone, Copy, Debug, PartialEq, Eq)]
+enum Class {
+    Universal,
+    Application,
+    ContextSpecific,
+    Private,
+}
+
+/// A tag: a class, and a number of at most 2097151, so that it is spelled in at most four identifier
+/// octets (8.1.2).
+#[derive(Clone, Copy, Debug, PartialEq, Eq)]
+pub struct Tag {
+    class: Class,
+    number: u32,
+}
+
+impl Model for Tag {
+    ghost use Rattle.std.specs.Prelude.{◌<◌, ◌^◌};
+    ghost use Rattle.bcder.specs.Identifier.{Tag as TagValue};
+
+    ghost Value = { TagValue };
+
+    ghost use Rattle.bcder.specs.Classes.{class_meant, class_kept};
+
+    ghost view = { λ a. record { class = class_meant a.class; number = a.number } };
+
+    ghost invariant = { λ a. a.number < 2 ^ 21 };
+
+    ghost inverse = { λ t. record { class = class_kept t.class; number = t.number } };
+}
+
+impl Tag {
+    /// The tag of the end-of-contents octets, which no value has (8.1.5).
+    pub const END_OF_VALUE: Tag = Tag {
+        class: Class::Universal,
+        number: 0,
+    };
+
+    /// The universal tag of BOOLEAN.
+    pub const BOOLEAN: Tag = Tag {
+        class: Class::Universal,
+        number: 1,
+    };
+
+    /// The universal tag of INTEGER.
+    pub const INTEGER: Tag = Tag {
+        class: Class::Universal,
+        number: 2,
+    };
+
+    /// The universal tag of BIT STRING.
+    pub const BIT_STRING: Tag = Tag {
+        class: Class::Universal,
+        number: 3,
+    };
+
+    /// The universal tag of OCTET STRING.
+    pub const OCTET_STRING: Tag = Tag {
+        class: Class::Universal,
+        number: 4,
+    };
+
+    /// The universal tag of NULL.
+    pub const NULL: Tag = Tag {
+        class: Class::Universal,
+        number: 5,
+    };
+
+    /// The universal tag of OBJECT IDENTIFIER.
+    pub const OID: Tag = Tag {
+        class: Class::Universal,
+        number: 6,
+    };
+
+    /// The universal tag of ObjectDescriptor.
+    pub const OBJECT_DESCRIPTOR: Tag = Tag {
+        class: Class::Universal,
+        number: 7,
+    };
+
+    /// The universal tag of EXTERNAL.
+    pub const EXTERNAL: Tag = Tag {
+        class: Class::Universal,
+        number: 8,
+    };
+
+    /// The universal tag of REAL.
+    pub const REAL: Tag = Tag {
+        class: Class::Universal,
+        number: 9,
+    };
+
+    /// The universal tag of ENUMERATED.
+    pub const ENUMERATED: Tag = Tag {
+        class: Class::Universal,
+        number: 10,
+    };
+
+    /// The universal tag of EMBEDDED PDV.
+    pub const EMBEDDED_PDV: Tag = Tag {
+        class: Class::Universal,
+        number: 11,
+    };
+
+    /// The universal tag of UTF8String.
+    pub const UTF8_STRING: Tag = Tag {
+        class: Class::Universal,
+        number: 12,
+    };
+
+    /// The universal tag of RELATIVE-OID.
+    pub const RELATIVE_OID: Tag = Tag {
+        class: Class::Universal,
+        number: 13,
+    };
+
+    /// The universal tag of TIME.
+    pub const TIME: Tag = Tag {
+        class: Class::Universal,
+        number: 14,
+    };
+
+    /// The universal tag of SEQUENCE and SEQUENCE OF.
+    pub const SEQUENCE: Tag = Tag {
+        class: Class::Universal,
+        number: 16,
+    };
+
+    /// The universal tag of SET and SET OF.
+    pub const SET: Tag = Tag {
+        class: Class::Universal,
+        number: 17,
+    };
+
+    /// The universal tag of NumericString.
+    pub const NUMERIC_STRING: Tag = Tag {
+        class: Class::Universal,
+        number: 18,
+    };
+
+    /// The universal tag of PrintableString.
+    pub const PRINTABLE_STRING: Tag = Tag {
+        class: Class::Universal,
+        number: 19,
+    };
+
+    /// The universal tag of TeletexString.
+    pub const TELETEX_STRING: Tag = Tag {
+        class: Class::Universal,
+        number: 20,
+    };
+
+    /// The universal tag of VideotexString.
+    pub const VIDEOTEX_STRING: Tag = Tag {
+        class: Class::Universal,
+        number: 21,
+    };
+
+    /// The universal tag of IA5String.
+    pub const IA5_STRING: Tag = Tag {
+        class: Class::Universal,
+        number: 22,
+    };
+
+    /// The universal tag of UTCTime.
+    pub const UTC_TIME: Tag = Tag {
+        class: Class::Universal,
+        number: 23,
+    };
+
+    /// The universal tag of GeneralizedTime.
+    pub const GENERALIZED_TIME: Tag = Tag {
+        class: Class::Universal,
+        number: 24,
+    };
+
+    /// The universal tag of GraphicString.
+    pub const GRAPHIC_STRING: Tag = Tag {
+        class: Class::Universal,
+        number: 25,
+    };
+
+    /// The universal tag of VisibleString.
+    pub const VISIBLE_STRING: Tag = Tag {
+        class: Class::Universal,
+        number: 26,
+    };
+
+    /// The universal tag of GeneralString.
+    pub const GENERAL_STRING: Tag = Tag {
+        class: Class::Universal,
+        number: 27,
+    };
+
+    /// The universal tag of UniversalString.
+    pub const UNIVERSAL_STRING: Tag = Tag {
+        class: Class::Universal,
+        number: 28,
+    };
+
+    /// The universal tag of CHARACTER STRING.
+    pub const CHARACTER_STRING: Tag = Tag {
+        class: Class::Universal,
+        number: 29,
+    };
+
+    /// The universal tag of BMPString.
+    pub const BMP_STRING: Tag = Tag {
+        class: Class::Universal,
+        number: 30,
+    };
+
+    /// The universal tag of DATE.
+    pub const DATE: Tag = Tag {
+        class: Class::Universal,
+        number: 31,
+    };
+
+    /// The universal tag of TIME-OF-DAY.
+    pub const TIME_OF_DAY: Tag = Tag {
+        class: Class::Universal,
+        number: 32,
+    };
+
+    /// The universal tag of DATE-TIME.
+    pub const DATE_TIME: Tag = Tag {
+        class: Class::Universal,
+        number: 33,
+    };
+
+    /// The universal tag of DURATION.
+    pub const DURATION: Tag = Tag {
+        class: Class::Universal,
+        number: 34,
+    };
+
+    /// The universal tag of OID-IRI.
+    pub const OID_IRI: Tag = Tag {
+        class: Class::Universal,
+        number: 35,
+    };
+
+    /// The universal tag of RELATIVE-OID-IRI.
+    pub const RELATIVE_OID_IRI: Tag = Tag {
+        class: Class::Universal,
+        number: 36,
+    };
+
+    /// The context-specific tag 0.
+    pub const CTX_0: Tag = Tag {
+        class: Class::ContextSpecific,
+        number: 0,
+    };
+
+    /// The context-specific tag 1.
+    pub const CTX_1: Tag = Tag {
+        class: Class::ContextSpecific,
+        number: 1,
+    };
+
+    /// The context-specific tag 2.
+    pub const CTX_2: Tag = Tag {
+        class: Class::ContextSpecific,
+        number: 2,
+    };
+
+    /// The context-specific tag 3.
+    pub const CTX_3: Tag = Tag {
+        class: Class::ContextSpecific,
+        number: 3,
+    };
+
+    /// The context-specific tag 4.
+    pub const CTX_4: Tag = Tag {
+        class: Class::ContextSpecific,
+        number: 4,
+    };
+
+    /// The context-specific tag 5.
+    pub const CTX_5: Tag = Tag {
+        class: Class::ContextSpecific,
+        number: 5,
+    };
+
+    /// The context-specific tag 6.
+    pub const CTX_6: Tag = Tag {
+        class: Class::ContextSpecific,
+        number: 6,
+    };
+
+    /// The universal tag with this number, which is at most 2097151.
+    pub fn universal(number: u32) -> Self
+        requires { number ≤ 2097151 }
+        ensures { result ≡ record { class = universal_class; number = number } }
+    {
+        Tag {
+            class: Class::Universal,
+            number,
+        }
+    }
+
+    /// The application tag with this number, which is at most 2097151.
+    pub fn application(number: u32) -> Self
+        requires { number ≤ 2097151 }
+        ensures { result ≡ record { class = application_class; number = number } }
+    {
+        Tag {
+            class: Class::Application,
+            number,
+        }
+    }
+
+    /// The context-specific tag with this number, which is at most 2097151.
+    pub fn ctx(number: u32) -> Self
+        requires { number ≤ 2097151 }
+        ensures { result ≡ record { class = context_specific_class; number = number } }
+    {
+        Tag {
+            class: Class::ContextSpecific,
+            number,
+        }
+    }
+
+    /// The private tag with this number, which is at most 2097151.
+    pub fn private(number: u32) -> Self
+        requires { number ≤ 2097151 }
+        ensures { result ≡ record { class = private_class; number = number } }
+    {
+        Tag {
+            class: Class::Private,
+            number,
+        }
+    }
+
+    /// Whether this is a tag of the universal class.
+    pub fn is_universal(self) -> bool
+        ensures { IsTrue result ↔ (self.class ≡ universal_class) }
+    {
+        self.class == Class::Universal
+    }
+
+    /// Whether this is a tag of the application class.
+    pub fn is_application(self) -> bool
+        ensures { IsTrue result ↔ (self.class ≡ application_class) }
+    {
+        self.class == Class::Application
+    }
+
+    /// Whether this is a tag of the context-specific class.
+    pub fn is_context_specific(self) -> bool
+        ensures { IsTrue result ↔ (self.class ≡ context_specific_class) }
+    {
+        self.class == Class::ContextSpecific
+    }
+
+    /// Whether this is a tag of the private class.
+    pub fn is_private(self) -> bool
+        ensures { IsTrue result ↔ (self.class ≡ private_class) }
+    {
+        self.class == Class::Private
+    }
+
+    /// The number of the tag within its class.
+    pub fn number(self) -> u32
+        ensures value { result ≡ self.number }
+        ensures limit { result ≤ 2097151 }
+    {
+        self.number
+    }
+
+    /// Whether a value may have this tag: every tag but that of the end-of-contents octets.
+    pub(crate) fn is_value(self) -> bool
+        ensures { result ≡ is_value_tag self }
+    {
+        self.class != Class::Universal || self.number != 0
+    }
+}
+
+#[tactic(auto, using(std::proofs::lemmas::Bool::Decides::nat_tests), unfolding(crate::specs::Reading::class_of))]
+fn class_at(octet: u8) -> Class
+    ensures { class_meant result ≡ class_of octet }
+{
+    if octet < 0x40 {
+        Class::Universal
+    } else if octet < 0x80 {
+        Class::Application
+    } else if octet < 0xC0 {
+        Class::ContextSpecific
+    } else {
+        Class::Private
+    }
+}
+
+/// A number from 31 on in base 128 at the front, most significant digit first and not 0 (8.1.2.4), and
+/// the octets after it.
+#[tactic(auto, using(std::proofs::lemmas::Bool::Decides::nat_tests), unfolding(crate::specs::Reading::read_number))]
+fn number_at(octets: &[u8]) -> Option<(u32, &[u8])>
+    ensures limit { IfSome result (λ r. r.0 ≤ 2097151) }
+    ensures read { MatchOption result (read_number octets.now ≡ None) (λ r. read_number octets.now ≡ Some (r.0, r.1.now)) }
+{
+    match octets {
+        [] => None,
+        [first, rest @ ..] => {
+            if *first < 31 || *first == 0x80 {
+                None
+            } else if *first < 0x80 {
+                Some((u32::from(*first), rest))
+            } else {
+                second_digit(u32::from(*first - 0x80), rest)
+            }
+        }
+    }
+}
+
+#[tactic(auto, using(std::proofs::lemmas::Bool::Decides::nat_tests), unfolding(crate::specs::Reading::second_digit))]
+fn second_digit(high: u32, octets: &[u8]) -> Option<(u32, &[u8])>
+    requires { high < 128 }
+    ensures limit { IfSome result (λ r. r.0 ≤ 2097151) }
+    ensures read { MatchOption result (second_digit high octets.now ≡ None) (λ r. second_digit high octets.now ≡ Some (r.0, r.1.now)) }
+{
+    match octets {
+        [] => None,
+        [digit, rest @ ..] => {
+            if *digit < 0x80 {
+                Some((0x80 * high + u32::from(*digit), rest))
+            } else {
+                third_digit(0x80 * high + u32::from(*digit - 0x80), rest)
+            }
+        }
+    }
+}
+
+#[tactic(auto, using(std::proofs::lemmas::Bool::Decides::nat_tests), unfolding(crate::specs::Reading::third_digit))]
+fn third_digit(high: u32, octets: &[u8]) -> Option<(u32, &[u8])>
+    requires { high < 16384 }
+    ensures limit { IfSome result (λ r. r.0 ≤ 2097151) }
+    ensures read { MatchOption result (third_digit high octets.now ≡ None) (λ r. third_digit high octets.now ≡ Some (r.0, r.1.now)) }
+{
+    match octets {
+        [] => None,
+        [digit, rest @ ..] => {
+            if *digit < 0x80 {
+                Some((0x80 * high + u32::from(*digit), rest))
+            } else {
+                None
+            }
+        }
+    }
+}
+
+/// The tag and the constructed mark of the identifier octets at the front, and the octets after them.
+#[tactic(auto, using(std::proofs::lemmas::Bool::Decides::nat_tests), unfolding(crate::specs::Reading::read_identifier, crate::specs::Reading::is_marked))]
+pub(crate) fn identifier_at(octets: &[u8]) -> Option<(Tag, bool, &[u8])>
+    ensures { MatchOption result (read_identifier octets.now ≡ None) (λ r. read_identifier octets.now ≡ Some (r.0, r.1, r.2.now)) }
+{
+    match octets {
+        [] => None,
+        [first, rest @ ..] => {
+            let class = class_at(*first);
+            let constructed = *first % 64 >= 32;
+            let low = u32::from(*first % 32);
+            if low < 31 {
+                Some((Tag { class, number: low }, constructed, rest))
+            } else {
+                let (number, rest) = number_at(rest)?;
+                Some((Tag { class, number }, constructed, rest))
+            }
+        }
+    }
+}
