@@ -7,3 +7,5 @@ pub mod Grammar
 pub mod Reading
 pub mod Classes
 pub mod laws
+pub mod Stream
+pub mod Cause

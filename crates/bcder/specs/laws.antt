@@ -9,3 +9,4 @@ pub mod Octets
 pub mod Lists
 pub mod Options
 pub mod Preorder
+pub mod Limits

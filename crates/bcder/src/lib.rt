@@ -5,13 +5,15 @@
 //! proved. The README says crate by crate what that comes to.
 #![tactic(auto)]
 
+pub mod decode;
 pub mod laws;
-
 mod length;
+mod memory;
 mod mode;
 #[doc(hidden)]
 pub mod plain;
 mod tag;
 
+pub use memory::NoMemory;
 pub use mode::Mode;
 pub use tag::Tag;

@@ -5,8 +5,8 @@ ghost use Rattle.bcder.specs.Encoding.{IsEncoding, AreEncodings, may_have};
 ghost use Rattle.bcder.specs.Reading.{is_value_tag, read_header, read_tree, read_list, at_end};
 ghost use Rattle.bcder.specs.Grammar.{IsOnly};
 
-use crate::mode::Mode;
 use crate::length::{Length, after_end, length_at};
+use crate::mode::Mode;
 use crate::tag::{Tag, identifier_at};
 
 #[tactic(auto, using(std::proofs::lemmas::Bool::Decides::nat_tests))]

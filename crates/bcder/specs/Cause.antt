@@ -1,0 +1,39 @@
+-- What an error of decoding tells.
+use Rattle.std.specs.Prelude.{Bool, true, false}
+use Rattle.bcder.specs.declared.decode.error.ContentError.{ContentError}
+use Rattle.bcder.specs.declared.decode.error.DecodeError.{DecodeError}
+use Rattle.bcder.specs.declared.decode.error.DecodeError.TheVariants.{Source, Content, NoMemory}
+
+-- why decoding failed, without the source's own error and the position; E is the type of content errors
+pub data Cause (E : Type 0) : Type 0 where
+  of_source : Cause E
+  of_content : E → Cause E
+  of_memory : Cause E
+
+-- the two last parameters stand for the box that a content error may hold
+abbrev pub cause_of : {S X : Type 0} {P : X → Type 0} → DecodeError S X P → Cause (ContentError X P)
+cause_of (Source e) = of_source
+cause_of (Content error pos) = of_content error
+cause_of NoMemory = of_memory
+
+abbrev pub is_source_cause : {E : Type 0} → Cause E → Bool
+is_source_cause of_source = true
+is_source_cause (of_content e) = false
+is_source_cause of_memory = false
+
+abbrev pub is_memory_cause : {E : Type 0} → Cause E → Bool
+is_memory_cause of_source = false
+is_memory_cause (of_content e) = false
+is_memory_cause of_memory = true
+
+-- no content error
+abbrev pub IsContentless : {E : Type 0} → Cause E → Type 0
+IsContentless of_source = Unit {0}
+IsContentless (of_content e) = ⊥
+IsContentless of_memory = Unit {0}
+
+-- a fact for each cause
+abbrev pub MatchCause : {E : Type 0} → Cause E → Type 0 → Type 0 → Type 0 → Type 0
+MatchCause of_source A B C = A
+MatchCause (of_content e) A B C = B
+MatchCause of_memory A B C = C

@@ -1,0 +1,6 @@
+//! Decoding: sources of octets, errors, and content.
+mod error;
+mod source;
+
+pub use error::{ContentError, DecodeError, Message};
+pub use source::{BytesSource, CaptureSource, IntoSource, LimitedSource, Pos, SliceSource, Source};

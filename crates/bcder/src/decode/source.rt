@@ -1,0 +1,162 @@
+//! Where octets come from.
+ghost use Rattle.std.specs.Prelude.{◌≡◌, ℕ, ◌+◌, ◌-◌, ◌<◌, ◌≤◌, [], ◌∷◌, length, take, drop, min, slice_range, IfOk, IfErr, OnOk, OnErr, MatchOption};
+ghost use Rattle.bcder.specs.Cause.{cause_of, of_content, MatchCause};
+ghost use Rattle.bcder.specs.Stream.{Stream, IsSound, Grew, Provides, pos_after, borrowed};
+ghost use Rattle.bcder.specs.laws.Limits.{borrowed_sound};
+
+mod bytes_source;
+mod capture;
+mod into;
+mod limited;
+mod pos;
+mod slice;
+
+use crate::NoMemory;
+use crate::decode::error::{ContentError, DecodeError};
+use bytes::Bytes;
+pub use bytes_source::BytesSource;
+pub use capture::CaptureSource;
+pub use into::IntoSource;
+pub use limited::LimitedSource;
+pub use pos::Pos;
+pub use slice::SliceSource;
+use std::alloc::Global;
+use std::error::Error;
+
+/// Where octets come from. Each implementation keeps the laws that the clauses state.
+pub trait Source {
+    type Error: Error;
+
+    /// What the source is to the clauses: the octets to come, and what is known of them.
+    ghost stream: { Self → Stream };
+
+    fn pos(&self) -> Pos
+        ensures { result ≡ (stream self.now).position };
+
+    /// Makes `len` octets available, or all that are left, and says how many are.
+    fn request(&mut self, len: usize) -> Result<usize, Self::Error>
+        ensures ok { IfOk result (λ k. Provides len k (stream self.new)) }
+        ensures no_fault { OnOk result ((stream self.new).faults ≡ (stream self.old).faults) }
+        ensures fault { OnErr result (Grew (stream self.old).faults (stream self.new).faults) }
+        ensures no_fewer { OnErr result ((stream self.old).avail ≤ (stream self.new).avail) }
+        ensures rest { (stream self.new).rest ≡ (stream self.old).rest }
+        ensures position { (stream self.new).position ≡ (stream self.old).position }
+        ensures kept { (stream self.new).kept ≡ (stream self.old).kept };
+
+    /// The octets that are available, perhaps more than `request` said.
+    fn slice(&self) -> &[u8]
+        ensures front { take (length result.now) (stream self.now).rest ≡ result.now }
+        ensures enough { (stream self.now).avail ≤ length result.now };
+
+    fn bytes(&self, alloc: Global, start: usize, end: usize) -> Result<Bytes, NoMemory>
+        requires start_le_end { start ≤ end }
+        requires in_bounds { end ≤ (stream self.now).avail }
+        ensures { IfOk result (λ b. b ≡ slice_range (stream self.now).rest start end) };
+
+    fn advance(&mut self, len: usize)
+        requires { len ≤ (stream self.old).avail }
+        ensures rest { (stream self.new).rest ≡ drop len (stream self.old).rest }
+        ensures avail { (stream self.new).avail + len ≡ (stream self.old).avail }
+        ensures faults { (stream self.new).faults ≡ (stream self.old).faults }
+        ensures kept { (stream self.new).kept ≡ (stream self.old).kept };
+
+    ghost sound: { (x : Self) → IsSound (stream x) };
+
+    /// Passes over `len` octets, or over all that are left, and says how many.
+    final fn skip(&mut self, len: usize) -> Result<usize, Self::Error>
+    where
+        Self: Sized,
+        ensures count { IfOk result (λ k. k ≡ min len (length (stream self.old).rest)) }
+        ensures ok { IfOk result (λ k. (stream self.new).rest ≡ drop k (stream self.old).rest) }
+        ensures no_fault { OnOk result ((stream self.new).faults ≡ (stream self.old).faults) }
+        ensures fault { OnErr result (Grew (stream self.old).faults (stream self.new).faults) }
+        ensures err { OnErr result ((stream self.new).rest ≡ (stream self.old).rest) }
+        ensures err_position { OnErr result ((stream self.new).position ≡ (stream self.old).position) }
+        ensures kept { (stream self.new).kept ≡ (stream self.old).kept }
+    {
+        let found = self.request(len)?.min(len);
+        self.advance(found);
+        Ok(found)
+    }
+
+    /// Takes an octet. At the end it refuses.
+    final fn take_u8(&mut self) -> Result<u8, DecodeError<Self::Error>>
+    where
+        Self: Sized,
+        ensures ok { IfOk result (λ b. (stream self.old).rest ≡ b ∷ (stream self.new).rest) }
+        ensures no_fault { OnOk result ((stream self.new).faults ≡ (stream self.old).faults) }
+        ensures cause { IfErr result (λ e. MatchCause (cause_of e)
+            (Grew (stream self.old).faults (stream self.new).faults)
+            ((stream self.old).rest ≡ [])
+            ⊥) }
+        ensures no_fewer { (stream self.old).faults ≤ (stream self.new).faults }
+        ensures err { OnErr result ((stream self.new).rest ≡ (stream self.old).rest) }
+        ensures err_position { OnErr result ((stream self.new).position ≡ (stream self.old).position) }
+        ensures kept { (stream self.new).kept ≡ (stream self.old).kept }
+    {
+        if self.request(1)? < 1 {
+            return Err(self.content_err(ContentError::Static("unexpected end of data")));
+        }
+        let octet = self.slice()[0];
+        self.advance(1);
+        Ok(octet)
+    }
+
+    /// Takes an octet, or answers `None` at the end.
+    final fn take_opt_u8(&mut self) -> Result<Option<u8>, Self::Error>
+    where
+        Self: Sized,
+        ensures ok { IfOk result (λ o. MatchOption o
+            (((stream self.old).rest ≡ []) × ((stream self.new).rest ≡ []))
+            (λ b. (stream self.old).rest ≡ b ∷ (stream self.new).rest)) }
+        ensures no_fault { OnOk result ((stream self.new).faults ≡ (stream self.old).faults) }
+        ensures fault { OnErr result (Grew (stream self.old).faults (stream self.new).faults) }
+        ensures err { OnErr result ((stream self.new).rest ≡ (stream self.old).rest) }
+        ensures err_position { OnErr result ((stream self.new).position ≡ (stream self.old).position) }
+        ensures kept { (stream self.new).kept ≡ (stream self.old).kept }
+    {
+        if self.request(1)? < 1 {
+            return Ok(None);
+        }
+        let octet = self.slice()[0];
+        self.advance(1);
+        Ok(Some(octet))
+    }
+
+    /// A refusal of content at the present position.
+    final fn content_err(&self, error: ContentError) -> DecodeError<Self::Error>
+    where
+        Self: Sized,
+        ensures { cause_of result ≡ of_content error }
+    {
+        DecodeError::content(error, self.pos())
+    }
+}
+
+impl<T: Source> Source for &mut T {
+    type Error = T::Error;
+
+    ghost stream = { λ s. borrowed s.ghost_name (T.stream s.now) };
+
+    ghost sound = { λ s. borrowed_sound s.ghost_name (T.stream s.now) (T.sound s.now) };
+
+    fn pos(&self) -> Pos {
+        T::pos(&**self)
+    }
+
+    fn request(&mut self, len: usize) -> Result<usize, T::Error> {
+        T::request(&mut **self, len)
+    }
+
+    fn slice(&self) -> &[u8] {
+        T::slice(&**self)
+    }
+
+    fn bytes(&self, alloc: Global, start: usize, end: usize) -> Result<Bytes, NoMemory> {
+        T::bytes(&**self, alloc, start, end)
+    }
+
+    fn advance(&mut self, len: usize) {
+        T::advance(&mut **self, len)
+    }
+}
