@@ -1,3 +1,3 @@
-mod Rows
+mod rows
 pub mod Steps
 pub mod Skip
