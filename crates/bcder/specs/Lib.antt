@@ -1,4 +1,5 @@
 pub mod Identifier
+pub mod TagText
 pub mod Length
 pub mod Tree
 pub mod Encoding

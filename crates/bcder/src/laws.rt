@@ -1,5 +1,11 @@
-//! What follows from the definitions alone, each law the contract of a function without a body.
+//! What follows from the definitions alone, each law the contract of a function without a body; and
+//! the constants of `Tag`, each beside what it stands for.
+ghost use Rattle.std.specs.Prelude.{◌≡◌, ◌++◌, map};
+ghost use Rattle.std.specs.List.{range_with_len};
+ghost use Rattle.bcder.specs.Identifier.{universal, context_specific};
 ghost use Rattle.bcder.specs.Grammar.{OneIdentifier, OneLength, OneEnd, OneFront, OneList, OneEncoding, ValueInBer, ListInBer, ValueHasTwo, ListHasTwo, ValueIsOctets, ListIsOctets};
+
+use crate::tag::Tag;
 
 /// No identifier octets, length octets or end-of-contents octets begin others (X.690, 8.1.2, 8.1.3,
 /// 8.1.5).
@@ -42,3 +48,62 @@ pub fn encodings_are_octets()
     ensures value { ValueIsOctets }
     ensures list { ListIsOctets }
 {}
+
+/// Each universal constant, beside its number (X.680, 8.4): 0 to 14 and 16 to 36.
+pub fn universal_constants() -> [(Tag, u32); 36]
+    ensures { result ≡ map (λ n. (record { class = universal; number = n }, n)) (range_with_len 0 15 ++ range_with_len 16 21) }
+{
+    [
+        (Tag::END_OF_VALUE, 0),
+        (Tag::BOOLEAN, 1),
+        (Tag::INTEGER, 2),
+        (Tag::BIT_STRING, 3),
+        (Tag::OCTET_STRING, 4),
+        (Tag::NULL, 5),
+        (Tag::OID, 6),
+        (Tag::OBJECT_DESCRIPTOR, 7),
+        (Tag::EXTERNAL, 8),
+        (Tag::REAL, 9),
+        (Tag::ENUMERATED, 10),
+        (Tag::EMBEDDED_PDV, 11),
+        (Tag::UTF8_STRING, 12),
+        (Tag::RELATIVE_OID, 13),
+        (Tag::TIME, 14),
+        (Tag::SEQUENCE, 16),
+        (Tag::SET, 17),
+        (Tag::NUMERIC_STRING, 18),
+        (Tag::PRINTABLE_STRING, 19),
+        (Tag::TELETEX_STRING, 20),
+        (Tag::VIDEOTEX_STRING, 21),
+        (Tag::IA5_STRING, 22),
+        (Tag::UTC_TIME, 23),
+        (Tag::GENERALIZED_TIME, 24),
+        (Tag::GRAPHIC_STRING, 25),
+        (Tag::VISIBLE_STRING, 26),
+        (Tag::GENERAL_STRING, 27),
+        (Tag::UNIVERSAL_STRING, 28),
+        (Tag::CHARACTER_STRING, 29),
+        (Tag::BMP_STRING, 30),
+        (Tag::DATE, 31),
+        (Tag::TIME_OF_DAY, 32),
+        (Tag::DATE_TIME, 33),
+        (Tag::DURATION, 34),
+        (Tag::OID_IRI, 35),
+        (Tag::RELATIVE_OID_IRI, 36),
+    ]
+}
+
+/// Each context-specific constant, beside its number: 0 to 6.
+pub fn context_constants() -> [(Tag, u32); 7]
+    ensures { result ≡ map (λ n. (record { class = context_specific; number = n }, n)) (range_with_len 0 7) }
+{
+    [
+        (Tag::CTX_0, 0),
+        (Tag::CTX_1, 1),
+        (Tag::CTX_2, 2),
+        (Tag::CTX_3, 3),
+        (Tag::CTX_4, 4),
+        (Tag::CTX_5, 5),
+        (Tag::CTX_6, 6),
+    ]
+}

@@ -4,7 +4,8 @@ ghost use Rattle.bcder.specs.Identifier.{universal as universal_class, applicati
 ghost use Rattle.bcder.specs.Reading.{is_value_tag, read_identifier, read_number, second_digit, third_digit, class_of};
 ghost use Rattle.bcder.specs.Classes.{class_meant};
 
-use std::fmt;
+mod display;
+
 use std::marker::Model;
 
 /// The class of a tag (8.1.2.2, table 1).
@@ -476,11 +477,5 @@ pub(crate) fn identifier_at(octets: &[u8]) -> Option<(Tag, bool, &[u8])>
                 Some((Tag { class, number }, constructed, rest))
             }
         }
-    }
-}
-
-impl fmt::Display for Tag {
-    fn fmt<W: fmt::Write>(&self, f: &mut fmt::Formatter<W>) -> fmt::Result {
-        write!(f, "[{}]", self.number)
     }
 }
