@@ -19,6 +19,12 @@ cause_of (Source e) = of_source
 cause_of (Content error pos) = of_content error
 cause_of NoMemory = of_memory
 
+-- where the content was refused
+abbrev pub position_of : {S X : Type 0} {P : X → Type 0} → DecodeError S X P → Option ℕ
+position_of (Source e) = None
+position_of (Content error pos) = Some pos
+position_of NoMemory = None
+
 abbrev pub is_source_cause : {E : Type 0} → Cause E → Bool
 is_source_cause of_source = true
 is_source_cause (of_content e) = false

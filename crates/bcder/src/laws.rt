@@ -1,6 +1,8 @@
 //! What follows from the definitions alone, each law the contract of a function without a body.
 ghost use Rattle.bcder.specs.Grammar.{OneIdentifier, OneLength, OneEnd, OneFront, OneList, OneEncoding, ValueInBer, ListInBer, ValueHasTwo, ListHasTwo, ValueIsOctets, ListIsOctets};
 
+pub mod sources;
+
 /// No identifier octets, length octets or end-of-contents octets begin others (X.690, 8.1.2, 8.1.3,
 /// 8.1.5).
 pub fn no_header_begins_another()

@@ -1,6 +1,6 @@
 //! Errors: why decoding failed.
 ghost use Rattle.std.specs.Prelude.{◌≡◌, ℕ, ◌↔◌, Bool, true, IsTrue, Option, Some, None, IfSome, IsNone, IfOk, IfErr, MatchResult};
-ghost use Rattle.bcder.specs.Cause.{Cause, of_source, of_content, of_memory, cause_of, is_source_cause, is_memory_cause, IsContentless, content_text, decode_text};
+ghost use Rattle.bcder.specs.Cause.{Cause, of_source, of_content, of_memory, cause_of, is_source_cause, is_memory_cause, IsContentless, position_of, content_text, decode_text};
 
 use crate::NoMemory;
 use crate::decode::source::Pos;
@@ -107,7 +107,8 @@ pub enum DecodeError<S> {
 impl<S> DecodeError<S> {
     /// The refusal of content for that reason, at that position.
     pub fn content(error: ContentError, pos: Pos) -> DecodeError<S>
-        ensures { cause_of result ≡ of_content error }
+        ensures cause { cause_of result ≡ of_content error }
+        ensures position { position_of result ≡ Some pos }
     {
         DecodeError::Content { error, pos }
     }
@@ -152,9 +153,10 @@ impl<S> DecodeError<S> {
 }
 
 impl DecodeError<Infallible> {
-    /// The same error for a source that can fail: with the same cause.
+    /// The same error for a source that can fail: with the same cause, at the same position.
     pub fn convert<S>(self) -> DecodeError<S>
-        ensures { cause_of result ≡ cause_of self }
+        ensures cause { cause_of result ≡ cause_of self }
+        ensures position { position_of result ≡ position_of self }
     {
         match self {
             DecodeError::Source(never) => match never {},

@@ -1,6 +1,6 @@
 //! Sources: where the octets that are decoded come from.
-ghost use Rattle.std.specs.Prelude.{◌≡◌, ℕ, ◌+◌, ◌-◌, ◌<◌, ◌≤◌, [], ◌∷◌, length, take, drop, min, slice_range, IfOk, IfErr, OnOk, OnErr, MatchOption};
-ghost use Rattle.bcder.specs.Cause.{cause_of, of_content, MatchCause};
+ghost use Rattle.std.specs.Prelude.{◌≡◌, ℕ, ◌+◌, ◌-◌, ◌<◌, ◌≤◌, [], ◌∷◌, length, take, drop, min, slice_range, Some, IfOk, IfErr, OnOk, OnErr, MatchOption};
+ghost use Rattle.bcder.specs.Cause.{cause_of, position_of, of_content, MatchCause};
 ghost use Rattle.bcder.specs.Stream.{Stream, IsSound, Grew, Provides, pos_after, borrowed};
 ghost use Rattle.bcder.specs.laws.Limits.{borrowed_sound};
 
@@ -148,7 +148,8 @@ pub trait Source {
     final fn content_err(&self, error: ContentError) -> DecodeError<Self::Error>
     where
         Self: Sized,
-        ensures { cause_of result ≡ of_content error }
+        ensures cause { cause_of result ≡ of_content error }
+        ensures position { position_of result ≡ Some (stream self.now).position }
     {
         DecodeError::content(error, self.pos())
     }
