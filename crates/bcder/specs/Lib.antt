@@ -9,4 +9,5 @@ pub mod Reading
 pub mod Classes
 pub mod laws
 pub mod Stream
+pub mod Sources
 pub mod Cause

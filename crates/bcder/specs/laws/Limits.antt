@@ -91,3 +91,10 @@ cut_through None None n xs = refl
 cut_through (Some l) None n xs = refl
 cut_through None (Some m) n xs = drop_of_take n m xs
 cut_through (Some l) (Some m) n xs = ap (take l) (drop_of_take n m xs) ∙ (let e : take l (take (m - n) (drop n xs)) ≡ take (min l (m - n)) (drop n xs) = grind (arith, common_steps) in e)
+
+-- and so it is with how many of them are at hand
+pub capped_through : (l m : Option ℕ) (n a : ℕ) → capped l (capped m a - n) ≡ capped (smaller_limit l (limit_left m n)) (a - n)
+capped_through None None n a = refl
+capped_through (Some l) None n a = refl
+capped_through None (Some m) n a = grind (arith, common_steps)
+capped_through (Some l) (Some m) n a = grind (arith, common_steps)

@@ -1,19 +1,23 @@
-// What can be made a source.
+//! What can be made a source.
 ghost use Rattle.std.specs.Prelude.{◌≡◌, List, ℕ};
 
 use super::{BytesSource, SliceSource, Source};
 use bytes::Bytes;
 
+/// What a source can be made of.
 pub trait IntoSource {
+    /// The source that is made.
     type Source: Source;
 
-    // The octets that the source will give.
+    /// The octets that the source will give.
     ghost octets: { Self → List ℕ };
 
+    /// The source that gives these octets.
     fn into_source(self) -> Self::Source
         ensures { (Self.Source.stream result).rest ≡ octets self };
 }
 
+/// A source is itself.
 impl<T: Source> IntoSource for T {
     type Source = T;
 
