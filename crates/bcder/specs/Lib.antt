@@ -10,3 +10,4 @@ pub mod Classes
 pub mod laws
 pub mod Stream
 pub mod Cause
+pub mod Told
