@@ -1,3 +1,4 @@
 mod Rows
 pub mod Steps
 pub mod Skip
+pub mod Fronts

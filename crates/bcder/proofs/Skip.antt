@@ -138,20 +138,3 @@ if_found (Some x) now mode octets o h = found mode octets (now x) o h
 pub if_nothing_found : {X : Type 0} (r : Option X) (now : X → List ℕ) (mode : Mode) (octets : List ℕ) → MatchOption r (read_tree mode octets ≡ None) (λ x. TreeRead mode octets (now x)) → IfNone r (NothingFound mode octets)
 if_nothing_found None now mode octets h = nothing_found mode octets h
 if_nothing_found (Some x) now mode octets h = tt
-
-abbrev pub Listed : Mode → List ℕ → List ℕ → Type 0
-Listed mode octets rest = (t : Tree) × (w : List ℕ) × AreEncodings mode (t ∷ₜ no_trees) w × (octets ≡ w ++ rest)
-
-pub if_listed : {X : Type 0} (r : Option X) (now : X → List ℕ) (mode : Mode) (octets : List ℕ) → AreOctets octets → MatchOption r (read_tree mode octets ≡ None) (λ x. TreeRead mode octets (now x)) → IfSome r (λ x. Listed mode octets (now x))
-if_listed None now mode octets o h = tt
-if_listed (Some x) now mode octets o h = let s = tree_sound mode octets (h.0, now x) o h.1 in (h.0, s.front, AreEncodings-one mode h.0 s.front s.is_encoding, s.is)
-
-no_marker : (mode : Mode) (t : Tree) (octets rest : List ℕ) → Stands mode t octets rest → octets ≡ 0 ∷ 0 ∷ [] → ⊥
-no_marker mode t octets rest s e =
-    let b = BeginsValue-encoding mode t s.front rest s.is_encoding in
-    let p : ◌≡◌ {A = List ℕ} (0 ∷ 0 ∷ []) (suc b.first ∷ b.others) = sym e ∙ s.is ∙ b.is in
-    cc
-
-pub if_no_marker : {X : Type 0} (r : Option X) (now : X → List ℕ) (mode : Mode) (octets : List ℕ) → AreOctets octets → MatchOption r (read_tree mode octets ≡ None) (λ x. TreeRead mode octets (now x)) → IfSome r (λ x. octets ≡ 0 ∷ 0 ∷ [] → ⊥)
-if_no_marker None now mode octets o h = tt
-if_no_marker (Some x) now mode octets o h = no_marker mode h.0 octets (now x) (tree_sound mode octets (h.0, now x) o h.1)

@@ -11,3 +11,4 @@ pub mod laws
 pub mod Stream
 pub mod Sources
 pub mod Cause
+pub mod Told
