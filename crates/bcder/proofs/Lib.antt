@@ -1,4 +1,4 @@
-mod Rows
+mod rows
 pub mod Steps
 pub mod Skip
 pub mod Fronts
