@@ -54,10 +54,10 @@ pub fn nested_limits_are_one<'a, S: Source>(
 )
     ensures rest { let inner = behind (wrapped source.now) in let gone = passed (wrapped source.now) in
         (⟦<LimitedSource<CaptureSource<'a, LimitedSource<S>>> as Source>⟧.stream source.now).rest
-            ≡ cut (smaller_limit (limit_of source.now) (limit_left (limit_of inner) gone))
-                (drop gone (S.stream (wrapped inner)).rest) }
+        ≡ cut (smaller_limit (limit_of source.now) (limit_left (limit_of inner) gone))
+        (drop gone (S.stream (wrapped inner)).rest) }
     ensures avail { let inner = behind (wrapped source.now) in let gone = passed (wrapped source.now) in
         (⟦<LimitedSource<CaptureSource<'a, LimitedSource<S>>> as Source>⟧.stream source.now).avail
-            ≡ capped (smaller_limit (limit_of source.now) (limit_left (limit_of inner) gone))
-                ((S.stream (wrapped inner)).avail - gone) }
+        ≡ capped (smaller_limit (limit_of source.now) (limit_left (limit_of inner) gone))
+        ((S.stream (wrapped inner)).avail - gone) }
 {}

@@ -1,0 +1,10 @@
+//! Uses of the library, and tests of it with values from outside.
+//!
+//! [`sip`] is a source that can fail and makes available no more than what was asked for; each
+//! module of tests runs over it too.
+#![tactic(auto)]
+
+pub mod borrows;
+pub mod sip;
+#[cfg(test)]
+mod sources;
