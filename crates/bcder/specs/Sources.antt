@@ -1,6 +1,6 @@
 -- The parts of the sources.
 use Rattle.std.specs.Prelude.{ℕ, Option, List}
-use Rattle.bcder.specs.Stream.{limit_or}
+use Rattle.bcder.specs.Stream.{Stream, limit_or, ahead}
 use Rattle.bcder.specs.declared.decode.source.limited.LimitedSource.{LimitedSource}
 use Rattle.bcder.specs.declared.decode.source.slice.SliceSource.{SliceSource}
 use Rattle.bcder.specs.declared.decode.source.bytes_source.BytesSource.{BytesSource}
@@ -29,6 +29,10 @@ passed s = s.pos
 -- the name of the borrow, which the capturing source keeps
 abbrev pub borrow_of : {S : Type 0} → CaptureSource S → ℕ
 borrow_of s = s.source.ghost_name
+
+-- what a capturing source is, by what the borrowed one is
+abbrev pub capturing : {S : Type 0} → (S → Stream) → CaptureSource S → Stream
+capturing stream s = ahead (borrow_of s) (passed s) (stream (behind s))
 
 -- the octets that are left of a slice and of shared octets
 abbrev pub slice_rest : SliceSource → List ℕ

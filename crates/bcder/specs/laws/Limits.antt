@@ -47,7 +47,8 @@ limit_told_after n (Some m) xs ys k c h p =
 pub at_most_itself : (n : ℕ) → n ≤ n
 at_most_itself n = omega arith
 
-AreOctets-drop : (n : ℕ) (w : List ℕ) → AreOctets w → AreOctets (drop n w)
+-- octets after the first ones are octets
+pub AreOctets-drop : (n : ℕ) (w : List ℕ) → AreOctets w → AreOctets (drop n w)
 AreOctets-drop zero w h = h
 AreOctets-drop (suc n) [] h = h
 AreOctets-drop (suc n) (b ∷ w) h = AreOctets-drop n w (λ i. h (suc i))

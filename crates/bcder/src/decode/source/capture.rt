@@ -1,7 +1,7 @@
 //! A source that can give back what is passed over.
 ghost use Rattle.std.specs.Prelude.{◌≡◌, true, ◌&&◌, nat_le, ℕ, ◌+◌, ◌-◌, ◌^◌, ◌<◌, ◌≤◌, List, [], ◌∷◌, ◌++◌, length, take, drop, slice_range, IfOk, IfErr, OnOk, OnErr};
-ghost use Rattle.bcder.specs.Sources.{behind, passed, borrow_of};
-ghost use Rattle.bcder.specs.Stream.{ahead, Grew};
+ghost use Rattle.bcder.specs.Sources.{behind, passed, borrow_of, capturing};
+ghost use Rattle.bcder.specs.Stream.{Grew, Provides};
 ghost use Rattle.bcder.specs.laws.Limits.{ahead_sound};
 
 use super::{Pos, Source};
@@ -138,7 +138,7 @@ impl<'a, S: Source> CaptureSource<'a, S> {
 impl<'a, S: Source> Source for CaptureSource<'a, S> {
     type Error = S::Error;
 
-    ghost stream = { λ s. ahead s.source.ghost_name s.pos (S.stream s.source.now) };
+    ghost stream = { capturing S.stream };
 
     ghost sound = { λ s. ahead_sound s.source.ghost_name s.pos (S.stream s.source.now) (S.sound s.source.now) };
 
@@ -146,7 +146,24 @@ impl<'a, S: Source> Source for CaptureSource<'a, S> {
         self.source.pos() + Pos::from(self.pos)
     }
 
-    fn request(&mut self, len: usize) -> Result<usize, S::Error> {
+    /// As for every source. What was passed over stays, and is available in the borrowed source
+    /// once a request has succeeded, so that [`into_bytes`](Self::into_bytes) may be called.
+    fn request(&mut self, len: usize) -> Result<usize, S::Error>
+        ensures ok { IfOk result (λ k. Provides len k (capturing S.stream self.new)) }
+        ensures no_fault { OnOk result
+            ((capturing S.stream self.new).faults ≡ (capturing S.stream self.old).faults) }
+        ensures fault { OnErr result
+            (Grew (capturing S.stream self.old).faults (capturing S.stream self.new).faults) }
+        ensures no_fewer { OnErr result
+            ((capturing S.stream self.old).avail ≤ (capturing S.stream self.new).avail) }
+        ensures rest { (capturing S.stream self.new).rest ≡ (capturing S.stream self.old).rest }
+        ensures position { (capturing S.stream self.new).position ≡ (capturing S.stream self.old).position }
+        ensures kept { (capturing S.stream self.new).kept ≡ (capturing S.stream self.old).kept }
+        ensures pos { passed self.new ≡ passed self.old }
+        ensures at_hand { OnOk result
+            (passed self.old ≤ length (S.stream (behind self.old)).rest
+            → passed self.new ≤ (S.stream (behind self.new)).avail) }
+    {
         let found = self.source.request(self.pos.saturating_add(len))?;
         Ok(found.saturating_sub(self.pos))
     }
@@ -163,7 +180,16 @@ impl<'a, S: Source> Source for CaptureSource<'a, S> {
         self.source.bytes(alloc, self.pos + start, self.pos + end)
     }
 
-    fn advance(&mut self, len: usize) {
+    /// As for every source. The borrowed source stays as it is.
+    fn advance(&mut self, len: usize)
+        requires { len ≤ (capturing S.stream self.old).avail }
+        ensures rest { (capturing S.stream self.new).rest ≡ drop len (capturing S.stream self.old).rest }
+        ensures avail { (capturing S.stream self.new).avail + len ≡ (capturing S.stream self.old).avail }
+        ensures faults { (capturing S.stream self.new).faults ≡ (capturing S.stream self.old).faults }
+        ensures kept { (capturing S.stream self.new).kept ≡ (capturing S.stream self.old).kept }
+        ensures pos { passed self.new ≡ passed self.old + len }
+        ensures source { behind self.new ≡ behind self.old }
+    {
         self.pos += len;
     }
 }
