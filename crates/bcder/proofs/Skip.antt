@@ -32,7 +32,7 @@ pub no_header : (mode : Mode) (w : List ℕ) → AreOctets w → read_header mod
 unfolding read_value
 no_header mode w o e = read_tree_step mode w o ∙ rw e refl
 
-from_header : (mode : Mode) (t : Tag) (f : Bool) (len : Length) (w z : List ℕ) → AreOctets w → read_header mode w ≡ Some (record { tag = t; form = f; len = len }, z) → read_tree mode w ≡ read_contents (read_list mode) t f len z
+pub from_header : (mode : Mode) (t : Tag) (f : Bool) (len : Length) (w z : List ℕ) → AreOctets w → read_header mode w ≡ Some (record { tag = t; form = f; len = len }, z) → read_tree mode w ≡ read_contents (read_list mode) t f len z
 unfolding read_value
 from_header mode t f len w z o e = read_tree_step mode w o ∙ rw e refl
 
@@ -49,11 +49,11 @@ primitive_read mode t n w z o e h = (primitive t (take n z), from_header mode t 
 pub definite_read : (mode : Mode) (t : Tag) (n : ℕ) (w z y : List ℕ) → AreOctets w → read_header mode w ≡ Some (record { tag = t; form = true; len = Definite n }, z) → n ≤ length z → ListRead mode false (take n z) y → TreeRead mode w (drop n z)
 definite_read mode t n w z y o e h l = (constructed t l.0, from_header mode t true (Definite n) w z o e ∙ rw (le-ltb _ _ h, l.1) refl)
 
-marked_form : (mode : Mode) (f : Bool) → may_have mode f Indefinite ≡ true → f ≡ true
+pub marked_form : (mode : Mode) (f : Bool) → may_have mode f Indefinite ≡ true → f ≡ true
 marked_form mode false e = e
 marked_form mode true e = refl
 
-at_marked : (mode : Mode) (t : Tag) (f : Bool) (w z : List ℕ) → AreOctets w → read_header mode w ≡ Some (record { tag = t; form = f; len = Indefinite }, z) → read_tree mode w ≡ read_contents (read_list mode) t true Indefinite z
+pub at_marked : (mode : Mode) (t : Tag) (f : Bool) (w z : List ℕ) → AreOctets w → read_header mode w ≡ Some (record { tag = t; form = f; len = Indefinite }, z) → read_tree mode w ≡ read_contents (read_list mode) t true Indefinite z
 at_marked mode t f w z o e =
     let d = header_sound mode w (record { tag = t; form = f; len = Indefinite }, z) o e in
     let m : f ≡ true = marked_form mode f d.is_header.allowed in
