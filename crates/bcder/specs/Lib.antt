@@ -9,3 +9,4 @@ pub mod Classes
 pub mod laws
 pub mod Stream
 pub mod Cause
+pub mod Peek
