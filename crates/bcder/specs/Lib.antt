@@ -12,3 +12,4 @@ pub mod Stream
 pub mod Sources
 pub mod Cause
 pub mod Told
+pub mod Peek
