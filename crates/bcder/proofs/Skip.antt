@@ -32,7 +32,7 @@ pub no_header : (mode : Mode) (w : List ℕ) → AreOctets w → read_header mod
 unfolding read_value
 no_header mode w o e = read_tree_step mode w o ∙ rw e refl
 
-from_header : (mode : Mode) (t : Tag) (f : Bool) (len : Length) (w z : List ℕ) → AreOctets w → read_header mode w ≡ Some (record { tag = t; form = f; len = len }, z) → read_tree mode w ≡ read_contents (read_list mode) t f len z
+pub from_header : (mode : Mode) (t : Tag) (f : Bool) (len : Length) (w z : List ℕ) → AreOctets w → read_header mode w ≡ Some (record { tag = t; form = f; len = len }, z) → read_tree mode w ≡ read_contents (read_list mode) t f len z
 unfolding read_value
 from_header mode t f len w z o e = read_tree_step mode w o ∙ rw e refl
 
@@ -49,11 +49,11 @@ primitive_read mode t n w z o e h = (primitive t (take n z), from_header mode t 
 pub definite_read : (mode : Mode) (t : Tag) (n : ℕ) (w z y : List ℕ) → AreOctets w → read_header mode w ≡ Some (record { tag = t; form = true; len = Definite n }, z) → n ≤ length z → ListRead mode false (take n z) y → TreeRead mode w (drop n z)
 definite_read mode t n w z y o e h l = (constructed t l.0, from_header mode t true (Definite n) w z o e ∙ rw (le-ltb _ _ h, l.1) refl)
 
-marked_form : (mode : Mode) (f : Bool) → may_have mode f Indefinite ≡ true → f ≡ true
+pub marked_form : (mode : Mode) (f : Bool) → may_have mode f Indefinite ≡ true → f ≡ true
 marked_form mode false e = e
 marked_form mode true e = refl
 
-at_marked : (mode : Mode) (t : Tag) (f : Bool) (w z : List ℕ) → AreOctets w → read_header mode w ≡ Some (record { tag = t; form = f; len = Indefinite }, z) → read_tree mode w ≡ read_contents (read_list mode) t true Indefinite z
+pub at_marked : (mode : Mode) (t : Tag) (f : Bool) (w z : List ℕ) → AreOctets w → read_header mode w ≡ Some (record { tag = t; form = f; len = Indefinite }, z) → read_tree mode w ≡ read_contents (read_list mode) t true Indefinite z
 at_marked mode t f w z o e =
     let d = header_sound mode w (record { tag = t; form = f; len = Indefinite }, z) o e in
     let m : f ≡ true = marked_form mode f d.is_header.allowed in
@@ -138,20 +138,3 @@ if_found (Some x) now mode octets o h = found mode octets (now x) o h
 pub if_nothing_found : {X : Type 0} (r : Option X) (now : X → List ℕ) (mode : Mode) (octets : List ℕ) → MatchOption r (read_tree mode octets ≡ None) (λ x. TreeRead mode octets (now x)) → IfNone r (NothingFound mode octets)
 if_nothing_found None now mode octets h = nothing_found mode octets h
 if_nothing_found (Some x) now mode octets h = tt
-
-abbrev pub Listed : Mode → List ℕ → List ℕ → Type 0
-Listed mode octets rest = (t : Tree) × (w : List ℕ) × AreEncodings mode (t ∷ₜ no_trees) w × (octets ≡ w ++ rest)
-
-pub if_listed : {X : Type 0} (r : Option X) (now : X → List ℕ) (mode : Mode) (octets : List ℕ) → AreOctets octets → MatchOption r (read_tree mode octets ≡ None) (λ x. TreeRead mode octets (now x)) → IfSome r (λ x. Listed mode octets (now x))
-if_listed None now mode octets o h = tt
-if_listed (Some x) now mode octets o h = let s = tree_sound mode octets (h.0, now x) o h.1 in (h.0, s.front, AreEncodings-one mode h.0 s.front s.is_encoding, s.is)
-
-no_marker : (mode : Mode) (t : Tree) (octets rest : List ℕ) → Stands mode t octets rest → octets ≡ 0 ∷ 0 ∷ [] → ⊥
-no_marker mode t octets rest s e =
-    let b = BeginsValue-encoding mode t s.front rest s.is_encoding in
-    let p : ◌≡◌ {A = List ℕ} (0 ∷ 0 ∷ []) (suc b.first ∷ b.others) = sym e ∙ s.is ∙ b.is in
-    cc
-
-pub if_no_marker : {X : Type 0} (r : Option X) (now : X → List ℕ) (mode : Mode) (octets : List ℕ) → AreOctets octets → MatchOption r (read_tree mode octets ≡ None) (λ x. TreeRead mode octets (now x)) → IfSome r (λ x. octets ≡ 0 ∷ 0 ∷ [] → ⊥)
-if_no_marker None now mode octets o h = tt
-if_no_marker (Some x) now mode octets o h = no_marker mode h.0 octets (now x) (tree_sound mode octets (h.0, now x) o h.1)

@@ -1,6 +1,9 @@
 -- What an error of decoding tells.
-use Rattle.std.specs.Prelude.{Bool, true, false}
+use Rattle.std.specs.Prelude.{ℕ, ◌++◌, Bool, true, false, List, Option, Some, None, codes, string_bytes}
+use Rattle.std.specs.Fmt.{decimal, ◌++?◌}
+use Rattle.bcder.specs.Identifier.{Tag}
 use Rattle.bcder.specs.declared.decode.error.ContentError.{ContentError}
+use Rattle.bcder.specs.declared.decode.error.ContentError.TheVariants.{Static, Owned, ExpectedTag, ExpectedInteger, Boxed}
 use Rattle.bcder.specs.declared.decode.error.DecodeError.{DecodeError}
 use Rattle.bcder.specs.declared.decode.error.DecodeError.TheVariants.{Source, Content, NoMemory}
 
@@ -15,6 +18,12 @@ abbrev pub cause_of : {S X : Type 0} {P : X → Type 0} → DecodeError S X P �
 cause_of (Source e) = of_source
 cause_of (Content error pos) = of_content error
 cause_of NoMemory = of_memory
+
+-- where the content was refused
+abbrev pub position_of : {S X : Type 0} {P : X → Type 0} → DecodeError S X P → Option ℕ
+position_of (Source e) = None
+position_of (Content error pos) = Some pos
+position_of NoMemory = None
 
 abbrev pub is_source_cause : {E : Type 0} → Cause E → Bool
 is_source_cause of_source = true
@@ -37,3 +46,19 @@ abbrev pub MatchCause : {E : Type 0} → Cause E → Type 0 → Type 0 → Type 
 MatchCause of_source A B C = A
 MatchCause (of_content e) A B C = B
 MatchCause of_memory A B C = C
+
+-- ---- texts
+
+-- what is shown of a content error, where it is known what is shown of a tag; of a box it isn't
+abbrev pub content_text : {X : Type 0} {P : X → Type 0} → (Tag → Option (List ℕ)) → ContentError X P → Option (List ℕ)
+content_text tag_text (Static text) = Some text.now
+content_text tag_text (Owned text) = Some (string_bytes text)
+content_text tag_text (ExpectedTag tag) = Some (codes "expected tag ") ++? tag_text tag
+content_text tag_text (ExpectedInteger value) = Some (codes "expected integer value " ++ decimal value)
+content_text tag_text (Boxed message) = None
+
+-- what is shown of an error of decoding
+abbrev pub decode_text : {S X : Type 0} {P : X → Type 0} → (S → Option (List ℕ)) → (ContentError X P → Option (List ℕ)) → DecodeError S X P → Option (List ℕ)
+decode_text source_text error_text (Source e) = source_text e
+decode_text source_text error_text (Content error pos) = error_text error ++? Some (codes " (at position " ++ decimal pos ++ codes ")")
+decode_text source_text error_text NoMemory = Some (codes "out of memory")

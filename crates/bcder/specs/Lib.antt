@@ -9,4 +9,7 @@ pub mod Reading
 pub mod Classes
 pub mod laws
 pub mod Stream
+pub mod Sources
 pub mod Cause
+pub mod Told
+pub mod Peek

@@ -38,6 +38,10 @@ pub record Provides (n k : ℕ) (s : Stream) : Type 0 where
 abbrev pub pos_after : ℕ → ℕ → ℕ
 pos_after p n = min (p + n) (2 ^ 64 - 1)
 
+-- octets that are all at hand, from position 0
+abbrev pub at_hand : List ℕ → Stream
+at_hand w = record { rest = w; avail = length w; faults = 0; position = 0; kept = [] }
+
 -- ---- limits
 
 -- the octets up to the limit

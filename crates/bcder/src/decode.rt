@@ -1,5 +1,6 @@
 //! Decoding: sources of octets, errors, and content.
 mod error;
+mod header;
 mod source;
 
 pub use error::{ContentError, DecodeError, Message};

@@ -5,6 +5,8 @@ ghost use Rattle.std.specs.List.{range_with_len};
 ghost use Rattle.bcder.specs.Identifier.{universal, context_specific};
 ghost use Rattle.bcder.specs.Grammar.{OneIdentifier, OneLength, OneEnd, OneFront, OneList, OneEncoding, ValueInBer, ListInBer, ValueHasTwo, ListHasTwo, ValueIsOctets, ListIsOctets};
 
+pub mod sources;
+
 use crate::tag::Tag;
 
 /// No identifier octets, length octets or end-of-contents octets begin others (X.690, 8.1.2, 8.1.3,

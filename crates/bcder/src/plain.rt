@@ -1,7 +1,11 @@
-//! Whole values.
-ghost use Rattle.std.specs.Prelude.{◌≡◌, ℕ, ◌+◌, ◌<◌, ◌≤◌, Bool, List, [], ◌∷◌, ◌++◌, length, Some, None, IfSome, IfNone, MatchOption};
-ghost use Rattle.bcder.specs.Tree.{Tree, Trees, no_trees, ◌∷ₜ◌};
-ghost use Rattle.bcder.specs.Encoding.{IsEncoding, AreEncodings, may_have};
+//! The plain reader: values at the front of a slice of octets, by recursion and without memory
+//! (X.690, 8.1.1). What the rest of the crate reads from sources is compared with it.
+ghost use Rattle.std.specs.Prelude.{◌≡◌, ℕ, ◌+◌, ◌<◌, ◌≤◌, ◌↔◌, Bool, List, [], ◌∷◌, ◌++◌, length, Some, None, IfSome, IfNone, MatchOption, IsTrue, Option};
+ghost use Rattle.bcder.specs.Tree.{Tree, Trees};
+ghost use Rattle.bcder.specs.Length.{IsEndOfContents};
+ghost use Rattle.bcder.specs.Encoding.{IsEncoding, AreEncodings, IsHeader, may_have};
+ghost use Rattle.bcder.specs.Told.{told};
+ghost use Rattle.bcder.specs.Identifier.{Tag as TagValue};
 ghost use Rattle.bcder.specs.Reading.{is_value_tag, read_header, read_tree, read_list, at_end};
 ghost use Rattle.bcder.specs.Grammar.{IsOnly};
 
@@ -95,12 +99,69 @@ fn list_at(mode: Mode, marked: bool, octets: &[u8]) -> Option<&[u8]>
     }
 }
 
-/// The octets after the value at the front.
+/// The identifier octets and length octets of a value, and what stands behind them.
+#[derive(Clone, Copy)]
+pub struct Front<'a> {
+    /// The tag of the value.
+    pub tag: Tag,
+
+    /// Whether the encoding is constructed.
+    pub constructed: bool,
+
+    /// The number of contents octets; none where end-of-contents octets end them.
+    pub len: Option<usize>,
+
+    /// The octets behind the length octets: the contents, and what follows the value.
+    pub rest: &'a [u8],
+}
+
+fn number_told(len: Length) -> Option<usize>
+    ensures { told result ≡ len }
+{
+    match len {
+        Length::Definite(n) => Some(n),
+        Length::Indefinite => None,
+    }
+}
+
+/// The header at the front (X.690, 8.1.2, 8.1.3): none where no front of the octets is the header of
+/// a value in the mode. Whether the contents are complete isn't looked at.
+pub fn front_at<'a>(mode: Mode, octets: &'a [u8]) -> Option<Front<'a>>
+    ensures found { IfSome result (λ f. (w : List ℕ) × IsHeader mode f.tag f.constructed (told f.len) w × (octets.now ≡ w ++ f.rest.now)) }
+    ensures none { IfNone result ((t : TagValue) (form : Bool) (n : Option ℕ) (w x : List ℕ) → IsHeader mode t form (told n) w → octets.now ≡ w ++ x → ⊥) }
+{
+    let Some(header) = header_at(mode, octets) else {
+        return None;
+    };
+    Some(Front {
+        tag: header.0,
+        constructed: header.1,
+        len: number_told(header.2),
+        rest: header.3,
+    })
+}
+
+/// The octets after the end-of-contents octets at the front (X.690, 8.1.5): none where no front of
+/// the octets is an end in the mode.
+pub fn end_at(mode: Mode, octets: &[u8]) -> Option<&[u8]>
+    ensures found { IfSome result (λ rest. (w : List ℕ) × IsEndOfContents mode w × (octets.now ≡ w ++ rest.now)) }
+    ensures none { IfNone result ((w x : List ℕ) → IsEndOfContents mode w → octets.now ≡ w ++ x → ⊥) }
+{
+    after_end(mode, octets)
+}
+
+/// The octets after the value at the front: none where no front of the octets is an encoding in the
+/// mode.
 pub fn skip_one(mode: Mode, octets: &[u8]) -> Option<&[u8]>
     ensures found { IfSome result (λ rest. (t : Tree) × (w : List ℕ) × IsEncoding mode t w × (octets.now ≡ w ++ rest.now) × IsOnly mode t w octets.now) }
-    ensures list { IfSome result (λ rest. (t : Tree) × (w : List ℕ) × AreEncodings mode (t ∷ₜ no_trees) w × (octets.now ≡ w ++ rest.now)) }
-    ensures marker { IfSome result (λ rest. octets.now ≡ 0 ∷ 0 ∷ [] → ⊥) }
     ensures none { IfNone result ((t : Tree) (w x : List ℕ) → IsEncoding mode t w → octets.now ≡ w ++ x → ⊥) }
 {
     value_at(mode, octets)
+}
+
+/// Whether the octets are the encodings of a list of values in the mode, one after the other.
+pub fn is_list(mode: Mode, octets: &[u8]) -> bool
+    ensures { IsTrue result ↔ (ts : Trees) × AreEncodings mode ts octets.now }
+{
+    list_at(mode, false, octets).is_some()
 }

@@ -1,5 +1,13 @@
-//! Values from outside: tables of the standards, and worked examples, one module for each subject.
+//! Uses of the library, and tests of it with values from outside: tables of the standards, and worked
+//! examples, one module for each subject.
+//!
+//! [`sip`] is a source that can fail and makes available no more than what was asked for; each
+//! module of tests runs over it too.
 #![tactic(auto)]
 
+pub mod borrows;
+pub mod sip;
+#[cfg(test)]
+mod sources;
 #[cfg(test)]
 mod tag_names;

@@ -47,7 +47,8 @@ limit_told_after n (Some m) xs ys k c h p =
 pub at_most_itself : (n : ℕ) → n ≤ n
 at_most_itself n = omega arith
 
-AreOctets-drop : (n : ℕ) (w : List ℕ) → AreOctets w → AreOctets (drop n w)
+-- octets after the first ones are octets
+pub AreOctets-drop : (n : ℕ) (w : List ℕ) → AreOctets w → AreOctets (drop n w)
 AreOctets-drop zero w h = h
 AreOctets-drop (suc n) [] h = h
 AreOctets-drop (suc n) (b ∷ w) h = AreOctets-drop n w (λ i. h (suc i))
@@ -91,3 +92,10 @@ cut_through None None n xs = refl
 cut_through (Some l) None n xs = refl
 cut_through None (Some m) n xs = drop_of_take n m xs
 cut_through (Some l) (Some m) n xs = ap (take l) (drop_of_take n m xs) ∙ (let e : take l (take (m - n) (drop n xs)) ≡ take (min l (m - n)) (drop n xs) = grind (arith, common_steps) in e)
+
+-- and so it is with how many of them are at hand
+pub capped_through : (l m : Option ℕ) (n a : ℕ) → capped l (capped m a - n) ≡ capped (smaller_limit l (limit_left m n)) (a - n)
+capped_through None None n a = refl
+capped_through (Some l) None n a = refl
+capped_through None (Some m) n a = grind (arith, common_steps)
+capped_through (Some l) (Some m) n a = grind (arith, common_steps)

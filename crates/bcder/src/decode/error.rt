@@ -1,6 +1,6 @@
-//! Why decoding failed.
+//! Errors: why decoding failed.
 ghost use Rattle.std.specs.Prelude.{◌≡◌, ℕ, ◌↔◌, Bool, true, IsTrue, Option, Some, None, IfSome, IsNone, IfOk, IfErr, MatchResult};
-ghost use Rattle.bcder.specs.Cause.{Cause, of_source, of_content, of_memory, cause_of, is_source_cause, is_memory_cause, IsContentless};
+ghost use Rattle.bcder.specs.Cause.{Cause, of_source, of_content, of_memory, cause_of, is_source_cause, is_memory_cause, IsContentless, position_of, content_text, decode_text};
 
 use crate::NoMemory;
 use crate::decode::source::Pos;
@@ -9,26 +9,40 @@ use std::convert::Infallible;
 use std::error::Error;
 use std::fmt;
 
-// A message of the user's own, in a box.
+/// A message of the user's own, which a [`ContentError`] keeps in a box.
 pub trait Message: Drop {
+    /// Its text.
     fn text(&self) -> &str;
 }
 
-// Why content was refused.
+/// Why content was refused.
 #[derive(Drop)]
 pub enum ContentError {
+    /// A fixed text.
     Static(&'static str),
+
+    /// A text that was put together.
     Owned(String),
+
+    /// Another tag was expected: this one.
     ExpectedTag(Tag),
+
+    /// Another integer was expected: this one.
     ExpectedInteger(u8),
+
+    /// A message of the user's own.
     Boxed(Box<dyn Message>),
 }
 
 impl ContentError {
-    pub fn from_static(text: &'static str) -> ContentError {
+    /// An error with a fixed text.
+    pub fn from_static(text: &'static str) -> ContentError
+        ensures { result ≡ ContentError.Static text.entry }
+    {
         ContentError::Static(text)
     }
 
+    /// An error with a message of the user's own.
     pub fn from_boxed(message: Box<dyn Message>) -> ContentError
         ensures { result ≡ ContentError.Boxed message }
     {
@@ -37,18 +51,29 @@ impl ContentError {
 }
 
 impl From<&'static str> for ContentError {
+    ghost use Rattle.bcder.specs.declared.decode.error.ContentError.TheVariants.{Static};
+
+    ghost from_gives = { λ text e. e ≡ Static text };
+
     fn from(text: &'static str) -> ContentError {
         ContentError::Static(text)
     }
 }
 
 impl From<String> for ContentError {
+    ghost use Rattle.bcder.specs.declared.decode.error.ContentError.TheVariants.{Owned};
+
+    ghost from_gives = { λ text e. e ≡ Owned text };
+
     fn from(text: String) -> ContentError {
         ContentError::Owned(text)
     }
 }
 
+/// Its text, `expected tag TAG` or `expected integer value N`.
 impl fmt::Display for ContentError {
+    ghost output = { content_text ⟦<Tag as fmt::Display>⟧.output };
+
     fn fmt<W: fmt::Write>(&self, f: &mut fmt::Formatter<W>) -> fmt::Result {
         match self {
             ContentError::Static(text) => write!(f, "{text}"),
@@ -66,27 +91,36 @@ impl fmt::Debug for ContentError {
     }
 }
 
-// Why decoding failed.
+/// Why decoding failed.
 #[derive(Debug, Drop)]
 pub enum DecodeError<S> {
+    /// The source failed.
     Source(S),
+
+    /// The content was refused, at a position in the source.
     Content { error: ContentError, pos: Pos },
+
+    /// There was no memory.
     NoMemory,
 }
 
 impl<S> DecodeError<S> {
+    /// The refusal of content for that reason, at that position.
     pub fn content(error: ContentError, pos: Pos) -> DecodeError<S>
-        ensures { cause_of result ≡ of_content error }
+        ensures cause { cause_of result ≡ of_content error }
+        ensures position { position_of result ≡ Some pos }
     {
         DecodeError::Content { error, pos }
     }
 
+    /// Want of memory.
     pub fn no_memory() -> DecodeError<S>
         ensures { cause_of result ≡ of_memory }
     {
         DecodeError::NoMemory
     }
 
+    /// Whether there was no memory.
     pub fn is_memory(&self) -> bool
         ensures { result ≡ is_memory_cause (cause_of self.now) }
     {
@@ -96,6 +130,7 @@ impl<S> DecodeError<S> {
         }
     }
 
+    /// Whether the source failed.
     pub fn is_source(&self) -> bool
         ensures { result ≡ is_source_cause (cause_of self.now) }
     {
@@ -105,6 +140,7 @@ impl<S> DecodeError<S> {
         }
     }
 
+    /// Why the content was refused, if it was.
     pub fn content_error(&self) -> Option<&ContentError>
         ensures some { IfSome result (λ e. cause_of self.now ≡ of_content e.now) }
         ensures none { IsNone result → IsContentless (cause_of self.now) }
@@ -117,8 +153,10 @@ impl<S> DecodeError<S> {
 }
 
 impl DecodeError<Infallible> {
+    /// The same error for a source that can fail: with the same cause, at the same position.
     pub fn convert<S>(self) -> DecodeError<S>
-        ensures { cause_of result ≡ cause_of self }
+        ensures cause { cause_of result ≡ cause_of self }
+        ensures position { position_of result ≡ position_of self }
     {
         match self {
             DecodeError::Source(never) => match never {},
@@ -127,6 +165,8 @@ impl DecodeError<Infallible> {
         }
     }
 
+    /// Why the content was refused, or `NoMemory` where there was no memory. There is no other cause,
+    /// since the source can't fail.
     pub fn into_content(self) -> Result<ContentError, NoMemory>
         ensures ok { IfOk result (λ e. cause_of self ≡ of_content e) }
         ensures err { IfErr result (λ _. cause_of self ≡ of_memory) }
@@ -149,7 +189,10 @@ impl<S> From<S> for DecodeError<S> {
     }
 }
 
+/// The source's text, `TEXT (at position N)` or `out of memory`.
 impl<S: fmt::Display> fmt::Display for DecodeError<S> {
+    ghost output = { decode_text S.output (content_text ⟦<Tag as fmt::Display>⟧.output) };
+
     fn fmt<W: fmt::Write>(&self, f: &mut fmt::Formatter<W>) -> fmt::Result {
         match self {
             DecodeError::Source(error) => write!(f, "{error}"),

@@ -1,6 +1,6 @@
-//! Where octets come from.
-ghost use Rattle.std.specs.Prelude.{◌≡◌, ℕ, ◌+◌, ◌-◌, ◌<◌, ◌≤◌, [], ◌∷◌, length, take, drop, min, slice_range, IfOk, IfErr, OnOk, OnErr, MatchOption};
-ghost use Rattle.bcder.specs.Cause.{cause_of, of_content, MatchCause};
+//! Sources: where the octets that are decoded come from.
+ghost use Rattle.std.specs.Prelude.{◌≡◌, ℕ, ◌+◌, ◌-◌, ◌<◌, ◌≤◌, [], ◌∷◌, length, take, drop, min, slice_range, Some, IfOk, IfErr, OnOk, OnErr, MatchOption};
+ghost use Rattle.bcder.specs.Cause.{cause_of, position_of, of_content, MatchCause};
 ghost use Rattle.bcder.specs.Stream.{Stream, IsSound, Grew, Provides, pos_after, borrowed};
 ghost use Rattle.bcder.specs.laws.Limits.{borrowed_sound};
 
@@ -23,17 +23,31 @@ pub use slice::SliceSource;
 use std::alloc::Global;
 use std::error::Error;
 
-/// Where octets come from. Each implementation keeps the laws that the clauses state.
+/// Where octets come from.
+///
+/// A source is the list of the octets to come, its rest. Some front of the rest is available: it
+/// can be looked at by `slice`, kept by `bytes` and passed over by `advance`. `request` makes more
+/// of it available, and is the one call that can fail.
+///
+/// The clauses are the laws that each implementation keeps: those of the five calls without a
+/// body, and that the rest is octets, fewer than `2^64` of them, of which those that are available
+/// are a front. The calls with a body follow from these and can't be replaced.
 pub trait Source {
+    /// Why a request failed.
     type Error: Error;
 
-    /// What the source is to the clauses: the octets to come, and what is known of them.
+    /// What the source is to the clauses: the octets to come, how many of them are available, how
+    /// often a request failed, the position, and what no call changes.
     ghost stream: { Self → Stream };
 
+    /// The position of the first octet to come, for messages.
     fn pos(&self) -> Pos
         ensures { result ≡ (stream self.now).position };
 
-    /// Makes `len` octets available, or all that are left, and says how many are.
+    /// Makes at least `len` octets available, or all that are left where these are fewer, and says
+    /// how many are.
+    ///
+    /// A failed request leaves the rest as it was, and at least as much of it available.
     fn request(&mut self, len: usize) -> Result<usize, Self::Error>
         ensures ok { IfOk result (λ k. Provides len k (stream self.new)) }
         ensures no_fault { OnOk result ((stream self.new).faults ≡ (stream self.old).faults) }
@@ -43,16 +57,21 @@ pub trait Source {
         ensures position { (stream self.new).position ≡ (stream self.old).position }
         ensures kept { (stream self.new).kept ≡ (stream self.old).kept };
 
-    /// The octets that are available, perhaps more than `request` said.
+    /// The octets that are available, a front of the rest. There may be more of them than the last
+    /// request said.
     fn slice(&self) -> &[u8]
         ensures front { take (length result.now) (stream self.now).rest ≡ result.now }
         ensures enough { (stream self.now).avail ≤ length result.now };
 
+    /// The available octets from `start` to before `end`, as a value of their own.
+    ///
+    /// It answers `NoMemory` where there is no memory for them.
     fn bytes(&self, alloc: Global, start: usize, end: usize) -> Result<Bytes, NoMemory>
         requires start_le_end { start ≤ end }
         requires in_bounds { end ≤ (stream self.now).avail }
         ensures { IfOk result (λ b. b ≡ slice_range (stream self.now).rest start end) };
 
+    /// Passes over the first `len` octets, which have to be available.
     fn advance(&mut self, len: usize)
         requires { len ≤ (stream self.old).avail }
         ensures rest { (stream self.new).rest ≡ drop len (stream self.old).rest }
@@ -60,9 +79,11 @@ pub trait Source {
         ensures faults { (stream self.new).faults ≡ (stream self.old).faults }
         ensures kept { (stream self.new).kept ≡ (stream self.old).kept };
 
+    /// The rest is octets, and those that are available are a front of it.
     ghost sound: { (x : Self) → IsSound (stream x) };
 
-    /// Passes over `len` octets, or over all that are left, and says how many.
+    /// Passes over `len` octets, or over all that are left where these are fewer, and says over how
+    /// many. An error passes over none.
     final fn skip(&mut self, len: usize) -> Result<usize, Self::Error>
     where
         Self: Sized,
@@ -79,7 +100,7 @@ pub trait Source {
         Ok(found)
     }
 
-    /// Takes an octet. At the end it refuses.
+    /// Takes the next octet. It refuses at the end, where there is none; an error takes none.
     final fn take_u8(&mut self) -> Result<u8, DecodeError<Self::Error>>
     where
         Self: Sized,
@@ -102,7 +123,7 @@ pub trait Source {
         Ok(octet)
     }
 
-    /// Takes an octet, or answers `None` at the end.
+    /// Takes the next octet, or answers `None` at the end. An error takes none.
     final fn take_opt_u8(&mut self) -> Result<Option<u8>, Self::Error>
     where
         Self: Sized,
@@ -123,16 +144,18 @@ pub trait Source {
         Ok(Some(octet))
     }
 
-    /// A refusal of content at the present position.
+    /// The refusal of content for that reason, at the present position.
     final fn content_err(&self, error: ContentError) -> DecodeError<Self::Error>
     where
         Self: Sized,
-        ensures { cause_of result ≡ of_content error }
+        ensures cause { cause_of result ≡ of_content error }
+        ensures position { position_of result ≡ Some (stream self.now).position }
     {
         DecodeError::content(error, self.pos())
     }
 }
 
+/// A borrowed source is the source itself, and gives the borrow back when it ends.
 impl<T: Source> Source for &mut T {
     type Error = T::Error;
 
@@ -152,6 +175,9 @@ impl<T: Source> Source for &mut T {
         T::slice(&**self)
     }
 
+    /// The available octets from `start` to before `end`, as a value of their own.
+    ///
+    /// It answers `NoMemory` where there is no memory for them.
     fn bytes(&self, alloc: Global, start: usize, end: usize) -> Result<Bytes, NoMemory> {
         T::bytes(&**self, alloc, start, end)
     }

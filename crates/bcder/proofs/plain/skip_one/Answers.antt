@@ -1,6 +1,6 @@
 use Rattle.std.proofs.Common.{arith}
 use Rattle.bcder.specs.Identifier.{AreOctets}
-use Rattle.bcder.proofs.Skip.{if_found, if_nothing_found, if_listed, if_no_marker}
+use Rattle.bcder.proofs.Skip.{if_found, if_nothing_found}
 use Rattle.bcder.proofs.plain.skip_one.Goals as goal
 
 pub returns-clause-found : goal.returns-clause-found
@@ -10,13 +10,3 @@ returns-clause-found c =
 
 pub returns-clause-none : goal.returns-clause-none
 returns-clause-none c = if_nothing_found c.value_at.result (λ r. r.now) c.args.mode c.args.octets.now c.value_at.ensures.read
-
-pub returns-clause-list : goal.returns-clause-list
-returns-clause-list c =
-    let o : AreOctets c.args.octets.now = λ i. omega (arith, c.type_inv.octets i) in
-    if_listed c.value_at.result (λ r. r.now) c.args.mode c.args.octets.now o c.value_at.ensures.read
-
-pub returns-clause-marker : goal.returns-clause-marker
-returns-clause-marker c =
-    let o : AreOctets c.args.octets.now = λ i. omega (arith, c.type_inv.octets i) in
-    if_no_marker c.value_at.result (λ r. r.now) c.args.mode c.args.octets.now o c.value_at.ensures.read

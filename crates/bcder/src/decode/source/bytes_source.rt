@@ -1,6 +1,7 @@
-// A source over shared octets.
-ghost use Rattle.std.specs.Prelude.{◌≡◌, true, ℕ, ◌+◌, ◌-◌, ◌^◌, ◌<◌, ◌≤◌, [], ◌==◌, length, take, drop, slice_range, IfOk, OnOk, OnErr};
+//! A source over shared octets.
+ghost use Rattle.std.specs.Prelude.{◌≡◌, true, ℕ, ◌+◌, ◌-◌, ◌^◌, ◌<◌, ◌≤◌, [], ◌↔◌, IsTrue, length, take, drop, slice_range, IfOk, OnOk, OnErr};
 ghost use Rattle.bcder.specs.Identifier.{AreOctets};
+ghost use Rattle.bcder.specs.Stream.{pos_after};
 
 use super::{Pos, Source};
 use crate::NoMemory;
@@ -16,6 +17,8 @@ fn see_octets(octets: &[u8])
     let _count = octets.len();
 }
 
+/// A source over shared octets, all of which are available. It never fails, and `bytes` shares the
+/// octets.
 #[derive(Debug, Drop)]
 pub struct BytesSource {
     octets: Bytes,
@@ -24,10 +27,13 @@ pub struct BytesSource {
     ghost fit: { length octets < 2 ^ 64 },
 }
 
+/// The clone has the same octets at the same position.
 impl Clone for BytesSource {
-    fn clone(&self) -> Result<BytesSource, AllocError>
-        ensures { IfOk result (λ s. s.octets ≡ self.now.octets) }
-    {
+    ghost use Rattle.bcder.specs.Sources.{shared_rest, shared_start};
+
+    ghost is_clone = { λ s t. (shared_rest t ≡ shared_rest s) × (shared_start t ≡ shared_start s) };
+
+    fn clone(&self) -> Result<BytesSource, AllocError> {
         Ok(BytesSource {
             octets: self.octets.clone()?,
             pos: self.pos,
@@ -36,16 +42,20 @@ impl Clone for BytesSource {
 }
 
 impl BytesSource {
+    ghost use Rattle.bcder.specs.Sources.{shared_rest, shared_start};
+
+    /// A source over `octets`, at position 0.
     pub fn new(octets: Bytes) -> BytesSource
-        ensures octets { result.octets ≡ octets }
-        ensures start { result.pos ≡ 0 }
+        ensures octets { shared_rest result ≡ octets }
+        ensures start { shared_start result ≡ 0 }
     {
         BytesSource::with_offset(octets, Pos::default())
     }
 
+    /// A source over `octets`, at position `offset`.
     pub fn with_offset(octets: Bytes, offset: Pos) -> BytesSource
-        ensures octets { result.octets ≡ octets }
-        ensures start { result.pos ≡ offset }
+        ensures octets { shared_rest result ≡ octets }
+        ensures start { shared_start result ≡ offset }
     {
         see_octets(octets.as_slice());
         BytesSource {
@@ -54,22 +64,28 @@ impl BytesSource {
         }
     }
 
+    /// How many octets are left.
     pub fn len(&self) -> usize
-        ensures { result ≡ length self.now.octets }
+        ensures { result ≡ length (shared_rest self.now) }
     {
         self.octets.len()
     }
 
+    /// Whether no octets are left.
     pub fn is_empty(&self) -> bool
-        ensures { result ≡ (length self.now.octets == 0) }
+        ensures { IsTrue result ↔ (shared_rest self.now ≡ []) }
     {
         self.octets.is_empty()
     }
 
+    /// Takes the first `len` octets, of which there have to be as many, and answers them, shared.
+    ///
+    /// Where there is no memory to share them, the source is as it was.
     pub fn split_to(&mut self, len: usize) -> Result<Bytes, NoMemory>
-        requires { len ≤ length self.old.octets }
-        ensures front { IfOk result (λ b. b ≡ take len self.old.octets) }
-        ensures rest { OnOk result (self.new.octets ≡ drop len self.old.octets) }
+        requires { len ≤ length (shared_rest self.old) }
+        ensures front { IfOk result (λ b. b ≡ take len (shared_rest self.old)) }
+        ensures rest { OnOk result (shared_rest self.new ≡ drop len (shared_rest self.old)) }
+        ensures position { OnOk result (shared_start self.new ≡ pos_after (shared_start self.old) len) }
         ensures err { OnErr result (self.new ≡ self.old) }
     {
         let front = self.octets.split_to(len)?;
@@ -77,13 +93,15 @@ impl BytesSource {
         Ok(front)
     }
 
+    /// The octets that are left.
     pub fn into_bytes(self) -> Bytes
-        ensures { result ≡ self.octets }
+        ensures { result ≡ shared_rest self }
     {
         self.octets
     }
 }
 
+/// The rest is the octets that are left.
 impl Source for BytesSource {
     type Error = Infallible;
 

@@ -1,6 +1,7 @@
-// A source that keeps what is passed over.
+//! A source that can give back what is passed over.
 ghost use Rattle.std.specs.Prelude.{◌≡◌, true, ◌&&◌, nat_le, ℕ, ◌+◌, ◌-◌, ◌^◌, ◌<◌, ◌≤◌, List, [], ◌∷◌, ◌++◌, length, take, drop, slice_range, IfOk, IfErr, OnOk, OnErr};
-ghost use Rattle.bcder.specs.Stream.{ahead};
+ghost use Rattle.bcder.specs.Sources.{behind, passed, borrow_of, capturing};
+ghost use Rattle.bcder.specs.Stream.{Grew, Provides};
 ghost use Rattle.bcder.specs.laws.Limits.{ahead_sound};
 
 use super::{Pos, Source};
@@ -8,7 +9,30 @@ use crate::NoMemory;
 use bytes::Bytes;
 use std::alloc::Global;
 
-// A view of a borrowed source that begins `pos` octets into it.
+// Takes the first `len` octets, which are available, or leaves the source as it was.
+pub(super) fn take_front<S: Source>(
+    source: &mut S,
+    alloc: Global,
+    len: usize,
+) -> Result<Bytes, NoMemory>
+    requires { len ≤ (S.stream source.old).avail }
+    ensures value { IfOk result (λ b. b ≡ take len (S.stream source.old).rest) }
+    ensures rest { IfOk result (λ b. b ++ (S.stream source.new).rest ≡ (S.stream source.old).rest) }
+    ensures ok { OnOk result ((S.stream source.new).rest ≡ drop len (S.stream source.old).rest) }
+    ensures err { OnErr result (source.new ≡ source.old) }
+    ensures faults { (S.stream source.new).faults ≡ (S.stream source.old).faults }
+    ensures kept { (S.stream source.new).kept ≡ (S.stream source.old).kept }
+{
+    let taken = source.bytes(alloc, 0, len)?;
+    source.advance(len);
+    Ok(taken)
+}
+
+/// A source that captures what is passed over.
+///
+/// It borrows another source and gives that one's octets. What it passes over stays in the borrowed
+/// source, which only [`into_bytes`](Self::into_bytes) and [`skip`](Self::skip) advance. Where it is
+/// let go otherwise, the borrowed source has all its octets.
 #[derive(Drop)]
 pub struct CaptureSource<'a, S> {
     source: &'a mut S,
@@ -16,100 +40,105 @@ pub struct CaptureSource<'a, S> {
 }
 
 impl<'a, S: Source> CaptureSource<'a, S> {
+    /// A capturing source over `source`, which has passed over nothing.
     pub fn new(source: &'a mut S) -> CaptureSource<'a, S>
-        ensures same_reference { result.source.ghost_name ≡ source.entry.ghost_name }
-        ensures source { result.source.now ≡ source.old }
-        ensures pos { result.pos ≡ 0 }
+        ensures same_reference { borrow_of result ≡ source.entry.ghost_name }
+        ensures source { behind result ≡ source.old }
+        ensures pos { passed result ≡ 0 }
     {
         CaptureSource { source, pos: 0 }
     }
 
-    // The octets that were passed over, which leave the source, or the source as it was; and the source.
-    pub fn into_bytes(self, alloc: Global) -> (Result<Bytes, NoMemory>, &'a mut S)
-        requires { self.pos ≤ (S.stream self.source.now).avail }
-        ensures same_reference { result.1.ghost_name ≡ self.entry.source.ghost_name }
-        ensures value { IfOk result.0 (λ b. b ≡ take self.entry.pos ((S.stream self.entry.source.now).rest)) }
-        ensures rest { IfOk result.0 (λ b. b ++ (S.stream result.1.now).rest ≡ (S.stream self.entry.source.now).rest) }
-        ensures ok { OnOk result.0 ((S.stream result.1.now).rest ≡ drop self.entry.pos ((S.stream self.entry.source.now).rest)) }
-        ensures err { OnErr result.0 ((S.stream result.1.now).rest ≡ (S.stream self.entry.source.now).rest) }
-        ensures faults { (S.stream result.1.now).faults ≡ (S.stream self.entry.source.now).faults }
-        ensures kept { (S.stream result.1.now).kept ≡ (S.stream self.entry.source.now).kept }
+    /// The octets that were passed over. They leave the borrowed source.
+    ///
+    /// They have to be available there, as they are after a request and the calls of `advance` that
+    /// it allows. Where there is no memory for them, the borrowed source is as it was.
+    pub fn into_bytes(self, alloc: Global) -> Result<Bytes, NoMemory>
+        requires { passed self ≤ (S.stream (behind self)).avail }
+        ensures value { IfOk result
+            (λ b. b ≡ take (passed self.entry) (S.stream (behind self.entry)).rest) }
+        ensures rest { IfOk result
+            (λ b. b ++ (S.stream self.exit.0.now).rest ≡ (S.stream (behind self.entry)).rest) }
+        ensures ok { OnOk result
+            ((S.stream self.exit.0.now).rest
+            ≡ drop (passed self.entry) (S.stream (behind self.entry)).rest) }
+        ensures err { OnErr result (self.exit.0.now ≡ behind self.entry) }
+        ensures faults { (S.stream self.exit.0.now).faults ≡ (S.stream (behind self.entry)).faults }
+        ensures kept { (S.stream self.exit.0.now).kept ≡ (S.stream (behind self.entry)).kept }
     {
         let CaptureSource { source, pos } = self;
-        match source.bytes(alloc, 0, pos) {
-            Ok(taken) => {
-                source.advance(pos);
-                (Ok(taken), source)
-            }
-            Err(error) => (Err(error), source),
-        }
+        take_front(source, alloc, pos)
     }
 
-    // The form of the crate.
-    pub fn into_bytes_alone(self, alloc: Global) -> Result<Bytes, NoMemory>
-        requires { self.pos ≤ (S.stream self.source.now).avail }
-        ensures value { IfOk result (λ b. b ≡ take self.entry.pos ((S.stream self.entry.source.now).rest)) }
-        ensures rest { IfOk result (λ b. b ++ (S.stream self.exit.0.now).rest ≡ (S.stream self.entry.source.now).rest) }
-        ensures ok { OnOk result ((S.stream self.exit.0.now).rest ≡ drop self.entry.pos ((S.stream self.entry.source.now).rest)) }
-        ensures err { OnErr result ((S.stream self.exit.0.now).rest ≡ (S.stream self.entry.source.now).rest) }
-        ensures faults { (S.stream self.exit.0.now).faults ≡ (S.stream self.entry.source.now).faults }
-        ensures kept { (S.stream self.exit.0.now).kept ≡ (S.stream self.entry.source.now).kept }
-    {
-        let CaptureSource { source, pos } = self;
-        let taken = source.bytes(alloc, 0, pos)?;
-        source.advance(pos);
-        Ok(taken)
-    }
-
-    pub fn skip_alone(self)
-        requires { self.pos ≤ (S.stream self.source.now).avail }
-        ensures rest { (S.stream self.exit.0.now).rest ≡ drop self.entry.pos ((S.stream self.entry.source.now).rest) }
-        ensures faults { (S.stream self.exit.0.now).faults ≡ (S.stream self.entry.source.now).faults }
-        ensures kept { (S.stream self.exit.0.now).kept ≡ (S.stream self.entry.source.now).kept }
+    /// Drops the octets that were passed over: the borrowed source passes over them too.
+    ///
+    /// They have to be available there.
+    pub fn skip(self)
+        requires { passed self ≤ (S.stream (behind self)).avail }
+        ensures rest { (S.stream self.exit.0.now).rest
+            ≡ drop (passed self.entry) (S.stream (behind self.entry)).rest }
+        ensures faults { (S.stream self.exit.0.now).faults ≡ (S.stream (behind self.entry)).faults }
+        ensures kept { (S.stream self.exit.0.now).kept ≡ (S.stream (behind self.entry)).kept }
     {
         let CaptureSource { source, pos } = self;
         source.advance(pos);
     }
 
-    // Passes over those octets in the source, and gives it back.
-    pub fn skip(self) -> &'a mut S
-        requires { self.pos ≤ (S.stream self.source.now).avail }
-        ensures same_reference { result.ghost_name ≡ self.entry.source.ghost_name }
-        ensures rest { (S.stream result.now).rest ≡ drop self.entry.pos ((S.stream self.entry.source.now).rest) }
-        ensures faults { (S.stream result.now).faults ≡ (S.stream self.entry.source.now).faults }
-        ensures kept { (S.stream result.now).kept ≡ (S.stream self.entry.source.now).kept }
+    // As `into_bytes`, and the borrow, so that a caller knows what is behind it where `self` came
+    // out of another value.
+    pub(crate) fn into_bytes_and_source(self, alloc: Global) -> (Result<Bytes, NoMemory>, &'a mut S)
+        requires { passed self ≤ (S.stream (behind self)).avail }
+        ensures same_reference { result.1.ghost_name ≡ borrow_of self.entry }
+        ensures value { IfOk result.0
+            (λ b. b ≡ take (passed self.entry) (S.stream (behind self.entry)).rest) }
+        ensures rest { IfOk result.0
+            (λ b. b ++ (S.stream result.1.now).rest ≡ (S.stream (behind self.entry)).rest) }
+        ensures ok { OnOk result.0
+            ((S.stream result.1.now).rest
+            ≡ drop (passed self.entry) (S.stream (behind self.entry)).rest) }
+        ensures err { OnErr result.0 (result.1.now ≡ behind self.entry) }
+        ensures faults { (S.stream result.1.now).faults ≡ (S.stream (behind self.entry)).faults }
+        ensures kept { (S.stream result.1.now).kept ≡ (S.stream (behind self.entry)).kept }
     {
         let CaptureSource { source, pos } = self;
-        source.advance(pos);
-        source
+        let taken = take_front(source, alloc, pos);
+        (taken, source)
     }
 
-    // Asks for the octets that were passed over once more.
-    pub fn settle(&mut self) -> Result<(), S::Error>
-        requires { self.old.pos ≤ length ((S.stream self.old.source.now).rest) }
-        ensures ok { OnOk result (self.new.pos ≤ (S.stream self.new.source.now).avail) }
-        ensures pos { self.new.pos ≡ self.old.pos }
-        ensures same_reference { self.new.source.ghost_name ≡ self.old.source.ghost_name }
-        ensures rest { (S.stream self.new.source.now).rest ≡ (S.stream self.old.source.now).rest }
-        ensures kept { (S.stream self.new.source.now).kept ≡ (S.stream self.old.source.now).kept }
+    // Makes the octets that were passed over available once more.
+    pub(crate) fn settle(&mut self) -> Result<(), S::Error>
+        requires { passed self.old ≤ length (S.stream (behind self.old)).rest }
+        ensures ok { OnOk result (passed self.new ≤ (S.stream (behind self.new)).avail) }
+        ensures no_fault { OnOk result
+            ((S.stream (behind self.new)).faults ≡ (S.stream (behind self.old)).faults) }
+        ensures fault { OnErr result
+            (Grew (S.stream (behind self.old)).faults (S.stream (behind self.new)).faults) }
+        ensures pos { passed self.new ≡ passed self.old }
+        ensures same_reference { borrow_of self.new ≡ borrow_of self.old }
+        ensures rest { (S.stream (behind self.new)).rest ≡ (S.stream (behind self.old)).rest }
+        ensures kept { (S.stream (behind self.new)).kept ≡ (S.stream (behind self.old)).kept }
     {
         self.source.request(self.pos)?;
         Ok(())
     }
 
-    // The source as it is, at the place where the view began.
-    pub fn into_source(self) -> &'a mut S
-        ensures same_reference { result.ghost_name ≡ self.entry.source.ghost_name }
-        ensures value { result.now ≡ self.entry.source.now }
+    // The borrowed source as it is, with all its octets.
+    pub(crate) fn into_source(self) -> &'a mut S
+        ensures same_reference { result.ghost_name ≡ borrow_of self.entry }
+        ensures value { result.now ≡ behind self.entry }
     {
         self.source
     }
 }
 
+/// The rest is what follows the octets that were passed over.
+///
+/// The laws hold in every state, also where fewer octets are available in the borrowed source than
+/// were passed over: then none are here.
 impl<'a, S: Source> Source for CaptureSource<'a, S> {
     type Error = S::Error;
 
-    ghost stream = { λ s. ahead s.source.ghost_name s.pos (S.stream s.source.now) };
+    ghost stream = { capturing S.stream };
 
     ghost sound = { λ s. ahead_sound s.source.ghost_name s.pos (S.stream s.source.now) (S.sound s.source.now) };
 
@@ -117,7 +146,24 @@ impl<'a, S: Source> Source for CaptureSource<'a, S> {
         self.source.pos() + Pos::from(self.pos)
     }
 
-    fn request(&mut self, len: usize) -> Result<usize, S::Error> {
+    /// As for every source. What was passed over stays, and is available in the borrowed source
+    /// once a request has succeeded, so that [`into_bytes`](Self::into_bytes) may be called.
+    fn request(&mut self, len: usize) -> Result<usize, S::Error>
+        ensures ok { IfOk result (λ k. Provides len k (capturing S.stream self.new)) }
+        ensures no_fault { OnOk result
+            ((capturing S.stream self.new).faults ≡ (capturing S.stream self.old).faults) }
+        ensures fault { OnErr result
+            (Grew (capturing S.stream self.old).faults (capturing S.stream self.new).faults) }
+        ensures no_fewer { OnErr result
+            ((capturing S.stream self.old).avail ≤ (capturing S.stream self.new).avail) }
+        ensures rest { (capturing S.stream self.new).rest ≡ (capturing S.stream self.old).rest }
+        ensures position { (capturing S.stream self.new).position ≡ (capturing S.stream self.old).position }
+        ensures kept { (capturing S.stream self.new).kept ≡ (capturing S.stream self.old).kept }
+        ensures pos { passed self.new ≡ passed self.old }
+        ensures at_hand { OnOk result
+            (passed self.old ≤ length (S.stream (behind self.old)).rest
+            → passed self.new ≤ (S.stream (behind self.new)).avail) }
+    {
         let found = self.source.request(self.pos.saturating_add(len))?;
         Ok(found.saturating_sub(self.pos))
     }
@@ -134,7 +180,16 @@ impl<'a, S: Source> Source for CaptureSource<'a, S> {
         self.source.bytes(alloc, self.pos + start, self.pos + end)
     }
 
-    fn advance(&mut self, len: usize) {
+    /// As for every source. The borrowed source stays as it is.
+    fn advance(&mut self, len: usize)
+        requires { len ≤ (capturing S.stream self.old).avail }
+        ensures rest { (capturing S.stream self.new).rest ≡ drop len (capturing S.stream self.old).rest }
+        ensures avail { (capturing S.stream self.new).avail + len ≡ (capturing S.stream self.old).avail }
+        ensures faults { (capturing S.stream self.new).faults ≡ (capturing S.stream self.old).faults }
+        ensures kept { (capturing S.stream self.new).kept ≡ (capturing S.stream self.old).kept }
+        ensures pos { passed self.new ≡ passed self.old + len }
+        ensures source { behind self.new ≡ behind self.old }
+    {
         self.pos += len;
     }
 }

@@ -1,9 +1,11 @@
-// A source that is cut at a limit.
+//! A source that is cut at a limit.
 ghost use Rattle.std.specs.Prelude.{◌≡◌, true, ℕ, ◌+◌, ◌-◌, ◌^◌, ◌<◌, ◌≤◌, List, [], ◌∷◌, ◌++◌, length, take, drop, slice_range, Some, None, IsSome, IfOk, IfErr, OnOk, OnErr};
 ghost use Rattle.bcder.specs.Cause.{cause_of, MatchCause};
-ghost use Rattle.bcder.specs.Stream.{Grew, limited, IsNoLooser, IsUsedUp, limit_or};
+ghost use Rattle.bcder.specs.Sources.{wrapped, limit_of, owed};
+ghost use Rattle.bcder.specs.Stream.{Grew, limited, IsNoLooser, IsUsedUp};
 ghost use Rattle.bcder.specs.laws.Limits.{limited_sound};
 
+use super::capture::take_front;
 use super::{Pos, Source};
 use crate::NoMemory;
 use crate::decode::error::{ContentError, DecodeError};
@@ -11,6 +13,10 @@ use bytes::Bytes;
 use std::alloc::Global;
 use std::mem;
 
+/// A source up to a limit: the front of the wrapped source's rest with at most that many octets.
+///
+/// The limit counts the octets that may still be taken, so it falls by each that is passed over.
+/// Without a limit it is the wrapped source itself.
 #[derive(Clone, Debug, Drop)]
 pub struct LimitedSource<S> {
     source: S,
@@ -18,9 +24,10 @@ pub struct LimitedSource<S> {
 }
 
 impl<S> LimitedSource<S> {
+    /// The source without a limit.
     pub fn new(source: S) -> LimitedSource<S>
-        ensures source { result.source ≡ source }
-        ensures limit { result.limit ≡ None }
+        ensures source { wrapped result ≡ source }
+        ensures limit { limit_of result ≡ None }
     {
         LimitedSource {
             source,
@@ -28,50 +35,62 @@ impl<S> LimitedSource<S> {
         }
     }
 
+    /// The wrapped source.
     pub fn unwrap(self) -> S
-        ensures { result ≡ self.source }
+        ensures { result ≡ wrapped self }
     {
         self.source
     }
 
+    /// How many octets may still be taken, or `None` without a limit.
     pub fn limit(&self) -> Option<usize>
-        ensures { result ≡ self.now.limit }
+        ensures { result ≡ limit_of self.now }
     {
         self.limit
     }
 
+    /// Sets a limit that isn't larger than the one there is, and answers that one.
+    ///
+    /// A limit can't be removed by it. [`set_limit`](Self::set_limit) sets any.
     pub fn limit_further(&mut self, limit: Option<usize>) -> Option<usize>
-        requires { IsNoLooser limit self.old.limit }
-        ensures old { result ≡ self.old.limit }
-        ensures limit { self.new.limit ≡ limit }
-        ensures source { self.new.source ≡ self.old.source }
+        requires { IsNoLooser limit (limit_of self.old) }
+        ensures old { result ≡ limit_of self.old }
+        ensures limit { limit_of self.new ≡ limit }
+        ensures source { wrapped self.new ≡ wrapped self.old }
     {
         mem::replace(&mut self.limit, limit)
     }
 
+    /// Sets a limit, or removes the one there is.
     pub fn set_limit(&mut self, limit: Option<usize>)
-        ensures limit { self.new.limit ≡ limit }
-        ensures source { self.new.source ≡ self.old.source }
+        ensures limit { limit_of self.new ≡ limit }
+        ensures source { wrapped self.new ≡ wrapped self.old }
     {
         self.limit = limit;
     }
 }
 
 impl<S: Source> LimitedSource<S> {
-    // Passes over all octets up to the limit.
+    /// Passes over all octets up to the limit, of which there has to be one.
+    ///
+    /// It refuses where the wrapped source ends before the limit; an error passes over none.
     pub fn skip_all(&mut self) -> Result<(), DecodeError<S::Error>>
-        requires { IsSome self.old.limit }
-        ensures enough { OnOk result (limit_or self.old.limit 0 ≤ length ((S.stream self.old.source).rest)) }
-        ensures limit { OnOk result (self.new.limit ≡ Some 0) }
-        ensures rest { OnOk result ((S.stream self.new.source).rest ≡ drop (limit_or self.old.limit 0) ((S.stream self.old.source).rest)) }
-        ensures no_fault { OnOk result ((S.stream self.new.source).faults ≡ (S.stream self.old.source).faults) }
+        requires { IsSome (limit_of self.old) }
+        ensures enough { OnOk result (owed self.old ≤ length (S.stream (wrapped self.old)).rest) }
+        ensures limit { OnOk result (limit_of self.new ≡ Some 0) }
+        ensures rest { OnOk result
+            ((S.stream (wrapped self.new)).rest
+            ≡ drop (owed self.old) (S.stream (wrapped self.old)).rest) }
+        ensures no_fault { OnOk result
+            ((S.stream (wrapped self.new)).faults ≡ (S.stream (wrapped self.old)).faults) }
         ensures cause { IfErr result (λ e. MatchCause (cause_of e)
-            (Grew ((S.stream self.old.source).faults) ((S.stream self.new.source).faults))
-            (length ((S.stream self.old.source).rest) < limit_or self.old.limit 0)
+            (Grew (S.stream (wrapped self.old)).faults (S.stream (wrapped self.new)).faults)
+            (length (S.stream (wrapped self.old)).rest < owed self.old)
             ⊥) }
-        ensures err { OnErr result ((S.stream self.new.source).rest ≡ (S.stream self.old.source).rest) }
-        ensures err_limit { OnErr result (self.new.limit ≡ self.old.limit) }
-        ensures kept { (S.stream self.new.source).kept ≡ (S.stream self.old.source).kept }
+        ensures err { OnErr result
+            ((S.stream (wrapped self.new)).rest ≡ (S.stream (wrapped self.old)).rest) }
+        ensures err_limit { OnErr result (limit_of self.new ≡ limit_of self.old) }
+        ensures kept { (S.stream (wrapped self.new)).kept ≡ (S.stream (wrapped self.old)).kept }
     {
         let limit = self.limit.unwrap();
         if self.source.request(limit)? < limit {
@@ -82,44 +101,52 @@ impl<S: Source> LimitedSource<S> {
         Ok(())
     }
 
-    // Takes all octets up to the limit.
+    /// Takes all octets up to the limit, of which there has to be one.
+    ///
+    /// It refuses where the wrapped source ends before the limit; an error takes none, as does
+    /// want of memory.
     pub fn take_all(&mut self, alloc: Global) -> Result<Bytes, DecodeError<S::Error>>
-        requires { IsSome self.old.limit }
-        ensures value { IfOk result (λ b. b ++ (S.stream self.new.source).rest ≡ (S.stream self.old.source).rest) }
-        ensures count { IfOk result (λ b. length b ≡ limit_or self.old.limit 0) }
-        ensures limit { OnOk result (self.new.limit ≡ Some 0) }
+        requires { IsSome (limit_of self.old) }
+        ensures value { IfOk result
+            (λ b. b ++ (S.stream (wrapped self.new)).rest ≡ (S.stream (wrapped self.old)).rest) }
+        ensures count { IfOk result (λ b. length b ≡ owed self.old) }
+        ensures limit { OnOk result (limit_of self.new ≡ Some 0) }
+        ensures no_fault { OnOk result
+            ((S.stream (wrapped self.new)).faults ≡ (S.stream (wrapped self.old)).faults) }
         ensures cause { IfErr result (λ e. MatchCause (cause_of e)
-            (Grew ((S.stream self.old.source).faults) ((S.stream self.new.source).faults))
-            (length ((S.stream self.old.source).rest) < limit_or self.old.limit 0)
-            (limit_or self.old.limit 0 ≤ length ((S.stream self.old.source).rest))) }
-        ensures err { OnErr result ((S.stream self.new.source).rest ≡ (S.stream self.old.source).rest) }
-        ensures err_limit { OnErr result (self.new.limit ≡ self.old.limit) }
-        ensures kept { (S.stream self.new.source).kept ≡ (S.stream self.old.source).kept }
+            (Grew (S.stream (wrapped self.old)).faults (S.stream (wrapped self.new)).faults)
+            (length (S.stream (wrapped self.old)).rest < owed self.old)
+            (owed self.old ≤ length (S.stream (wrapped self.old)).rest)) }
+        ensures err { OnErr result
+            ((S.stream (wrapped self.new)).rest ≡ (S.stream (wrapped self.old)).rest) }
+        ensures err_limit { OnErr result (limit_of self.new ≡ limit_of self.old) }
+        ensures kept { (S.stream (wrapped self.new)).kept ≡ (S.stream (wrapped self.old)).kept }
     {
         let limit = self.limit.unwrap();
         if self.source.request(limit)? < limit {
             return Err(self.content_err(ContentError::Static("unexpected end of data")));
         }
-        let taken = match self.source.bytes(alloc, 0, limit) {
+        let taken = match take_front(&mut self.source, alloc, limit) {
             Ok(taken) => taken,
             Err(_) => return Err(DecodeError::no_memory()),
         };
-        self.source.advance(limit);
         self.limit = Some(0);
         Ok(taken)
     }
 
-    // Whether nothing is left: no octet of the limit, or without one no octet at all.
+    /// Refuses where octets are left: where the limit isn't 0, or without a limit where the wrapped
+    /// source isn't at its end.
     pub fn exhausted(&mut self) -> Result<(), DecodeError<S::Error>>
-        ensures ok { OnOk result (IsUsedUp self.old.limit ((S.stream self.old.source).rest)) }
-        ensures no_fault { OnOk result ((S.stream self.new.source).faults ≡ (S.stream self.old.source).faults) }
+        ensures ok { OnOk result (IsUsedUp (limit_of self.old) (S.stream (wrapped self.old)).rest) }
+        ensures no_fault { OnOk result
+            ((S.stream (wrapped self.new)).faults ≡ (S.stream (wrapped self.old)).faults) }
         ensures cause { IfErr result (λ e. MatchCause (cause_of e)
-            (Grew ((S.stream self.old.source).faults) ((S.stream self.new.source).faults))
-            (¬ IsUsedUp self.old.limit ((S.stream self.old.source).rest))
+            (Grew (S.stream (wrapped self.old)).faults (S.stream (wrapped self.new)).faults)
+            (¬ IsUsedUp (limit_of self.old) (S.stream (wrapped self.old)).rest)
             ⊥) }
-        ensures limit { self.new.limit ≡ self.old.limit }
-        ensures rest { (S.stream self.new.source).rest ≡ (S.stream self.old.source).rest }
-        ensures kept { (S.stream self.new.source).kept ≡ (S.stream self.old.source).kept }
+        ensures limit { limit_of self.new ≡ limit_of self.old }
+        ensures rest { (S.stream (wrapped self.new)).rest ≡ (S.stream (wrapped self.old)).rest }
+        ensures kept { (S.stream (wrapped self.new)).kept ≡ (S.stream (wrapped self.old)).kept }
     {
         match self.limit {
             Some(0) => Ok(()),
@@ -135,6 +162,7 @@ impl<S: Source> LimitedSource<S> {
     }
 }
 
+/// The rest is the front of the wrapped rest up to the limit.
 impl<S: Source> Source for LimitedSource<S> {
     type Error = S::Error;
 

@@ -1,4 +1,4 @@
-//! Positions in a source.
+//! Positions in sources.
 ghost use Rattle.std.specs.Prelude.{◌≡◌, ℕ};
 ghost use Rattle.bcder.specs.Stream.{pos_after};
 
@@ -6,8 +6,10 @@ use std::fmt;
 use std::marker::Model;
 use std::ops::Add;
 
-/// A position in a source, counted in octets from where the outermost source began. It serves
-/// messages alone.
+/// A position in a source: how many octets lie before it, counted from where the innermost source
+/// began or from the offset that this was given.
+///
+/// It serves messages alone, since it stops at `usize::MAX`.
 #[derive(Clone, Copy, Debug, Default)]
 pub struct Pos(usize);
 
@@ -27,7 +29,7 @@ impl From<usize> for Pos {
     }
 }
 
-/// The sum, or the last position where there is none.
+/// The position so much further on, or `usize::MAX` where that is less.
 impl Add for Pos {
     type Output = Pos;
 
@@ -39,6 +41,11 @@ impl Add for Pos {
 }
 
 impl fmt::Display for Pos {
+    ghost use Rattle.std.specs.Prelude.{Some};
+    ghost use Rattle.std.specs.Fmt.{decimal};
+
+    ghost output = { λ p. Some (decimal p) };
+
     fn fmt<W: fmt::Write>(&self, f: &mut fmt::Formatter<W>) -> fmt::Result {
         write!(f, "{}", self.0)
     }

@@ -1,6 +1,7 @@
-// A source over a slice.
-ghost use Rattle.std.specs.Prelude.{◌≡◌, true, ℕ, ◌+◌, ◌-◌, ◌^◌, ◌<◌, ◌≤◌, [], ◌==◌, length, take, drop, slice_range, IfOk};
+//! A source over a slice.
+ghost use Rattle.std.specs.Prelude.{◌≡◌, true, ℕ, ◌+◌, ◌-◌, ◌^◌, ◌<◌, ◌≤◌, [], ◌↔◌, IsTrue, length, take, drop, slice_range, IfOk};
 ghost use Rattle.bcder.specs.Identifier.{AreOctets};
+ghost use Rattle.bcder.specs.Stream.{pos_after};
 
 use super::{Pos, Source};
 use crate::NoMemory;
@@ -8,6 +9,7 @@ use bytes::Bytes;
 use std::alloc::Global;
 use std::convert::Infallible;
 
+/// A source over borrowed octets, all of which are available. It never fails.
 #[derive(Clone, Copy, Debug)]
 pub struct SliceSource<'a> {
     octets: &'a [u8],
@@ -17,9 +19,12 @@ pub struct SliceSource<'a> {
 }
 
 impl<'a> SliceSource<'a> {
+    ghost use Rattle.bcder.specs.Sources.{slice_rest, slice_start};
+
+    /// A source over `octets`, at position 0.
     pub fn new(octets: &'a [u8]) -> SliceSource<'a>
-        ensures octets { result.octets.now ≡ octets.now }
-        ensures start { result.pos ≡ 0 }
+        ensures octets { slice_rest result ≡ octets.now }
+        ensures start { slice_start result ≡ 0 }
     {
         SliceSource {
             octets,
@@ -27,22 +32,26 @@ impl<'a> SliceSource<'a> {
         }
     }
 
+    /// How many octets are left.
     pub fn len(&self) -> usize
-        ensures { result ≡ length self.now.octets.now }
+        ensures { result ≡ length (slice_rest self.now) }
     {
         self.octets.len()
     }
 
+    /// Whether no octets are left.
     pub fn is_empty(&self) -> bool
-        ensures { result ≡ (length self.now.octets.now == 0) }
+        ensures { IsTrue result ↔ (slice_rest self.now ≡ []) }
     {
         self.octets.is_empty()
     }
 
+    /// Takes the first `len` octets, of which there have to be as many, and answers them.
     pub fn split_to(&mut self, len: usize) -> &'a [u8]
-        requires { len ≤ length self.old.octets.now }
-        ensures front { result.now ≡ take len self.old.octets.now }
-        ensures rest { self.new.octets.now ≡ drop len self.old.octets.now }
+        requires { len ≤ length (slice_rest self.old) }
+        ensures front { result.now ≡ take len (slice_rest self.old) }
+        ensures rest { slice_rest self.new ≡ drop len (slice_rest self.old) }
+        ensures position { slice_start self.new ≡ pos_after (slice_start self.old) len }
     {
         let (front, rest) = self.octets.split_at(len);
         self.octets = rest;
@@ -51,6 +60,7 @@ impl<'a> SliceSource<'a> {
     }
 }
 
+/// The rest is the octets that are left of the slice.
 impl<'a> Source for SliceSource<'a> {
     type Error = Infallible;
 

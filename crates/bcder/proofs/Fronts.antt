@@ -1,0 +1,86 @@
+-- What the plain reader's answers say of the octets.
+use Rattle.std.proofs.Common.{◌≡◌, ℕ, ◌+◌, ◌≤◌, Bool, true, false, List, ◌++◌, length, Option, Some, None, MatchOption, IfSome, IfNone, IsSome, ◌↔◌, refl, sym, ap, subst, ◌∙◌, arith}
+use Rattle.std.proofs.lemmas.List.{length-append}
+use Rattle.bcder.specs.declared.mode.Mode.{Mode}
+use Rattle.bcder.specs.declared.length.Length.{Length}
+use Rattle.bcder.specs.declared.length.Length.TheVariants.{Definite, Indefinite}
+use Rattle.bcder.specs.Identifier.{AreOctets, Tag}
+use Rattle.bcder.specs.Length.{IsEndOfContents}
+use Rattle.bcder.specs.Tree.{Tree, Trees}
+use Rattle.bcder.specs.Encoding.{IsHeader, AreEncodings}
+use Rattle.bcder.specs.Told.{told}
+use Rattle.bcder.specs.Reading.{Header, read_header, read_end, read_list, at_end}
+use Rattle.bcder.specs.laws.Complete.{header_complete, header_size}
+use Rattle.bcder.specs.laws.Lengths.{read_end-complete}
+use Rattle.bcder.specs.laws.Sound.{end_sound, none_is}
+use Rattle.bcder.specs.laws.Stands.{Headed, header_sound, list_sound, list_complete}
+use Rattle.bcder.proofs.Skip.{ListRead, at_end-marked}
+
+-- ---- headers
+
+abbrev pub HeaderFound : Mode → Tag → Bool → Length → List ℕ → List ℕ → Type 0
+HeaderFound mode t f len octets rest = (w : List ℕ) × IsHeader mode t f len w × (octets ≡ w ++ rest)
+
+abbrev pub NoHeader : Mode → List ℕ → Type 0
+NoHeader mode octets = (t : Tag) (form : Bool) (n : Option ℕ) (w x : List ℕ) → IsHeader mode t form (told n) w → octets ≡ w ++ x → ⊥
+
+pub header_found : (mode : Mode) (t : Tag) (f : Bool) (len told_len : Length) (octets rest : List ℕ) → AreOctets octets → read_header mode octets ≡ Some (record { tag = t; form = f; len = len }, rest) → told_len ≡ len → HeaderFound mode t f told_len octets rest
+header_found mode t f len told_len octets rest o e same =
+    let d = header_sound mode octets (record { tag = t; form = f; len = len }, rest) o e in
+    (d.octets, subst (λ l. IsHeader mode t f l d.octets) (sym same) d.is_header, d.is)
+
+pub no_header_found : (mode : Mode) (octets : List ℕ) → read_header mode octets ≡ None → NoHeader mode octets
+no_header_found mode octets e t form n w x h is = none_is _ (sym e ∙ ap (read_header mode) is ∙ header_complete mode t form (told n) w x h)
+
+-- ---- ends
+
+abbrev pub EndFound : Mode → List ℕ → List ℕ → Type 0
+EndFound mode octets rest = (w : List ℕ) × IsEndOfContents mode w × (octets ≡ w ++ rest)
+
+abbrev pub NoEnd : Mode → List ℕ → Type 0
+NoEnd mode octets = (w x : List ℕ) → IsEndOfContents mode w → octets ≡ w ++ x → ⊥
+
+pub end_found : {X : Type 0} (r : Option X) (now : X → List ℕ) (mode : Mode) (octets : List ℕ) → AreOctets octets → MatchOption r (read_end mode octets ≡ None) (λ x. read_end mode octets ≡ Some (now x)) → IfSome r (λ x. EndFound mode octets (now x))
+end_found None now mode octets o h = tt
+end_found (Some x) now mode octets o h = let d = end_sound mode octets (now x) o h in (d.marker, d.is_end, d.is)
+
+pub no_end_found : {X : Type 0} (r : Option X) (now : X → List ℕ) (mode : Mode) (octets : List ℕ) → MatchOption r (read_end mode octets ≡ None) (λ x. read_end mode octets ≡ Some (now x)) → IfNone r (NoEnd mode octets)
+no_end_found None now mode octets h = λ w x end is. none_is _ (sym h ∙ ap (read_end mode) is ∙ read_end-complete mode w x end)
+no_end_found (Some x) now mode octets h = tt
+
+-- ---- lists
+
+pub list_is_found : {X : Type 0} (r : Option X) (now : X → List ℕ) (mode : Mode) (octets : List ℕ) → AreOctets octets → MatchOption r (read_list mode false octets ≡ None) (λ x. ListRead mode false octets (now x)) → IsSome r ↔ (ts : Trees) × AreEncodings mode ts octets
+list_is_found None now mode octets o h = (λ e. cc, λ l. absurd (none_is _ (sym h ∙ list_complete mode octets l.0 l.1)))
+list_is_found (Some x) now mode octets o h = (λ _. (h.0, list_sound mode octets h.0 (now x) o h.1), λ _. refl)
+
+-- ---- what was found is what reading gives
+
+pub header_reads : (mode : Mode) (t : Tag) (f : Bool) (len : Length) (octets rest : List ℕ) → HeaderFound mode t f len octets rest → read_header mode octets ≡ Some (record { tag = t; form = f; len = len }, rest)
+header_reads mode t f len octets rest h = ap (read_header mode) h.2 ∙ header_complete mode t f len h.0 rest h.1
+
+pub rest_shorter : (mode : Mode) (t : Tag) (f : Bool) (len : Length) (octets rest : List ℕ) → HeaderFound mode t f len octets rest → length rest + 2 ≤ length octets
+rest_shorter mode t f len octets rest h = omega (arith, header_size mode t f len h.0 h.1, ap length h.2, length-append h.0 rest)
+
+no_headed : (mode : Mode) (octets : List ℕ) (t : Tag) (f : Bool) (len : Length) (x : List ℕ) → NoHeader mode octets → Headed mode (record { tag = t; form = f; len = len }) octets x → ⊥
+no_headed mode octets t f (Definite n) x none h = none t f (Some n) h.octets x h.is_header h.is
+no_headed mode octets t f Indefinite x none h = none t f None h.octets x h.is_header h.is
+
+pub no_header_reads : (mode : Mode) (octets : List ℕ) → AreOctets octets → NoHeader mode octets → read_header mode octets ≡ None
+no_header_reads mode octets o none = go (read_header mode octets) refl
+  where
+    go : (r : Option (Header × List ℕ)) → read_header mode octets ≡ r → r ≡ None
+    go None e = refl
+    go (Some r) e = absurd (no_headed mode octets r.0.tag r.0.form r.0.len r.1 none (header_sound mode octets r o e))
+
+no_end_reads : (mode : Mode) (octets : List ℕ) → AreOctets octets → NoEnd mode octets → read_end mode octets ≡ None
+no_end_reads mode octets o none = go (read_end mode octets) refl
+  where
+    go : (r : Option (List ℕ)) → read_end mode octets ≡ r → r ≡ None
+    go None e = refl
+    go (Some x) e = let d = end_sound mode octets x o e in absurd (none d.marker x d.is_end d.is)
+
+pub end_reads : {X : Type 0} (r : Option X) (now : X → List ℕ) (mode : Mode) (octets : List ℕ) → AreOctets octets → IfSome r (λ x. EndFound mode octets (now x)) → IfNone r (NoEnd mode octets)
+    → MatchOption r (at_end mode true octets ≡ None) (λ x. at_end mode true octets ≡ Some (now x))
+end_reads None now mode octets o found none = at_end-marked mode octets ∙ no_end_reads mode octets o none
+end_reads (Some x) now mode octets o found none = at_end-marked mode octets ∙ ap (read_end mode) found.2 ∙ read_end-complete mode found.0 (now x) found.1

@@ -1,0 +1,208 @@
+//! Identifier octets and length octets at the front of a source (X.690, 8.1.2, 8.1.3).
+ghost use Rattle.std.specs.Prelude.{◌≡◌, ℕ, ◌<◌, ◌≤◌, List, ◌++◌, length, false, IsTrue, Some, None, IfOk, OnOk, OnErr};
+ghost use Rattle.bcder.specs.Stream.{Grew};
+ghost use Rattle.bcder.specs.Reading.{read_identifier, read_length};
+ghost use Rattle.bcder.specs.Peek.{Peeks, PeeksIf, Sees, SeesOf, SeesIf};
+
+use crate::decode::source::Source;
+use crate::length::{Length, length_at};
+use crate::mode::Mode;
+use crate::tag::{Tag, identifier_at};
+
+/// Identifier octets and length octets, whatever they stand before.
+#[derive(Clone, Copy)]
+pub(crate) struct Header {
+    pub tag: Tag,
+    pub constructed: bool,
+    pub len: Length,
+}
+
+/// What stands at the front of a source.
+pub(crate) enum Peeked {
+    /// The source is at its end.
+    Nothing,
+
+    /// Identifier octets and length octets, and how many octets these are.
+    Front { header: Header, size: usize },
+
+    /// Octets that are no identifier octets with length octets behind them.
+    Refused,
+}
+
+/// What stands at the front of a source, where a tag is looked for.
+pub(crate) enum PeekedIf {
+    /// The source is at its end.
+    Nothing,
+
+    /// The identifier octets of another tag.
+    Other,
+
+    /// Identifier octets of the tag and length octets, and how many octets these are.
+    Front { header: Header, size: usize },
+
+    /// Octets that are no identifier octets, or those of the tag without length octets behind them.
+    Refused,
+}
+
+/// What octets tell of a header at their front, whatever follows them.
+enum Seen {
+    Front { header: Header, size: usize },
+
+    /// It depends on the octets behind these.
+    More,
+
+    Refused,
+}
+
+/// Whether octets that hold no identifier octets may begin some.
+#[tactic(auto, using(crate::proofs::Beginnings::second_decides, crate::proofs::Beginnings::fourth_decides))]
+fn identifier_goes_on(octets: &[u8]) -> bool
+    requires { read_identifier octets.now ≡ None }
+    ensures short { IsTrue result → length octets.now < 4 }
+    ensures some { result ≡ false → 1 ≤ length octets.now }
+    ensures refused { result ≡ false → (x : List ℕ) → read_identifier (octets.now ++ x) ≡ None }
+{
+    match octets {
+        [] | [_] => true,
+        [_, digit, digits @ ..] => *digit > 0x80 && digits.len() < 2,
+    }
+}
+
+/// Whether octets that hold no length octets may begin some.
+#[tactic(auto, using(crate::proofs::Beginnings::count_decides, crate::proofs::Beginnings::first_decides))]
+fn length_goes_on(mode: Mode, octets: &[u8]) -> bool
+    requires { read_length mode octets.now ≡ None }
+    ensures short { IsTrue result → length octets.now < 5 }
+    ensures refused { result ≡ false → (x : List ℕ) → read_length mode (octets.now ++ x) ≡ None }
+{
+    match octets {
+        [] => true,
+        [first, digits @ ..] => *first <= 0x84 && digits.len() + 0x80 < usize::from(*first),
+    }
+}
+
+/// What the octets at hand tell of the length behind the identifier octets at their front.
+fn look_behind(mode: Mode, tag: Tag, constructed: bool, octets: &[u8], rest: &[u8]) -> Seen
+    requires { read_identifier octets.now ≡ Some (tag, constructed, rest.now) }
+    ensures { SeesOf mode tag result octets.now }
+{
+    match length_at(mode, rest) {
+        Some((len, rest)) => {
+            let header = Header {
+                tag,
+                constructed,
+                len,
+            };
+            Seen::Front {
+                header,
+                size: octets.len() - rest.len(),
+            }
+        }
+        None => {
+            if length_goes_on(mode, rest) {
+                Seen::More
+            } else {
+                Seen::Refused
+            }
+        }
+    }
+}
+
+/// What the octets at hand tell of the header at their front.
+fn look(mode: Mode, octets: &[u8]) -> Seen
+    ensures { Sees mode result octets.now }
+{
+    match identifier_at(octets) {
+        Some((tag, constructed, rest)) => look_behind(mode, tag, constructed, octets, rest),
+        None => {
+            if identifier_goes_on(octets) {
+                Seen::More
+            } else {
+                Seen::Refused
+            }
+        }
+    }
+}
+
+/// What the octets at hand tell of the header with this tag at their front. `None` is for another tag.
+fn look_for(mode: Mode, tag: Tag, octets: &[u8]) -> Option<Seen>
+    ensures { SeesIf mode tag result octets.now }
+{
+    match identifier_at(octets) {
+        Some(found) => {
+            if found.0 == tag {
+                Some(look_behind(mode, tag, found.1, octets, found.2))
+            } else {
+                None
+            }
+        }
+        None => {
+            if identifier_goes_on(octets) {
+                Some(Seen::More)
+            } else {
+                Some(Seen::Refused)
+            }
+        }
+    }
+}
+
+/// What stands at the front of a source. It asks for no more octets than the header has, for two at
+/// least, and takes none. An error is the source's own.
+pub(crate) fn peek<S: Source>(source: &mut S, mode: Mode) -> Result<Peeked, S::Error>
+    ensures peeked { IfOk result (λ p. Peeks mode p (S.stream source.new)) }
+    ensures no_fault { OnOk result ((S.stream source.new).faults ≡ (S.stream source.old).faults) }
+    ensures fault { OnErr result (Grew ((S.stream source.old).faults) ((S.stream source.new).faults)) }
+    ensures rest { (S.stream source.new).rest ≡ (S.stream source.old).rest }
+    ensures position { (S.stream source.new).position ≡ (S.stream source.old).position }
+    ensures kept { (S.stream source.new).kept ≡ (S.stream source.old).kept }
+{
+    let mut wanted = 2;
+    loop {
+        let found = source.request(wanted)?;
+        match look(mode, &source.slice()[..found]) {
+            Seen::Front { header, size } => return Ok(Peeked::Front { header, size }),
+            Seen::Refused => return Ok(Peeked::Refused),
+            Seen::More => {
+                if found == 0 {
+                    return Ok(Peeked::Nothing);
+                }
+                if found < wanted {
+                    return Ok(Peeked::Refused);
+                }
+                wanted = found + 1;
+            }
+        }
+    }
+}
+
+/// What stands at the front of a source, where a tag is looked for. It asks for no more octets than the
+/// header has, for two at least, and takes none. An error is the source's own.
+pub(crate) fn peek_if<S: Source>(source: &mut S, mode: Mode, tag: Tag) -> Result<PeekedIf, S::Error>
+    ensures peeked { IfOk result (λ p. PeeksIf mode tag p (S.stream source.new)) }
+    ensures no_fault { OnOk result ((S.stream source.new).faults ≡ (S.stream source.old).faults) }
+    ensures fault { OnErr result (Grew ((S.stream source.old).faults) ((S.stream source.new).faults)) }
+    ensures rest { (S.stream source.new).rest ≡ (S.stream source.old).rest }
+    ensures position { (S.stream source.new).position ≡ (S.stream source.old).position }
+    ensures kept { (S.stream source.new).kept ≡ (S.stream source.old).kept }
+{
+    let mut wanted = 2;
+    loop {
+        let found = source.request(wanted)?;
+        let Some(seen) = look_for(mode, tag, &source.slice()[..found]) else {
+            return Ok(PeekedIf::Other);
+        };
+        match seen {
+            Seen::Front { header, size } => return Ok(PeekedIf::Front { header, size }),
+            Seen::Refused => return Ok(PeekedIf::Refused),
+            Seen::More => {
+                if found == 0 {
+                    return Ok(PeekedIf::Nothing);
+                }
+                if found < wanted {
+                    return Ok(PeekedIf::Refused);
+                }
+                wanted = found + 1;
+            }
+        }
+    }
+}

@@ -1,0 +1,16 @@
+-- Lines of lists, and lists read one value after another.
+use Rattle.std.proofs.Common.{◌≡◌, ℕ, ◌+◌, Bool, List, [], ◌∷◌, ◌++◌, Option, Some, None, option_map, MatchOption, refl, sym, ap, ◌∙◌, append_assoc, append-nil}
+use Rattle.bcder.specs.declared.mode.Mode.{Mode}
+use Rattle.bcder.specs.Identifier.{AreOctets}
+use Rattle.bcder.specs.Tree.{Tree, Trees, no_trees, ◌∷ₜ◌, ◌+++◌}
+use Rattle.bcder.specs.Preorder.{Heading, preorder, preorders}
+use Rattle.bcder.specs.Reading.{read_tree, read_list, at_end}
+use Rattle.bcder.proofs.Steps.{read_list_step}
+use Rattle.berlist.specs.Lines.{line, lines}
+
+pub lines-append : (hs gs : List Heading) → lines (hs ++ gs) ≡ lines hs ++ lines gs
+lines-append [] gs = refl
+lines-append (h ∷ hs) gs = ap (λ l. line h ++ l) (lines-append hs gs) ∙ sym (append_assoc (line h) (lines hs) (lines gs))
+
+pub lines-list : (t : Tree) (ts : Trees) (d : ℕ) → lines (preorders (t ∷ₜ ts) d) ≡ lines (preorder t d) ++ lines (preorders ts d)
+lines-list t ts d = lines-append (preorder t d) (preorders ts d)

@@ -1,0 +1,4 @@
+pub mod Lines
+pub mod Front
+pub mod Answers
+pub mod Gather

@@ -1,0 +1,85 @@
+//! Sources over borrowed ones: what the owner of the borrowed one knows afterwards.
+ghost use Rattle.std.specs.Prelude.{◌≡◌, ◌<◌, ◌≤◌, ◌++◌, length, take, drop, Some, IfOk, IfErr, IfSome, OnOk, OnErr, if◌then◌else◌};
+ghost use Rattle.std.specs.Bool.{OnTrue};
+ghost use Rattle.bcder.specs.Cause.{cause_of, MatchCause};
+ghost use Rattle.bcder.specs.Stream.{Grew};
+
+use bcder::NoMemory;
+use bcder::decode::{CaptureSource, DecodeError, LimitedSource, Source};
+use bytes::Bytes;
+use std::alloc::Global;
+
+/// Takes exactly `len` octets: those up to a limit that is set over the source, and then ends.
+pub fn take_exactly<S: Source>(
+    source: &mut S,
+    alloc: Global,
+    len: usize,
+) -> Result<Bytes, DecodeError<S::Error>>
+    ensures value { IfOk result (λ b. b ++ (S.stream source.new).rest ≡ (S.stream source.old).rest) }
+    ensures count { IfOk result (λ b. length b ≡ len) }
+    ensures err { OnErr result ((S.stream source.new).rest ≡ (S.stream source.old).rest) }
+    ensures cause { IfErr result (λ e. MatchCause (cause_of e)
+        (Grew (S.stream source.old).faults (S.stream source.new).faults)
+        (length (S.stream source.old).rest < len)
+        (len ≤ length (S.stream source.old).rest)) }
+    ensures kept { (S.stream source.new).kept ≡ (S.stream source.old).kept }
+{
+    let mut limited = LimitedSource::new(source);
+    limited.set_limit(Some(len));
+    limited.take_all(alloc)
+}
+
+/// Passes over two octets, where there are two.
+pub fn pass_two<S: Source>(source: &mut S) -> Result<bool, S::Error>
+    ensures two { IfOk result (λ b. (S.stream source.new).rest
+        ≡ (if b then drop 2 (S.stream source.old).rest else (S.stream source.old).rest)) }
+    ensures enough { IfOk result (λ b. OnTrue b (2 ≤ length (S.stream source.old).rest)) }
+    ensures err { OnErr result ((S.stream source.new).rest ≡ (S.stream source.old).rest) }
+    ensures kept { (S.stream source.new).kept ≡ (S.stream source.old).kept }
+{
+    if source.request(2)? < 2 {
+        return Ok(false);
+    }
+    source.advance(2);
+    Ok(true)
+}
+
+/// Passes over two octets up to a limit, which a source over the borrowed one has until it ends.
+pub fn pass_two_within<S: Source>(source: &mut S, limit: usize) -> Result<bool, S::Error>
+    ensures two { IfOk result (λ b. (S.stream source.new).rest
+        ≡ (if b then drop 2 (S.stream source.old).rest else (S.stream source.old).rest)) }
+    ensures enough { IfOk result (λ b. OnTrue b (2 ≤ limit)) }
+    ensures kept { (S.stream source.new).kept ≡ (S.stream source.old).kept }
+{
+    let mut limited = LimitedSource::new(source);
+    limited.limit_further(Some(limit));
+    pass_two(&mut limited)
+}
+
+/// Captures two octets, where there are two, else none.
+pub fn capture_two<S: Source>(
+    source: &mut S,
+    alloc: Global,
+) -> Result<Bytes, DecodeError<S::Error>>
+    ensures value { IfOk result (λ b. b ++ (S.stream source.new).rest ≡ (S.stream source.old).rest) }
+    ensures err { OnErr result ((S.stream source.new).rest ≡ (S.stream source.old).rest) }
+    ensures kept { (S.stream source.new).kept ≡ (S.stream source.old).kept }
+{
+    let mut view = CaptureSource::new(source);
+    if view.request(2)? >= 2 {
+        view.advance(2);
+    }
+    match view.into_bytes(alloc) {
+        Ok(taken) => Ok(taken),
+        Err(NoMemory) => Err(DecodeError::no_memory()),
+    }
+}
+
+/// Looks whether there are two octets, and takes none.
+pub fn has_two<S: Source>(source: &mut S) -> Result<bool, S::Error>
+    ensures ok { IfOk result (λ b. OnTrue b (2 ≤ length (S.stream source.old).rest)) }
+    ensures rest { (S.stream source.new).rest ≡ (S.stream source.old).rest }
+    ensures kept { (S.stream source.new).kept ≡ (S.stream source.old).kept }
+{
+    pass_two(&mut CaptureSource::new(source))
+}
