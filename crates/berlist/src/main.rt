@@ -14,6 +14,8 @@ ghost use Rattle.berlist.specs.Requests.{Asks, AsksNothing, Tells, Ends};
 mod gather;
 mod request;
 mod target;
+#[cfg(test)]
+mod tests;
 
 use bcder::{Mode, NoMemory};
 use std::alloc::Global;
