@@ -10,3 +10,6 @@ pub mod laws
 pub mod Stream
 pub mod Cause
 pub mod Peek
+pub mod Begins
+pub mod PeekTag
+pub mod PeekLength

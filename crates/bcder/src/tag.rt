@@ -7,6 +7,8 @@ ghost use Rattle.bcder.specs.Classes.{class_meant};
 use std::fmt;
 use std::marker::Model;
 
+pub(crate) mod take;
+
 /// The class of a tag (8.1.2.2, table 1).
 #[derive(Clone, Copy, Debug, PartialEq, Eq)]
 enum Class {
