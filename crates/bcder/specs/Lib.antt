@@ -13,3 +13,6 @@ pub mod Sources
 pub mod Cause
 pub mod Told
 pub mod Peek
+pub mod Begins
+pub mod PeekTag
+pub mod PeekLength

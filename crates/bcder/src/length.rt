@@ -5,6 +5,8 @@ ghost use Rattle.bcder.specs.Reading.{least, may_tell, read_length, read_long, r
 
 use crate::mode::Mode;
 
+pub(crate) mod take;
+
 /// What length octets say.
 #[derive(Clone, Copy, PartialEq, Eq)]
 pub(crate) enum Length {
