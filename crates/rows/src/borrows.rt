@@ -74,10 +74,7 @@ pub fn pass_two_within<S: Source>(source: &mut S, limit: usize) -> Result<bool, 
 }
 
 /// Captures two octets, where there are two, else none.
-pub fn capture_two<S: Source>(
-    source: &mut S,
-    alloc: Global,
-) -> Result<Bytes, TakeError<S::Error>>
+pub fn capture_two<S: Source>(source: &mut S, alloc: Global) -> Result<Bytes, TakeError<S::Error>>
     ensures value { IfOk result (λ b. b ++ (S.stream source.new).rest ≡ (S.stream source.old).rest) }
     ensures err { OnErr result ((S.stream source.new).rest ≡ (S.stream source.old).rest) }
     ensures kept { (S.stream source.new).kept ≡ (S.stream source.old).kept }

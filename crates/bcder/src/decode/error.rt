@@ -1,25 +1,31 @@
 //! Errors: why decoding failed.
-ghost use Rattle.std.specs.Prelude.{◌≡◌, ℕ, ◌↔◌, Bool, true, IsTrue, Option, Some, None, IfSome, IsNone, IfOk, IfErr, MatchResult};
-ghost use Rattle.bcder.specs.Cause.{Cause, of_source, of_content, of_memory, cause_of, is_source_cause, is_memory_cause, IsContentless, position_of, content_text, decode_text};
+ghost use Rattle.std.specs.Prelude.{◌≡◌, ℕ, List, Some, IfSome, IsNone, IfOk, IfErr};
+ghost use Rattle.bcder.specs.Cause.{Cause, of_source, of_content, of_memory, cause_of, is_source_cause, is_memory_cause, IsContentless, position_of, IsBoxed, content_text, decode_text};
 
 use crate::NoMemory;
 use crate::decode::source::Pos;
 use crate::tag::Tag;
+use bytes::ByteStr;
+use std::alloc::Global;
 use std::convert::Infallible;
 use std::error::Error;
 use std::fmt;
 
-/// A message of the user's own, which a [`ContentError`] keeps in a box.
+/// A message of the user's own.
 pub trait Message: Drop {
+    /// What its text is.
+    ghost shown: { Self → List ℕ };
+
     /// Its text.
-    fn text(&self) -> &str;
+    fn text(&self) -> &str
+        ensures { result.now ≡ shown self.now };
 }
 
 /// Why content was refused.
 #[derive(Drop)]
 pub enum ContentError {
-    /// A fixed text.
-    Static(&'static str),
+    /// A fixed text. It isn't copied.
+    Static(ByteStr),
 
     /// A text that was put together.
     Owned(String),
@@ -30,33 +36,36 @@ pub enum ContentError {
     /// Another integer was expected: this one.
     ExpectedInteger(u8),
 
-    /// A message of the user's own.
-    Boxed(Box<dyn Message>),
+    /// The text of a message of the user's own.
+    Boxed(String),
 }
 
 impl ContentError {
     /// An error with a fixed text.
     pub fn from_static(text: &'static str) -> ContentError
-        ensures { result ≡ ContentError.Static text.entry }
+        ensures { result ≡ ContentError.Static text.now }
     {
-        ContentError::Static(text)
+        ContentError::Static(ByteStr::from_static(text))
     }
 
-    /// An error with a message of the user's own.
-    pub fn from_boxed(message: Box<dyn Message>) -> ContentError
-        ensures { result ≡ ContentError.Boxed message }
+    /// An error with the text of a message of the user's own, which is copied.
+    ///
+    /// It answers `NoMemory` where there is no memory for the text.
+    pub fn from_boxed(alloc: Global, message: Box<dyn Message>) -> Result<ContentError, NoMemory>
+        ensures { IfOk result (λ e. IsBoxed e (shown message)) }
     {
-        ContentError::Boxed(message)
+        let text = String::from_str(alloc, message.text())?;
+        Ok(ContentError::Boxed(text))
     }
 }
 
 impl From<&'static str> for ContentError {
     ghost use Rattle.bcder.specs.declared.decode.error.ContentError.TheVariants.{Static};
 
-    ghost from_gives = { λ text e. e ≡ Static text };
+    ghost from_gives = { λ text e. e ≡ Static text.now };
 
     fn from(text: &'static str) -> ContentError {
-        ContentError::Static(text)
+        ContentError::from_static(text)
     }
 }
 
@@ -76,11 +85,11 @@ impl fmt::Display for ContentError {
 
     fn fmt<W: fmt::Write>(&self, f: &mut fmt::Formatter<W>) -> fmt::Result {
         match self {
-            ContentError::Static(text) => write!(f, "{text}"),
+            ContentError::Static(text) => write!(f, "{}", text.as_str()),
             ContentError::Owned(text) => write!(f, "{text}"),
             ContentError::ExpectedTag(tag) => write!(f, "expected tag {tag}"),
             ContentError::ExpectedInteger(value) => write!(f, "expected integer value {value}"),
-            ContentError::Boxed(message) => write!(f, "{}", message.text()),
+            ContentError::Boxed(text) => write!(f, "{text}"),
         }
     }
 }

@@ -117,7 +117,7 @@ pub trait Source {
     {
         match self.take_opt_u8()? {
             Some(octet) => Ok(octet),
-            None => Err(self.content_err(ContentError::Static("unexpected end of data"))),
+            None => Err(self.content_err(ContentError::from_static("unexpected end of data"))),
         }
     }
 

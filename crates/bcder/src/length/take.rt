@@ -110,7 +110,7 @@ impl Length {
                 Ok(len)
             }
             PeekedLength::Refused => {
-                Err(source.content_err(ContentError::Static("invalid length octets")))
+                Err(source.content_err(ContentError::from_static("invalid length octets")))
             }
         }
     }

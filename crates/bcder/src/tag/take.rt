@@ -117,7 +117,7 @@ fn peek<S: Source>(source: &mut S) -> Result<PeekedTag, S::Error>
 fn invalid<S: Source>(source: &S) -> DecodeError<S::Error>
     ensures { MatchCause (cause_of result) ⊥ (Unit {0}) ⊥ }
 {
-    source.content_err(ContentError::Static("invalid identifier octets"))
+    source.content_err(ContentError::from_static("invalid identifier octets"))
 }
 
 impl Tag {
@@ -173,7 +173,7 @@ impl Tag {
     {
         match peek(source)? {
             PeekedTag::Nothing => {
-                return Err(source.content_err(ContentError::Static("unexpected end of data")));
+                return Err(source.content_err(ContentError::from_static("unexpected end of data")));
             }
             PeekedTag::Front {
                 tag,
