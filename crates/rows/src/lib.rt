@@ -6,9 +6,9 @@
 #![tactic(auto)]
 
 pub mod borrows;
-pub mod sip;
 #[cfg(test)]
-mod sources;
+mod identifiers;
+pub mod sip;
 #[cfg(test)]
 mod tag_names;
 pub mod tags;
