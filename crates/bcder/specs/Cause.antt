@@ -13,14 +13,13 @@ pub data Cause (E : Type 0) : Type 0 where
   of_content : E → Cause E
   of_memory : Cause E
 
--- the two last parameters stand for the box that a content error may hold
-abbrev pub cause_of : {S X : Type 0} {P : X → Type 0} → DecodeError S X P → Cause (ContentError X P)
+abbrev pub cause_of : {S : Type 0} → DecodeError S → Cause ContentError
 cause_of (Source e) = of_source
 cause_of (Content error pos) = of_content error
 cause_of NoMemory = of_memory
 
 -- where the content was refused
-abbrev pub position_of : {S X : Type 0} {P : X → Type 0} → DecodeError S X P → Option ℕ
+abbrev pub position_of : {S : Type 0} → DecodeError S → Option ℕ
 position_of (Source e) = None
 position_of (Content error pos) = Some pos
 position_of NoMemory = None
@@ -49,16 +48,20 @@ MatchCause of_memory A B C = C
 
 -- ---- texts
 
--- what is shown of a content error, where it is known what is shown of a tag; of a box it isn't
-abbrev pub content_text : {X : Type 0} {P : X → Type 0} → (Tag → Option (List ℕ)) → ContentError X P → Option (List ℕ)
-content_text tag_text (Static text) = Some text.now
+-- what is shown of a content error, where it is known what is shown of a tag; of a fixed text it isn't
+abbrev pub content_text : (Tag → Option (List ℕ)) → ContentError → Option (List ℕ)
+content_text tag_text (Static text) = None
 content_text tag_text (Owned text) = Some (string_bytes text)
 content_text tag_text (ExpectedTag tag) = Some (codes "expected tag ") ++? tag_text tag
 content_text tag_text (ExpectedInteger value) = Some (codes "expected integer value " ++ decimal value)
-content_text tag_text (Boxed message) = None
+content_text tag_text (Boxed text) = Some (string_bytes text)
 
 -- what is shown of an error of decoding
-abbrev pub decode_text : {S X : Type 0} {P : X → Type 0} → (S → Option (List ℕ)) → (ContentError X P → Option (List ℕ)) → DecodeError S X P → Option (List ℕ)
+abbrev pub decode_text : {S : Type 0} → (S → Option (List ℕ)) → (ContentError → Option (List ℕ)) → DecodeError S → Option (List ℕ)
 decode_text source_text error_text (Source e) = source_text e
 decode_text source_text error_text (Content error pos) = error_text error ++? Some (codes " (at position " ++ decimal pos ++ codes ")")
 decode_text source_text error_text NoMemory = Some (codes "out of memory")
+
+-- content was refused: neither the source failed nor memory was wanted
+abbrev pub IsRefusal : {S : Type 0} → DecodeError S → Type 0
+IsRefusal e = MatchCause (cause_of e) ⊥ (Unit {0}) ⊥

@@ -13,3 +13,6 @@ pub mod Sources
 pub mod Cause
 pub mod Told
 pub mod Peek
+pub mod Content
+pub mod Views
+pub mod Calls

@@ -9,17 +9,48 @@ use std::convert::Infallible;
 use std::error::Error;
 use std::fmt;
 
-/// A message of the user's own, which a [`ContentError`] keeps in a box.
+/// A message of the user's own.
 pub trait Message: Drop {
-    /// Its text.
-    fn text(&self) -> &str;
+    /// The text, which the message gives up.
+    fn into_text(self) -> String
+    where
+        Self: Sized;
+}
+
+/// A copy of a fixed text, as far as it has room: 47 octets of UTF-8.
+#[derive(Clone, Copy)]
+pub struct StaticText {
+    octets: [u8; 47],
+    len: u8,
+}
+
+impl StaticText {
+    fn new(text: &str) -> StaticText {
+        let all = text.as_bytes();
+        let len = all.len().min(47);
+        let mut octets = [0; 47];
+        octets[..len].copy_from_slice(&all[..len]);
+        StaticText {
+            octets,
+            len: len as u8,
+        }
+    }
+
+    /// The text.
+    pub fn as_str(&self) -> &str {
+        let octets = &self.octets[..usize::from(self.len).min(47)];
+        match str::from_utf8(octets) {
+            Ok(text) => text,
+            Err(_) => "",
+        }
+    }
 }
 
 /// Why content was refused.
 #[derive(Drop)]
 pub enum ContentError {
     /// A fixed text.
-    Static(&'static str),
+    Static(StaticText),
 
     /// A text that was put together.
     Owned(String),
@@ -30,33 +61,31 @@ pub enum ContentError {
     /// Another integer was expected: this one.
     ExpectedInteger(u8),
 
-    /// A message of the user's own.
-    Boxed(Box<dyn Message>),
+    /// The text of a message of the user's own.
+    Boxed(String),
 }
 
 impl ContentError {
     /// An error with a fixed text.
     pub fn from_static(text: &'static str) -> ContentError
-        ensures { result ≡ ContentError.Static text.entry }
+        ensures { (copy : _) × (result ≡ ContentError.Static copy) }
     {
-        ContentError::Static(text)
+        ContentError::Static(StaticText::new(text))
     }
 
-    /// An error with a message of the user's own.
-    pub fn from_boxed(message: Box<dyn Message>) -> ContentError
-        ensures { result ≡ ContentError.Boxed message }
-    {
-        ContentError::Boxed(message)
+    /// The text of a message that is handed in in a box.
+    pub fn from_boxed<M: Message>(message: Box<M>) -> ContentError {
+        ContentError::Boxed(Box::into_inner(message).into_text())
     }
 }
 
 impl From<&'static str> for ContentError {
     ghost use Rattle.bcder.specs.declared.decode.error.ContentError.TheVariants.{Static};
 
-    ghost from_gives = { λ text e. e ≡ Static text };
+    ghost from_gives = { λ text e. (copy : _) × (e ≡ Static copy) };
 
     fn from(text: &'static str) -> ContentError {
-        ContentError::Static(text)
+        ContentError::Static(StaticText::new(text))
     }
 }
 
@@ -76,11 +105,11 @@ impl fmt::Display for ContentError {
 
     fn fmt<W: fmt::Write>(&self, f: &mut fmt::Formatter<W>) -> fmt::Result {
         match self {
-            ContentError::Static(text) => write!(f, "{text}"),
+            ContentError::Static(text) => write!(f, "{}", text.as_str()),
             ContentError::Owned(text) => write!(f, "{text}"),
             ContentError::ExpectedTag(tag) => write!(f, "expected tag {tag}"),
             ContentError::ExpectedInteger(value) => write!(f, "expected integer value {value}"),
-            ContentError::Boxed(message) => write!(f, "{}", message.text()),
+            ContentError::Boxed(text) => write!(f, "{text}"),
         }
     }
 }

@@ -116,7 +116,7 @@ pub trait Source {
         ensures kept { (stream self.new).kept ≡ (stream self.old).kept }
     {
         if self.request(1)? < 1 {
-            return Err(self.content_err(ContentError::Static("unexpected end of data")));
+            return Err(self.content_err(ContentError::from_static("unexpected end of data")));
         }
         let octet = self.slice()[0];
         self.advance(1);

@@ -94,7 +94,7 @@ impl<S: Source> LimitedSource<S> {
     {
         let limit = self.limit.unwrap();
         if self.source.request(limit)? < limit {
-            return Err(self.content_err(ContentError::Static("unexpected end of data")));
+            return Err(self.content_err(ContentError::from_static("unexpected end of data")));
         }
         self.source.advance(limit);
         self.limit = Some(0);
@@ -124,7 +124,7 @@ impl<S: Source> LimitedSource<S> {
     {
         let limit = self.limit.unwrap();
         if self.source.request(limit)? < limit {
-            return Err(self.content_err(ContentError::Static("unexpected end of data")));
+            return Err(self.content_err(ContentError::from_static("unexpected end of data")));
         }
         let taken = match take_front(&mut self.source, alloc, limit) {
             Ok(taken) => taken,
@@ -150,12 +150,12 @@ impl<S: Source> LimitedSource<S> {
     {
         match self.limit {
             Some(0) => Ok(()),
-            Some(_) => Err(self.content_err(ContentError::Static("trailing data"))),
+            Some(_) => Err(self.content_err(ContentError::from_static("trailing data"))),
             None => {
                 if self.source.request(1)? == 0 {
                     Ok(())
                 } else {
-                    Err(self.content_err(ContentError::Static("trailing data")))
+                    Err(self.content_err(ContentError::from_static("trailing data")))
                 }
             }
         }
