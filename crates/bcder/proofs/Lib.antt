@@ -9,3 +9,5 @@ pub mod Headers
 pub mod Entering
 pub mod Names
 pub mod Refusing
+pub mod Inner
+pub mod Taking

@@ -1,5 +1,5 @@
 //! Taking the next value.
-ghost use Rattle.std.specs.Prelude.{◌≡◌, ◌≢◌, ℕ, ◌+◌, ◌≤◌, ◌⊎◌, ◌↔◌, false, true, Bool, List, [], length, take, IsTrue, Option, Some, None, IfOk, IfErr, IfSome, IfNone, OnOk, OnErr};
+ghost use Rattle.std.specs.Prelude.{◌≡◌, ◌≢◌, ℕ, ◌+◌, ◌≤◌, ◌⊎◌, ◌↔◌, ◌||◌, false, true, Bool, List, [], length, take, IsTrue, Option, Some, None, IfOk, IfErr, IfSome, IfNone, OnOk, OnErr};
 ghost use Rattle.bcder.specs.Cause.{IsRefusal};
 ghost use Rattle.bcder.specs.Stream.{Grew};
 ghost use Rattle.bcder.specs.Identifier.{AreOctets, end_of_contents};
@@ -8,7 +8,7 @@ ghost use Rattle.bcder.specs.Peek.{header as header_of, Peeks, PeeksIf};
 ghost use Rattle.bcder.specs.Encoding.{may_have};
 ghost use Rattle.bcder.specs.Content.{Moves, Advances, Falls, FitsOwed, Accepts, any, tagged, end_header, Enters, TakesMarker, NoFront, Resembles, RefusesHeader, EndsAt, IsDone, IsAbsent, IsLeft, NotAtEnd};
 ghost use Rattle.bcder.specs.Content.{Octets, values};
-ghost use Rattle.bcder.specs.Calls.{MayBeCalledAt, IsLawfulAt, IsOver, AnswersDone, RefusesContent, RefusesEnd, RanOver};
+ghost use Rattle.bcder.specs.Calls.{MayBeCalled, IsLawful, MayBeCalledAt, IsLawfulAt, IsOver, AnswersDone, RefusesContent, RefusesEnd, RanOver, IsInside, TakesContent, TakesValue, RefusesValue, popped};
 ghost use Rattle.bcder.specs.Views.{of_constructed, of_primitive, of_content, limited_stream, content_name, content_source, content_mark};
 
 use super::{Constructed, Content, Kind, Primitive, State};
@@ -355,4 +355,114 @@ where
     let marked = content.is_marked();
     let _back = content.into_source();
     (result, marked)
+}
+
+/// Limits the source to the content of a value, and answers the limit of the content around it.
+fn push<S>(source: &mut LimitedSource<S>, len: usize) -> Option<usize>
+    ensures outer { result ≡ source.old.limit }
+    ensures limit { source.new.limit ≡ Some len }
+    ensures source { source.new.source ≡ source.old.source }
+{
+    let outer = source.limit();
+    source.set_limit(Some(len));
+    outer
+}
+
+/// Gives the source the limit of the content around a value back, less what was passed over.
+fn pop<S>(source: &mut LimitedSource<S>, outer: Option<usize>, len: usize)
+    ensures limit { source.new.limit ≡ popped outer len source.old.limit }
+    ensures source { source.new.source ≡ source.old.source }
+{
+    let limit = match (outer, source.limit()) {
+        (Some(outer), Some(left)) => Some(outer.saturating_sub(len.saturating_sub(left))),
+        _ => None,
+    };
+    source.set_limit(limit);
+}
+
+/// Whether one of two marks is set.
+fn either(one: bool, other: bool) -> bool
+    ensures { result ≡ (one || other) }
+{
+    one || other
+}
+
+impl<'a, S: Source> Constructed<'a, S> {
+    /// Takes the content of a value whose header was passed over.
+    #[tactic(auto, using(crate::proofs::Moving::moves_refl, crate::proofs::Moving::moves_trans), unfolding(crate::specs::Views::of_constructed, crate::specs::Views::of_primitive))]
+    fn take_content<F, T: Drop>(
+        &mut self,
+        header: Header,
+        op: F,
+    ) -> Result<T, DecodeError<S::Error>>
+    where
+        F: FnOnce(Tag, &mut Content<'_, S>) -> Result<T, DecodeError<S::Error>>,
+        requires callable { MayBeCalledAt (of_content S.stream) (IsInside (of_constructed S.stream self.old) 0) header.tag (F.pre op) }
+        requires lawful { IsLawfulAt (of_content S.stream) (IsInside (of_constructed S.stream self.old) 0) header.tag (F.post op) }
+        requires fits { FitsOwed header.len self.old.source.now.limit }
+        ensures taken { TakesContent IsRefusal (of_content S.stream) (F.post op) (of_constructed S.stream self.old) (header_of header) result (of_constructed S.stream self.new) }
+    {
+        match header.len {
+            Length::Definite(len) => {
+                if header.constructed {
+                    let outer = push(self.source, len);
+                    let (result, marked) = run_constructed(
+                        self.source,
+                        Kind::Definite,
+                        self.mode,
+                        header.tag,
+                        op,
+                    );
+                    pop(self.source, outer, len);
+                    self.marked = either(self.marked, marked);
+                    result
+                } else {
+                    let outer = push(self.source, len);
+                    let (result, marked) = run_primitive(self.source, self.mode, header.tag, op);
+                    pop(self.source, outer, len);
+                    self.marked = either(self.marked, marked);
+                    result
+                }
+            }
+            Length::Indefinite => {
+                let (result, marked) = run_constructed(
+                    self.source,
+                    Kind::Indefinite,
+                    self.mode,
+                    header.tag,
+                    op,
+                );
+                self.marked = either(self.marked, marked);
+                result
+            }
+        }
+    }
+}
+
+#[tactic(auto, unfolding(crate::specs::Views::of_constructed))]
+impl<'a, S: Source> Constructed<'a, S> {
+    /// Takes the next value, or answers `None` at the end.
+    pub fn take_opt_value<F, T: Drop>(&mut self, op: F) -> Result<Option<T>, DecodeError<S::Error>>
+    where
+        F: FnOnce(Tag, &mut Content<'_, S>) -> Result<T, DecodeError<S::Error>>,
+        requires callable { MayBeCalled (of_content S.stream) (IsInside (of_constructed S.stream self.old) 2) (F.pre op) }
+        requires lawful { IsLawful (of_content S.stream) (IsInside (of_constructed S.stream self.old) 2) (F.post op) }
+        ensures moves { Moves (of_constructed S.stream self.old) (of_constructed S.stream self.new) }
+        ensures end { IfOk result (λ o. IfNone o (EndsAt (of_constructed S.stream self.old) (of_constructed S.stream self.new))) }
+        ensures done { IfOk result (λ o. IfNone o (IsDone (of_constructed S.stream self.new))) }
+        ensures value { IfOk result (λ o. IfSome o (λ x. TakesValue (of_content S.stream) (F.post op) any (of_constructed S.stream self.old) x (of_constructed S.stream self.new))) }
+        ensures shorter { IfOk result (λ o. IfSome o (λ _. length (of_constructed S.stream self.new).stream.rest + 2 ≤ length (of_constructed S.stream self.old).stream.rest)) }
+        ensures refused { IfErr result (λ e. RefusesValue IsRefusal (of_content S.stream) (F.post op) any (of_constructed S.stream self.old) e (of_constructed S.stream self.new)) }
+        ensures failed { OnErr result ((of_constructed S.stream self.new).state ≡ State.Failed) }
+        ensures mode { (of_constructed S.stream self.new).mode ≡ (of_constructed S.stream self.old).mode }
+    {
+        match self.take_header()? {
+            None => Ok(None),
+            Some(header) => {
+                let value = self.take_content(header, op)?;
+                self.state = State::Open;
+                Ok(Some(value))
+            }
+        }
+    }
 }
