@@ -16,3 +16,6 @@ pub mod Peek
 pub mod Content
 pub mod Views
 pub mod Calls
+pub mod Begins
+pub mod PeekTag
+pub mod PeekLength
