@@ -4,3 +4,10 @@ pub mod Skip
 pub mod Fronts
 pub mod Beginnings
 pub mod Peeking
+pub mod Moving
+pub mod Headers
+pub mod Entering
+pub mod Names
+pub mod Refusing
+pub mod Inner
+pub mod Taking

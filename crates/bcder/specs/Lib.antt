@@ -13,6 +13,9 @@ pub mod Sources
 pub mod Cause
 pub mod Told
 pub mod Peek
+pub mod Content
+pub mod Views
+pub mod Calls
 pub mod Begins
 pub mod PeekTag
 pub mod PeekLength

@@ -1,7 +1,9 @@
 //! Decoding: sources of octets, errors, and content.
+mod content;
 mod error;
 mod header;
 mod source;
 
+pub use content::{Constructed, Content, Primitive};
 pub use error::{ContentError, DecodeError, Message};
 pub use source::{BytesSource, CaptureSource, IntoSource, LimitedSource, Pos, SliceSource, Source};

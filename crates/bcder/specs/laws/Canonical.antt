@@ -96,7 +96,7 @@ allowed_in_ber mode false (Definite n) e = refl
 allowed_in_ber mode false Indefinite e = e
 allowed_in_ber mode true len e = refl
 
-header_in_ber : (mode : Mode) (t : Tag) (f : Bool) (len : Length) (w : List ℕ) → IsHeader mode t f len w → IsHeader Ber t f len w
+pub header_in_ber : (mode : Mode) (t : Tag) (f : Bool) (len : Length) (w : List ℕ) → IsHeader mode t f len w → IsHeader Ber t f len w
 header_in_ber mode t f len w d = record { is_value_tag = d.is_value_tag; allowed = allowed_in_ber mode f len d.allowed; length_octets = d.length_octets; tells = tells_in_ber mode len _ d.tells; is = d.is }
 
 definite_in_ber : (mode : Mode) (t : Tag) (f : Bool) (contents w : List ℕ) → IsDefinite mode t f contents w → IsDefinite Ber t f contents w

@@ -13,7 +13,7 @@ use Rattle.bcder.specs.Reading.{is_value_tag, Header, Inside, read_end, read_hea
 use Rattle.bcder.specs.laws.Identifiers.{read_identifier-identifier, BeginsValue, BeginsValue-identifier, identifier_some}
 use Rattle.bcder.specs.laws.Lengths.{read_length-tells, tells_some, read_end-complete}
 
-is_value : (t : Tag) → IsValueTag t → is_value_tag t ≡ true
+pub is_value : (t : Tag) → IsValueTag t → is_value_tag t ≡ true
 is_value t v = by_parts t.class t.number v.no_end
   where
     by_parts : (c : Class) (n : ℕ) → (record { class = c; number = n } ≢ end_of_contents) → is_value_tag (record { class = c; number = n }) ≡ true

@@ -1,0 +1,330 @@
+-- What follows from passing over a header.
+use Rattle.std.proofs.Common.{◌≡◌, ◌≢◌, ℕ, ◌+◌, ◌-◌, ◌<◌, ◌≤◌, Bool, true, false, List, [], ◌∷◌, ◌++◌, length, take, drop, Option, Some, None, refl, ap, sym, ◌∙◌, arith, rules, length-append, append_assoc, subst, inl, inr}
+use Rattle.std.specs.Prelude.{◌⊎◌}
+use Rattle.std.proofs.lemmas.List.{take-append-drop, length-take-le, take_at}
+use Rattle.std.proofs.lemmas.Grind.{common_steps}
+use Rattle.bcder.specs.declared.mode.Mode.{Mode}
+use Rattle.bcder.specs.declared.decode.content.Kind.{Kind}
+use Rattle.bcder.specs.declared.decode.content.Kind.TheVariants as kind
+use Rattle.bcder.specs.declared.decode.content.State.TheVariants.{Open, Ended, Failed}
+use Rattle.bcder.specs.Identifier.{AreOctets, Tag, end_of_contents}
+use Rattle.bcder.specs.Reading.{Header, is_value_tag, read_identifier, read_front}
+use Rattle.bcder.specs.Encoding.{may_have, IsHeader}
+use Rattle.bcder.specs.Peek.{HasOtherTag, HasNoLength}
+use Rattle.bcder.specs.Stream.{Layer, Stream, IsSound, Grew, cut, past, limited}
+use Rattle.bcder.specs.Content.{Reading, Asked, any, tagged, IsAsked, HasHeader, HasMarker, HasOther, IndefiniteValues, Falls, FitsOwed, Advances, Moves, Accepts, Enters, TakesMarker, NoFront, Resembles, end_header, values, Octets, DefiniteValues, UnboundedValues, IsUsedUp, IsDone, IsAtEnd, of_octets, of_definite, of_indefinite, of_unbounded, EndsBefore, EndsAt, NotAtEnd, IsElsewhere, none_left, other, marker, IsAbsent, IsLeft, NothingThere, RefusesHeader, failed, source, nothing}
+use Rattle.bcder.specs.Calls.{RefusesEnd, left_failed, source_failed, left_open}
+use Rattle.bcder.specs.laws.Limits.{limit_told, limit_told_after, rest_told, limited_sound}
+use Rattle.bcder.specs.laws.Sound.{none_is}
+use Rattle.bcder.specs.laws.Stands.{Headed}
+use Rattle.bcder.proofs.Moving.{Falls-refl, moves_failed, moves_marker, moves_still, open_not_ended}
+use Rattle.bcder.proofs.Headers.{no_header_unread, no_header_empty, header_no_marker, no_marker_unread, no_marker_empty, no_other_front, no_other_unread, no_other_empty, other_of, unread_of, has_front, front_of_header, header_of_front, marker_of_front, no_header_tag, no_header_form, no_header_long, no_marker_other, size_is}
+
+-- ---- an advance of a limited source
+
+taken_within : (n m : ℕ) (xs : List ℕ) → n ≤ length (take m xs) → n ≤ m
+taken_within n m xs h = grind (arith, common_steps)
+
+falls_after : (o p : Option ℕ) (xs ys : List ℕ) (n : ℕ) → cut p ys ≡ drop n (cut o xs) → n ≤ length (cut o xs) → past p ys ≡ past o xs → Falls o n p
+falls_after None None xs ys n c h p = refl
+falls_after None (Some m) xs ys n c h p = absurd (let e = ap (λ (y : Layer). y.number) p in omega arith)
+falls_after (Some l) p xs ys n c h q =
+    let e : p ≡ Some (l - n) = limit_told_after l p xs ys n c h q in
+    let w : n ≤ l = taken_within n l xs h in
+    subst (λ z. Falls (Some l) n z) (sym e) (omega arith)
+
+first_layer : (x y : Layer) (xs ys : List Layer) → ◌≡◌ {A = List Layer} (x ∷ xs) (y ∷ ys) → x ≡ y
+first_layer x y xs ys e = cc
+
+module _ (c d : Reading) (s s' : Stream) (o o' : Option ℕ) (n : ℕ)
+    (cs : c.stream ≡ limited o s) (co : c.owed ≡ o) (ds : d.stream ≡ limited o' s') (do' : d.owed ≡ o') where
+  pub advances_by : IsSound s → (limited o' s').rest ≡ drop n (limited o s).rest → (limited o' s').faults ≡ (limited o s).faults → (limited o' s').kept ≡ (limited o s).kept → n ≤ (limited o s).avail → d.kind ≡ c.kind → d.mode ≡ c.mode → d.name ≡ c.name → Advances c d (take n c.stream.rest)
+  advances_by so r f k a ki mo na =
+      let q : IsSound (limited o s) = limited_sound o s so in
+      let w : n ≤ length (cut o s.rest) = (let h : (limited o s).avail ≤ length (cut o s.rest) = q.at_hand in omega arith) in
+      let e : cut o s.rest ≡ c.stream.rest = ap (λ x. x.rest) (sym cs) in
+      record {
+        rest = sym (take-append-drop n c.stream.rest) ∙ ap (λ x. take n c.stream.rest ++ drop n x) (sym e) ∙ ap (λ x. take n c.stream.rest ++ x) (sym r ∙ ap (λ x. x.rest) (sym ds));
+        owed = (let g : Falls o n o' = falls_after o o' s.rest s'.rest n r w (first_layer _ _ _ _ k) in
+            let l : length (take n c.stream.rest) ≡ n = length-take-le n c.stream.rest (subst (λ x. n ≤ length x) e w) in
+            rw (co, do', l) g);
+        kept = ap (λ x. x.kept) ds ∙ k ∙ ap (λ x. x.kept) (sym cs);
+        faults = omega (arith, f, ap (λ x. x.faults) cs, ap (λ x. x.faults) ds);
+        kind = ki;
+        mode = mo;
+        name = na;
+      }
+
+pub drop_rest : (n : ℕ) (w h : List ℕ) → w ≡ h ++ drop n w → n ≤ length w → h ≡ take n w
+drop_rest n w h e l =
+    let s : length h ≡ n = size_is n h w (drop n w) e refl l in
+    sym (take_at h (drop n w) n s) ∙ ap (take n) (sym e)
+
+-- ---- what the header was
+
+unread_empty : (m : Mode) {r : Header × List ℕ} → read_front m [] ≡ Some r → ⊥
+unfolding read_front read_identifier
+unread_empty m e = none_is _ e
+
+module _ (c d : Reading) (n : ℕ) (h : Header) (a : Advances c d (take n c.stream.rest)) (o : AreOctets c.stream.rest) (l : n ≤ length c.stream.rest) (r : read_front c.mode c.stream.rest ≡ Some (h, drop n c.stream.rest)) (s : c.state ≡ Open) where
+  pub enters : Accepts c.mode h d.owed → d.marked ≡ c.marked → d.state ≡ Failed → Enters c h d
+  enters k m f =
+      let p : Headed c.mode h c.stream.rest (drop n c.stream.rest) = header_of_front c.mode c.stream.rest h (drop n c.stream.rest) o r k.0 k.1 in
+      record {
+        octets = p.octets;
+        is_header = p.is_header;
+        advances = subst (λ z. Advances c d z) (sym (drop_rest n c.stream.rest p.octets p.is l)) a;
+        unmarked = m;
+        usable = s;
+        opened = f;
+        fits = k.2;
+      }
+
+  rest_is : d.stream.rest ≡ drop n c.stream.rest
+  rest_is = after_take (take n c.stream.rest) d.stream.rest (drop n c.stream.rest) (sym a.rest ∙ sym (take-append-drop n c.stream.rest))
+    where
+      after_take : (x y z : List ℕ) → x ++ y ≡ x ++ z → y ≡ z
+      after_take [] y z e = e
+      after_take (b ∷ x) y z e = after_take x y z (tail_is b (x ++ y) (x ++ z) e)
+        where
+          tail_is : (b : ℕ) (u v : List ℕ) → ◌≡◌ {A = List ℕ} (b ∷ u) (b ∷ v) → u ≡ v
+          tail_is b u v e = cc
+
+  marker_here : h ≡ end_header → HasMarker c.mode c.stream.rest d.stream.rest
+  marker_here e = subst (λ z. HasMarker c.mode c.stream.rest z) (sym rest_is) (marker_of_front c.mode c.stream.rest h (drop n c.stream.rest) o r e)
+
+  pub takes_marker : h ≡ end_header → c.kind ≡ IndefiniteValues → d.state ≡ Ended → TakesMarker c d
+  takes_marker e k f = record { usable = s; kind = k; marker = marker_here e; ended = f }
+
+  pub marker_moves : h ≡ end_header → c.kind ≡ IndefiniteValues → d.state ≡ Ended → d.marked ≡ c.marked → Moves c d
+  marker_moves e k f m =
+      let q : HasMarker c.mode c.stream.rest d.stream.rest = marker_here e in
+      let t : q.marker ≡ take n c.stream.rest = drop_rest n c.stream.rest q.marker (q.rest ∙ ap (λ z. q.marker ++ z) rest_is) l in
+      moves_marker c d q.marker (subst (λ z. Advances c d z) (sym t) a) q.is_end m k s f
+
+  no_header_here : (Accepts c.mode h d.owed → ⊥) → (asked : Asked) (after : List ℕ) → HasHeader asked c after → ⊥
+  no_header_here no_good asked after z =
+      by_tag (is_value_tag h.tag) (may_have c.mode h.form h.len) refl refl
+    where
+      by_tag : (v m : Bool) → is_value_tag h.tag ≡ v → may_have c.mode h.form h.len ≡ m → ⊥
+      by_tag false m v q = no_header_tag asked c after h (drop n c.stream.rest) r v z
+      by_tag true false v q = no_header_form asked c after h (drop n c.stream.rest) r q z
+      by_tag true true v q =
+          no_header_long asked c after h n d.owed r l (subst (λ k. Falls c.owed k d.owed) (length-take-le n c.stream.rest l) a.owed) (λ f. no_good (v, q, f)) z
+
+  pub no_front : (Accepts c.mode h d.owed → ⊥) → (c.kind ≡ IndefiniteValues → h ≡ end_header → ⊥) → NoFront c
+  no_front x y = record { some = λ e. unread_empty c.mode (subst (λ z. read_front c.mode z ≡ Some (h, drop n c.stream.rest)) e r); header = no_header_here x; marker = λ k after m. no_marker_other c.mode c.stream.rest after h (drop n c.stream.rest) r (y k) m }
+
+pub within : (o : Option ℕ) (s : Stream) (n : ℕ) → IsSound s → n ≤ (limited o s).avail → (AreOctets (cut o s.rest)) × (n ≤ length (cut o s.rest))
+within o s n so w = let q : IsSound (limited o s) = limited_sound o s so in (q.octets, (let h : (limited o s).avail ≤ length (cut o s.rest) = q.at_hand in omega arith))
+
+pub accepted : (h : Header) (m m' : Mode) (o o' : Option ℕ) → m' ≡ m → o' ≡ o → Accepts m' h o' → Accepts m h o
+accepted h m m' o o' e f a = subst (λ z. Accepts z h o) e (subst (λ z. Accepts m' h z) f a)
+
+pub unaccepted : (h : Header) (m m' : Mode) (o o' : Option ℕ) → m' ≡ m → o' ≡ o → Accepts m h o → Accepts m' h o'
+unaccepted h m m' o o' e f a = subst (λ z. Accepts z h o') (sym e) (subst (λ z. Accepts m h z) (sym f) a)
+
+pub advances_to : (c d e : Reading) (p : List ℕ) → Advances c d p → e.stream ≡ d.stream → e.owed ≡ d.owed → e.kind ≡ d.kind → e.mode ≡ d.mode → e.name ≡ d.name → Advances c e p
+advances_to c d e p a s o k m n = record {
+  rest = a.rest ∙ ap (λ x. p ++ x.rest) (sym s);
+  owed = rw o a.owed;
+  kept = ap (λ x. x.kept) s ∙ a.kept;
+  faults = (let f : c.stream.faults ≤ d.stream.faults = a.faults in omega (arith, f, ap (λ x. x.faults) s));
+  kind = k ∙ a.kind;
+  mode = m ∙ a.mode;
+  name = n ∙ a.name;
+}
+
+pub kind_of : (a b : Kind) → values a ≡ values b → a ≡ b
+kind_of a b e = cc
+
+-- ---- content that was only looked at
+
+-- no more is left than is owed
+pub record Within (c : Reading) : Type 0 where
+  pub fits : (n : ℕ) → c.owed ≡ Some n → length c.stream.rest ≤ n
+  pub octets : AreOctets c.stream.rest
+
+empty_of : (w : List ℕ) → length w ≤ 0 → w ≡ []
+empty_of [] h = refl
+empty_of (b ∷ w) h = absurd (omega arith)
+
+pub used_rest : (c : Reading) → Within c → c.owed ≡ Some 0 → c.stream.rest ≡ []
+used_rest c w e = empty_of c.stream.rest (w.fits 0 e)
+
+module _ (c d : Reading) (s : Resembles c d) (f : c.stream.faults ≤ d.stream.faults) where
+  pub looked_moves : Moves c d
+  looked_moves = moves_still c d s.rest s.kept f s.owed s.kind (λ _. s.mode) s.name s.state (λ e. s.marked ∙ e)
+
+  -- and then failed
+  pub looked_failed : (e : Reading) → c.state ≡ Open → e.stream ≡ d.stream → e.owed ≡ d.owed → e.kind ≡ d.kind → e.mode ≡ d.mode → e.name ≡ d.name → e.marked ≡ d.marked → e.state ≡ Failed → Moves c e
+  looked_failed e o a b k m n g st =
+      moves_failed c e []
+      (record { rest = sym s.rest ∙ ap (λ x. x.rest) (sym a); owed = (let x : Falls c.owed 0 c.owed = Falls-refl c.owed in rw (b, s.owed) x); kept = ap (λ x. x.kept) a ∙ s.kept; faults = omega (arith, f, ap (λ x. x.faults) a); kind = k ∙ s.kind; mode = m ∙ s.mode; name = n ∙ s.name })
+      (λ x. g ∙ s.marked ∙ x) (open_not_ended c.state o) st
+
+  pub looked_enters : (h : Header) (e : Reading) → Enters d h e → Enters c h e
+  looked_enters h e x = record {
+    octets = x.octets;
+    is_header = subst (λ m. IsHeader m h.tag h.form h.len x.octets) s.mode x.is_header;
+    advances = record {
+      rest = sym s.rest ∙ x.advances.rest;
+      owed = subst (λ o. Falls o (length x.octets) e.owed) s.owed x.advances.owed;
+      kept = x.advances.kept ∙ s.kept;
+      faults = (let y : d.stream.faults ≤ e.stream.faults = x.advances.faults in omega (arith, f, y));
+      kind = x.advances.kind ∙ s.kind;
+      mode = x.advances.mode ∙ s.mode;
+      name = x.advances.name ∙ s.name;
+    };
+    unmarked = x.unmarked ∙ s.marked;
+    usable = sym s.state ∙ x.usable;
+    opened = x.opened;
+    fits = x.fits;
+  }
+
+  pub looked_marker : (e : Reading) → TakesMarker d e → TakesMarker c e
+  looked_marker e x = record {
+    usable = sym s.state ∙ x.usable;
+    kind = sym s.kind ∙ x.kind;
+    marker = subst (λ m. HasMarker m c.stream.rest e.stream.rest) s.mode (subst (λ z. HasMarker d.mode z e.stream.rest) s.rest x.marker);
+    ended = x.ended;
+  }
+
+  looked_header : (asked : Asked) (after : List ℕ) → HasHeader asked c after → HasHeader asked d after
+  looked_header asked after x = record {
+    tag = x.tag;
+    form = x.form;
+    len = x.len;
+    octets = x.octets;
+    is_header = subst (λ m. IsHeader m x.tag x.form x.len x.octets) (sym s.mode) x.is_header;
+    is_asked = x.is_asked;
+    rest = s.rest ∙ x.rest;
+    owed = x.owed;
+    falls = subst (λ o. Falls o (length x.octets) x.owed) (sym s.owed) x.falls;
+    fits = x.fits;
+  }
+
+  pub looked_front : NoFront d → NoFront c
+  looked_front x = record {
+    some = λ e. x.some (s.rest ∙ e);
+    header = λ asked after y. x.header asked after (looked_header asked after y);
+    marker = λ k after y. x.marker (s.kind ∙ k) after (subst (λ m. HasMarker m d.stream.rest after) (sym s.mode) (subst (λ z. HasMarker c.mode z after) (sym s.rest) y));
+  }
+
+-- ---- a value of any tag
+
+marker_ends : (c d : Reading) → TakesMarker c d → EndsAt c d × IsDone d
+marker_ends c d x = (inr (x.usable, of_indefinite x.kind x.marker), inl x.ended)
+
+pub front_nothing : (c : Reading) → Within c → (c.kind ≢ Octets) → c.state ≡ Open → NoFront c → NothingThere any c
+front_nothing c w k o x = record {
+  usable = o;
+  header = x.header any;
+  absent = λ after e. elim e [ inl y ↦ open_not_ended c.state o y | inr y ↦ at_end after y.1 ];
+}
+  where
+    at_end : (after : List ℕ) → IsAtEnd c after → ⊥
+    at_end after (of_octets q e) = k q
+    at_end after (of_definite q e) = x.some (used_rest c w e)
+    at_end after (of_indefinite q m) = x.marker q after m
+    at_end after (of_unbounded q e) = x.some e
+
+pub unread_front : (c : Reading) → 1 ≤ length c.stream.rest → read_front c.mode c.stream.rest ≡ None → NoFront c
+unread_front c l e = record {
+  some = λ z. (let y = ap length z in omega (arith, l, y));
+  header = λ asked after h. no_header_unread asked c after e h;
+  marker = λ k after m. no_marker_unread c.mode c.stream.rest after e m;
+}
+
+pub empty_nothing : (c : Reading) → c.kind ≢ Octets → (c.kind ≡ DefiniteValues → c.owed ≡ Some 0 → ⊥) → (c.kind ≡ UnboundedValues → ⊥) → c.state ≡ Open → c.stream.rest ≡ [] → NothingThere any c
+empty_nothing c k d u o e = record {
+  usable = o;
+  header = λ after h. no_header_empty any c after e h;
+  absent = λ after x. elim x [ inl y ↦ open_not_ended c.state o y | inr y ↦ at_end after y.1 ];
+}
+  where
+    at_end : (after : List ℕ) → IsAtEnd c after → ⊥
+    at_end after (of_octets q z) = k q
+    at_end after (of_definite q z) = d q z
+    at_end after (of_indefinite q m) = no_marker_empty c.mode c.stream.rest after e m
+    at_end after (of_unbounded q z) = u q
+
+-- where a header stands in front, content is not at its end
+pub header_not_at_end : (c : Reading) (after : List ℕ) → Within c → c.state ≡ Open → HasHeader any c after → NotAtEnd c
+header_not_at_end c after w o h = record { none = λ b e. elim e [ inl y ↦ open_not_ended c.state o y | inr y ↦ at_end b y.1 ] }
+  where
+    at_end : (b : List ℕ) → IsAtEnd c b → ⊥
+    at_end b (of_octets q z) = no_header_empty any c after (used_rest c w z) h
+    at_end b (of_definite q z) = no_header_empty any c after (used_rest c w z) h
+    at_end b (of_indefinite q m) = header_no_marker any c after b h m
+    at_end b (of_unbounded q z) = no_header_empty any c after z h
+
+pub header_entered : (c : Reading) (h : Header) (d : Reading) (asked : Asked) → IsAsked asked h.tag → Enters c h d → HasHeader asked c d.stream.rest
+header_entered c h d asked t x = record { tag = h.tag; form = h.form; len = h.len; octets = x.octets; is_header = x.is_header; is_asked = t; rest = x.advances.rest; owed = d.owed; falls = x.advances.owed; fits = x.fits }
+
+-- ---- a value of one tag
+
+pub if_nothing : (c : Reading) (t : Tag) (h : Header) (x : List ℕ) → c.state ≡ Open → NoFront c → read_front c.mode c.stream.rest ≡ Some (h, x) → h.tag ≡ t → NothingThere (tagged t) c
+if_nothing c t h x o n r e = record {
+  usable = o;
+  header = n.header (tagged t);
+  absent = λ after y. elim y [ inl z ↦ open_not_ended c.state o z.0 | inr z ↦ elsewhere after z.1 ];
+}
+  where
+    elsewhere : (after : List ℕ) → IsElsewhere t c after → ⊥
+    elsewhere after (none_left z s) = n.some z
+    elsewhere after (other z s) = no_other_front c.mode t c.stream.rest h x r e z
+    elsewhere after (marker z k m) = n.marker k after m
+
+pub if_unread : (c : Reading) (t : Tag) → c.state ≡ Open → 1 ≤ length c.stream.rest → HasNoLength c.mode t c.stream.rest → NothingThere (tagged t) c
+if_unread c t o l u =
+    let n : NoFront c = unread_front c l (unread_of c.mode t c.stream.rest u) in
+    record {
+      usable = o;
+      header = n.header (tagged t);
+      absent = λ after y. elim y [ inl z ↦ open_not_ended c.state o z.0 | inr z ↦ elsewhere n after z.1 ];
+    }
+  where
+    elsewhere : NoFront c → (after : List ℕ) → IsElsewhere t c after → ⊥
+    elsewhere n after (none_left z s) = n.some z
+    elsewhere n after (other z s) = no_other_unread c.mode t c.stream.rest u z
+    elsewhere n after (marker z k m) = n.marker k after m
+
+pub no_fewer : (a b : ℕ) → a ≡ b → b ≤ a
+no_fewer a b e = omega arith
+
+pub grew_least : (a b : ℕ) → Grew a b → a ≤ b
+grew_least a b g = g.no_smaller
+
+-- what was looked at is no header
+module _ (c d : Reading) (s : Resembles c d) (o : c.state ≡ Open) where
+  pub unread_at : 1 ≤ length d.stream.rest → read_front c.mode d.stream.rest ≡ None → NoFront c
+  unread_at l e = unread_front c (subst (λ z. 1 ≤ length z) s.rest l) (subst (λ z. read_front c.mode z ≡ None) s.rest e)
+
+  pub if_unread_at : (t : Tag) → 1 ≤ length d.stream.rest → HasNoLength c.mode t d.stream.rest → NothingThere (tagged t) c
+  if_unread_at t l u = if_unread c t o (subst (λ z. 1 ≤ length z) s.rest l) (subst (λ z. HasNoLength c.mode t z) s.rest u)
+
+  pub if_other_at : (t : Tag) → Within c → HasOtherTag t d.stream.rest → IsAbsent (tagged t) c d.stream.rest × IsLeft t c d
+  if_other_at t w u = (inr (o, other (other_of t c.stream.rest w.octets (subst (λ z. HasOtherTag t z) s.rest u)) s.rest), inl (s.state, s.rest))
+
+  pub if_none_at : (t : Tag) → d.stream.rest ≡ [] → IsAbsent (tagged t) c d.stream.rest × IsLeft t c d
+  if_none_at t e = (inr (o, none_left (sym s.rest ∙ e) e), inl (s.state, s.rest))
+
+  pub if_front_nothing : (t : Tag) (h : Header) (x : List ℕ) → NoFront c → read_front c.mode d.stream.rest ≡ Some (h, x) → h.tag ≡ t → NothingThere (tagged t) c
+  if_front_nothing t h x n r e = if_nothing c t h x o n (subst (λ z. read_front c.mode z ≡ Some (h, x)) s.rest r) e
+
+pub if_used_up : (c : Reading) (t : Tag) → Within c → c.state ≡ Open → c.owed ≡ Some 0 → IsAbsent (tagged t) c c.stream.rest × IsLeft t c c
+if_used_up c t w o e = let z = used_rest c w e in (inr (o, none_left z z), inl (refl, refl))
+
+pub if_marker : (c d : Reading) (t u : Tag) → u ≡ t → u ≡ end_of_contents → TakesMarker c d → IsAbsent (tagged t) c d.stream.rest × IsLeft t c d
+if_marker c d t u e f x = (inr (x.usable, marker (sym e ∙ f) x.kind x.marker), inr (sym e ∙ f, x.usable, x.ended))
+
+pub grew_moves : (a b : ℕ) → Grew a b → a ≤ b
+grew_moves a b g = g.no_smaller
+
+-- ---- why content is not left at its end
+
+pub end_refused : {E : Type 0} (Own : E → Type 0) (c d : Reading) (e : E) → RefusesHeader Own any c e d → RefusesEnd Own c e d
+end_refused Own c d e (failed s o) = left_failed s o
+end_refused Own c d e (source g) = source_failed g
+end_refused Own c d e (nothing n o) = left_open (record { none = n.absent }) o

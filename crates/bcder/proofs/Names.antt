@@ -1,0 +1,59 @@
+-- content that moved still holds the same borrow
+use Rattle.std.proofs.Common.{◌≡◌, ◌≢◌, ℕ, ◌≤◌, List, [], ◌∷◌, ◌++◌, length, take, refl, sym, ◌∙◌, ap, subst, arith}
+use Rattle.std.proofs.lemmas.Grind.{common_steps}
+use Rattle.std.specs.Prelude.{Option, Some, None}
+use Rattle.std.specs.Borrow.{GName}
+use Rattle.bcder.specs.declared.mode.Mode.{Mode}
+use Rattle.bcder.specs.declared.decode.content.Constructed.{Constructed}
+use Rattle.bcder.specs.declared.decode.content.Content.{Content}
+use Rattle.bcder.specs.declared.decode.content.Content.TheVariants as content
+use Rattle.bcder.specs.declared.decode.content.Primitive.{Primitive}
+use Rattle.bcder.specs.Stream.{Stream, IsSound, limited}
+use Rattle.bcder.specs.Content.{Reading, Form, octets, values, Octets, Moves, MovesBy, Falls}
+use Rattle.bcder.specs.laws.Limits.{limited_sound}
+use Rattle.bcder.proofs.Entering.{Within}
+use Rattle.bcder.specs.Views.{of_content, of_primitive, of_constructed, content_name, content_source, content_mark, limited_stream}
+
+pub name_of_content : {S : Type 0} (stream : S → Stream) (a : Content S) → (of_content stream a).name ≡ content_name a
+unfolding of_primitive of_constructed
+name_of_content stream (content.Primitive p) = refl
+name_of_content stream (content.Constructed p) = refl
+
+pub moves_content_name : {S : Type 0} (stream : S → Stream) (a b : Content S) → Moves (of_content stream a) (of_content stream b) → content_name b ≡ content_name a
+unfolding Moves
+moves_content_name stream a b m = sym (name_of_content stream b) ∙ m.name ∙ name_of_content stream a
+
+pub stream_of_content : {S : Type 0} (stream : S → Stream) (a : Content S) → (of_content stream a).stream ≡ limited_stream stream (content_source a)
+unfolding of_primitive of_constructed
+stream_of_content stream (content.Primitive p) = refl
+stream_of_content stream (content.Constructed p) = refl
+
+pub owed_of_content : {S : Type 0} (stream : S → Stream) (a : Content S) → (of_content stream a).owed ≡ (content_source a).limit
+unfolding of_primitive of_constructed
+owed_of_content stream (content.Primitive p) = refl
+owed_of_content stream (content.Constructed p) = refl
+
+pub moves_constructed_name : {S : Type 0} (stream : S → Stream) (a b : Constructed S) → Moves (of_constructed stream a) (of_constructed stream b) → b.source.ghost_name ≡ a.source.ghost_name
+unfolding of_constructed Moves
+moves_constructed_name stream a b m = m.name
+
+pub mark_of_content : {S : Type 0} (stream : S → Stream) (a : Content S) → (of_content stream a).marked ≡ content_mark a
+unfolding of_primitive of_constructed
+mark_of_content stream (content.Primitive p) = refl
+mark_of_content stream (content.Constructed p) = refl
+
+take_within : (n : ℕ) (xs : List ℕ) → length (take n xs) ≤ n
+take_within n xs = grind (arith, common_steps)
+
+-- a limited source has no more octets than its limit
+pub within_constructed : {S : Type 0} (stream : S → Stream) (sound : (x : S) → IsSound (stream x)) (c : Constructed S) → Within (of_constructed stream c)
+unfolding of_constructed
+within_constructed stream sound c = record { fits = λ n e. rw e (take_within n _); octets = (limited_sound c.source.now.limit (stream c.source.now.source) (sound c.source.now.source)).octets }
+
+pub constructed_form : {S : Type 0} (stream : S → Stream) (p : Constructed S) → (of_constructed stream p).kind ≢ Octets
+unfolding of_constructed
+constructed_form stream p e = (let x : values p.kind ≡ octets = e in cc)
+
+pub primitive_form : {S : Type 0} (stream : S → Stream) (p : Primitive S) → (of_primitive stream p).kind ≡ Octets
+unfolding of_primitive
+primitive_form stream p = refl

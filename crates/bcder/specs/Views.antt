@@ -1,0 +1,58 @@
+-- The content that a value of the code stands for, by the stream of its source.
+use Rattle.std.specs.Prelude.{ℕ, Bool}
+use Rattle.std.specs.Borrow.{GName, MutBor}
+use Rattle.bcder.specs.declared.decode.source.limited.LimitedSource.{LimitedSource}
+use Rattle.bcder.specs.declared.decode.content.Primitive.{Primitive}
+use Rattle.bcder.specs.declared.decode.content.Constructed.{Constructed}
+use Rattle.bcder.specs.declared.decode.content.Content.{Content}
+use Rattle.bcder.specs.declared.decode.content.Content.TheVariants as content
+use Rattle.bcder.specs.declared.decode.content.State.TheVariants as state
+use Rattle.bcder.specs.Stream.{Stream, limited, borrowed}
+use Rattle.bcder.specs.Content.{Reading, octets, values}
+
+module _ {S : Type 0} (stream : S → Stream) where
+  abbrev pub limited_stream : LimitedSource S → Stream
+  limited_stream l = limited l.limit (stream l.source)
+
+  unfoldable pub of_constructed : Constructed S → Reading
+  of_constructed c = record {
+    stream = limited_stream c.source.now;
+    owed = c.source.now.limit;
+    kind = values c.kind;
+    state = c.state;
+    mode = c.mode;
+    marked = c.marked;
+    name = c.source.ghost_name;
+  }
+
+  unfoldable pub of_primitive : Primitive S → Reading
+  of_primitive c = record {
+    stream = limited_stream c.source.now;
+    owed = c.source.now.limit;
+    kind = octets;
+    state = state.Open;
+    mode = c.mode;
+    marked = c.marked;
+    name = c.source.ghost_name;
+  }
+
+  abbrev pub of_content : Content S → Reading
+  of_content (content.Primitive p) = of_primitive p
+  of_content (content.Constructed c) = of_constructed c
+
+-- the borrow that content holds
+abbrev pub content_name : {S : Type 0} → Content S → GName
+content_name (content.Primitive p) = p.source.ghost_name
+content_name (content.Constructed c) = c.source.ghost_name
+
+abbrev pub content_source : {S : Type 0} → Content S → LimitedSource S
+content_source (content.Primitive p) = p.source.now
+content_source (content.Constructed c) = c.source.now
+
+abbrev pub content_mark : {S : Type 0} → Content S → Bool
+content_mark (content.Primitive p) = p.marked
+content_mark (content.Constructed c) = c.marked
+
+-- the stream of a source behind a borrow
+abbrev pub lent : {S : Type 0} → (S → Stream) → MutBor S → Stream
+lent stream s = borrowed s.ghost_name (stream s.now)
