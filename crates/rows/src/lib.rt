@@ -10,5 +10,7 @@ pub mod borrows;
 mod identifiers;
 pub mod sip;
 #[cfg(test)]
+mod sources;
+#[cfg(test)]
 mod tag_names;
 pub mod tags;
