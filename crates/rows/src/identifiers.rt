@@ -1,6 +1,7 @@
 //! Identifier octets (X.690, 8.1.2), read over several sources.
 ghost use Rattle.std.specs.Prelude.{◌≤◌};
 
+use crate::sip::Sip;
 use bcder::Tag;
 use bcder::decode::{BytesSource, SliceSource, Source};
 use bytes::Bytes;
@@ -103,6 +104,10 @@ fn bytes_source(alloc: Global, octets: &[u8]) -> Result<BytesSource, AllocError>
     Ok(BytesSource::new(Bytes::copy_from_slice(alloc, octets)?))
 }
 
+fn sip(alloc: Global, octets: &[u8]) -> Result<Sip, AllocError> {
+    Ok(Sip::new(octets.to_vec(alloc)?, 0))
+}
+
 #[test]
 fn tags_are_read_from_their_spelling(rt: HostRuntime) -> Result<(), Fail> {
     for class in CLASSES {
@@ -118,14 +123,17 @@ fn tags_are_read_from_their_spelling(rt: HostRuntime) -> Result<(), Fail> {
                     takes(&mut bytes_source(rt.alloc(), &octets)?, tag),
                     "{tag}"
                 );
+                assert!(rt; takes(&mut sip(rt.alloc(), &octets)?, tag), "{tag}");
                 assert!(rt;
                     takes_opt(&mut bytes_source(rt.alloc(), &octets)?, tag),
                     "{tag}"
                 );
+                assert!(rt; takes_opt(&mut sip(rt.alloc(), &octets)?, tag), "{tag}");
                 assert!(rt;
                     takes_if(&mut bytes_source(rt.alloc(), &octets)?, tag),
                     "{tag}"
                 );
+                assert!(rt; takes_if(&mut sip(rt.alloc(), &octets)?, tag), "{tag}");
             }
         }
     }
@@ -149,6 +157,7 @@ fn tags_are_refused_without_their_last_octet(rt: HostRuntime) -> Result<(), Fail
                         refuses(&mut bytes_source(rt.alloc(), front)?, tag, begin),
                         "{tag}"
                     );
+                    assert!(rt; refuses(&mut sip(rt.alloc(), front)?, tag, begin), "{tag}");
                 }
             }
         }
@@ -169,6 +178,7 @@ fn octets_that_spell_no_tag_are_refused(rt: HostRuntime) -> Result<(), Fail> {
         let begin = octets[0];
         assert!(rt; refuses(&mut SliceSource::new(octets), Tag::DATE, begin));
         assert!(rt; refuses(&mut bytes_source(rt.alloc(), octets)?, Tag::DATE, begin));
+        assert!(rt; refuses(&mut sip(rt.alloc(), octets)?, Tag::DATE, begin));
     }
     assert!(rt; takes(&mut SliceSource::new(&[0x1F, 0x1F]), Tag::DATE));
     Ok(())
