@@ -5,6 +5,7 @@ ghost use Rattle.bcder.specs.Content.{Moves};
 ghost use Rattle.bcder.specs.Views.{of_constructed, of_primitive, of_content};
 
 mod octets;
+mod sequences;
 mod take;
 mod values;
 
