@@ -2,6 +2,7 @@
 ghost use Rattle.std.specs.Prelude.{◌≡◌, ◌≢◌, ◌⊎◌, ℕ, ◌+◌, ◌≤◌, true, false, length, Ok, Err, IfOk, IfErr, IfSome, IfNone, OnOk, OnErr};
 ghost use Rattle.bcder.specs.Cause.{IsRefusal};
 ghost use Rattle.bcder.specs.Content.{Octets, Moves, any, tagged, EndsAt, IsDone, IsAbsent, IsLeft, IsMissing};
+ghost use Rattle.bcder.specs.Identifier.{sequence_tag, set_tag};
 ghost use Rattle.bcder.specs.Calls.{MayBeCalled, IsLawful, MayBeCalledOn, IsLawfulOn, IsInside, Untagged, Answered, TakesValue, RefusesValue, HasForm};
 ghost use Rattle.bcder.specs.Views.{of_constructed, of_primitive, of_content};
 
@@ -124,5 +125,74 @@ impl<'a, S: Source> Constructed<'a, S> {
             Some(value) => Ok(value),
             None => Err(self.expected(tag)),
         }
+    }
+
+    /// Takes the next value, which must be a SEQUENCE (X.690, 8.9 to 8.12).
+    pub fn take_sequence<F, T: Drop>(&mut self, op: F) -> Result<T, DecodeError<S::Error>>
+    where
+        F: FnOnce(&mut Constructed<'_, S>) -> Result<T, DecodeError<S::Error>>,
+        requires callable { MayBeCalledOn (of_constructed S.stream) (IsInside (of_constructed S.stream self.old) 2) (F.pre op) }
+        requires lawful { IsLawfulOn (of_constructed S.stream) (IsInside (of_constructed S.stream self.old) 2) (F.post op) }
+        ensures moves { Moves (of_constructed S.stream self.old) (of_constructed S.stream self.new) }
+        ensures value { IfOk result (λ x. TakesValue (of_constructed S.stream) (Untagged (F.post op)) (tagged sequence_tag) (of_constructed S.stream self.old) x (of_constructed S.stream self.new)) }
+        ensures shorter { OnOk result (length (of_constructed S.stream self.new).stream.rest + 2 ≤ length (of_constructed S.stream self.old).stream.rest) }
+        ensures refused { IfErr result (λ e. (IsMissing (tagged sequence_tag) (of_constructed S.stream self.old) (of_constructed S.stream self.new) × IsRefusal e) ⊎ ((HasForm false (tagged sequence_tag) (of_constructed S.stream self.old) × IsRefusal e) ⊎ RefusesValue IsRefusal (of_constructed S.stream) (Untagged (F.post op)) (tagged sequence_tag) (of_constructed S.stream self.old) e (of_constructed S.stream self.new))) }
+        ensures mode { (of_constructed S.stream self.new).mode ≡ (of_constructed S.stream self.old).mode }
+    {
+        self.take_constructed_if(Tag::SEQUENCE, op)
+    }
+
+    /// Takes the next value if it is a SEQUENCE, or answers `None` at the end or another tag.
+    pub fn take_opt_sequence<F, T: Drop>(
+        &mut self,
+        op: F,
+    ) -> Result<Option<T>, DecodeError<S::Error>>
+    where
+        F: FnOnce(&mut Constructed<'_, S>) -> Result<T, DecodeError<S::Error>>,
+        requires callable { MayBeCalledOn (of_constructed S.stream) (IsInside (of_constructed S.stream self.old) 2) (F.pre op) }
+        requires lawful { IsLawfulOn (of_constructed S.stream) (IsInside (of_constructed S.stream self.old) 2) (F.post op) }
+        ensures moves { Moves (of_constructed S.stream self.old) (of_constructed S.stream self.new) }
+        ensures absent { IfOk result (λ o. IfNone o (IsAbsent (tagged sequence_tag) (of_constructed S.stream self.old) (of_constructed S.stream self.new).stream.rest)) }
+        ensures left { IfOk result (λ o. IfNone o (IsLeft sequence_tag (of_constructed S.stream self.old) (of_constructed S.stream self.new))) }
+        ensures value { IfOk result (λ o. IfSome o (λ x. TakesValue (of_constructed S.stream) (Untagged (F.post op)) (tagged sequence_tag) (of_constructed S.stream self.old) x (of_constructed S.stream self.new))) }
+        ensures shorter { IfOk result (λ o. IfSome o (λ _. length (of_constructed S.stream self.new).stream.rest + 2 ≤ length (of_constructed S.stream self.old).stream.rest)) }
+        ensures refused { IfErr result (λ e. (HasForm false (tagged sequence_tag) (of_constructed S.stream self.old) × IsRefusal e) ⊎ RefusesValue IsRefusal (of_constructed S.stream) (Untagged (F.post op)) (tagged sequence_tag) (of_constructed S.stream self.old) e (of_constructed S.stream self.new)) }
+        ensures failed { OnErr result ((of_constructed S.stream self.new).state ≡ State.Failed) }
+        ensures mode { (of_constructed S.stream self.new).mode ≡ (of_constructed S.stream self.old).mode }
+    {
+        self.take_opt_constructed_if(Tag::SEQUENCE, op)
+    }
+
+    /// Takes the next value, which must be a SET (X.690, 8.9 to 8.12).
+    pub fn take_set<F, T: Drop>(&mut self, op: F) -> Result<T, DecodeError<S::Error>>
+    where
+        F: FnOnce(&mut Constructed<'_, S>) -> Result<T, DecodeError<S::Error>>,
+        requires callable { MayBeCalledOn (of_constructed S.stream) (IsInside (of_constructed S.stream self.old) 2) (F.pre op) }
+        requires lawful { IsLawfulOn (of_constructed S.stream) (IsInside (of_constructed S.stream self.old) 2) (F.post op) }
+        ensures moves { Moves (of_constructed S.stream self.old) (of_constructed S.stream self.new) }
+        ensures value { IfOk result (λ x. TakesValue (of_constructed S.stream) (Untagged (F.post op)) (tagged set_tag) (of_constructed S.stream self.old) x (of_constructed S.stream self.new)) }
+        ensures shorter { OnOk result (length (of_constructed S.stream self.new).stream.rest + 2 ≤ length (of_constructed S.stream self.old).stream.rest) }
+        ensures refused { IfErr result (λ e. (IsMissing (tagged set_tag) (of_constructed S.stream self.old) (of_constructed S.stream self.new) × IsRefusal e) ⊎ ((HasForm false (tagged set_tag) (of_constructed S.stream self.old) × IsRefusal e) ⊎ RefusesValue IsRefusal (of_constructed S.stream) (Untagged (F.post op)) (tagged set_tag) (of_constructed S.stream self.old) e (of_constructed S.stream self.new))) }
+        ensures mode { (of_constructed S.stream self.new).mode ≡ (of_constructed S.stream self.old).mode }
+    {
+        self.take_constructed_if(Tag::SET, op)
+    }
+
+    /// Takes the next value if it is a SET, or answers `None` at the end or another tag.
+    pub fn take_opt_set<F, T: Drop>(&mut self, op: F) -> Result<Option<T>, DecodeError<S::Error>>
+    where
+        F: FnOnce(&mut Constructed<'_, S>) -> Result<T, DecodeError<S::Error>>,
+        requires callable { MayBeCalledOn (of_constructed S.stream) (IsInside (of_constructed S.stream self.old) 2) (F.pre op) }
+        requires lawful { IsLawfulOn (of_constructed S.stream) (IsInside (of_constructed S.stream self.old) 2) (F.post op) }
+        ensures moves { Moves (of_constructed S.stream self.old) (of_constructed S.stream self.new) }
+        ensures absent { IfOk result (λ o. IfNone o (IsAbsent (tagged set_tag) (of_constructed S.stream self.old) (of_constructed S.stream self.new).stream.rest)) }
+        ensures left { IfOk result (λ o. IfNone o (IsLeft set_tag (of_constructed S.stream self.old) (of_constructed S.stream self.new))) }
+        ensures value { IfOk result (λ o. IfSome o (λ x. TakesValue (of_constructed S.stream) (Untagged (F.post op)) (tagged set_tag) (of_constructed S.stream self.old) x (of_constructed S.stream self.new))) }
+        ensures shorter { IfOk result (λ o. IfSome o (λ _. length (of_constructed S.stream self.new).stream.rest + 2 ≤ length (of_constructed S.stream self.old).stream.rest)) }
+        ensures refused { IfErr result (λ e. (HasForm false (tagged set_tag) (of_constructed S.stream self.old) × IsRefusal e) ⊎ RefusesValue IsRefusal (of_constructed S.stream) (Untagged (F.post op)) (tagged set_tag) (of_constructed S.stream self.old) e (of_constructed S.stream self.new)) }
+        ensures failed { OnErr result ((of_constructed S.stream self.new).state ≡ State.Failed) }
+        ensures mode { (of_constructed S.stream self.new).mode ≡ (of_constructed S.stream self.old).mode }
+    {
+        self.take_opt_constructed_if(Tag::SET, op)
     }
 }
