@@ -255,3 +255,8 @@ moves_value c d p t inner a v g h s e = record {
   ends = λ x. absurd (open_not_ended d.state e x);
   whole = λ _ _. whole_marked c.mode c d p inner d.marked h (record { trees = t ∷ₜ no_trees; values = p; close = []; split = sym (append-nil p); encodes = AreEncodings-one (label c.mode inner) t p v; closes = inl (refl, e ∙ sym s) });
 }
+
+-- nothing but a mode was changed
+pub moves_changed : (c d : Reading) → d.stream ≡ c.stream → d.owed ≡ c.owed → d.kind ≡ c.kind → d.name ≡ c.name → d.state ≡ c.state → d.marked ≡ true → Moves c d
+moves_changed c d s o k n e g =
+    moves_still c d (ap (λ x. x.rest) s) (ap (λ x. x.kept) s) (omega (arith, ap (λ x. x.faults) s)) o k (λ x. absurd (let y : true ≡ false = sym g ∙ x in cc)) n e (λ _. g)

@@ -194,6 +194,11 @@ IsAbsent (tagged t) c after = (c.state ≡ Ended) × (after ≡ c.stream.rest) �
 abbrev pub IsLeft : Tag → Reading → Reading → Type 0
 IsLeft t c d = (d.state ≡ c.state) × (d.stream.rest ≡ c.stream.rest) ⊎ (t ≡ end_of_contents) × (c.state ≡ Open) × (d.state ≡ Ended)
 
+-- no value that is asked for is there, and content is usable
+abbrev pub IsMissing : Asked → Reading → Reading → Type 0
+IsMissing any c d = EndsAt c d × IsDone d
+IsMissing (tagged t) c d = IsAbsent (tagged t) c d.stream.rest × IsLeft t c d
+
 -- neither a value that is asked for nor a reason to answer that there is none
 pub record NothingThere (asked : Asked) (c : Reading) : Type 0 where
   pub usable : c.state ≡ Open

@@ -53,6 +53,11 @@ abbrev pub content_mark : {S : Type 0} → Content S → Bool
 content_mark (content.Primitive p) = p.marked
 content_mark (content.Constructed c) = c.marked
 
+-- the position where the content begins
+abbrev pub content_start : {S : Type 0} → Content S → ℕ
+content_start (content.Primitive p) = p.start
+content_start (content.Constructed c) = c.start
+
 -- the stream of a source behind a borrow
 abbrev pub lent : {S : Type 0} → (S → Stream) → MutBor S → Stream
 lent stream s = borrowed s.ghost_name (stream s.now)

@@ -1,10 +1,12 @@
 //! Content: the values inside a value, or at top level, and the octets inside a primitive value.
-ghost use Rattle.std.specs.Prelude.{◌≡◌, ◌≢◌, ℕ, ◌↔◌, true, false, Bool, IsTrue, IfOk, IfErr, OnOk, OnErr};
-ghost use Rattle.bcder.specs.Cause.{cause_of, of_content};
-ghost use Rattle.bcder.specs.Content.{Moves};
-ghost use Rattle.bcder.specs.Views.{of_constructed, of_primitive, of_content};
+ghost use Rattle.std.specs.Prelude.{◌≡◌, ◌≢◌, ℕ, ◌↔◌, true, IsTrue, Some};
+ghost use Rattle.bcder.specs.Cause.{cause_of, position_of, of_content as of_refusal};
+ghost use Rattle.bcder.specs.Stream.{limit_or};
+ghost use Rattle.bcder.specs.Content.{Octets, Moves};
+ghost use Rattle.bcder.specs.Views.{of_constructed, of_primitive, of_content, content_start};
 
 mod octets;
+mod sequences;
 mod take;
 mod values;
 
@@ -66,4 +68,128 @@ pub enum Content<'a, S> {
 
     /// Of a constructed value.
     Constructed(Constructed<'a, S>),
+}
+
+#[tactic(auto, using(crate::proofs::Moving::moves_refl), unfolding(crate::specs::Views::of_constructed))]
+impl<'a, S: Source> Constructed<'a, S> {
+    /// The rules that the content is read by.
+    pub fn mode(&self) -> Mode
+        ensures { result ≡ (of_constructed S.stream self.now).mode }
+    {
+        self.mode
+    }
+
+    /// Goes on under other rules. A change marks this content, and the content around it once this is
+    /// taken, as no longer known to be in its rules.
+    pub fn set_mode(&mut self, mode: Mode)
+        ensures moves { Moves (of_constructed S.stream self.old) (of_constructed S.stream self.new) }
+        ensures mode { (of_constructed S.stream self.new).mode ≡ mode }
+        ensures changed { (of_constructed S.stream self.old).mode ≢ mode → (of_constructed S.stream self.new).marked ≡ true }
+        ensures unchanged { (of_constructed S.stream self.old).mode ≡ mode → (of_constructed S.stream self.new).marked ≡ (of_constructed S.stream self.old).marked }
+        ensures stream { (of_constructed S.stream self.new).stream ≡ (of_constructed S.stream self.old).stream }
+        ensures owed { (of_constructed S.stream self.new).owed ≡ (of_constructed S.stream self.old).owed }
+        ensures state { (of_constructed S.stream self.new).state ≡ (of_constructed S.stream self.old).state }
+    {
+        if self.mode != mode {
+            self.mode = mode;
+            self.marked = true;
+        }
+    }
+
+    /// A refusal of the content, at the position where it begins.
+    pub fn content_err(&self, error: ContentError) -> DecodeError<S::Error>
+        ensures cause { cause_of result ≡ of_refusal error }
+        ensures position { position_of result ≡ Some self.now.start }
+    {
+        DecodeError::content(error, self.start)
+    }
+}
+
+#[tactic(auto, using(crate::proofs::Moving::moves_refl), unfolding(crate::specs::Views::of_primitive))]
+impl<'a, S: Source> Primitive<'a, S> {
+    /// The rules that the content is read by.
+    pub fn mode(&self) -> Mode
+        ensures { result ≡ (of_primitive S.stream self.now).mode }
+    {
+        self.mode
+    }
+
+    /// Goes on under other rules. A change marks this content, and the content around it once this is
+    /// taken, as no longer known to be in its rules.
+    pub fn set_mode(&mut self, mode: Mode)
+        ensures moves { Moves (of_primitive S.stream self.old) (of_primitive S.stream self.new) }
+        ensures mode { (of_primitive S.stream self.new).mode ≡ mode }
+        ensures changed { (of_primitive S.stream self.old).mode ≢ mode → (of_primitive S.stream self.new).marked ≡ true }
+        ensures unchanged { (of_primitive S.stream self.old).mode ≡ mode → (of_primitive S.stream self.new).marked ≡ (of_primitive S.stream self.old).marked }
+        ensures stream { (of_primitive S.stream self.new).stream ≡ (of_primitive S.stream self.old).stream }
+        ensures owed { (of_primitive S.stream self.new).owed ≡ (of_primitive S.stream self.old).owed }
+        ensures state { (of_primitive S.stream self.new).state ≡ (of_primitive S.stream self.old).state }
+    {
+        if self.mode != mode {
+            self.mode = mode;
+            self.marked = true;
+        }
+    }
+
+    /// A refusal of the content, at the position where it begins.
+    pub fn content_err(&self, error: ContentError) -> DecodeError<S::Error>
+        ensures cause { cause_of result ≡ of_refusal error }
+        ensures position { position_of result ≡ Some self.now.start }
+    {
+        DecodeError::content(error, self.start)
+    }
+
+    /// How many octets are owed.
+    pub fn remaining(&self) -> usize
+        ensures { result ≡ limit_or (of_primitive S.stream self.now).owed 0 }
+    {
+        match self.source.limit() {
+            Some(owed) => owed,
+            None => 0,
+        }
+    }
+}
+
+#[tactic(auto, unfolding(crate::specs::Views::of_constructed, crate::specs::Views::of_primitive))]
+impl<'a, S: Source> Content<'a, S> {
+    /// The rules that the content is read by.
+    pub fn mode(&self) -> Mode
+        ensures { result ≡ (of_content S.stream self.now).mode }
+    {
+        match self {
+            Content::Primitive(primitive) => primitive.mode,
+            Content::Constructed(constructed) => constructed.mode,
+        }
+    }
+
+    /// Whether this is the contents octets of a primitive value.
+    pub fn is_primitive(&self) -> bool
+        ensures { IsTrue result ↔ ((of_content S.stream self.now).kind ≡ Octets) }
+    {
+        match self {
+            Content::Primitive(_) => true,
+            Content::Constructed(_) => false,
+        }
+    }
+
+    /// Whether this is the values inside a constructed value.
+    pub fn is_constructed(&self) -> bool
+        ensures { IsTrue result ↔ ((of_content S.stream self.now).kind ≢ Octets) }
+    {
+        match self {
+            Content::Primitive(_) => false,
+            Content::Constructed(_) => true,
+        }
+    }
+
+    /// A refusal of the content, at the position where it begins.
+    pub fn content_err(&self, error: ContentError) -> DecodeError<S::Error>
+        ensures cause { cause_of result ≡ of_refusal error }
+        ensures position { position_of result ≡ Some (content_start self.now) }
+    {
+        match self {
+            Content::Primitive(primitive) => primitive.content_err(error),
+            Content::Constructed(constructed) => constructed.content_err(error),
+        }
+    }
 }

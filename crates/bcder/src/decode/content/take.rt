@@ -58,10 +58,17 @@ fn is_end(tag: Tag, constructed: bool, len: Length) -> bool
 
 impl<'a, S: Source> Constructed<'a, S> {
     /// A refusal at the present position.
-    fn refusal(&self, text: &'static str) -> DecodeError<S::Error>
+    pub(super) fn refusal(&self, text: &'static str) -> DecodeError<S::Error>
         ensures { IsRefusal result }
     {
         self.source.content_err(ContentError::from_static(text))
+    }
+
+    /// A refusal of what is not this tag.
+    pub(super) fn expected(&self, tag: Tag) -> DecodeError<S::Error>
+        ensures { IsRefusal result }
+    {
+        self.source.content_err(ContentError::ExpectedTag(tag))
     }
 
     /// Looks at the front, and takes nothing.
@@ -270,7 +277,7 @@ impl<'a, S: Source> Content<'a, S> {
 
 impl<'a, S: Source> Primitive<'a, S> {
     /// A refusal at the present position.
-    fn refusal(&self, text: &'static str) -> DecodeError<S::Error>
+    pub(super) fn refusal(&self, text: &'static str) -> DecodeError<S::Error>
         ensures { IsRefusal result }
     {
         self.source.content_err(ContentError::from_static(text))
@@ -457,6 +464,35 @@ impl<'a, S: Source> Constructed<'a, S> {
         ensures mode { (of_constructed S.stream self.new).mode ≡ (of_constructed S.stream self.old).mode }
     {
         match self.take_header()? {
+            None => Ok(None),
+            Some(header) => {
+                let value = self.take_content(header, op)?;
+                self.state = State::Open;
+                Ok(Some(value))
+            }
+        }
+    }
+
+    /// Takes the next value if it has this tag, as a closure that is told the tag takes it.
+    pub(super) fn take_tagged<F, T: Drop>(
+        &mut self,
+        tag: Tag,
+        op: F,
+    ) -> Result<Option<T>, DecodeError<S::Error>>
+    where
+        F: FnOnce(Tag, &mut Content<'_, S>) -> Result<T, DecodeError<S::Error>>,
+        requires callable { MayBeCalled (of_content S.stream) (IsInside (of_constructed S.stream self.old) 2) (F.pre op) }
+        requires lawful { IsLawful (of_content S.stream) (IsInside (of_constructed S.stream self.old) 2) (F.post op) }
+        ensures moves { Moves (of_constructed S.stream self.old) (of_constructed S.stream self.new) }
+        ensures absent { IfOk result (λ o. IfNone o (IsAbsent (tagged tag) (of_constructed S.stream self.old) (of_constructed S.stream self.new).stream.rest)) }
+        ensures left { IfOk result (λ o. IfNone o (IsLeft tag (of_constructed S.stream self.old) (of_constructed S.stream self.new))) }
+        ensures value { IfOk result (λ o. IfSome o (λ x. TakesValue (of_content S.stream) (F.post op) (tagged tag) (of_constructed S.stream self.old) x (of_constructed S.stream self.new))) }
+        ensures shorter { IfOk result (λ o. IfSome o (λ _. length (of_constructed S.stream self.new).stream.rest + 2 ≤ length (of_constructed S.stream self.old).stream.rest)) }
+        ensures refused { IfErr result (λ e. RefusesValue IsRefusal (of_content S.stream) (F.post op) (tagged tag) (of_constructed S.stream self.old) e (of_constructed S.stream self.new)) }
+        ensures failed { OnErr result ((of_constructed S.stream self.new).state ≡ State.Failed) }
+        ensures mode { (of_constructed S.stream self.new).mode ≡ (of_constructed S.stream self.old).mode }
+    {
+        match self.take_header_if(tag)? {
             None => Ok(None),
             Some(header) => {
                 let value = self.take_content(header, op)?;

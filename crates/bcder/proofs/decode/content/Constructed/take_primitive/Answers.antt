@@ -1,0 +1,11 @@
+use Rattle.std.proofs.Common.{◌≡◌, inl, inr}
+use Rattle.std.specs.Prelude.{◌⊎◌}
+use Rattle.bcder.specs.Cause.{IsRefusal}
+use Rattle.bcder.specs.Content.{any, tagged, IsMissing}
+use Rattle.bcder.specs.Calls.{RefusesValue}
+use Rattle.bcder.specs.Views.{of_constructed, of_primitive, of_content}
+use Rattle.bcder.proofs.Refusing.{residual}
+use Rattle.bcder.proofs.decode.content.Constructed.take_primitive.Goals as goal
+
+pub returns-in-None-clause-refused : goal.returns-in-None-clause-refused
+returns-in-None-clause-refused g c = inl ((rw c.in-None.is at c.in_ok-value.ensures.end, rw c.in-None.is at c.in_ok-value.ensures.done), c.refusal.ensures)

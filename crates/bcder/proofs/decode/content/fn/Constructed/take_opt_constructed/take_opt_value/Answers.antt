@@ -1,0 +1,21 @@
+use Rattle.std.proofs.Common.{rules, refl, ◌≡◌, ◌≢◌, ◌∙◌, sym, ap, inl, inr}
+use Rattle.bcder.specs.Cause.{IsRefusal}
+use Rattle.bcder.specs.Content.{any, tagged, Octets}
+use Rattle.bcder.specs.Views.{of_constructed, of_primitive, of_content}
+use Rattle.bcder.proofs.Moving.{moves_refl}
+use Rattle.bcder.proofs.Forwarding.{on_ok, on_err, primitive_content}
+use Rattle.bcder.proofs.decode.content.fn.Constructed.take_opt_constructed.take_opt_value.Goals as goal
+
+pub returns-in-Primitive : goal.returns-in-Primitive
+returns-in-Primitive g c = record { moves = rw c.in-Primitive.is (moves_refl _); ok = tt; refused = inl (primitive_content g.S.Source.stream c.args.content.now _ c.in-Primitive.is, c.refusal.ensures) }
+
+pub returns-in-Constructed : goal.returns-in-Constructed
+returns-in-Constructed g c =
+    let i = of_content g.S.Source.stream c.args.content.now in
+    let j = of_constructed g.S.Source.stream c.op.new.arg3 in
+    let a = sym (ap (of_content g.S.Source.stream) c.in-Constructed.is) in
+    record {
+      moves = search rules;
+      ok = on_ok (of_constructed g.S.Source.stream) _ c.args.tag i j c.op.result (record { handed = _; left = _; handed_is = a; left_is = refl; called = c.op.ensures });
+      refused = on_err (of_constructed g.S.Source.stream) _ c.args.tag i j (λ e. (i.kind ≡ Octets) × IsRefusal e) c.op.result (record { handed = _; left = _; handed_is = a; left_is = refl; called = c.op.ensures });
+    }

@@ -1,0 +1,198 @@
+//! Taking constructed values.
+ghost use Rattle.std.specs.Prelude.{◌≡◌, ◌≢◌, ◌⊎◌, ℕ, ◌+◌, ◌≤◌, true, false, length, Ok, Err, IfOk, IfErr, IfSome, IfNone, OnOk, OnErr};
+ghost use Rattle.bcder.specs.Cause.{IsRefusal};
+ghost use Rattle.bcder.specs.Content.{Octets, Moves, any, tagged, EndsAt, IsDone, IsAbsent, IsLeft, IsMissing};
+ghost use Rattle.bcder.specs.Identifier.{sequence_tag, set_tag};
+ghost use Rattle.bcder.specs.Calls.{MayBeCalled, IsLawful, MayBeCalledOn, IsLawfulOn, IsInside, Untagged, Answered, TakesValue, RefusesValue, HasForm};
+ghost use Rattle.bcder.specs.Views.{of_constructed, of_primitive, of_content};
+
+use super::{Constructed, Content, Primitive, State};
+use crate::decode::error::DecodeError;
+use crate::decode::source::Source;
+use crate::tag::Tag;
+
+#[tactic(auto, using(crate::proofs::Moving::moves_refl))]
+impl<'a, S: Source> Constructed<'a, S> {
+    /// Takes the next value, which is constructed, or answers `None` at the end.
+    pub fn take_opt_constructed<F, T: Drop>(
+        &mut self,
+        op: F,
+    ) -> Result<Option<T>, DecodeError<S::Error>>
+    where
+        F: FnOnce(Tag, &mut Constructed<'_, S>) -> Result<T, DecodeError<S::Error>>,
+        requires callable { MayBeCalled (of_constructed S.stream) (IsInside (of_constructed S.stream self.old) 2) (F.pre op) }
+        requires lawful { IsLawful (of_constructed S.stream) (IsInside (of_constructed S.stream self.old) 2) (F.post op) }
+        ensures moves { Moves (of_constructed S.stream self.old) (of_constructed S.stream self.new) }
+        ensures end { IfOk result (λ o. IfNone o (EndsAt (of_constructed S.stream self.old) (of_constructed S.stream self.new))) }
+        ensures done { IfOk result (λ o. IfNone o (IsDone (of_constructed S.stream self.new))) }
+        ensures value { IfOk result (λ o. IfSome o (λ x. TakesValue (of_constructed S.stream) (F.post op) any (of_constructed S.stream self.old) x (of_constructed S.stream self.new))) }
+        ensures shorter { IfOk result (λ o. IfSome o (λ _. length (of_constructed S.stream self.new).stream.rest + 2 ≤ length (of_constructed S.stream self.old).stream.rest)) }
+        ensures refused { IfErr result (λ e. (HasForm false any (of_constructed S.stream self.old) × IsRefusal e) ⊎ RefusesValue IsRefusal (of_constructed S.stream) (F.post op) any (of_constructed S.stream self.old) e (of_constructed S.stream self.new)) }
+        ensures failed { OnErr result ((of_constructed S.stream self.new).state ≡ State.Failed) }
+        ensures mode { (of_constructed S.stream self.new).mode ≡ (of_constructed S.stream self.old).mode }
+    {
+        self.take_opt_value(
+            |tag, content|
+                requires callable { (p : _) → of_constructed S.stream p.now ≡ of_content S.stream content.old → F.pre op tag p }
+                requires lawful { (p : _) (r : _) (q : _) → of_constructed S.stream p.now ≡ of_content S.stream content.old → F.post op tag p r q → Moves (of_constructed S.stream p.now) (of_constructed S.stream q.now) }
+                ensures moves { Moves (of_content S.stream content.old) (of_content S.stream content.new) }
+                ensures ok { IfOk result (λ x. Answered (of_constructed S.stream) (F.post op) tag (of_content S.stream content.old) (Ok x) (of_content S.stream content.new)) }
+                ensures refused { IfErr result (λ e. (((of_content S.stream content.old).kind ≡ Octets) × IsRefusal e) ⊎ Answered (of_constructed S.stream) (F.post op) tag (of_content S.stream content.old) (Err e) (of_content S.stream content.new)) }
+            {
+                match content {
+                    Content::Primitive(primitive) => Err(primitive.refusal(
+                        "expected a constructed value",
+                    )),
+                    Content::Constructed(inner) => op(tag, inner),
+                }
+            },
+        )
+    }
+
+    /// Takes the next value, which must be there and is constructed.
+    pub fn take_constructed<F, T: Drop>(&mut self, op: F) -> Result<T, DecodeError<S::Error>>
+    where
+        F: FnOnce(Tag, &mut Constructed<'_, S>) -> Result<T, DecodeError<S::Error>>,
+        requires callable { MayBeCalled (of_constructed S.stream) (IsInside (of_constructed S.stream self.old) 2) (F.pre op) }
+        requires lawful { IsLawful (of_constructed S.stream) (IsInside (of_constructed S.stream self.old) 2) (F.post op) }
+        ensures moves { Moves (of_constructed S.stream self.old) (of_constructed S.stream self.new) }
+        ensures value { IfOk result (λ x. TakesValue (of_constructed S.stream) (F.post op) any (of_constructed S.stream self.old) x (of_constructed S.stream self.new)) }
+        ensures shorter { OnOk result (length (of_constructed S.stream self.new).stream.rest + 2 ≤ length (of_constructed S.stream self.old).stream.rest) }
+        ensures refused { IfErr result (λ e. (IsMissing any (of_constructed S.stream self.old) (of_constructed S.stream self.new) × IsRefusal e) ⊎ ((HasForm false any (of_constructed S.stream self.old) × IsRefusal e) ⊎ RefusesValue IsRefusal (of_constructed S.stream) (F.post op) any (of_constructed S.stream self.old) e (of_constructed S.stream self.new))) }
+        ensures mode { (of_constructed S.stream self.new).mode ≡ (of_constructed S.stream self.old).mode }
+    {
+        match self.take_opt_constructed(op)? {
+            Some(value) => Ok(value),
+            None => Err(self.refusal("no value at the end of the content")),
+        }
+    }
+
+    /// Takes the next value, which is constructed, if it has this tag, or answers `None` at the end or another tag.
+    pub fn take_opt_constructed_if<F, T: Drop>(
+        &mut self,
+        tag: Tag,
+        op: F,
+    ) -> Result<Option<T>, DecodeError<S::Error>>
+    where
+        F: FnOnce(&mut Constructed<'_, S>) -> Result<T, DecodeError<S::Error>>,
+        requires callable { MayBeCalledOn (of_constructed S.stream) (IsInside (of_constructed S.stream self.old) 2) (F.pre op) }
+        requires lawful { IsLawfulOn (of_constructed S.stream) (IsInside (of_constructed S.stream self.old) 2) (F.post op) }
+        ensures moves { Moves (of_constructed S.stream self.old) (of_constructed S.stream self.new) }
+        ensures absent { IfOk result (λ o. IfNone o (IsAbsent (tagged tag) (of_constructed S.stream self.old) (of_constructed S.stream self.new).stream.rest)) }
+        ensures left { IfOk result (λ o. IfNone o (IsLeft tag (of_constructed S.stream self.old) (of_constructed S.stream self.new))) }
+        ensures value { IfOk result (λ o. IfSome o (λ x. TakesValue (of_constructed S.stream) (Untagged (F.post op)) (tagged tag) (of_constructed S.stream self.old) x (of_constructed S.stream self.new))) }
+        ensures shorter { IfOk result (λ o. IfSome o (λ _. length (of_constructed S.stream self.new).stream.rest + 2 ≤ length (of_constructed S.stream self.old).stream.rest)) }
+        ensures refused { IfErr result (λ e. (HasForm false (tagged tag) (of_constructed S.stream self.old) × IsRefusal e) ⊎ RefusesValue IsRefusal (of_constructed S.stream) (Untagged (F.post op)) (tagged tag) (of_constructed S.stream self.old) e (of_constructed S.stream self.new)) }
+        ensures failed { OnErr result ((of_constructed S.stream self.new).state ≡ State.Failed) }
+        ensures mode { (of_constructed S.stream self.new).mode ≡ (of_constructed S.stream self.old).mode }
+    {
+        self.take_tagged(
+            tag,
+            |_tag, content|
+                requires callable { (p : _) → of_constructed S.stream p.now ≡ of_content S.stream content.old → F.pre op p }
+                requires lawful { (p : _) (r : _) (q : _) → of_constructed S.stream p.now ≡ of_content S.stream content.old → F.post op p r q → Moves (of_constructed S.stream p.now) (of_constructed S.stream q.now) }
+                ensures moves { Moves (of_content S.stream content.old) (of_content S.stream content.new) }
+                ensures ok { IfOk result (λ x. Answered (of_constructed S.stream) (Untagged (F.post op)) _tag (of_content S.stream content.old) (Ok x) (of_content S.stream content.new)) }
+                ensures refused { IfErr result (λ e. (((of_content S.stream content.old).kind ≡ Octets) × IsRefusal e) ⊎ Answered (of_constructed S.stream) (Untagged (F.post op)) _tag (of_content S.stream content.old) (Err e) (of_content S.stream content.new)) }
+            {
+                match content {
+                    Content::Primitive(primitive) => Err(primitive.refusal(
+                        "expected a constructed value",
+                    )),
+                    Content::Constructed(inner) => op(inner),
+                }
+            },
+        )
+    }
+
+    /// Takes the next value, which must have this tag and is constructed.
+    pub fn take_constructed_if<F, T: Drop>(
+        &mut self,
+        tag: Tag,
+        op: F,
+    ) -> Result<T, DecodeError<S::Error>>
+    where
+        F: FnOnce(&mut Constructed<'_, S>) -> Result<T, DecodeError<S::Error>>,
+        requires callable { MayBeCalledOn (of_constructed S.stream) (IsInside (of_constructed S.stream self.old) 2) (F.pre op) }
+        requires lawful { IsLawfulOn (of_constructed S.stream) (IsInside (of_constructed S.stream self.old) 2) (F.post op) }
+        ensures moves { Moves (of_constructed S.stream self.old) (of_constructed S.stream self.new) }
+        ensures value { IfOk result (λ x. TakesValue (of_constructed S.stream) (Untagged (F.post op)) (tagged tag) (of_constructed S.stream self.old) x (of_constructed S.stream self.new)) }
+        ensures shorter { OnOk result (length (of_constructed S.stream self.new).stream.rest + 2 ≤ length (of_constructed S.stream self.old).stream.rest) }
+        ensures refused { IfErr result (λ e. (IsMissing (tagged tag) (of_constructed S.stream self.old) (of_constructed S.stream self.new) × IsRefusal e) ⊎ ((HasForm false (tagged tag) (of_constructed S.stream self.old) × IsRefusal e) ⊎ RefusesValue IsRefusal (of_constructed S.stream) (Untagged (F.post op)) (tagged tag) (of_constructed S.stream self.old) e (of_constructed S.stream self.new))) }
+        ensures mode { (of_constructed S.stream self.new).mode ≡ (of_constructed S.stream self.old).mode }
+    {
+        match self.take_opt_constructed_if(tag, op)? {
+            Some(value) => Ok(value),
+            None => Err(self.expected(tag)),
+        }
+    }
+
+    /// Takes the next value, which must be a SEQUENCE (X.690, 8.9 to 8.12).
+    pub fn take_sequence<F, T: Drop>(&mut self, op: F) -> Result<T, DecodeError<S::Error>>
+    where
+        F: FnOnce(&mut Constructed<'_, S>) -> Result<T, DecodeError<S::Error>>,
+        requires callable { MayBeCalledOn (of_constructed S.stream) (IsInside (of_constructed S.stream self.old) 2) (F.pre op) }
+        requires lawful { IsLawfulOn (of_constructed S.stream) (IsInside (of_constructed S.stream self.old) 2) (F.post op) }
+        ensures moves { Moves (of_constructed S.stream self.old) (of_constructed S.stream self.new) }
+        ensures value { IfOk result (λ x. TakesValue (of_constructed S.stream) (Untagged (F.post op)) (tagged sequence_tag) (of_constructed S.stream self.old) x (of_constructed S.stream self.new)) }
+        ensures shorter { OnOk result (length (of_constructed S.stream self.new).stream.rest + 2 ≤ length (of_constructed S.stream self.old).stream.rest) }
+        ensures refused { IfErr result (λ e. (IsMissing (tagged sequence_tag) (of_constructed S.stream self.old) (of_constructed S.stream self.new) × IsRefusal e) ⊎ ((HasForm false (tagged sequence_tag) (of_constructed S.stream self.old) × IsRefusal e) ⊎ RefusesValue IsRefusal (of_constructed S.stream) (Untagged (F.post op)) (tagged sequence_tag) (of_constructed S.stream self.old) e (of_constructed S.stream self.new))) }
+        ensures mode { (of_constructed S.stream self.new).mode ≡ (of_constructed S.stream self.old).mode }
+    {
+        self.take_constructed_if(Tag::SEQUENCE, op)
+    }
+
+    /// Takes the next value if it is a SEQUENCE, or answers `None` at the end or another tag.
+    pub fn take_opt_sequence<F, T: Drop>(
+        &mut self,
+        op: F,
+    ) -> Result<Option<T>, DecodeError<S::Error>>
+    where
+        F: FnOnce(&mut Constructed<'_, S>) -> Result<T, DecodeError<S::Error>>,
+        requires callable { MayBeCalledOn (of_constructed S.stream) (IsInside (of_constructed S.stream self.old) 2) (F.pre op) }
+        requires lawful { IsLawfulOn (of_constructed S.stream) (IsInside (of_constructed S.stream self.old) 2) (F.post op) }
+        ensures moves { Moves (of_constructed S.stream self.old) (of_constructed S.stream self.new) }
+        ensures absent { IfOk result (λ o. IfNone o (IsAbsent (tagged sequence_tag) (of_constructed S.stream self.old) (of_constructed S.stream self.new).stream.rest)) }
+        ensures left { IfOk result (λ o. IfNone o (IsLeft sequence_tag (of_constructed S.stream self.old) (of_constructed S.stream self.new))) }
+        ensures value { IfOk result (λ o. IfSome o (λ x. TakesValue (of_constructed S.stream) (Untagged (F.post op)) (tagged sequence_tag) (of_constructed S.stream self.old) x (of_constructed S.stream self.new))) }
+        ensures shorter { IfOk result (λ o. IfSome o (λ _. length (of_constructed S.stream self.new).stream.rest + 2 ≤ length (of_constructed S.stream self.old).stream.rest)) }
+        ensures refused { IfErr result (λ e. (HasForm false (tagged sequence_tag) (of_constructed S.stream self.old) × IsRefusal e) ⊎ RefusesValue IsRefusal (of_constructed S.stream) (Untagged (F.post op)) (tagged sequence_tag) (of_constructed S.stream self.old) e (of_constructed S.stream self.new)) }
+        ensures failed { OnErr result ((of_constructed S.stream self.new).state ≡ State.Failed) }
+        ensures mode { (of_constructed S.stream self.new).mode ≡ (of_constructed S.stream self.old).mode }
+    {
+        self.take_opt_constructed_if(Tag::SEQUENCE, op)
+    }
+
+    /// Takes the next value, which must be a SET (X.690, 8.9 to 8.12).
+    pub fn take_set<F, T: Drop>(&mut self, op: F) -> Result<T, DecodeError<S::Error>>
+    where
+        F: FnOnce(&mut Constructed<'_, S>) -> Result<T, DecodeError<S::Error>>,
+        requires callable { MayBeCalledOn (of_constructed S.stream) (IsInside (of_constructed S.stream self.old) 2) (F.pre op) }
+        requires lawful { IsLawfulOn (of_constructed S.stream) (IsInside (of_constructed S.stream self.old) 2) (F.post op) }
+        ensures moves { Moves (of_constructed S.stream self.old) (of_constructed S.stream self.new) }
+        ensures value { IfOk result (λ x. TakesValue (of_constructed S.stream) (Untagged (F.post op)) (tagged set_tag) (of_constructed S.stream self.old) x (of_constructed S.stream self.new)) }
+        ensures shorter { OnOk result (length (of_constructed S.stream self.new).stream.rest + 2 ≤ length (of_constructed S.stream self.old).stream.rest) }
+        ensures refused { IfErr result (λ e. (IsMissing (tagged set_tag) (of_constructed S.stream self.old) (of_constructed S.stream self.new) × IsRefusal e) ⊎ ((HasForm false (tagged set_tag) (of_constructed S.stream self.old) × IsRefusal e) ⊎ RefusesValue IsRefusal (of_constructed S.stream) (Untagged (F.post op)) (tagged set_tag) (of_constructed S.stream self.old) e (of_constructed S.stream self.new))) }
+        ensures mode { (of_constructed S.stream self.new).mode ≡ (of_constructed S.stream self.old).mode }
+    {
+        self.take_constructed_if(Tag::SET, op)
+    }
+
+    /// Takes the next value if it is a SET, or answers `None` at the end or another tag.
+    pub fn take_opt_set<F, T: Drop>(&mut self, op: F) -> Result<Option<T>, DecodeError<S::Error>>
+    where
+        F: FnOnce(&mut Constructed<'_, S>) -> Result<T, DecodeError<S::Error>>,
+        requires callable { MayBeCalledOn (of_constructed S.stream) (IsInside (of_constructed S.stream self.old) 2) (F.pre op) }
+        requires lawful { IsLawfulOn (of_constructed S.stream) (IsInside (of_constructed S.stream self.old) 2) (F.post op) }
+        ensures moves { Moves (of_constructed S.stream self.old) (of_constructed S.stream self.new) }
+        ensures absent { IfOk result (λ o. IfNone o (IsAbsent (tagged set_tag) (of_constructed S.stream self.old) (of_constructed S.stream self.new).stream.rest)) }
+        ensures left { IfOk result (λ o. IfNone o (IsLeft set_tag (of_constructed S.stream self.old) (of_constructed S.stream self.new))) }
+        ensures value { IfOk result (λ o. IfSome o (λ x. TakesValue (of_constructed S.stream) (Untagged (F.post op)) (tagged set_tag) (of_constructed S.stream self.old) x (of_constructed S.stream self.new))) }
+        ensures shorter { IfOk result (λ o. IfSome o (λ _. length (of_constructed S.stream self.new).stream.rest + 2 ≤ length (of_constructed S.stream self.old).stream.rest)) }
+        ensures refused { IfErr result (λ e. (HasForm false (tagged set_tag) (of_constructed S.stream self.old) × IsRefusal e) ⊎ RefusesValue IsRefusal (of_constructed S.stream) (Untagged (F.post op)) (tagged set_tag) (of_constructed S.stream self.old) e (of_constructed S.stream self.new)) }
+        ensures failed { OnErr result ((of_constructed S.stream self.new).state ≡ State.Failed) }
+        ensures mode { (of_constructed S.stream self.new).mode ≡ (of_constructed S.stream self.old).mode }
+    {
+        self.take_opt_constructed_if(Tag::SET, op)
+    }
+}
