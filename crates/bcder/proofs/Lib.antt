@@ -11,3 +11,6 @@ pub mod Names
 pub mod Refusing
 pub mod Inner
 pub mod Taking
+pub mod Remaining
+pub mod Walking
+pub mod Walked

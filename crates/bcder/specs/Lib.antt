@@ -16,3 +16,4 @@ pub mod Peek
 pub mod Content
 pub mod Views
 pub mod Calls
+pub mod Walking
