@@ -7,6 +7,7 @@ use Rattle.bcder.specs.declared.length.Length.{Length}
 use Rattle.bcder.specs.Identifier.{AreOctets, Tag, IsTag, base128, identifier}
 use Rattle.bcder.specs.Length.{big_endian, AreLengthOctets}
 use Rattle.bcder.specs.Reading.{may_tell, read_long, read_length, third_digit, second_digit, read_number, read_identifier, read_front}
+use Rattle.bcder.specs.Begins.{BeginsNoIdentifier, BeginsLength, BeginsNoLength}
 use Rattle.bcder.specs.laws.Identifiers.{read_identifier-identifier, identifier_some}
 use Rattle.bcder.specs.laws.Lengths.{read_length-tells}
 use Rattle.bcder.specs.laws.Sound.{identifier_sound, length_sound}
@@ -142,6 +143,7 @@ pub record HasIdentifier (w : List ℕ) (t : Tag) (f : Bool) (y : List ℕ) : Ty
   pub is : w ≡ identifier t f ++ y
   pub size : length w ≤ length y + 4
   pub some : 1 ≤ length w
+  pub no_more : length y ≤ length w
   pub read : (x : List ℕ) → read_identifier (w ++ x) ≡ Some (t, f, y ++ x)
 
 pub has_identifier : (w : List ℕ) (t : Tag) (f : Bool) (y : List ℕ) → AreOctets w → read_identifier w ≡ Some (t, f, y) → HasIdentifier w t f y
@@ -151,12 +153,14 @@ has_identifier w t f y o e =
       fits = i.fits;
       is = i.is;
       size = omega (arith, ap length i.is, length-append (identifier t f) y, identifier_size t f);
+      no_more = omega (arith, ap length i.is, length-append (identifier t f) y);
       some = omega (arith, ap length i.is, length-append (identifier t f) y, identifier_some t f);
       read = λ x. ap (λ v. read_identifier (v ++ x)) i.is ∙ ap read_identifier (append_assoc (identifier t f) y x) ∙ read_identifier-identifier t f (y ++ x) i.fits;
     }
 
 -- length octets in front, whatever follows
 pub record HasLength (mode : Mode) (w : List ℕ) (len : Length) (z : List ℕ) : Type 0 where
+  pub no_more : length z ≤ length w
   pub octets : List ℕ
   pub tells : AreLengthOctets mode len octets
   pub is : w ≡ octets ++ z
@@ -166,6 +170,7 @@ pub has_length : (mode : Mode) (w : List ℕ) (len : Length) (z : List ℕ) → 
 has_length mode w len z o e =
     let l = length_sound mode w (len, z) o e in
     record {
+      no_more = omega (arith, ap length l.is, length-append l.octets z);
       octets = l.octets;
       tells = l.tells;
       is = l.is;
@@ -179,12 +184,11 @@ pub record HasFront (mode : Mode) (w : List ℕ) (t : Tag) (f : Bool) (len : Len
   pub size : length z ≤ length w
   pub read : (x : List ℕ) → read_front mode (w ++ x) ≡ Some (record { tag = t; form = f; len = len }, drop (length w - length z) (w ++ x))
 
--- what is behind two lists, counted from the length of the third
-behind_both : (w v y o z x : List ℕ) → w ≡ v ++ y → y ≡ o ++ z → drop (length w - length z) (w ++ x) ≡ z ++ x
-behind_both w v y o z x p q =
-    let e : w ≡ (v ++ o) ++ z = p ∙ ap (λ r. v ++ r) q ∙ sym (append_assoc v o z) in
-    let n : length w - length z ≡ length (v ++ o) = omega (arith, ap length e, length-append (v ++ o) z) in
-    ap₂ drop n (ap (λ r. r ++ x) e ∙ append_assoc (v ++ o) z x) ∙ drop_at (v ++ o) (z ++ x) (length (v ++ o)) refl
+-- what is behind a list, counted from the lengths
+behind : (w v y x : List ℕ) → w ≡ v ++ y → drop (length w - length y) (w ++ x) ≡ y ++ x
+behind w v y x e =
+    let n : length w - length y ≡ length v = omega (arith, ap length e, length-append v y) in
+    ap₂ drop n (ap (λ r. r ++ x) e ∙ append_assoc v y x) ∙ drop_at v (y ++ x) (length v) refl
 
 pub has_front : (mode : Mode) (w : List ℕ) (t : Tag) (f : Bool) (y : List ℕ) (len : Length) (z : List ℕ) → AreOctets w → read_identifier w ≡ Some (t, f, y) → read_length mode y ≡ Some (len, z) → HasFront mode w t f len z
 unfolding read_front
@@ -193,7 +197,7 @@ has_front mode w t f y len z o e d =
     let l = has_length mode y len z (AreOctets-after (identifier t f) w y i.is o) d in
     record {
       size = omega (arith, ap length i.is, length-append (identifier t f) y, ap length l.is, length-append l.octets z);
-      read = λ x. rw (i.read x, l.read x, behind_both w (identifier t f) y l.octets z x i.is l.is) refl;
+      read = λ x. rw (i.read x, l.read x, behind w (identifier t f ++ l.octets) z x (i.is ∙ ap (λ v. identifier t f ++ v) l.is ∙ sym (append_assoc (identifier t f) l.octets z))) refl;
     }
 
 pub no_identifier : (mode : Mode) (w : List ℕ) → read_identifier w ≡ None → read_front mode w ≡ None
@@ -203,3 +207,25 @@ no_identifier mode w e = rw e refl
 pub no_length : (mode : Mode) (w : List ℕ) (t : Tag) (f : Bool) (y : List ℕ) → read_identifier w ≡ Some (t, f, y) → read_length mode y ≡ None → read_front mode w ≡ None
 unfolding read_front
 no_length mode w t f y e d = rw (e, d) refl
+
+-- ---- in the words of the standard
+
+pub identifier_stands : (w : List ℕ) (t : Tag) (f : Bool) (y : List ℕ) → HasIdentifier w t f y → (x : List ℕ) → w ++ x ≡ identifier t f ++ drop (length w - length y) (w ++ x)
+identifier_stands w t f y i x = ap (λ v. v ++ x) i.is ∙ append_assoc (identifier t f) y x ∙ ap (λ v. identifier t f ++ v) (sym (behind w (identifier t f) y x i.is))
+
+pub begins_no_identifier : (w : List ℕ) → read_identifier w ≡ None → BeginsNoIdentifier w
+begins_no_identifier w e t f x fits is = some_is_none _ (sym (read_identifier-identifier t f x fits) ∙ ap read_identifier (sym is) ∙ e)
+
+pub end_begins_no_identifier : (w : List ℕ) → w ≡ [] → BeginsNoIdentifier w
+unfolding read_identifier
+end_begins_no_identifier w e = begins_no_identifier w (rw e refl)
+
+pub length_stands : (mode : Mode) (w : List ℕ) (len : Length) (z : List ℕ) → HasLength mode w len z → (x : List ℕ) → BeginsLength mode len (w ++ x) (drop (length w - length z) (w ++ x))
+length_stands mode w len z l x = (l.octets, l.tells, ap (λ v. v ++ x) l.is ∙ append_assoc l.octets z x ∙ ap (λ v. l.octets ++ v) (sym (behind w l.octets z x l.is)))
+
+pub begins_no_length : (mode : Mode) (w : List ℕ) → read_length mode w ≡ None → BeginsNoLength mode w
+begins_no_length mode w e len v x tells is = some_is_none _ (sym (read_length-tells mode len v x tells) ∙ ap (read_length mode) (sym is) ∙ e)
+
+pub end_begins_no_length : (mode : Mode) (w : List ℕ) → w ≡ [] → BeginsNoLength mode w
+unfolding read_length
+end_begins_no_length mode w e = begins_no_length mode w (rw e refl)

@@ -1,5 +1,5 @@
 -- What an error of decoding tells.
-use Rattle.std.specs.Prelude.{ℕ, ◌++◌, Bool, true, false, List, Option, Some, None, codes, string_bytes}
+use Rattle.std.specs.Prelude.{◌≡◌, ℕ, ◌++◌, Bool, true, false, List, Option, Some, None, codes, string_bytes}
 use Rattle.std.specs.Fmt.{decimal, ◌++?◌}
 use Rattle.bcder.specs.Identifier.{Tag}
 use Rattle.bcder.specs.declared.decode.error.ContentError.{ContentError}
@@ -46,11 +46,19 @@ MatchCause of_source A B C = A
 MatchCause (of_content e) A B C = B
 MatchCause of_memory A B C = C
 
+-- the content error of a message of the user's own, by its text
+abbrev pub IsBoxed : ContentError → List ℕ → Type 0
+IsBoxed (Static text) w = ⊥
+IsBoxed (Owned text) w = ⊥
+IsBoxed (ExpectedTag tag) w = ⊥
+IsBoxed (ExpectedInteger value) w = ⊥
+IsBoxed (Boxed text) w = string_bytes text ≡ w
+
 -- ---- texts
 
--- what is shown of a content error, where it is known what is shown of a tag; of a fixed text it isn't
+-- what is shown of a content error, where it is known what is shown of a tag
 abbrev pub content_text : (Tag → Option (List ℕ)) → ContentError → Option (List ℕ)
-content_text tag_text (Static text) = None
+content_text tag_text (Static text) = Some text
 content_text tag_text (Owned text) = Some (string_bytes text)
 content_text tag_text (ExpectedTag tag) = Some (codes "expected tag ") ++? tag_text tag
 content_text tag_text (ExpectedInteger value) = Some (codes "expected integer value " ++ decimal value)

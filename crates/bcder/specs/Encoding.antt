@@ -1,4 +1,4 @@
--- Values and their encodings: ITU-T X.690, 8.1.1, 8.1.3.2, 9.1 and 10.1.
+-- Values and their encodings (ITU-T X.690, 8.1.1, 8.1.3.2, 9.1, 10.1).
 use Rattle.std.specs.Prelude.{◌≡◌, ◌⊎◌, ℕ, ◌+◌, Bool, true, false, IsTrue, List, [], ◌∷◌, ◌++◌, length}
 use Rattle.bcder.specs.declared.mode.Mode.{Mode}
 use Rattle.bcder.specs.declared.mode.Mode.TheVariants.{Ber, Cer, Der}
@@ -8,7 +8,7 @@ use Rattle.bcder.specs.Identifier.{AreOctets, Tag, IsValueTag, identifier}
 use Rattle.bcder.specs.Length.{AreLengthOctets, IsEndOfContents}
 use Rattle.bcder.specs.Tree.{Tree, primitive, constructed, Trees, no_trees, ◌∷ₜ◌}
 
--- whether an encoding may have such a length, by whether it is constructed
+-- whether an encoding may have such a length, by whether it is constructed: 8.1.3.2 for primitive ones and for BER, 9.1 for CER, 10.1 for DER
 abbrev pub may_have : Mode → Bool → Length → Bool
 may_have mode false (Definite n) = true
 may_have mode false Indefinite = false
@@ -18,7 +18,7 @@ may_have Cer true Indefinite = true
 may_have Der true (Definite n) = true
 may_have Der true Indefinite = false
 
--- the identifier octets and the length octets of a value
+-- w is the identifier octets and the length octets of a value, constructed if form is true
 pub record IsHeader (mode : Mode) (t : Tag) (form : Bool) (len : Length) (w : List ℕ) : Type 0 where
   pub is_value_tag : IsValueTag t
   pub allowed : IsTrue (may_have mode form len)
@@ -26,13 +26,13 @@ pub record IsHeader (mode : Mode) (t : Tag) (form : Bool) (len : Length) (w : Li
   pub tells : AreLengthOctets mode len length_octets
   pub is : w ≡ identifier t form ++ length_octets
 
--- a header that tells the number of contents octets, and these
+-- 8.1.1.2: a header that tells the number of contents octets, and these
 pub record IsDefinite (mode : Mode) (t : Tag) (form : Bool) (contents w : List ℕ) : Type 0 where
   pub header : List ℕ
   pub is_header : IsHeader mode t form (Definite (length contents)) header
   pub is : w ≡ header ++ contents
 
--- a header that tells no number, contents octets, end-of-contents octets
+-- 8.1.1.1, 8.1.3.6: a header that tells no number, contents octets, and end-of-contents octets
 pub record IsIndefinite (mode : Mode) (t : Tag) (contents w : List ℕ) : Type 0 where
   pub header : List ℕ
   pub is_header : IsHeader mode t true Indefinite header
@@ -40,6 +40,7 @@ pub record IsIndefinite (mode : Mode) (t : Tag) (contents w : List ℕ) : Type 0
   pub is_end : IsEndOfContents mode end
   pub is : w ≡ header ++ (contents ++ end)
 
+-- a constructed value with these contents octets
 abbrev pub IsFramed : Mode → Tag → List ℕ → List ℕ → Type 0
 IsFramed mode t contents w = IsDefinite mode t true contents w ⊎ IsIndefinite mode t contents w
 

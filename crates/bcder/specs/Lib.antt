@@ -17,3 +17,6 @@ pub mod Content
 pub mod Views
 pub mod Calls
 pub mod Walking
+pub mod Begins
+pub mod PeekTag
+pub mod PeekLength

@@ -5,6 +5,8 @@ ghost use Rattle.bcder.specs.Reading.{least, may_tell, read_length, read_long, r
 
 use crate::mode::Mode;
 
+pub(crate) mod take;
+
 /// What length octets say.
 #[derive(Clone, Copy, PartialEq, Eq)]
 pub(crate) enum Length {
@@ -32,6 +34,7 @@ fn number_of(octets: &[u8]) -> usize
     }
 }
 
+/// Whether that many octets may tell the number: in CER and DER no fewer can (9.1, 10.1).
 #[tactic(auto, using(std::proofs::lemmas::Bool::Decides::nat_tests), unfolding(crate::specs::Reading::may_tell))]
 fn may_be_told(mode: Mode, count: usize, len: usize) -> bool
     requires some { 1 ≤ count }
@@ -49,6 +52,7 @@ fn may_be_told(mode: Mode, count: usize, len: usize) -> bool
     }
 }
 
+/// The length that the first `count` octets are, and the octets after them (8.1.3.5).
 #[tactic(auto, using(std::proofs::lemmas::Bool::Decides::nat_tests), unfolding(crate::specs::Reading::read_long))]
 fn long_at(mode: Mode, count: usize, octets: &[u8]) -> Option<(Length, &[u8])>
     requires { 1 ≤ count }

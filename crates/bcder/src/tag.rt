@@ -8,6 +8,8 @@ mod display;
 
 use std::marker::Model;
 
+pub(crate) mod take;
+
 /// The class of a tag (8.1.2.2, table 1).
 #[derive(Clone, Copy, Debug, PartialEq, Eq)]
 enum Class {
@@ -387,6 +389,7 @@ impl Tag {
     }
 }
 
+/// The class that bits 8 and 7 of the leading octet tell (8.1.2.2, table 1).
 #[tactic(auto, using(std::proofs::lemmas::Bool::Decides::nat_tests), unfolding(crate::specs::Reading::class_of))]
 fn class_at(octet: u8) -> Class
     ensures { class_meant result ≡ class_of octet }
@@ -423,6 +426,7 @@ fn number_at(octets: &[u8]) -> Option<(u32, &[u8])>
     }
 }
 
+/// The number whose digits before the octets are `high`, and the octets after it.
 #[tactic(auto, using(std::proofs::lemmas::Bool::Decides::nat_tests), unfolding(crate::specs::Reading::second_digit))]
 fn second_digit(high: u32, octets: &[u8]) -> Option<(u32, &[u8])>
     requires { high < 128 }
@@ -441,6 +445,7 @@ fn second_digit(high: u32, octets: &[u8]) -> Option<(u32, &[u8])>
     }
 }
 
+/// The number whose digits before the octets are `high`, if one more ends it.
 #[tactic(auto, using(std::proofs::lemmas::Bool::Decides::nat_tests), unfolding(crate::specs::Reading::third_digit))]
 fn third_digit(high: u32, octets: &[u8]) -> Option<(u32, &[u8])>
     requires { high < 16384 }
@@ -448,14 +453,8 @@ fn third_digit(high: u32, octets: &[u8]) -> Option<(u32, &[u8])>
     ensures read { MatchOption result (third_digit high octets.now ≡ None) (λ r. third_digit high octets.now ≡ Some (r.0, r.1.now)) }
 {
     match octets {
-        [] => None,
-        [digit, rest @ ..] => {
-            if *digit < 0x80 {
-                Some((0x80 * high + u32::from(*digit), rest))
-            } else {
-                None
-            }
-        }
+        [digit, rest @ ..] if *digit < 0x80 => Some((0x80 * high + u32::from(*digit), rest)),
+        _ => None,
     }
 }
 

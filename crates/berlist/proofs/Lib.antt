@@ -1,2 +1,4 @@
 mod Listing
 mod Gathering
+mod Requests
+mod Digits

@@ -5,15 +5,22 @@
 //! its tag, and whether it is primitive or constructed.
 #![tactic(auto)]
 
-ghost use Rattle.std.specs.Prelude.{◌≡◌, ℕ, OnOk, OnErr, IfErr};
+ghost use Rattle.std.specs.Prelude.{◌≡◌, ℕ, List, OnOk, IfErr, codes, map, string_bytes};
+ghost use Rattle.bcder.specs.declared.mode.Mode.{Mode as TheMode};
 ghost use Rattle.berlist.specs.Answers.{Listed, IsUnlisted};
+ghost use Rattle.berlist.specs.Front.{AppendsFront};
+ghost use Rattle.berlist.specs.Requests.{Asks, AsksNothing, Tells, Ends};
 
 mod gather;
+mod request;
 mod target;
+#[cfg(test)]
+mod tests;
 
 use bcder::{Mode, NoMemory};
 use std::alloc::Global;
-use std::io;
+use std::process::ExitCode;
+use std::{env, io};
 
 /// Why octets weren't listed.
 #[derive(Debug, Drop)]
@@ -60,4 +67,64 @@ pub fn list<W: io::Write>(
     }
 }
 
-fn main() {}
+/// Writes a message, and lets a failure of the target go.
+fn tell<E: io::Write>(err: &mut E, message: &str)
+    ensures { AppendsFront (E.contents err.old) (E.contents err.new) message.now }
+{
+    let _ = target::write_octets(err, message.as_bytes());
+}
+
+/// Lists what the arguments (without the name of the program) ask for on `out`, and answers the exit
+/// status: 0, 1 where it was refused, where there was no memory or where `out` failed, and 2 with a
+/// usage line on `err` where the arguments are no mode and an even number of hexadecimal digits. A
+/// failure of `err` changes nothing.
+pub fn run<W: io::Write, E: io::Write>(
+    alloc: Global,
+    args: &[String],
+    out: &mut W,
+    err: &mut E,
+) -> u8
+    ensures usage { AsksNothing (map string_bytes args.now) → (result ≡ 2) × Tells (codes "usage: berlist ber|cer|der HEX\n") (W.contents out.old) (W.contents out.new) (E.contents err.old) (E.contents err.new) }
+    ensures asked { (mode : TheMode) (octets : List ℕ) → Asks (map string_bytes args.now) mode octets → Ends mode octets (W.contents out.old) (W.contents out.new) (E.contents err.old) (E.contents err.new) result }
+{
+    let request = match request::read(alloc, args) {
+        Ok(Some(request)) => request,
+        Ok(None) => {
+            tell(err, "usage: berlist ber|cer|der HEX\n");
+            return 2;
+        }
+        Err(NoMemory) => {
+            tell(err, "out of memory\n");
+            return 1;
+        }
+    };
+    match list(alloc, request.mode, &request.octets, out) {
+        Ok(()) => 0,
+        Err(ListError::Refused) => {
+            tell(err, "refused\n");
+            1
+        }
+        Err(ListError::NoMemory) => {
+            tell(err, "out of memory\n");
+            1
+        }
+        Err(ListError::Target(_)) => 1,
+    }
+}
+
+/// The arguments without the name of the program.
+fn arguments(rt: &HostRuntime) -> io::Result<Vec<String>> {
+    let mut args = env::args(rt)?;
+    let _program = args.next();
+    Ok(args.collect(rt.alloc())?)
+}
+
+fn main(rt: HostRuntime) -> ExitCode {
+    let mut out = rt.stdout();
+    let mut err = rt.stderr();
+    let Ok(args) = arguments(&rt) else {
+        tell(&mut err, "out of memory\n");
+        return ExitCode::FAILURE;
+    };
+    ExitCode::from(run(rt.alloc(), &args, &mut out, &mut err))
+}

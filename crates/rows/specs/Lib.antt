@@ -1,1 +1,2 @@
 pub mod Sip
+pub mod Taken

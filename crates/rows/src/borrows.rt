@@ -1,24 +1,36 @@
 //! Sources over borrowed ones: what the owner of the borrowed one knows afterwards.
 ghost use Rattle.std.specs.Prelude.{◌≡◌, ◌<◌, ◌≤◌, ◌++◌, length, take, drop, Some, IfOk, IfErr, IfSome, OnOk, OnErr, if◌then◌else◌};
 ghost use Rattle.std.specs.Bool.{OnTrue};
-ghost use Rattle.bcder.specs.Cause.{cause_of, MatchCause};
 ghost use Rattle.bcder.specs.Stream.{Grew};
+ghost use Rattle.rows.specs.Taken.{MatchTakeError};
 
-use bcder::NoMemory;
 use bcder::decode::{CaptureSource, DecodeError, LimitedSource, Source};
 use bytes::Bytes;
 use std::alloc::Global;
+
+/// Why octets could not be taken.
+#[derive(Debug, Drop, PartialEq, Eq)]
+pub enum TakeError<E> {
+    /// The source failed.
+    Source(E),
+
+    /// There are fewer octets.
+    Short,
+
+    /// There was no memory.
+    NoMemory,
+}
 
 /// Takes exactly `len` octets: those up to a limit that is set over the source, and then ends.
 pub fn take_exactly<S: Source>(
     source: &mut S,
     alloc: Global,
     len: usize,
-) -> Result<Bytes, DecodeError<S::Error>>
+) -> Result<Bytes, TakeError<S::Error>>
     ensures value { IfOk result (λ b. b ++ (S.stream source.new).rest ≡ (S.stream source.old).rest) }
     ensures count { IfOk result (λ b. length b ≡ len) }
     ensures err { OnErr result ((S.stream source.new).rest ≡ (S.stream source.old).rest) }
-    ensures cause { IfErr result (λ e. MatchCause (cause_of e)
+    ensures cause { IfErr result (λ e. MatchTakeError e
         (Grew (S.stream source.old).faults (S.stream source.new).faults)
         (length (S.stream source.old).rest < len)
         (len ≤ length (S.stream source.old).rest)) }
@@ -26,7 +38,12 @@ pub fn take_exactly<S: Source>(
 {
     let mut limited = LimitedSource::new(source);
     limited.set_limit(Some(len));
-    limited.take_all(alloc)
+    match limited.take_all(alloc) {
+        Ok(taken) => Ok(taken),
+        Err(DecodeError::Source(error)) => Err(TakeError::Source(error)),
+        Err(DecodeError::Content { .. }) => Err(TakeError::Short),
+        Err(DecodeError::NoMemory) => Err(TakeError::NoMemory),
+    }
 }
 
 /// Passes over two octets, where there are two.
@@ -57,22 +74,16 @@ pub fn pass_two_within<S: Source>(source: &mut S, limit: usize) -> Result<bool, 
 }
 
 /// Captures two octets, where there are two, else none.
-pub fn capture_two<S: Source>(
-    source: &mut S,
-    alloc: Global,
-) -> Result<Bytes, DecodeError<S::Error>>
+pub fn capture_two<S: Source>(source: &mut S, alloc: Global) -> Result<Bytes, TakeError<S::Error>>
     ensures value { IfOk result (λ b. b ++ (S.stream source.new).rest ≡ (S.stream source.old).rest) }
     ensures err { OnErr result ((S.stream source.new).rest ≡ (S.stream source.old).rest) }
     ensures kept { (S.stream source.new).kept ≡ (S.stream source.old).kept }
 {
     let mut view = CaptureSource::new(source);
-    if view.request(2)? >= 2 {
+    if view.request(2).map_err(TakeError::Source)? >= 2 {
         view.advance(2);
     }
-    match view.into_bytes(alloc) {
-        Ok(taken) => Ok(taken),
-        Err(NoMemory) => Err(DecodeError::no_memory()),
-    }
+    view.into_bytes(alloc).map_err(|_| TakeError::NoMemory)
 }
 
 /// Looks whether there are two octets, and takes none.
@@ -82,4 +93,20 @@ pub fn has_two<S: Source>(source: &mut S) -> Result<bool, S::Error>
     ensures kept { (S.stream source.new).kept ≡ (S.stream source.old).kept }
 {
     pass_two(&mut CaptureSource::new(source))
+}
+
+/// Captures two octets, where there are two, by a call for every source. It asks once more, so that
+/// what was passed over is surely available.
+pub fn capture_passed<S: Source>(
+    source: &mut S,
+    alloc: Global,
+) -> Result<Bytes, TakeError<S::Error>>
+    ensures value { IfOk result (λ b. b ++ (S.stream source.new).rest ≡ (S.stream source.old).rest) }
+    ensures err { OnErr result ((S.stream source.new).rest ≡ (S.stream source.old).rest) }
+    ensures kept { (S.stream source.new).kept ≡ (S.stream source.old).kept }
+{
+    let mut view = CaptureSource::new(source);
+    pass_two(&mut view).map_err(TakeError::Source)?;
+    view.request(0).map_err(TakeError::Source)?;
+    view.into_bytes(alloc).map_err(|_| TakeError::NoMemory)
 }

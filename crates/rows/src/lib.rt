@@ -11,3 +11,4 @@ pub mod sip;
 mod sources;
 #[cfg(test)]
 mod tag_names;
+pub mod tags;

@@ -1,56 +1,31 @@
 //! Errors: why decoding failed.
-ghost use Rattle.std.specs.Prelude.{◌≡◌, ℕ, ◌↔◌, Bool, true, IsTrue, Option, Some, None, IfSome, IsNone, IfOk, IfErr, MatchResult};
-ghost use Rattle.bcder.specs.Cause.{Cause, of_source, of_content, of_memory, cause_of, is_source_cause, is_memory_cause, IsContentless, position_of, content_text, decode_text};
+ghost use Rattle.std.specs.Prelude.{◌≡◌, ℕ, List, Some, IfSome, IsNone, IfOk, IfErr};
+ghost use Rattle.bcder.specs.Cause.{Cause, of_source, of_content, of_memory, cause_of, is_source_cause, is_memory_cause, IsContentless, position_of, IsBoxed, content_text, decode_text};
 
 use crate::NoMemory;
 use crate::decode::source::Pos;
 use crate::tag::Tag;
+use bytes::ByteStr;
+use std::alloc::Global;
 use std::convert::Infallible;
 use std::error::Error;
 use std::fmt;
 
 /// A message of the user's own.
 pub trait Message: Drop {
-    /// The text, which the message gives up.
-    fn into_text(self) -> String
-    where
-        Self: Sized;
-}
+    /// What its text is.
+    ghost shown: { Self → List ℕ };
 
-/// A copy of a fixed text, as far as it has room: 47 octets of UTF-8.
-#[derive(Clone, Copy)]
-pub struct StaticText {
-    octets: [u8; 47],
-    len: u8,
-}
-
-impl StaticText {
-    fn new(text: &str) -> StaticText {
-        let all = text.as_bytes();
-        let len = all.len().min(47);
-        let mut octets = [0; 47];
-        octets[..len].copy_from_slice(&all[..len]);
-        StaticText {
-            octets,
-            len: len as u8,
-        }
-    }
-
-    /// The text.
-    pub fn as_str(&self) -> &str {
-        let octets = &self.octets[..usize::from(self.len).min(47)];
-        match str::from_utf8(octets) {
-            Ok(text) => text,
-            Err(_) => "",
-        }
-    }
+    /// Its text.
+    fn text(&self) -> &str
+        ensures { result.now ≡ shown self.now };
 }
 
 /// Why content was refused.
 #[derive(Drop)]
 pub enum ContentError {
-    /// A fixed text.
-    Static(StaticText),
+    /// A fixed text. It isn't copied.
+    Static(ByteStr),
 
     /// A text that was put together.
     Owned(String),
@@ -68,24 +43,29 @@ pub enum ContentError {
 impl ContentError {
     /// An error with a fixed text.
     pub fn from_static(text: &'static str) -> ContentError
-        ensures { (copy : _) × (result ≡ ContentError.Static copy) }
+        ensures { result ≡ ContentError.Static text.now }
     {
-        ContentError::Static(StaticText::new(text))
+        ContentError::Static(ByteStr::from_static(text))
     }
 
-    /// The text of a message that is handed in in a box.
-    pub fn from_boxed<M: Message>(message: Box<M>) -> ContentError {
-        ContentError::Boxed(Box::into_inner(message).into_text())
+    /// An error with the text of a message of the user's own, which is copied.
+    ///
+    /// It answers `NoMemory` where there is no memory for the text.
+    pub fn from_boxed(alloc: Global, message: Box<dyn Message>) -> Result<ContentError, NoMemory>
+        ensures { IfOk result (λ e. IsBoxed e (shown message)) }
+    {
+        let text = String::from_str(alloc, message.text())?;
+        Ok(ContentError::Boxed(text))
     }
 }
 
 impl From<&'static str> for ContentError {
     ghost use Rattle.bcder.specs.declared.decode.error.ContentError.TheVariants.{Static};
 
-    ghost from_gives = { λ text e. (copy : _) × (e ≡ Static copy) };
+    ghost from_gives = { λ text e. e ≡ Static text.now };
 
     fn from(text: &'static str) -> ContentError {
-        ContentError::Static(StaticText::new(text))
+        ContentError::from_static(text)
     }
 }
 

@@ -5,8 +5,10 @@ ghost use Rattle.bcder.specs.Reading.{read_identifier, read_length};
 ghost use Rattle.bcder.specs.Peek.{Peeks, PeeksIf, Sees, SeesOf, SeesIf};
 
 use crate::decode::source::Source;
+use crate::length::take::length_goes_on;
 use crate::length::{Length, length_at};
 use crate::mode::Mode;
+use crate::tag::take::identifier_goes_on;
 use crate::tag::{Tag, identifier_at};
 
 /// Identifier octets and length octets, whatever they stand before.
@@ -54,33 +56,6 @@ enum Seen {
     Refused,
 }
 
-/// Whether octets that hold no identifier octets may begin some.
-#[tactic(auto, using(crate::proofs::Beginnings::second_decides, crate::proofs::Beginnings::fourth_decides))]
-fn identifier_goes_on(octets: &[u8]) -> bool
-    requires { read_identifier octets.now ≡ None }
-    ensures short { IsTrue result → length octets.now < 4 }
-    ensures some { result ≡ false → 1 ≤ length octets.now }
-    ensures refused { result ≡ false → (x : List ℕ) → read_identifier (octets.now ++ x) ≡ None }
-{
-    match octets {
-        [] | [_] => true,
-        [_, digit, digits @ ..] => *digit > 0x80 && digits.len() < 2,
-    }
-}
-
-/// Whether octets that hold no length octets may begin some.
-#[tactic(auto, using(crate::proofs::Beginnings::count_decides, crate::proofs::Beginnings::first_decides))]
-fn length_goes_on(mode: Mode, octets: &[u8]) -> bool
-    requires { read_length mode octets.now ≡ None }
-    ensures short { IsTrue result → length octets.now < 5 }
-    ensures refused { result ≡ false → (x : List ℕ) → read_length mode (octets.now ++ x) ≡ None }
-{
-    match octets {
-        [] => true,
-        [first, digits @ ..] => *first <= 0x84 && digits.len() + 0x80 < usize::from(*first),
-    }
-}
-
 /// What the octets at hand tell of the length behind the identifier octets at their front.
 fn look_behind(mode: Mode, tag: Tag, constructed: bool, octets: &[u8], rest: &[u8]) -> Seen
     requires { read_identifier octets.now ≡ Some (tag, constructed, rest.now) }
@@ -99,7 +74,7 @@ fn look_behind(mode: Mode, tag: Tag, constructed: bool, octets: &[u8], rest: &[u
             }
         }
         None => {
-            if length_goes_on(mode, rest) {
+            if length_goes_on(rest) {
                 Seen::More
             } else {
                 Seen::Refused

@@ -1,5 +1,5 @@
 //! Sources: where the octets that are decoded come from.
-ghost use Rattle.std.specs.Prelude.{◌≡◌, ℕ, ◌+◌, ◌-◌, ◌<◌, ◌≤◌, [], ◌∷◌, length, take, drop, min, slice_range, Some, IfOk, IfErr, OnOk, OnErr, MatchOption};
+ghost use Rattle.std.specs.Prelude.{◌≡◌, ℕ, ◌+◌, ◌-◌, ◌<◌, ◌≤◌, [], ◌∷◌, length, take, drop, min, slice_range, Some, IfOk, IfErr, OnOk, OnErr, MatchOption, IfNone};
 ghost use Rattle.bcder.specs.Cause.{cause_of, position_of, of_content, MatchCause};
 ghost use Rattle.bcder.specs.Stream.{Stream, IsSound, Grew, Provides, pos_after, borrowed};
 ghost use Rattle.bcder.specs.laws.Limits.{borrowed_sound};
@@ -115,12 +115,10 @@ pub trait Source {
         ensures err_position { OnErr result ((stream self.new).position ≡ (stream self.old).position) }
         ensures kept { (stream self.new).kept ≡ (stream self.old).kept }
     {
-        if self.request(1)? < 1 {
-            return Err(self.content_err(ContentError::from_static("unexpected end of data")));
+        match self.take_opt_u8()? {
+            Some(octet) => Ok(octet),
+            None => Err(self.content_err(ContentError::from_static("unexpected end of data"))),
         }
-        let octet = self.slice()[0];
-        self.advance(1);
-        Ok(octet)
     }
 
     /// Takes the next octet, or answers `None` at the end. An error takes none.
@@ -130,6 +128,8 @@ pub trait Source {
         ensures ok { IfOk result (λ o. MatchOption o
             (((stream self.old).rest ≡ []) × ((stream self.new).rest ≡ []))
             (λ b. (stream self.old).rest ≡ b ∷ (stream self.new).rest)) }
+        ensures end_position { IfOk result (λ o.
+            IfNone o ((stream self.new).position ≡ (stream self.old).position)) }
         ensures no_fault { OnOk result ((stream self.new).faults ≡ (stream self.old).faults) }
         ensures fault { OnErr result (Grew (stream self.old).faults (stream self.new).faults) }
         ensures err { OnErr result ((stream self.new).rest ≡ (stream self.old).rest) }

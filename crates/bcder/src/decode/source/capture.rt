@@ -100,8 +100,8 @@ impl<'a, S: Source> CaptureSource<'a, S> {
         ensures faults { (S.stream result.1.now).faults ≡ (S.stream (behind self.entry)).faults }
         ensures kept { (S.stream result.1.now).kept ≡ (S.stream (behind self.entry)).kept }
     {
-        let CaptureSource { source, pos } = self;
-        let taken = take_front(source, alloc, pos);
+        let CaptureSource { source, pos: gone } = self;
+        let taken = take_front(source, alloc, gone);
         (taken, source)
     }
 

@@ -12,4 +12,4 @@ returns-then-identifier_goes_on c =
     (omega arith, no_identifier _ _ c.in-None.ensures)
 
 pub returns-else-identifier_goes_on : goal.returns-else-identifier_goes_on
-returns-else-identifier_goes_on c = (c.if-identifier_goes_on.ensures.some refl, λ x. no_identifier _ _ (c.if-identifier_goes_on.ensures.refused refl x))
+returns-else-identifier_goes_on c = (c.if-identifier_goes_on.ensures.some refl, λ x. no_identifier _ _ (c.if-identifier_goes_on.ensures.refused refl x c.in-None.ensures))

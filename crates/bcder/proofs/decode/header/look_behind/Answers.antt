@@ -24,4 +24,4 @@ pub returns-else-length_goes_on : goal.returns-else-length_goes_on
 returns-else-length_goes_on c =
     let o : AreOctets c.args.octets.now = λ i. omega (arith, c.type_inv.octets i) in
     let i = has_identifier c.args.octets.now c.args.tag c.args.constructed c.args.rest.now o c.requires in
-    (i.some, λ x. inr (c.args.constructed, _, i.read x, c.if-length_goes_on.ensures.refused refl x))
+    (i.some, λ x. inr (c.args.constructed, _, i.read x, c.if-length_goes_on.ensures.refused refl c.args.mode x c.in-None.ensures))

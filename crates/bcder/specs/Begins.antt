@@ -1,0 +1,22 @@
+-- What octets begin with.
+use Rattle.std.specs.Prelude.{◌≡◌, ◌≢◌, Bool, List, ℕ, ◌++◌}
+use Rattle.bcder.specs.declared.mode.Mode.{Mode}
+use Rattle.bcder.specs.declared.length.Length.{Length}
+use Rattle.bcder.specs.Identifier.{Tag, IsTag, identifier}
+use Rattle.bcder.specs.Length.{AreLengthOctets}
+
+-- w begins with the identifier octets of another tag than t
+abbrev pub BeginsOther : Tag → List ℕ → Type 0
+BeginsOther t w = (u : Tag) × (f : Bool) × (x : List ℕ) × IsTag u × (u ≢ t) × (w ≡ identifier u f ++ x)
+
+-- w begins with no tag's identifier octets
+abbrev pub BeginsNoIdentifier : List ℕ → Type 0
+BeginsNoIdentifier w = (t : Tag) (f : Bool) (x : List ℕ) → IsTag t → w ≡ identifier t f ++ x → ⊥
+
+-- w is length octets, and x behind them
+abbrev pub BeginsLength : Mode → Length → List ℕ → List ℕ → Type 0
+BeginsLength mode len w x = (v : List ℕ) × AreLengthOctets mode len v × (w ≡ v ++ x)
+
+-- w begins with no length octets
+abbrev pub BeginsNoLength : Mode → List ℕ → Type 0
+BeginsNoLength mode w = (len : Length) (v x : List ℕ) → AreLengthOctets mode len v → w ≡ v ++ x → ⊥

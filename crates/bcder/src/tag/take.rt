@@ -1,0 +1,228 @@
+//! Reading identifier octets from a source (X.690, 8.1.2).
+ghost use Rattle.std.specs.Prelude.{◌≡◌, ◌⊎◌, ℕ, ◌<◌, ◌≤◌, List, [], ◌++◌, length, false, IsTrue, None, IsNone, IfSome, IfOk, IfErr, OnOk, OnErr, MatchOption};
+ghost use Rattle.bcder.specs.Identifier.{IsTag, identifier};
+ghost use Rattle.bcder.specs.Begins.{BeginsOther, BeginsNoIdentifier};
+ghost use Rattle.bcder.specs.Cause.{cause_of, MatchCause};
+ghost use Rattle.bcder.specs.Stream.{Grew};
+ghost use Rattle.bcder.specs.Reading.{read_identifier};
+ghost use Rattle.bcder.specs.PeekTag.{PeeksTag, SeesTag};
+
+use super::{Tag, identifier_at};
+use crate::decode::{ContentError, DecodeError, Source};
+
+/// What identifier octets stand at the front of a source.
+enum PeekedTag {
+    /// The source is at its end.
+    Nothing,
+
+    /// A tag, its constructed mark, and how many octets these are.
+    Front {
+        tag: Tag,
+        constructed: bool,
+        size: usize,
+    },
+
+    /// Octets that begin no identifier octets.
+    Refused,
+}
+
+/// What octets tell of the identifier octets at their front, whatever follows them.
+enum SeenTag {
+    Front {
+        tag: Tag,
+        constructed: bool,
+        size: usize,
+    },
+
+    /// It depends on the octets behind these.
+    More,
+
+    Refused,
+}
+
+/// Whether octets that hold no identifier octets may begin some.
+#[tactic(auto, using(crate::proofs::Beginnings::second_decides, crate::proofs::Beginnings::fourth_decides))]
+pub(crate) fn identifier_goes_on(octets: &[u8]) -> bool
+    ensures short { IsTrue result → length octets.now < 4 }
+    ensures some { result ≡ false → 1 ≤ length octets.now }
+    ensures refused { result ≡ false → (x : List ℕ) → read_identifier octets.now ≡ None → read_identifier (octets.now ++ x) ≡ None }
+{
+    match octets {
+        [] | [_] => true,
+        [_, digit, digits @ ..] => *digit > 0x80 && digits.len() < 2,
+    }
+}
+
+/// What the octets at hand tell of the identifier octets at their front.
+fn look(octets: &[u8]) -> SeenTag
+    ensures { SeesTag result octets.now }
+{
+    match identifier_at(octets) {
+        Some(front) => SeenTag::Front {
+            tag: front.0,
+            constructed: front.1,
+            size: octets.len() - front.2.len(),
+        },
+        None => {
+            if identifier_goes_on(octets) {
+                SeenTag::More
+            } else {
+                SeenTag::Refused
+            }
+        }
+    }
+}
+
+/// What identifier octets stand at the front of a source. It asks for no more octets than these are,
+/// and takes none. An error is the source's own.
+fn peek<S: Source>(source: &mut S) -> Result<PeekedTag, S::Error>
+    ensures peeked { IfOk result (λ p. PeeksTag p (S.stream source.new)) }
+    ensures no_fault { OnOk result ((S.stream source.new).faults ≡ (S.stream source.old).faults) }
+    ensures fault { OnErr result (Grew ((S.stream source.old).faults) ((S.stream source.new).faults)) }
+    ensures rest { (S.stream source.new).rest ≡ (S.stream source.old).rest }
+    ensures position { (S.stream source.new).position ≡ (S.stream source.old).position }
+    ensures kept { (S.stream source.new).kept ≡ (S.stream source.old).kept }
+{
+    let mut wanted = 1;
+    loop {
+        let found = source.request(wanted)?;
+        match look(&source.slice()[..found]) {
+            SeenTag::Front {
+                tag,
+                constructed,
+                size,
+            } => {
+                return Ok(PeekedTag::Front {
+                    tag,
+                    constructed,
+                    size,
+                });
+            }
+            SeenTag::Refused => return Ok(PeekedTag::Refused),
+            SeenTag::More => {
+                if found == 0 {
+                    return Ok(PeekedTag::Nothing);
+                }
+                if found < wanted {
+                    return Ok(PeekedTag::Refused);
+                }
+                wanted = found + 1;
+            }
+        }
+    }
+}
+
+/// The refusal of octets that begin no identifier octets.
+#[cold]
+fn invalid<S: Source>(source: &S) -> DecodeError<S::Error>
+    ensures { MatchCause (cause_of result) ⊥ (Unit {0}) ⊥ }
+{
+    source.content_err(ContentError::from_static("invalid identifier octets"))
+}
+
+impl Tag {
+    /// Takes identifier octets: the tag, and whether the encoding is constructed. `None` is for a source
+    /// at its end. Octets that begin no identifier octets are refused. A refusal takes nothing (X.690,
+    /// 8.1.2).
+    pub fn take_opt_from<S: Source>(
+        source: &mut S,
+    ) -> Result<Option<(Tag, bool)>, DecodeError<S::Error>>
+        ensures ok { IfOk result (λ o. MatchOption o
+            (((S.stream source.old).rest ≡ []) × ((S.stream source.new).rest ≡ []))
+            (λ r. IsTag r.0 × ((S.stream source.old).rest ≡ identifier r.0 r.1 ++ (S.stream source.new).rest))) }
+        ensures none_position { IfOk result (λ o. IsNone o → (S.stream source.new).position ≡ (S.stream source.old).position) }
+        ensures no_fault { OnOk result ((S.stream source.new).faults ≡ (S.stream source.old).faults) }
+        ensures cause { IfErr result (λ e. MatchCause (cause_of e)
+            (Grew ((S.stream source.old).faults) ((S.stream source.new).faults))
+            (((S.stream source.new).faults ≡ (S.stream source.old).faults)
+            × (1 ≤ length ((S.stream source.old).rest))
+            × BeginsNoIdentifier ((S.stream source.old).rest))
+            ⊥) }
+        ensures err { OnErr result ((S.stream source.new).rest ≡ (S.stream source.old).rest) }
+        ensures err_position { OnErr result ((S.stream source.new).position ≡ (S.stream source.old).position) }
+        ensures kept { (S.stream source.new).kept ≡ (S.stream source.old).kept }
+    {
+        match peek(source)? {
+            PeekedTag::Nothing => Ok(None),
+            PeekedTag::Front {
+                tag,
+                constructed,
+                size,
+            } => {
+                source.advance(size);
+                Ok(Some((tag, constructed)))
+            }
+            PeekedTag::Refused => Err(invalid(source)),
+        }
+    }
+
+    /// Takes identifier octets: the tag, and whether the encoding is constructed. Octets that begin no
+    /// identifier octets are refused, and so is the end of the source. A refusal takes nothing (X.690,
+    /// 8.1.2).
+    #[tactic(auto, using(crate::proofs::Beginnings::end_begins_no_identifier))]
+    pub fn take_from<S: Source>(source: &mut S) -> Result<(Tag, bool), DecodeError<S::Error>>
+        ensures ok { IfOk result (λ r. IsTag r.0 × ((S.stream source.old).rest ≡ identifier r.0 r.1 ++ (S.stream source.new).rest)) }
+        ensures no_fault { OnOk result ((S.stream source.new).faults ≡ (S.stream source.old).faults) }
+        ensures cause { IfErr result (λ e. MatchCause (cause_of e)
+            (Grew ((S.stream source.old).faults) ((S.stream source.new).faults))
+            (((S.stream source.new).faults ≡ (S.stream source.old).faults) × BeginsNoIdentifier ((S.stream source.old).rest))
+            ⊥) }
+        ensures err { OnErr result ((S.stream source.new).rest ≡ (S.stream source.old).rest) }
+        ensures err_position { OnErr result ((S.stream source.new).position ≡ (S.stream source.old).position) }
+        ensures kept { (S.stream source.new).kept ≡ (S.stream source.old).kept }
+    {
+        match peek(source)? {
+            PeekedTag::Nothing => {
+                return Err(source.content_err(ContentError::from_static("unexpected end of data")));
+            }
+            PeekedTag::Front {
+                tag,
+                constructed,
+                size,
+            } => {
+                source.advance(size);
+                Ok((tag, constructed))
+            }
+            PeekedTag::Refused => Err(invalid(source)),
+        }
+    }
+
+    /// Takes the identifier octets of this tag, and answers whether the encoding is constructed. `None` is
+    /// for those of another tag and for a source at its end, and takes nothing. Octets that begin no
+    /// identifier octets are refused. A refusal takes nothing (X.690, 8.1.2).
+    pub fn take_from_if<S: Source>(
+        self,
+        source: &mut S,
+    ) -> Result<Option<bool>, DecodeError<S::Error>>
+        ensures some { IfOk result (λ o. IfSome o (λ f. (S.stream source.old).rest ≡ identifier self f ++ (S.stream source.new).rest)) }
+        ensures none { IfOk result (λ o. IsNone o → ((S.stream source.old).rest ≡ []) ⊎ BeginsOther self ((S.stream source.old).rest)) }
+        ensures none_rest { IfOk result (λ o. IsNone o → (S.stream source.new).rest ≡ (S.stream source.old).rest) }
+        ensures none_position { IfOk result (λ o. IsNone o → (S.stream source.new).position ≡ (S.stream source.old).position) }
+        ensures no_fault { OnOk result ((S.stream source.new).faults ≡ (S.stream source.old).faults) }
+        ensures cause { IfErr result (λ e. MatchCause (cause_of e)
+            (Grew ((S.stream source.old).faults) ((S.stream source.new).faults))
+            (((S.stream source.new).faults ≡ (S.stream source.old).faults)
+            × (1 ≤ length ((S.stream source.old).rest))
+            × BeginsNoIdentifier ((S.stream source.old).rest))
+            ⊥) }
+        ensures err { OnErr result ((S.stream source.new).rest ≡ (S.stream source.old).rest) }
+        ensures err_position { OnErr result ((S.stream source.new).position ≡ (S.stream source.old).position) }
+        ensures kept { (S.stream source.new).kept ≡ (S.stream source.old).kept }
+    {
+        match peek(source)? {
+            PeekedTag::Nothing => Ok(None),
+            PeekedTag::Front {
+                tag,
+                constructed,
+                size,
+            } => {
+                if tag != self {
+                    return Ok(None);
+                }
+                source.advance(size);
+                Ok(Some(constructed))
+            }
+            PeekedTag::Refused => Err(invalid(source)),
+        }
+    }
+}

@@ -1,0 +1,27 @@
+//! What a caller knows of tags and modes from their contracts alone.
+ghost use Rattle.std.specs.Prelude.{◌≡◌, ◌↔◌, IsTrue, IfOk, string_bytes};
+ghost use Rattle.bcder.specs.TagText.{tag_text};
+
+use bcder::{Mode, Tag};
+use std::alloc::{AllocError, Global};
+
+/// Whether two tags are equal: of one class and one number.
+pub fn same(one: Tag, other: Tag) -> bool
+    ensures { IsTrue result ↔ (one ≡ other) }
+{
+    one == other
+}
+
+/// How a tag is shown.
+pub fn shown(alloc: Global, tag: Tag) -> Result<String, AllocError>
+    ensures { IfOk result (λ text. string_bytes text ≡ tag_text tag) }
+{
+    tag.to_string(alloc)
+}
+
+/// The set of rules where none is named.
+pub fn usual() -> Mode
+    ensures { result ≡ Mode.Ber }
+{
+    Mode::default()
+}
