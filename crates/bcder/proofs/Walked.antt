@@ -1,24 +1,24 @@
 -- What a call that walks its content says of the value.
-use Rattle.std.proofs.Common.{◌≡◌, ℕ, ◌≤◌, Bool, true, false, ◌||◌, List, ◌++◌, length, Option, Some, None, refl, ap, sym, ◌∙◌, append_assoc, subst, inl, inr}
-use Rattle.std.specs.Prelude.{◌⊎◌, Result, Ok, Err, IfOk, IfErr, OnOk, OnErr, IfSome, IfNone, IsOkAnd, IsTrue, is_some}
+use Rattle.std.proofs.Common.{◌≡◌, ℕ, Bool, true, false, ◌||◌, List, ◌++◌, Option, Some, None, refl, sym, ◌∙◌, append_assoc, subst, inl, inr}
+use Rattle.std.specs.Prelude.{◌⊎◌, Result, Ok, Err, IfOk, IfErr, OnOk, IfSome, IfNone, is_some}
 use Rattle.std.specs.Borrow.{MutBor}
 use Rattle.bcder.specs.declared.decode.content.Primitive.{Primitive}
-use Rattle.bcder.specs.declared.decode.content.State.TheVariants.{Open, Ended, Failed}
+use Rattle.bcder.specs.declared.decode.content.State.TheVariants.{Ended, Failed}
 use Rattle.bcder.specs.Identifier.{Tag}
 use Rattle.bcder.specs.Tree.{Tree}
 use Rattle.bcder.specs.Encoding.{IsEncoding}
 use Rattle.bcder.specs.Grammar.{IsOnly}
 use Rattle.bcder.specs.Stream.{Stream, Grew}
-use Rattle.bcder.specs.Content.{Reading, any, label, Moves, IsDone, EndsAt}
+use Rattle.bcder.specs.Content.{Reading, any, label, Moves, IsDone, EndsBefore, EndsAt}
 use Rattle.bcder.specs.Calls.{Answered, AnswersDone, TakesValue, RefusesContent, by_closure, unfinished, RefusesFront, RefusesValue}
 use Rattle.bcder.specs.Calls as calls
 use Rattle.bcder.specs.Views.{of_primitive}
-use Rattle.bcder.specs.Walking.{HasValue, NoValue, PassesValue}
+use Rattle.bcder.specs.Walking.{HasValue, NoValue, PassesValue, AnswersNext}
 use Rattle.bcder.specs.Walking as walking
 use Rattle.bcder.specs.laws.Complete.{only_at_front}
 use Rattle.bcder.proofs.Moving.{open_not_failed}
 use Rattle.bcder.proofs.Entering.{Within, header_not_at_end}
-use Rattle.bcder.proofs.Walking.{no_value_of_nothing, end_of_nothing, refused_inside, refused_end, value_not_at_end, value_once}
+use Rattle.bcder.proofs.Walking.{no_value_of_nothing, end_of_nothing, refused_inside, refused_end as refused_left, value_not_at_end, value_once}
 
 -- a closure that walks its content to the end
 pub record WalksBy {E : Type 0} (Own : E → Type 0) {T : Type 0} (i : Reading) (r : Result T E) (j : Reading) : Type 0 where
@@ -40,15 +40,16 @@ module _ {C T E : Type 0} (Own : E → Type 0) (view : C → Reading) (post : Ta
   front_refused c d e f (by_closure x) = refused_inside Own e c d f.handed f.left f.after f.front f.hands f.faults_handed f.faults_left (walks_by f.front.tag f.handed f.left (Err e) x).refused
   front_refused c d e f (unfinished y l x m z) =
       let w = walks_by f.front.tag f.handed l (Ok y) x in
-      inl (refused_end Own e c d f.handed f.left f.after f.front f.hands f.faults_handed f.faults_left l w.done w.moves z)
+      inl (refused_left Own e c d f.handed f.left f.after f.front f.hands f.faults_handed f.faults_left l w.done w.moves z)
 
   walk_refused : (c d : Reading) (e : E) → Within c → RefusesValue Own view post any c e d → walking.RefusesWalk Own c e d
   walk_refused c d e w (calls.RefusesValue.failed s a) = walking.RefusesWalk.failed s a
   walk_refused c d e w (calls.RefusesValue.source s) = walking.RefusesWalk.source s
   walk_refused c d e w (calls.RefusesValue.nothing n a) = walking.RefusesWalk.nothing n.usable (no_value_of_nothing c w n) (end_of_nothing c n) a
   walk_refused c d e w (calls.RefusesValue.content f) = elim (front_refused c d e f f.refuses) [
-      inl s ↦ walking.RefusesWalk.source s
-    | inr n ↦ walking.RefusesWalk.nothing f.usable n.0 (header_not_at_end c f.after w f.usable f.front) n.1 ]
+    | inl s ↦ walking.RefusesWalk.source s
+    | inr n ↦ walking.RefusesWalk.nothing f.usable n.0 (header_not_at_end c f.after w f.usable f.front) n.1
+  ]
 
   pub refuses_walk : {U : Type 0} (c d : Reading) (r : Result U E) → Within c → IfErr r (λ e. RefusesValue Own view post any c e d) → IfErr r (λ e. walking.RefusesWalk Own c e d)
   refuses_walk c d (Ok x) w h = tt
@@ -91,15 +92,21 @@ module _ {C T E : Type 0} (Own : E → Type 0) (view : C → Reading) (post : Ta
 -- ---- exactly where a value stands in front
 
 module _ {E : Type 0} (Own : E → Type 0) (c d : Reading) where
-  refused_nothing : (e : E) (t : Tree) (v after : List ℕ) → HasValue c t v after → (Grew c.stream.faults d.stream.faults → ⊥) → walking.RefusesWalk Own c e d → ⊥
-  refused_nothing e t v after h n (walking.RefusesWalk.failed s a) = open_not_failed c.state h.usable s
-  refused_nothing e t v after h n (walking.RefusesWalk.source s) = n s
-  refused_nothing e t v after h n (walking.RefusesWalk.nothing s x y a) = x.none t v after h.encodes h.rest
+  refused_value : (e : E) (t : Tree) (v after : List ℕ) → HasValue c t v after → (Grew c.stream.faults d.stream.faults → ⊥) → walking.RefusesWalk Own c e d → ⊥
+  refused_value e t v after h n (walking.RefusesWalk.failed s a) = open_not_failed c.state h.usable s
+  refused_value e t v after h n (walking.RefusesWalk.source s) = n s
+  refused_value e t v after h n (walking.RefusesWalk.nothing s x y a) = x.none t v after h.encodes h.rest
 
-  pub finds : {T : Type 0} (r : Result (Option T) E) → Within c → IfOk r (λ o. IfSome o (λ _. PassesValue c d)) → IfOk r (λ o. IfNone o (EndsAt c d)) → IfErr r (λ e. walking.RefusesWalk Own c e d) → (t : Tree) (v after : List ℕ) → HasValue c t v after → (Grew c.stream.faults d.stream.faults → ⊥) → IsOkAnd r (λ o. IsTrue (is_some o)) × (d.stream.rest ≡ after)
-  finds (Ok None) w a b f t v after h n = absurd (let z = value_not_at_end c w t v after h in z.none d.stream.rest b)
-  finds (Ok (Some x)) w a b f t v after h n = (refl, (let s = value_once c a.tree t a.value v d.stream.rest after a.has h in s.rest))
-  finds (Err e) w a b f t v after h n = absurd (refused_nothing e t v after h n f)
+  refused_end : (e : E) (after : List ℕ) → EndsBefore c after → (Grew c.stream.faults d.stream.faults → ⊥) → walking.RefusesWalk Own c e d → ⊥
+  refused_end e after (inl h) n (walking.RefusesWalk.failed s a) = (let x : Ended ≡ Failed = sym h ∙ s in cc)
+  refused_end e after (inr h) n (walking.RefusesWalk.failed s a) = open_not_failed c.state h.0 s
+  refused_end e after h n (walking.RefusesWalk.source s) = n s
+  refused_end e after h n (walking.RefusesWalk.nothing s x y a) = y.none after h
+
+  pub answers_next : {T : Type 0} (r : Result (Option T) E) → Within c → IfOk r (λ o. IfSome o (λ _. PassesValue c d)) → IfOk r (λ o. IfNone o (EndsAt c d)) → IfErr r (λ e. walking.RefusesWalk Own c e d) → (Grew c.stream.faults d.stream.faults → ⊥) → AnswersNext c r d
+  answers_next (Ok None) w a b f n = record { found = λ t v after h. absurd (let z = value_not_at_end c w t v after h in z.none d.stream.rest b); ended = λ after h. refl }
+  answers_next (Ok (Some x)) w a b f n = record { found = λ t v after h. (refl, (let s = value_once c a.tree t a.value v d.stream.rest after a.has h in s.rest)); ended = λ after h. absurd (let z = value_not_at_end c w a.tree a.value d.stream.rest a.has in z.none after h) }
+  answers_next (Err e) w a b f n = record { found = λ t v after h. absurd (refused_value e t v after h n f); ended = λ after h. absurd (refused_end e after h n f) }
 
 -- ---- the octets of a primitive value
 

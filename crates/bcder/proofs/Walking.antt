@@ -1,26 +1,24 @@
 -- Walking finds the values that are there, and no others.
-use Rattle.std.proofs.Common.{◌≡◌, ◌≢◌, ℕ, ◌+◌, ◌-◌, ◌<◌, ◌≤◌, Bool, true, false, ◌||◌, List, [], ◌∷◌, ◌++◌, length, take, drop, Option, Some, None, refl, ap, sym, ◌∙◌, arith, length-append, append_assoc, append-nil, subst, inl, inr}
+use Rattle.std.proofs.Common.{◌≡◌, ◌≢◌, ℕ, ◌+◌, ◌-◌, ◌<◌, ◌≤◌, Bool, true, false, List, [], ◌++◌, length, take, Option, Some, None, refl, ap, sym, ◌∙◌, arith, length-append, append_assoc, append-nil, subst, inl, inr}
 use Rattle.std.specs.Prelude.{◌⊎◌}
 use Rattle.std.proofs.lemmas.List.{take_at}
 use Rattle.bcder.specs.declared.mode.Mode.{Mode}
 use Rattle.bcder.specs.declared.length.Length.{Length}
 use Rattle.bcder.specs.declared.length.Length.TheVariants.{Definite, Indefinite}
 use Rattle.bcder.specs.declared.decode.content.Kind.TheVariants as kind
-use Rattle.bcder.specs.declared.decode.content.State.{State}
 use Rattle.bcder.specs.declared.decode.content.State.TheVariants.{Open, Ended, Failed}
 use Rattle.bcder.specs.Length.{IsEndOfContents}
 use Rattle.bcder.specs.Tree.{Tree, Trees, no_trees, ◌∷ₜ◌}
-use Rattle.bcder.specs.Encoding.{IsHeader, IsEncoding, AreEncodings}
-use Rattle.bcder.specs.Grammar.{IsOnly}
+use Rattle.bcder.specs.Encoding.{IsEncoding, AreEncodings}
 use Rattle.bcder.specs.Stream.{Grew}
 use Rattle.bcder.specs.Content.{Reading, Form, octets, values, Octets, DefiniteValues, IndefiniteValues, UnboundedValues, any, HasHeader, HasMarker, Moves, MovesBy, Falls, FitsOwed, IsDone, IsUsedUp, IsAtEnd, of_octets, of_definite, of_indefinite, of_unbounded, EndsBefore, EndsAt, NotAtEnd, NothingThere}
 use Rattle.bcder.specs.Calls.{Hands, IsFormOf, ContentOf, RefusesEnd, left_failed, source_failed, left_open}
 use Rattle.bcder.specs.Walking.{HasValue, NoValue, PassesValue, ClosesBefore, HasValues, IsShort, Walks, broken, short}
 use Rattle.bcder.specs.Walking as walking
-use Rattle.bcder.specs.laws.Complete.{only_at_front, one_encoding, two_octets, Same}
+use Rattle.bcder.specs.laws.Complete.{one_encoding, two_octets, Same}
 use Rattle.bcder.specs.laws.Lists.{First}
 use Rattle.bcder.proofs.Moving.{moves_refl, moves_trans, open_not_ended, open_not_failed}
-use Rattle.bcder.proofs.Headers.{header_of, header_no_marker, Shape, shape, is_primitive, is_definite, is_indefinite}
+use Rattle.bcder.proofs.Headers.{header_of, Shape, shape, is_primitive, is_definite, is_indefinite}
 use Rattle.bcder.proofs.Entering.{Within, header_not_at_end}
 
 -- ---- an encoding in front
@@ -69,8 +67,9 @@ ends_before c (values kind.Unbounded) all after q s h e r = (after, inr (s, of_u
 
 no_values : (c : Reading) → c.state ≡ Open → NoValue c → NotAtEnd c → HasValues c → ⊥
 no_values c s n e h = elim (first_of c.mode h.trees h.all h.encode) [
-    inl z ↦ (let b = ends_before c c.kind h.all h.after refl s h.closes z h.rest in e.none b.0 b.1)
-  | inr f ↦ n.none f.tree f.front (f.others ++ h.after) f.first (h.rest ∙ ap (λ x. x ++ h.after) f.is ∙ append_assoc f.front f.others h.after) ]
+  | inl z ↦ (let b = ends_before c c.kind h.all h.after refl s h.closes z h.rest in e.none b.0 b.1)
+  | inr f ↦ n.none f.tree f.front (f.others ++ h.after) f.first (h.rest ∙ ap (λ x. x ++ h.after) f.is ∙ append_assoc f.front f.others h.after)
+]
 
 passed_length : (p v x : List ℕ) → p ++ x ≡ v ++ x → length p ≡ length v
 passed_length p v x e = omega (arith, ap length e, length-append p x, length-append v x)
@@ -105,8 +104,9 @@ module _ (j k : Reading) (w : Within j) (one : PassesValue j k) (m : MovesBy j k
 
   pub values_after : HasValues j → HasValues k
   values_after h = elim (first_of j.mode h.trees h.all h.encode) [
-      inl e ↦ absurd (let b = ends_before j j.kind h.all h.after refl one.has.usable h.closes e h.rest in let n = value_not_at_end j w one.tree one.value k.stream.rest one.has in n.none b.0 b.1)
-    | inr f ↦ values_more h f ]
+    | inl e ↦ absurd (let b = ends_before j j.kind h.all h.after refl one.has.usable h.closes e h.rest in let n = value_not_at_end j w one.tree one.value k.stream.rest one.has in n.none b.0 b.1)
+    | inr f ↦ values_more h f
+  ]
 
   -- and they were there before that value
   falls_from : (o p : Option ℕ) (a b n : ℕ) → Falls o a p → p ≡ Some n → b ≡ a + n → o ≡ Some b

@@ -1,5 +1,5 @@
 -- When the next value, and all values up to the end of content, are there.
-use Rattle.std.specs.Prelude.{◌≡◌, ◌≢◌, ℕ, ◌<◌, List, [], ◌++◌, length, Option, Some, None}
+use Rattle.std.specs.Prelude.{◌≡◌, ◌≢◌, ℕ, ◌<◌, List, [], ◌++◌, length, Option, Some, Result, IsOkAnd, IsTrue, is_some, is_none}
 use Rattle.bcder.specs.declared.mode.Mode.{Mode}
 use Rattle.bcder.specs.declared.decode.content.Kind.TheVariants as kind
 use Rattle.bcder.specs.declared.decode.content.State.TheVariants.{Open, Ended, Failed}
@@ -7,7 +7,7 @@ use Rattle.bcder.specs.Tree.{Tree, Trees}
 use Rattle.bcder.specs.Encoding.{IsEncoding, AreEncodings}
 use Rattle.bcder.specs.Grammar.{IsOnly}
 use Rattle.bcder.specs.Stream.{Grew}
-use Rattle.bcder.specs.Content.{Reading, Form, octets, values, Octets, Moves, HasMarker, IsDone, NotAtEnd}
+use Rattle.bcder.specs.Content.{Reading, Form, octets, values, Octets, Moves, HasMarker, EndsBefore, NotAtEnd}
 
 -- ---- one value
 
@@ -34,6 +34,11 @@ pub data RefusesWalk {E : Type 0} (Own : E → Type 0) (c : Reading) (e : E) (d 
   failed : c.state ≡ Failed → Own e → RefusesWalk Own c e d
   source : Grew c.stream.faults d.stream.faults → RefusesWalk Own c e d
   nothing : c.state ≡ Open → NoValue c → NotAtEnd c → Own e → RefusesWalk Own c e d
+
+-- what is answered where a value stands in front, and what at the end
+pub record AnswersNext {T E : Type 0} (c : Reading) (r : Result (Option T) E) (d : Reading) : Type 0 where
+  pub found : (t : Tree) (w after : List ℕ) → HasValue c t w after → IsOkAnd r (λ o. IsTrue (is_some o)) × (d.stream.rest ≡ after)
+  pub ended : (after : List ℕ) → EndsBefore c after → IsOkAnd r (λ o. IsTrue (is_none o))
 
 -- ---- all values
 

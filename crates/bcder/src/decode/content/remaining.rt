@@ -59,6 +59,7 @@ impl<'a, S: Source> Primitive<'a, S> {
     fn too_few(&self) -> DecodeError<S::Error>
         ensures { IsRefusal result }
     {
-        self.source.content_err(ContentError::from_static("unexpected end of data"))
+        self.source
+            .content_err(ContentError::from_static("unexpected end of data"))
     }
 }

@@ -1,10 +1,9 @@
 //! Walking over values, which looks at every header inside them.
-ghost use Rattle.std.specs.Prelude.{◌≡◌, ℕ, ◌≤◌, List, IfOk, IfErr, IfSome, IfNone, OnOk, OnErr, IsOkAnd, IsTrue, is_some};
+ghost use Rattle.std.specs.Prelude.{◌≡◌, IfOk, IfErr, IfSome, IfNone, OnOk, OnErr};
 ghost use Rattle.bcder.specs.Cause.{IsRefusal};
 ghost use Rattle.bcder.specs.Stream.{Grew};
-ghost use Rattle.bcder.specs.Tree.{Tree};
 ghost use Rattle.bcder.specs.Content.{Moves, EndsAt, IsDone};
-ghost use Rattle.bcder.specs.Walking.{HasValue, PassesValue, RefusesWalk, HasValues, RefusesValues};
+ghost use Rattle.bcder.specs.Walking.{PassesValue, AnswersNext, RefusesWalk, HasValues, RefusesValues};
 ghost use Rattle.bcder.specs.Views.{of_constructed, of_content};
 
 use super::{Constructed, Content, State};
@@ -29,22 +28,24 @@ pub fn walk<S: Source>(cons: &mut Constructed<'_, S>) -> Result<Option<()>, Deco
     ensures end { IfOk result (λ o. IfNone o (EndsAt (of_constructed S.stream cons.old) (of_constructed S.stream cons.new))) }
     ensures done { IfOk result (λ o. IfNone o (IsDone (of_constructed S.stream cons.new))) }
     ensures refused { IfErr result (λ e. RefusesWalk IsRefusal (of_constructed S.stream cons.old) e (of_constructed S.stream cons.new)) }
-    ensures found { (t : Tree) (w after : List ℕ) → HasValue (of_constructed S.stream cons.old) t w after → (Grew (of_constructed S.stream cons.old).stream.faults (of_constructed S.stream cons.new).stream.faults → ⊥) → IsOkAnd result (λ o. IsTrue (is_some o)) × ((of_constructed S.stream cons.new).stream.rest ≡ after) }
+    ensures exact { (Grew (of_constructed S.stream cons.old).stream.faults (of_constructed S.stream cons.new).stream.faults → ⊥) → AnswersNext (of_constructed S.stream cons.old) result (of_constructed S.stream cons.new) }
     ensures failed { OnErr result ((of_constructed S.stream cons.new).state ≡ State.Failed) }
     ensures mode { (of_constructed S.stream cons.new).mode ≡ (of_constructed S.stream cons.old).mode }
     ensures marked { OnOk result ((of_constructed S.stream cons.new).marked ≡ (of_constructed S.stream cons.old).marked) }
 {
-    cons.take_opt_value(|_tag, content|
-        ensures moves { Moves (of_content S.stream content.old) (of_content S.stream content.new) }
-        ensures done { OnOk result (IsDone (of_content S.stream content.new)) }
-        ensures refused { IfErr result (λ e. RefusesValues IsRefusal (of_content S.stream content.old) e (of_content S.stream content.new)) }
-        ensures marked { OnOk result ((of_content S.stream content.new).marked ≡ (of_content S.stream content.old).marked) }
-    {
-        match content {
-            Content::Primitive(primitive) => primitive.skip_all(),
-            Content::Constructed(constructed) => walk_all(constructed),
-        }
-    })
+    cons.take_opt_value(
+        |_tag, content|
+            ensures moves { Moves (of_content S.stream content.old) (of_content S.stream content.new) }
+            ensures done { OnOk result (IsDone (of_content S.stream content.new)) }
+            ensures refused { IfErr result (λ e. RefusesValues IsRefusal (of_content S.stream content.old) e (of_content S.stream content.new)) }
+            ensures marked { OnOk result ((of_content S.stream content.new).marked ≡ (of_content S.stream content.old).marked) }
+        {
+            match content {
+                Content::Primitive(primitive) => primitive.skip_all(),
+                Content::Constructed(constructed) => walk_all(constructed),
+            }
+        },
+    )
 }
 
 /// Passes over all values up to the end of the content, whose marker it takes.

@@ -16,7 +16,7 @@ pub returns-else-found-owed-clause-moves : goal.returns-else-found-owed-clause-m
 unfolding of_primitive
 returns-else-found-owed-clause-moves g c =
     passed_moves _ _ (g.S.Source.stream c.args.self.now.source.now.source) (g.S.Source.stream c.request.new.self.source) (g.S.Source.stream c.advance.new.self.source) c.args.self.now.source.now.limit c.request.new.self.limit c.advance.new.self.limit c.in-Some.owed refl refl refl refl
-      (g.met.S.Source.sound c.request.new.self.source) c.request.ensures.rest c.request.ensures.kept (no_fewer _ _ c.in-Ok.ensures.no_fault) (let a = c.in-Ok.ensures.ok in omega (arith, a.count)) c.advance.ensures.rest c.advance.ensures.kept c.advance.ensures.faults refl refl refl refl refl refl refl
+    (g.met.S.Source.sound c.request.new.self.source) c.request.ensures.rest c.request.ensures.kept (no_fewer _ _ c.in-Ok.ensures.no_fault) (let a = c.in-Ok.ensures.ok in omega (arith, a.count)) c.advance.ensures.rest c.advance.ensures.kept c.advance.ensures.faults refl refl refl refl refl refl refl
 
 pub returns-else-found-owed-clause-none_owed : goal.returns-else-found-owed-clause-none_owed
 unfolding of_primitive

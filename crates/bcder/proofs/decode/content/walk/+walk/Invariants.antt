@@ -1,4 +1,4 @@
-use Rattle.std.proofs.Common.{ℕ, ◌+◌, ◌*◌, length}
+use Rattle.std.proofs.Common.{◌+◌, ◌*◌, length}
 use Rattle.bcder.specs.Walking.{Walks}
 use Rattle.bcder.specs.Views.{of_constructed, of_content}
 use Rattle.bcder.proofs.decode.content.walk.+walk.Given as goal
