@@ -7,8 +7,10 @@ ghost use Rattle.bcder.specs.Views.{of_constructed, of_primitive, of_content, co
 
 mod octets;
 mod sequences;
+mod remaining;
 mod take;
 mod values;
+pub(super) mod walk;
 
 use crate::decode::error::{ContentError, DecodeError};
 use crate::decode::source::{LimitedSource, Pos, Source};
