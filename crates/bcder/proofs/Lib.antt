@@ -12,3 +12,6 @@ pub mod Refusing
 pub mod Inner
 pub mod Taking
 pub mod Forwarding
+pub mod Remaining
+pub mod Walking
+pub mod Walked

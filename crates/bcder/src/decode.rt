@@ -4,6 +4,7 @@ mod error;
 mod header;
 mod source;
 
+pub use content::walk::walk;
 pub use content::{Constructed, Content, Primitive};
 pub use error::{ContentError, DecodeError, Message};
 pub use source::{BytesSource, CaptureSource, IntoSource, LimitedSource, Pos, SliceSource, Source};

@@ -1,14 +1,15 @@
 //! Content: the values inside a value, or at top level, and the octets inside a primitive value.
 ghost use Rattle.std.specs.Prelude.{◌≡◌, ◌≢◌, ℕ, ◌↔◌, true, IsTrue, Some};
 ghost use Rattle.bcder.specs.Cause.{cause_of, position_of, of_content as of_refusal};
-ghost use Rattle.bcder.specs.Stream.{limit_or};
 ghost use Rattle.bcder.specs.Content.{Octets, Moves};
 ghost use Rattle.bcder.specs.Views.{of_constructed, of_primitive, of_content, content_start};
 
 mod octets;
 mod sequences;
+mod remaining;
 mod take;
 mod values;
+pub(super) mod walk;
 
 use crate::decode::error::{ContentError, DecodeError};
 use crate::decode::source::{LimitedSource, Pos, Source};
@@ -137,16 +138,6 @@ impl<'a, S: Source> Primitive<'a, S> {
         ensures position { position_of result ≡ Some self.now.start }
     {
         DecodeError::content(error, self.start)
-    }
-
-    /// How many octets are owed.
-    pub fn remaining(&self) -> usize
-        ensures { result ≡ limit_or (of_primitive S.stream self.now).owed 0 }
-    {
-        match self.source.limit() {
-            Some(owed) => owed,
-            None => 0,
-        }
     }
 }
 

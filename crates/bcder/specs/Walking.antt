@@ -1,0 +1,85 @@
+-- When the next value, and all values up to the end of content, are there.
+use Rattle.std.specs.Prelude.{◌≡◌, ◌≢◌, ℕ, ◌<◌, List, [], ◌++◌, length, Option, Some, Result, IsOkAnd, IsTrue, is_some, is_none}
+use Rattle.bcder.specs.declared.mode.Mode.{Mode}
+use Rattle.bcder.specs.declared.decode.content.Kind.TheVariants as kind
+use Rattle.bcder.specs.declared.decode.content.State.TheVariants.{Open, Ended, Failed}
+use Rattle.bcder.specs.Tree.{Tree, Trees}
+use Rattle.bcder.specs.Encoding.{IsEncoding, AreEncodings}
+use Rattle.bcder.specs.Grammar.{IsOnly}
+use Rattle.bcder.specs.Stream.{Grew}
+use Rattle.bcder.specs.Content.{Reading, Form, octets, values, Octets, Moves, HasMarker, EndsBefore, NotAtEnd}
+
+-- ---- one value
+
+-- an encoding of a value stands in front of open content, before these octets
+pub record HasValue (c : Reading) (t : Tree) (w after : List ℕ) : Type 0 where
+  pub usable : c.state ≡ Open
+  pub encodes : IsEncoding c.mode t w
+  pub rest : c.stream.rest ≡ w ++ after
+
+-- no front of the rest is an encoding of a value
+pub record NoValue (c : Reading) : Type 0 where
+  pub none : (t : Tree) (w after : List ℕ) → IsEncoding c.mode t w → c.stream.rest ≡ w ++ after → ⊥
+
+-- the one value that stands in front was passed
+pub record PassesValue (c d : Reading) : Type 0 where
+  pub tree : Tree
+  pub value : List ℕ
+  pub has : HasValue c tree value d.stream.rest
+  pub only : IsOnly c.mode tree value c.stream.rest
+  pub stays : d.state ≡ Open
+
+-- why no value of c was passed, and e was answered; `Own` holds of the refusals of content
+pub data RefusesWalk {E : Type 0} (Own : E → Type 0) (c : Reading) (e : E) (d : Reading) : Type 0 where
+  failed : c.state ≡ Failed → Own e → RefusesWalk Own c e d
+  source : Grew c.stream.faults d.stream.faults → RefusesWalk Own c e d
+  nothing : c.state ≡ Open → NoValue c → NotAtEnd c → Own e → RefusesWalk Own c e d
+
+-- what is answered where a value stands in front, and what at the end
+pub record AnswersNext {T E : Type 0} (c : Reading) (r : Result (Option T) E) (d : Reading) : Type 0 where
+  pub found : (t : Tree) (w after : List ℕ) → HasValue c t w after → IsOkAnd r (λ o. IsTrue (is_some o)) × (d.stream.rest ≡ after)
+  pub ended : (after : List ℕ) → EndsBefore c after → IsOkAnd r (λ o. IsTrue (is_none o))
+
+-- ---- all values
+
+-- content of this form ends after the octets w and before the octets `after`
+abbrev pub ClosesBefore : Form → Mode → Option ℕ → List ℕ → List ℕ → Type 0
+ClosesBefore octets mode o w after = ⊥
+ClosesBefore (values kind.Definite) mode o w after = o ≡ Some (length w)
+ClosesBefore (values kind.Indefinite) mode o w after = (x : List ℕ) × HasMarker mode after x
+ClosesBefore (values kind.Unbounded) mode o w after = after ≡ []
+
+-- the rest up to the content's end is encodings of values
+pub record HasValues (c : Reading) : Type 0 where
+  pub trees : Trees
+  pub all : List ℕ
+  pub after : List ℕ
+  pub encode : AreEncodings c.mode trees all
+  pub rest : c.stream.rest ≡ all ++ after
+  pub closes : ClosesBefore c.kind c.mode c.owed all after
+
+-- fewer octets came than are owed
+pub record IsShort (c : Reading) : Type 0 where
+  pub short : (n : ℕ) → c.owed ≡ Some n → length c.stream.rest < n
+
+-- why the octets of a primitive value were not passed, and e was answered; `Own` holds of the refusals of content
+pub data RefusesOctets {E : Type 0} (Own : E → Type 0) (c : Reading) (e : E) (d : Reading) : Type 0 where
+  failing : Grew c.stream.faults d.stream.faults → RefusesOctets Own c e d
+  few : IsShort c → Own e → RefusesOctets Own c e d
+
+-- why content was not passed to its end, and e was answered
+pub data RefusesValues {E : Type 0} (Own : E → Type 0) (c : Reading) (e : E) (d : Reading) : Type 0 where
+  failed : c.state ≡ Failed → Own e → RefusesValues Own c e d
+  source : Grew c.stream.faults d.stream.faults → RefusesValues Own c e d
+  broken : c.kind ≢ Octets → (HasValues c → ⊥) → Own e → RefusesValues Own c e d
+  short : c.kind ≡ Octets → IsShort c → Own e → RefusesValues Own c e d
+
+-- what a loop over values keeps: each that was passed was a whole one, so values up to the end remain exactly where they were there at first
+pub record Walks (c d : Reading) : Type 0 where
+  pub moves : Moves c d
+  pub mode : d.mode ≡ c.mode
+  pub marked : d.marked ≡ c.marked
+  pub ended : d.state ≡ Ended → c.state ≡ Ended
+  pub failed : d.state ≡ Failed → c.state ≡ Failed
+  pub remain : HasValues c → HasValues d
+  pub were : HasValues d → HasValues c
