@@ -11,3 +11,4 @@ pub mod Names
 pub mod Refusing
 pub mod Inner
 pub mod Taking
+pub mod Decoding

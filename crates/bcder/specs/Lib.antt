@@ -16,6 +16,7 @@ pub mod Peek
 pub mod Content
 pub mod Views
 pub mod Calls
+pub mod Decoding
 pub mod Begins
 pub mod PeekTag
 pub mod PeekLength

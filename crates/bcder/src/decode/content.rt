@@ -4,6 +4,7 @@ ghost use Rattle.bcder.specs.Cause.{cause_of, of_content};
 ghost use Rattle.bcder.specs.Content.{Moves};
 ghost use Rattle.bcder.specs.Views.{of_constructed, of_primitive, of_content};
 
+mod decode;
 mod octets;
 mod take;
 mod values;
