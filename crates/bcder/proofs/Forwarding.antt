@@ -60,6 +60,7 @@ module _ {C D T E : Type 0} (Own : E → Type 0) (view : C → Reading) (post : 
       };
       tree = v.tree;
       encodes = v.encodes;
+      follows = v.follows;
       stays = v.stays;
       marked = v.marked;
     }

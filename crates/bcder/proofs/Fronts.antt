@@ -6,7 +6,7 @@ use Rattle.bcder.specs.declared.length.Length.{Length}
 use Rattle.bcder.specs.declared.length.Length.TheVariants.{Definite, Indefinite}
 use Rattle.bcder.specs.Identifier.{AreOctets, Tag}
 use Rattle.bcder.specs.Length.{IsEndOfContents}
-use Rattle.bcder.specs.Tree.{Tree, Trees}
+use Rattle.bcder.specs.Tree.{Trees}
 use Rattle.bcder.specs.Encoding.{IsHeader, AreEncodings}
 use Rattle.bcder.specs.Told.{told}
 use Rattle.bcder.specs.Reading.{Header, read_header, read_end, read_list, at_end}

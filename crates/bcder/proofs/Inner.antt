@@ -220,6 +220,7 @@ module _ {C T E : Type 0} (Own : E → Type 0) (view : C → Reading) (post : Ta
       };
       moves = ran.runs.moves;
       faults_handed = ap (λ x. x.faults) ran.runs.stream ∙ ap (λ x. x.faults) (sym cs);
+      follows = λ e. absurd (let x : Definite n ≡ Indefinite = sym hn ∙ e in cc);
       faults_left = ap (λ x. x.faults) ran.runs.left_stream ∙ ap (λ x. x.faults) (sym ds);
       answers = ran.answers;
       refuses = ran.refuses;
@@ -247,6 +248,7 @@ module _ {C T E : Type 0} (Own : E → Type 0) (view : C → Reading) (post : Ta
       };
       moves = ran.runs.moves;
       faults_handed = ap (λ x. x.faults) ran.runs.stream;
+      follows = λ _. sym (ap (λ x. x.rest) ran.runs.left_stream);
       faults_left = ap (λ x. x.faults) ran.runs.left_stream;
       answers = ran.answers;
       refuses = ran.refuses;

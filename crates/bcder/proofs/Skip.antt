@@ -1,5 +1,5 @@
 -- What reading a value gives, at each way that it can go.
-use Rattle.std.proofs.Common.{◌≡◌, ℕ, suc, ◌+◌, ◌<◌, ◌≤◌, Bool, true, false, List, [], ◌∷◌, ◌++◌, length, take, drop, Option, Some, None, MatchOption, IfSome, IfNone, refl, sym, ap, subst, ◌∙◌, arith}
+use Rattle.std.proofs.Common.{◌≡◌, ℕ, ◌+◌, ◌<◌, ◌≤◌, Bool, true, false, List, [], ◌∷◌, ◌++◌, length, take, drop, Option, Some, None, MatchOption, IfSome, IfNone, refl, sym, ap, subst, ◌∙◌, arith}
 use Rattle.std.proofs.lemmas.Bool.{lt-ltb, le-ltb}
 use Rattle.std.proofs.lemmas.List.{length-append}
 use Rattle.bcder.specs.declared.mode.Mode.{Mode}
@@ -7,13 +7,12 @@ use Rattle.bcder.specs.declared.length.Length.{Length}
 use Rattle.bcder.specs.declared.length.Length.TheVariants.{Definite, Indefinite}
 use Rattle.bcder.specs.Identifier.{AreOctets, Tag}
 use Rattle.bcder.specs.Tree.{Tree, primitive, constructed, Trees, no_trees, ◌∷ₜ◌}
-use Rattle.bcder.specs.Encoding.{may_have, IsEncoding, AreEncodings}
-use Rattle.bcder.specs.laws.Lists.{AreEncodings-one}
+use Rattle.bcder.specs.Encoding.{may_have, IsEncoding}
 use Rattle.bcder.specs.Grammar.{IsOnly}
 use Rattle.bcder.specs.Reading.{Header, read_header, read_end, read_contents, read_value, at_end, read_list, read_tree}
-use Rattle.bcder.specs.laws.Complete.{header_size, BeginsValue-encoding, tree_complete, one_encoding}
+use Rattle.bcder.specs.laws.Complete.{header_size, tree_complete, one_encoding}
 use Rattle.bcder.specs.laws.Sound.{end_sound, some_inj, none_is}
-use Rattle.bcder.specs.laws.Stands.{Stands, header_sound, tree_sound}
+use Rattle.bcder.specs.laws.Stands.{header_sound, tree_sound}
 use Rattle.bcder.proofs.Steps.{read_tree_step, read_list_step}
 
 -- what a function of the program gives for a value, and for a list of values

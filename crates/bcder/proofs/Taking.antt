@@ -58,6 +58,7 @@ module _ (c c1 c2 : Reading) (h : Header) (asked : Asked) (t : IsAsked asked h.t
             answers = k.answers;
             tree = e.0;
             encodes = e.1;
+            follows = λ z. ap (λ x. x.rest) s ∙ k.follows z;
             stays = o;
             marked = m ∙ mark_is (Ok v) k;
           }

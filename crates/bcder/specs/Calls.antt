@@ -131,6 +131,7 @@ module _ {C T E : Type 0} (view : C → Reading) (post : Tag → MutBor C → Re
     pub answers : AnswersDone {R = Result T E} view post front.tag handed (Ok x) left
     pub tree : Tree
     pub encodes : IsEncoding (label c.mode left.marked) tree (front.octets ++ passed)
+    pub follows : front.len ≡ Indefinite → d.stream.rest ≡ left.stream.rest
     pub stays : d.state ≡ Open
     pub marked : d.marked ≡ (c.marked || left.marked)
 
@@ -196,6 +197,7 @@ module _ {C T E : Type 0} (Own : E → Type 0) (view : C → Reading) (post : Ta
     pub encodes : OnOk r ((octets : List ℕ) → IsHeader c.mode h.tag h.form h.len octets → (tree : Tree) × IsEncoding (label c.mode left.marked) tree (octets ++ passed))
     pub hands : Hands c.mode h.form h.len c.stream.rest handed
     pub moves : Moves handed left
+    pub follows : h.len ≡ Indefinite → d.stream.rest ≡ left.stream.rest
     pub faults_handed : handed.stream.faults ≡ c.stream.faults
     pub faults_left : left.stream.faults ≡ d.stream.faults
     pub answers : IfOk r (λ x. AnswersDone {R = Result T E} view post h.tag handed (Ok x) left)

@@ -1,9 +1,9 @@
 -- Texts of hexadecimal digits.
-use Rattle.std.proofs.Common.{◌≡◌, ℕ, ◌+◌, ◌-◌, ◌%◌, ◌<◌, ◌≤◌, Bool, true, false, List, length, slice_index, Option, Some, None, is_some, Result, Ok, IsTrue, ◌↔◌, MatchBool, HoldsAt, nat_le, ◌&&◌, ◌||◌, if◌then◌else◌, refl, sym, ap, ◌∙◌, arith}
-use Rattle.std.specs.List.{AllPass, AllWithin}
+use Rattle.std.proofs.Common.{◌≡◌, ℕ, ◌-◌, ◌%◌, ◌<◌, Bool, true, false, List, length, Some, None, is_some, Ok, IsTrue, ◌↔◌, MatchBool, HoldsAt, ◌||◌, if◌then◌else◌, refl, sym, ◌∙◌, arith}
+use Rattle.std.specs.List.{AllWithin}
 use Rattle.std.specs.Char.{is_ascii_hexdigit}
 use Rattle.std.specs.Int.{is_in_range}
-use Rattle.hex.specs.Hex.{decode_of, hex_digit_value, is_hex_digit}
+use Rattle.hex.specs.Hex.{decode_of, is_hex_digit}
 use Rattle.hex.proofs.HexLemmas.{decode_of-digits, decode_of-ok}
 
 some_of_three : (p q r : Bool) (a b c : ℕ) → ((p || q) || r) ≡ is_some (if q then Some a else if r then Some b else if p then Some c else None)

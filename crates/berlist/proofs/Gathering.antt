@@ -1,14 +1,14 @@
 -- What is gathered, at each way that it can go.
-use Rattle.std.proofs.Common.{◌≡◌, ℕ, ◌+◌, ◌<◌, ◌≤◌, Bool, true, false, List, [], ◌∷◌, ◌++◌, length, take, drop, Option, Some, None, option_map, MatchOption, IfSome, refl, sym, ap, subst, ◌∙◌, append_assoc, append-nil, arith}
+use Rattle.std.proofs.Common.{◌≡◌, ℕ, ◌+◌, ◌<◌, ◌≤◌, Bool, true, false, List, [], ◌++◌, length, take, drop, Option, Some, None, MatchOption, IfSome, refl, sym, ap, subst, ◌∙◌, append_assoc, append-nil, arith}
 use Rattle.std.proofs.lemmas.List.{length-append}
 use Rattle.std.proofs.lemmas.Bool.{le-ltb}
 use Rattle.bcder.specs.declared.mode.Mode.{Mode}
 use Rattle.bcder.specs.Identifier.{AreOctets, Tag}
-use Rattle.bcder.specs.Tree.{Tree, primitive, constructed, Trees, no_trees, ◌∷ₜ◌}
+use Rattle.bcder.specs.Tree.{primitive, constructed, Trees, no_trees, ◌∷ₜ◌}
 use Rattle.bcder.specs.Encoding.{AreEncodings}
-use Rattle.bcder.specs.Preorder.{Heading, preorder, preorders}
+use Rattle.bcder.specs.Preorder.{preorder, preorders}
 use Rattle.bcder.specs.Told.{told}
-use Rattle.bcder.specs.Reading.{Header, read_header, read_tree, read_list, at_end}
+use Rattle.bcder.specs.Reading.{read_header, read_tree, read_list, at_end}
 use Rattle.bcder.specs.laws.Stands.{AreOctets-after, header_sound, tree_sound, list_sound, list_complete}
 use Rattle.bcder.specs.laws.Sound.{none_is}
 use Rattle.bcder.proofs.Steps.{read_list_step}

@@ -1,11 +1,7 @@
 -- Lines of lists, and lists read one value after another.
-use Rattle.std.proofs.Common.{◌≡◌, ℕ, ◌+◌, Bool, List, [], ◌∷◌, ◌++◌, Option, Some, None, option_map, MatchOption, refl, sym, ap, ◌∙◌, append_assoc, append-nil}
-use Rattle.bcder.specs.declared.mode.Mode.{Mode}
-use Rattle.bcder.specs.Identifier.{AreOctets}
-use Rattle.bcder.specs.Tree.{Tree, Trees, no_trees, ◌∷ₜ◌, ◌+++◌}
+use Rattle.std.proofs.Common.{◌≡◌, ℕ, List, [], ◌∷◌, ◌++◌, refl, sym, ap, ◌∙◌, append_assoc}
+use Rattle.bcder.specs.Tree.{Tree, Trees, ◌∷ₜ◌}
 use Rattle.bcder.specs.Preorder.{Heading, preorder, preorders}
-use Rattle.bcder.specs.Reading.{read_tree, read_list, at_end}
-use Rattle.bcder.proofs.Steps.{read_list_step}
 use Rattle.berlist.specs.Lines.{line, lines}
 
 pub lines-append : (hs gs : List Heading) → lines (hs ++ gs) ≡ lines hs ++ lines gs

@@ -1,5 +1,5 @@
 -- What arguments ask for.
-use Rattle.std.proofs.Common.{◌≡◌, ℕ, ◌<◌, ◌≤◌, length, map, slice_index_or, arith, List, [], ◌∷◌, Result, Ok, ◌==◌, if◌then◌else◌, refl, sym, ap, subst, ◌∙◌}
+use Rattle.std.proofs.Common.{◌≡◌, ℕ, ◌<◌, ◌≤◌, length, map, slice_index_or, arith, List, [], ◌∷◌, Ok, ◌==◌, if◌then◌else◌, refl, sym, ap, subst, ◌∙◌}
 use Rattle.bcder.specs.declared.mode.Mode.{Mode}
 use Rattle.bcder.specs.declared.mode.Mode.TheVariants.{Ber, Cer, Der}
 use Rattle.hex.specs.Hex.{decode_of}

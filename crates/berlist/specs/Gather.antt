@@ -1,5 +1,5 @@
 -- What is gathered from the front of octets.
-use Rattle.std.specs.Prelude.{◌≡◌, ℕ, ◌++◌, Bool, List, Option, Some, None, MatchOption}
+use Rattle.std.specs.Prelude.{◌≡◌, ℕ, ◌++◌, Bool, List, Some}
 use Rattle.bcder.specs.declared.mode.Mode.{Mode}
 use Rattle.bcder.specs.Tree.{Tree, Trees}
 use Rattle.bcder.specs.Preorder.{preorder, preorders}

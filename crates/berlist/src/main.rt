@@ -22,6 +22,9 @@ use std::alloc::Global;
 use std::process::ExitCode;
 use std::{env, io};
 
+/// What is said where the arguments ask for nothing.
+const USAGE: &str = "usage: berlist ber|cer|der HEX\n";
+
 /// Why octets weren't listed.
 #[derive(Debug, Drop)]
 pub enum ListError {
@@ -90,7 +93,7 @@ pub fn run<W: io::Write, E: io::Write>(
     let request = match request::read(alloc, args) {
         Ok(Some(request)) => request,
         Ok(None) => {
-            tell(err, "usage: berlist ber|cer|der HEX\n");
+            tell(err, USAGE);
             return 2;
         }
         Err(NoMemory) => {
@@ -122,9 +125,17 @@ fn arguments(rt: &HostRuntime) -> io::Result<Vec<String>> {
 fn main(rt: HostRuntime) -> ExitCode {
     let mut out = rt.stdout();
     let mut err = rt.stderr();
-    let Ok(args) = arguments(&rt) else {
-        tell(&mut err, "out of memory\n");
-        return ExitCode::FAILURE;
+    let args = match arguments(&rt) {
+        Ok(args) => args,
+        // An argument that is no text is no mode, and no hexadecimal digits.
+        Err(error) if error.kind() == io::ErrorKind::InvalidData => {
+            tell(&mut err, USAGE);
+            return ExitCode::from(2);
+        }
+        Err(_) => {
+            tell(&mut err, "out of memory\n");
+            return ExitCode::FAILURE;
+        }
     };
     ExitCode::from(run(rt.alloc(), &args, &mut out, &mut err))
 }

@@ -75,6 +75,7 @@ pub fn pass_two_within<S: Source>(source: &mut S, limit: usize) -> Result<bool, 
 
 /// Captures two octets, where there are two, else none.
 pub fn capture_two<S: Source>(source: &mut S, alloc: Global) -> Result<Bytes, TakeError<S::Error>>
+    ensures count { IfOk result (λ b. 2 ≤ length (S.stream source.old).rest → length b ≡ 2) }
     ensures value { IfOk result (λ b. b ++ (S.stream source.new).rest ≡ (S.stream source.old).rest) }
     ensures err { OnErr result ((S.stream source.new).rest ≡ (S.stream source.old).rest) }
     ensures kept { (S.stream source.new).kept ≡ (S.stream source.old).kept }
@@ -93,6 +94,35 @@ pub fn has_two<S: Source>(source: &mut S) -> Result<bool, S::Error>
     ensures kept { (S.stream source.new).kept ≡ (S.stream source.old).kept }
 {
     pass_two(&mut CaptureSource::new(source))
+}
+
+/// Passes over two octets, where there are two, by a capturing source that is skipped.
+pub fn skip_two<S: Source>(source: &mut S) -> Result<bool, S::Error>
+    ensures two { IfOk result (λ b. (S.stream source.new).rest
+        ≡ (if b then drop 2 (S.stream source.old).rest else (S.stream source.old).rest)) }
+    ensures err { OnErr result ((S.stream source.new).rest ≡ (S.stream source.old).rest) }
+    ensures kept { (S.stream source.new).kept ≡ (S.stream source.old).kept }
+{
+    let mut view = CaptureSource::new(source);
+    let found = view.request(2)? >= 2;
+    if found {
+        view.advance(2);
+    }
+    view.skip();
+    Ok(found)
+}
+
+/// The source without its first two octets, if it has two: a source over a borrow of it has taken
+/// them and ended.
+pub fn without_two<S: Source + Drop>(mut source: S) -> Result<Option<S>, S::Error>
+    ensures { IfOk result (λ o. IfSome o (λ s. (S.stream s).rest ≡ drop 2 (S.stream source).rest)) }
+{
+    let mut limited = LimitedSource::new(&mut source);
+    if pass_two(&mut limited)? {
+        Ok(Some(source))
+    } else {
+        Ok(None)
+    }
 }
 
 /// Captures two octets, where there are two, by a call for every source. It asks once more, so that

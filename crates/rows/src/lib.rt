@@ -6,6 +6,8 @@
 #![tactic(auto)]
 
 pub mod borrows;
+#[cfg(test)]
+mod identifiers;
 pub mod sip;
 #[cfg(test)]
 mod sources;

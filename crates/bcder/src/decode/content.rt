@@ -5,8 +5,8 @@ ghost use Rattle.bcder.specs.Content.{Octets, Moves};
 ghost use Rattle.bcder.specs.Views.{of_constructed, of_primitive, of_content, content_start};
 
 mod octets;
-mod sequences;
 mod remaining;
+mod sequences;
 mod take;
 mod values;
 pub(super) mod walk;

@@ -1,8 +1,8 @@
-use Rattle.std.proofs.Common.{◌≡◌, arith, rules, IfOk, Ok, Err, Result, MatchOption, string_bytes}
+use Rattle.std.proofs.Common.{arith}
 use Rattle.bcder.specs.Identifier.{AreOctets}
 use Rattle.bcder.proofs.Fronts.{rest_shorter}
 use Rattle.bcder.proofs.Skip.{at_end_less}
-use Rattle.berlist.proofs.Gathering.{HasLine, has_line, no_value, short_contents, primitive_value, definite_value, bad_value, marked_value, goes_on, ends_here, fails_here, if_shorter, when_some, when_none}
+use Rattle.berlist.proofs.Gathering.{has_line, no_value, short_contents, primitive_value, definite_value, bad_value, marked_value, goes_on, ends_here, fails_here, if_shorter, when_some, when_none}
 use Rattle.berlist.proofs.gather.+gather.Goals as goal
 
 pub value-returns-in_default-clause-read : goal.value-returns-in_default-clause-read

@@ -1,5 +1,5 @@
 -- What is left to be read goes on with what was gathered.
-use Rattle.std.proofs.Common.{ℕ, ◌+◌, ◌*◌, length, string_bytes}
+use Rattle.std.proofs.Common.{◌+◌, ◌*◌, length, string_bytes}
 use Rattle.berlist.proofs.Gathering.{GoesOn}
 use Rattle.berlist.proofs.gather.+gather.Given as goal
 

@@ -1,5 +1,4 @@
 use Rattle.std.proofs.Common.{◌≡◌, true, false, rules}
-use borrow.Author.Tests as tests
 use Rattle.std.proofs.lemmas.Iterator.{cases_from_all, YieldsList-from_slice}
 use Rattle.hex.specs.Hex.{is_hex_digit}
 use Rattle.berlist.proofs.Digits.{spells_octets, is_digit, is_no_digit}

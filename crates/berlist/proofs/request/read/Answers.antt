@@ -1,4 +1,4 @@
-use Rattle.std.proofs.Common.{List, [], ◌∷◌, ℕ, string_bytes, sym, ap, ◌∙◌}
+use Rattle.std.proofs.Common.{[], ◌∷◌, string_bytes, sym, ap, ◌∙◌}
 use Rattle.hex.specs.Hex.{decode_of}
 use Rattle.berlist.proofs.Requests.{two_words, no_octets}
 use Rattle.berlist.proofs.request.read.Goals as goal
