@@ -1,0 +1,115 @@
+//! Readers as users of the crate write them. No closure here has a clause, but for one that asks
+//! content for its form.
+#![tactic(auto, using(bcder::proofs::Moving::moves_refl, bcder::proofs::Moving::moves_trans))]
+
+ghost use Rattle.std.specs.Prelude.{◌≡◌, ℕ, ◌+◌, ◌≤◌, length, OnOk};
+ghost use Rattle.bcder.specs.Content.{Moves};
+ghost use Rattle.bcder.specs.Views.{of_constructed, of_primitive, of_content};
+
+use bcder::Tag;
+use bcder::decode::{Constructed, Content, DecodeError, Primitive, Source};
+
+/// The number of the contents octets, which are passed over.
+fn take_len<S: Source>(octets: &mut Primitive<'_, S>) -> Result<usize, DecodeError<S::Error>>
+    ensures { Moves (of_primitive S.stream octets.old) (of_primitive S.stream octets.new) }
+{
+    let len = octets.remaining();
+    octets.skip_all()?;
+    Ok(len)
+}
+
+/// A time span, in a structure like that of a certificate.
+#[derive(Clone, Copy)]
+pub struct Validity {
+    /// The octets of its first time.
+    pub from: usize,
+
+    /// The octets of its last time.
+    pub to: usize,
+}
+
+impl Validity {
+    /// Two primitive values in a SEQUENCE.
+    pub fn take_from<S: Source>(
+        cons: &mut Constructed<'_, S>,
+    ) -> Result<Validity, DecodeError<S::Error>>
+        ensures { Moves (of_constructed S.stream cons.old) (of_constructed S.stream cons.new) }
+    {
+        cons.take_sequence(|inner| {
+            let from = inner.take_primitive(|_tag, time| take_len(time))?;
+            let to = inner.take_primitive(|_tag, time| take_len(time))?;
+            Ok(Validity { from, to })
+        })
+    }
+}
+
+/// What a certificate holds, as far as it is read here.
+#[derive(Clone, Copy)]
+pub struct Certificate {
+    /// The octets of its number.
+    pub serial: usize,
+
+    /// Its validity.
+    pub validity: Validity,
+
+    /// The octets of its key.
+    pub key: usize,
+}
+
+impl Certificate {
+    /// A SEQUENCE of a number, a validity and a key.
+    pub fn take_from<S: Source>(
+        cons: &mut Constructed<'_, S>,
+    ) -> Result<Certificate, DecodeError<S::Error>>
+        ensures { Moves (of_constructed S.stream cons.old) (of_constructed S.stream cons.new) }
+    {
+        cons.take_sequence(|certificate| Certificate::take_parts(certificate))
+    }
+
+    /// The three parts, the last one by closures three deep.
+    fn take_parts<S: Source>(
+        cons: &mut Constructed<'_, S>,
+    ) -> Result<Certificate, DecodeError<S::Error>>
+        ensures { Moves (of_constructed S.stream cons.old) (of_constructed S.stream cons.new) }
+    {
+        let serial = cons.take_primitive_if(Tag::INTEGER, |number| take_len(number))?;
+        let validity = Validity::take_from(cons)?;
+        let key = cons.take_constructed_if(Tag::CTX_0, |key| {
+            key.take_sequence(|inner| inner.take_primitive(|_tag, octets| take_len(octets)))
+        })?;
+        Ok(Certificate {
+            serial,
+            validity,
+            key,
+        })
+    }
+}
+
+/// The number of values in a SEQUENCE OF primitive values, by a loop over them.
+pub fn count_all<S: Source>(cons: &mut Constructed<'_, S>) -> Result<u64, DecodeError<S::Error>>
+    ensures { Moves (of_constructed S.stream cons.old) (of_constructed S.stream cons.new) }
+{
+    let mut all = 0u64;
+    while let Some(()) = cons.take_opt_primitive(|_tag, octets| octets.skip_all())? {
+        all = all.saturating_add(1);
+    }
+    Ok(all)
+}
+
+/// A value of either form: the octets of a primitive one, or the first value inside.
+pub fn take_choice<S: Source>(cons: &mut Constructed<'_, S>) -> Result<usize, DecodeError<S::Error>>
+    ensures { Moves (of_constructed S.stream cons.old) (of_constructed S.stream cons.new) }
+{
+    cons.take_value(
+        |_tag, content|
+            ensures { Moves (of_content S.stream content.old) (of_content S.stream content.new) }
+        {
+            match content {
+                Content::Primitive(octets) => take_len(octets),
+                Content::Constructed(inner) => inner.take_primitive(|_tag, octets| take_len(
+                    octets,
+                )),
+            }
+        },
+    )
+}
