@@ -1,10 +1,14 @@
 //! How long it takes to read values, in nanoseconds an octet.
 //!
 //! Two inputs: a megabyte of small INTEGERs, and a megabyte of copies of a certificate.
-#![tactic(auto)]
+#![tactic(auto, using(bcder::proofs::Moving::moves_refl, bcder::proofs::Moving::moves_trans))]
+
+ghost use Rattle.bcder.specs.Content.{Moves};
+ghost use Rattle.bcder.specs.Views.{of_constructed};
 
 use anyhow::Error;
 use bcder::Mode;
+use bcder::decode::{Constructed, DecodeError, SliceSource, Source, walk};
 use std::alloc::{AllocError, Global};
 use std::rt::Clock;
 use std::time::Instant;
@@ -28,6 +32,31 @@ fn copies(alloc: Global, value: &[u8]) -> Result<Vec<u8>, AllocError> {
     Ok(all)
 }
 
+/// How many values there are, at most `most`, by walking over them.
+fn count<S: Source>(
+    cons: &mut Constructed<'_, S>,
+    most: usize,
+) -> Result<u32, DecodeError<S::Error>>
+    ensures { Moves (of_constructed S.stream cons.old) (of_constructed S.stream cons.new) }
+{
+    let mut count = 0u32;
+    for _ in 0..most {
+        if walk(cons)?.is_none() {
+            return Ok(count);
+        }
+        count = count.saturating_add(1);
+    }
+    Ok(count)
+}
+
+/// How many values there are, or 0 where they are refused.
+fn walked(octets: &[u8]) -> u32 {
+    let most = octets.len();
+    Mode::Der
+        .decode(SliceSource::new(octets), |cons| count(cons, most))
+        .unwrap_or(0)
+}
+
 /// How many values there are, by the plain reader.
 fn plainly(octets: &[u8]) -> u32 {
     let mut rest = octets;
@@ -44,26 +73,45 @@ fn plainly(octets: &[u8]) -> u32 {
     count
 }
 
-fn report<R: Print + Clock>(rt: &R, name: &str, octets: &[u8]) -> Result<(), Error> {
+/// Which reader is measured.
+#[derive(Clone, Copy, Debug)]
+enum Reader {
+    Walk,
+    Plain,
+}
+
+/// Reads the input in many rounds, and prints how long an octet took.
+fn report<R: Print + Clock>(
+    rt: &R,
+    name: &str,
+    reader: Reader,
+    octets: &[u8],
+) -> Result<(), Error> {
     let start = Instant::now(rt)?;
     let mut values = 0u32;
     for _ in 0..ROUNDS {
-        values = values.saturating_add(plainly(octets));
+        let found = match reader {
+            Reader::Walk => walked(octets),
+            Reader::Plain => plainly(octets),
+        };
+        values = values.saturating_add(found);
     }
     let elapsed = start.elapsed(rt)?;
     let read = (octets.len() as u128) * (ROUNDS as u128);
     if read > 0 {
         let picoseconds = elapsed.as_nanos().saturating_mul(1000) / read;
-        println!(rt; "{name}: {} values, {} ps an octet (plain reader)", values, picoseconds)?;
+        println!(rt; "{name}, {reader:?}: {values} values, {picoseconds} ps an octet")?;
     }
     Ok(())
 }
 
 fn main(rt: HostRuntime) -> Result<(), Error> {
     let integers = copies(rt.alloc(), &[2, 1, 5])?;
-    report(&rt, "integers", integers.as_slice())?;
     let certificate = hex::decode(rt.alloc(), CERTIFICATE)?;
     let certificates = copies(rt.alloc(), certificate.as_slice())?;
-    report(&rt, "certificates", certificates.as_slice())?;
+    for reader in [Reader::Walk, Reader::Plain] {
+        report(&rt, "integers", reader, integers.as_slice())?;
+        report(&rt, "certificates", reader, certificates.as_slice())?;
+    }
     Ok(())
 }
