@@ -15,6 +15,7 @@ use Rattle.bcder.specs.Identifier.{Tag}
 use Rattle.bcder.specs.Encoding.{may_have}
 use Rattle.bcder.specs.Content.{Reading, Form, values, Octets, DefiniteValues, IndefiniteValues, Asked, Moves}
 use Rattle.bcder.specs.Calls.{Answered, AnswersDone, TakesValue, RefusesContent, by_closure, unfinished, RefusesFront, RefusesValue, HasForm, IsFormOf, Hands, failed, source, nothing, content}
+use Rattle.bcder.specs.Decoding.{AnsweredOn}
 use Rattle.bcder.specs.Stream.{Stream}
 use Rattle.bcder.specs.Views.{of_content, of_constructed, of_primitive}
 use Rattle.bcder.proofs.Names.{primitive_form, constructed_form}
@@ -164,3 +165,12 @@ module _ {C T E : Type 0} (view : C → Reading) (post : Tag → MutBor C → Re
   pub on_err_all : (r : Result T E) → Answered {R = Result T E} view post t i r j → IfErr r (λ e. Answered {R = Result T E} view post t i (Err e) j)
   on_err_all (Ok x) a = tt
   on_err_all (Err e) a = a
+
+module _ {C T E : Type 0} (view : C → Reading) (post : MutBor C → Result T E → MutBor C → Type 0) (i j : Reading) where
+  pub on_ok_on : (r : Result T E) → AnsweredOn {R = Result T E} view post i r j → IfOk r (λ x. AnsweredOn {R = Result T E} view post i (Ok x) j)
+  on_ok_on (Ok x) a = a
+  on_ok_on (Err e) a = tt
+
+  pub on_err_on : (P : E → Type 0) (r : Result T E) → AnsweredOn {R = Result T E} view post i r j → IfErr r (λ e. P e ⊎ AnsweredOn {R = Result T E} view post i (Err e) j)
+  on_err_on P (Ok x) a = tt
+  on_err_on P (Err e) a = inr a

@@ -2,12 +2,12 @@
 //! content for its form.
 #![tactic(auto, using(bcder::proofs::Moving::moves_refl, bcder::proofs::Moving::moves_trans))]
 
-ghost use Rattle.std.specs.Prelude.{◌≡◌, ℕ, ◌+◌, ◌≤◌, length, OnOk};
+ghost use Rattle.std.specs.Prelude.{◌≡◌, ℕ, List, ◌++◌};
 ghost use Rattle.bcder.specs.Content.{Moves};
 ghost use Rattle.bcder.specs.Views.{of_constructed, of_primitive, of_content};
 
-use bcder::Tag;
 use bcder::decode::{Constructed, Content, DecodeError, Primitive, Source};
+use bcder::{Mode, Tag};
 
 /// The number of the contents octets, which are passed over.
 fn take_len<S: Source>(octets: &mut Primitive<'_, S>) -> Result<usize, DecodeError<S::Error>>
@@ -112,4 +112,33 @@ pub fn take_choice<S: Source>(cons: &mut Constructed<'_, S>) -> Result<usize, De
             }
         },
     )
+}
+
+/// The number of octets in a primitive value, which content is asked for.
+pub fn take_primitive_len<S: Source>(
+    cons: &mut Constructed<'_, S>,
+) -> Result<usize, DecodeError<S::Error>>
+    ensures { Moves (of_constructed S.stream cons.old) (of_constructed S.stream cons.new) }
+{
+    cons.take_value(|_tag, content| content.as_primitive(|octets| take_len(octets)))
+}
+
+/// A certificate at the front of a source that is handed in.
+pub fn decode_certificate<S: Source + Drop>(
+    source: S,
+) -> Result<Certificate, DecodeError<S::Error>> {
+    Constructed::decode(source, Mode::Der, |cons| Certificate::take_from(cons))
+}
+
+/// Two certificates at the front of a source whose owner goes on with what is left.
+pub fn decode_two<S: Source>(
+    source: &mut S,
+) -> Result<(Certificate, Certificate), DecodeError<S::Error>>
+    ensures { (passed : List ℕ) × ((S.stream source.old).rest ≡ passed ++ (S.stream source.new).rest) }
+{
+    Constructed::decode_lent(source, Mode::Der, |cons| {
+        let first = Certificate::take_from(cons)?;
+        let second = Certificate::take_from(cons)?;
+        Ok((first, second))
+    })
 }

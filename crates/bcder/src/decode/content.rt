@@ -5,6 +5,7 @@ ghost use Rattle.bcder.specs.Content.{Octets, Moves};
 ghost use Rattle.bcder.specs.Views.{of_constructed, of_primitive, of_content, content_start};
 
 mod decode;
+mod forms;
 mod octets;
 mod remaining;
 mod sequences;
