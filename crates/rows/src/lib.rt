@@ -6,6 +6,7 @@
 #![tactic(auto)]
 
 pub mod borrows;
+pub mod decoding;
 #[cfg(test)]
 mod identifiers;
 pub mod sip;
