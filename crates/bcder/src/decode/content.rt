@@ -92,6 +92,7 @@ impl<'a, S: Source> Constructed<'a, S> {
         ensures stream { (of_constructed S.stream self.new).stream ≡ (of_constructed S.stream self.old).stream }
         ensures owed { (of_constructed S.stream self.new).owed ≡ (of_constructed S.stream self.old).owed }
         ensures state { (of_constructed S.stream self.new).state ≡ (of_constructed S.stream self.old).state }
+        ensures start { self.new.start ≡ self.old.start }
     {
         if self.mode != mode {
             self.mode = mode;
@@ -99,7 +100,7 @@ impl<'a, S: Source> Constructed<'a, S> {
         }
     }
 
-    /// A refusal of the content, at the position where it begins.
+    /// A refusal of the values, at the position where they begin.
     pub fn content_err(&self, error: ContentError) -> DecodeError<S::Error>
         ensures cause { cause_of result ≡ of_refusal error }
         ensures position { position_of result ≡ Some self.now.start }
@@ -127,6 +128,7 @@ impl<'a, S: Source> Primitive<'a, S> {
         ensures stream { (of_primitive S.stream self.new).stream ≡ (of_primitive S.stream self.old).stream }
         ensures owed { (of_primitive S.stream self.new).owed ≡ (of_primitive S.stream self.old).owed }
         ensures state { (of_primitive S.stream self.new).state ≡ (of_primitive S.stream self.old).state }
+        ensures start { self.new.start ≡ self.old.start }
     {
         if self.mode != mode {
             self.mode = mode;
@@ -134,7 +136,7 @@ impl<'a, S: Source> Primitive<'a, S> {
         }
     }
 
-    /// A refusal of the content, at the position where it begins.
+    /// A refusal of the octets, at the position where they begin.
     pub fn content_err(&self, error: ContentError) -> DecodeError<S::Error>
         ensures cause { cause_of result ≡ of_refusal error }
         ensures position { position_of result ≡ Some self.now.start }

@@ -30,6 +30,7 @@ impl<'a, S: Source> Constructed<'a, S> {
         ensures refused { IfErr result (λ e. (HasForm false any (of_constructed S.stream self.old) × IsRefusal e) ⊎ RefusesValue IsRefusal (of_constructed S.stream) (F.post op) any (of_constructed S.stream self.old) e (of_constructed S.stream self.new)) }
         ensures failed { OnErr result ((of_constructed S.stream self.new).state ≡ State.Failed) }
         ensures mode { (of_constructed S.stream self.new).mode ≡ (of_constructed S.stream self.old).mode }
+        ensures unmarked { IfOk result (λ o. IfNone o ((of_constructed S.stream self.new).marked ≡ (of_constructed S.stream self.old).marked)) }
     {
         self.take_opt_value(
             |tag, content|
@@ -59,6 +60,7 @@ impl<'a, S: Source> Constructed<'a, S> {
         ensures value { IfOk result (λ x. TakesValue (of_constructed S.stream) (F.post op) any (of_constructed S.stream self.old) x (of_constructed S.stream self.new)) }
         ensures shorter { OnOk result (length (of_constructed S.stream self.new).stream.rest + 2 ≤ length (of_constructed S.stream self.old).stream.rest) }
         ensures refused { IfErr result (λ e. (IsMissing any (of_constructed S.stream self.old) (of_constructed S.stream self.new) × IsRefusal e) ⊎ ((HasForm false any (of_constructed S.stream self.old) × IsRefusal e) ⊎ RefusesValue IsRefusal (of_constructed S.stream) (F.post op) any (of_constructed S.stream self.old) e (of_constructed S.stream self.new))) }
+        ensures failed { OnErr result (((of_constructed S.stream self.new).state ≡ State.Failed) ⊎ (IsMissing any (of_constructed S.stream self.old) (of_constructed S.stream self.new) × ((of_constructed S.stream self.new).marked ≡ (of_constructed S.stream self.old).marked))) }
         ensures mode { (of_constructed S.stream self.new).mode ≡ (of_constructed S.stream self.old).mode }
     {
         match self.take_opt_constructed(op)? {
@@ -85,6 +87,7 @@ impl<'a, S: Source> Constructed<'a, S> {
         ensures refused { IfErr result (λ e. (HasForm false (tagged tag) (of_constructed S.stream self.old) × IsRefusal e) ⊎ RefusesValue IsRefusal (of_constructed S.stream) (Untagged (F.post op)) (tagged tag) (of_constructed S.stream self.old) e (of_constructed S.stream self.new)) }
         ensures failed { OnErr result ((of_constructed S.stream self.new).state ≡ State.Failed) }
         ensures mode { (of_constructed S.stream self.new).mode ≡ (of_constructed S.stream self.old).mode }
+        ensures unmarked { IfOk result (λ o. IfNone o ((of_constructed S.stream self.new).marked ≡ (of_constructed S.stream self.old).marked)) }
     {
         self.take_tagged(
             tag,
@@ -119,6 +122,7 @@ impl<'a, S: Source> Constructed<'a, S> {
         ensures value { IfOk result (λ x. TakesValue (of_constructed S.stream) (Untagged (F.post op)) (tagged tag) (of_constructed S.stream self.old) x (of_constructed S.stream self.new)) }
         ensures shorter { OnOk result (length (of_constructed S.stream self.new).stream.rest + 2 ≤ length (of_constructed S.stream self.old).stream.rest) }
         ensures refused { IfErr result (λ e. (IsMissing (tagged tag) (of_constructed S.stream self.old) (of_constructed S.stream self.new) × IsRefusal e) ⊎ ((HasForm false (tagged tag) (of_constructed S.stream self.old) × IsRefusal e) ⊎ RefusesValue IsRefusal (of_constructed S.stream) (Untagged (F.post op)) (tagged tag) (of_constructed S.stream self.old) e (of_constructed S.stream self.new))) }
+        ensures failed { OnErr result (((of_constructed S.stream self.new).state ≡ State.Failed) ⊎ (IsMissing (tagged tag) (of_constructed S.stream self.old) (of_constructed S.stream self.new) × ((of_constructed S.stream self.new).marked ≡ (of_constructed S.stream self.old).marked))) }
         ensures mode { (of_constructed S.stream self.new).mode ≡ (of_constructed S.stream self.old).mode }
     {
         match self.take_opt_constructed_if(tag, op)? {
@@ -137,6 +141,7 @@ impl<'a, S: Source> Constructed<'a, S> {
         ensures value { IfOk result (λ x. TakesValue (of_constructed S.stream) (Untagged (F.post op)) (tagged sequence_tag) (of_constructed S.stream self.old) x (of_constructed S.stream self.new)) }
         ensures shorter { OnOk result (length (of_constructed S.stream self.new).stream.rest + 2 ≤ length (of_constructed S.stream self.old).stream.rest) }
         ensures refused { IfErr result (λ e. (IsMissing (tagged sequence_tag) (of_constructed S.stream self.old) (of_constructed S.stream self.new) × IsRefusal e) ⊎ ((HasForm false (tagged sequence_tag) (of_constructed S.stream self.old) × IsRefusal e) ⊎ RefusesValue IsRefusal (of_constructed S.stream) (Untagged (F.post op)) (tagged sequence_tag) (of_constructed S.stream self.old) e (of_constructed S.stream self.new))) }
+        ensures failed { OnErr result (((of_constructed S.stream self.new).state ≡ State.Failed) ⊎ (IsMissing (tagged sequence_tag) (of_constructed S.stream self.old) (of_constructed S.stream self.new) × ((of_constructed S.stream self.new).marked ≡ (of_constructed S.stream self.old).marked))) }
         ensures mode { (of_constructed S.stream self.new).mode ≡ (of_constructed S.stream self.old).mode }
     {
         self.take_constructed_if(Tag::SEQUENCE, op)
@@ -159,6 +164,7 @@ impl<'a, S: Source> Constructed<'a, S> {
         ensures refused { IfErr result (λ e. (HasForm false (tagged sequence_tag) (of_constructed S.stream self.old) × IsRefusal e) ⊎ RefusesValue IsRefusal (of_constructed S.stream) (Untagged (F.post op)) (tagged sequence_tag) (of_constructed S.stream self.old) e (of_constructed S.stream self.new)) }
         ensures failed { OnErr result ((of_constructed S.stream self.new).state ≡ State.Failed) }
         ensures mode { (of_constructed S.stream self.new).mode ≡ (of_constructed S.stream self.old).mode }
+        ensures unmarked { IfOk result (λ o. IfNone o ((of_constructed S.stream self.new).marked ≡ (of_constructed S.stream self.old).marked)) }
     {
         self.take_opt_constructed_if(Tag::SEQUENCE, op)
     }
@@ -173,6 +179,7 @@ impl<'a, S: Source> Constructed<'a, S> {
         ensures value { IfOk result (λ x. TakesValue (of_constructed S.stream) (Untagged (F.post op)) (tagged set_tag) (of_constructed S.stream self.old) x (of_constructed S.stream self.new)) }
         ensures shorter { OnOk result (length (of_constructed S.stream self.new).stream.rest + 2 ≤ length (of_constructed S.stream self.old).stream.rest) }
         ensures refused { IfErr result (λ e. (IsMissing (tagged set_tag) (of_constructed S.stream self.old) (of_constructed S.stream self.new) × IsRefusal e) ⊎ ((HasForm false (tagged set_tag) (of_constructed S.stream self.old) × IsRefusal e) ⊎ RefusesValue IsRefusal (of_constructed S.stream) (Untagged (F.post op)) (tagged set_tag) (of_constructed S.stream self.old) e (of_constructed S.stream self.new))) }
+        ensures failed { OnErr result (((of_constructed S.stream self.new).state ≡ State.Failed) ⊎ (IsMissing (tagged set_tag) (of_constructed S.stream self.old) (of_constructed S.stream self.new) × ((of_constructed S.stream self.new).marked ≡ (of_constructed S.stream self.old).marked))) }
         ensures mode { (of_constructed S.stream self.new).mode ≡ (of_constructed S.stream self.old).mode }
     {
         self.take_constructed_if(Tag::SET, op)
@@ -192,6 +199,7 @@ impl<'a, S: Source> Constructed<'a, S> {
         ensures refused { IfErr result (λ e. (HasForm false (tagged set_tag) (of_constructed S.stream self.old) × IsRefusal e) ⊎ RefusesValue IsRefusal (of_constructed S.stream) (Untagged (F.post op)) (tagged set_tag) (of_constructed S.stream self.old) e (of_constructed S.stream self.new)) }
         ensures failed { OnErr result ((of_constructed S.stream self.new).state ≡ State.Failed) }
         ensures mode { (of_constructed S.stream self.new).mode ≡ (of_constructed S.stream self.old).mode }
+        ensures unmarked { IfOk result (λ o. IfNone o ((of_constructed S.stream self.new).marked ≡ (of_constructed S.stream self.old).marked)) }
     {
         self.take_opt_constructed_if(Tag::SET, op)
     }

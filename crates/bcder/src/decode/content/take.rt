@@ -492,6 +492,7 @@ impl<'a, S: Source> Constructed<'a, S> {
         ensures refused { IfErr result (λ e. RefusesValue IsRefusal (of_content S.stream) (F.post op) (tagged tag) (of_constructed S.stream self.old) e (of_constructed S.stream self.new)) }
         ensures failed { OnErr result ((of_constructed S.stream self.new).state ≡ State.Failed) }
         ensures mode { (of_constructed S.stream self.new).mode ≡ (of_constructed S.stream self.old).mode }
+        ensures unmarked { IfOk result (λ o. IfNone o ((of_constructed S.stream self.new).marked ≡ (of_constructed S.stream self.old).marked)) }
     {
         match self.take_header_if(tag)? {
             None => Ok(None),

@@ -22,6 +22,7 @@ impl<'a, S: Source> Constructed<'a, S> {
         ensures value { IfOk result (λ x. TakesValue (of_content S.stream) (F.post op) any (of_constructed S.stream self.old) x (of_constructed S.stream self.new)) }
         ensures shorter { OnOk result (length (of_constructed S.stream self.new).stream.rest + 2 ≤ length (of_constructed S.stream self.old).stream.rest) }
         ensures refused { IfErr result (λ e. (IsMissing any (of_constructed S.stream self.old) (of_constructed S.stream self.new) × IsRefusal e) ⊎ RefusesValue IsRefusal (of_content S.stream) (F.post op) any (of_constructed S.stream self.old) e (of_constructed S.stream self.new)) }
+        ensures failed { OnErr result (((of_constructed S.stream self.new).state ≡ State.Failed) ⊎ (IsMissing any (of_constructed S.stream self.old) (of_constructed S.stream self.new) × ((of_constructed S.stream self.new).marked ≡ (of_constructed S.stream self.old).marked))) }
         ensures mode { (of_constructed S.stream self.new).mode ≡ (of_constructed S.stream self.old).mode }
     {
         match self.take_opt_value(op)? {
@@ -48,6 +49,7 @@ impl<'a, S: Source> Constructed<'a, S> {
         ensures refused { IfErr result (λ e. RefusesValue IsRefusal (of_content S.stream) (Untagged (F.post op)) (tagged tag) (of_constructed S.stream self.old) e (of_constructed S.stream self.new)) }
         ensures failed { OnErr result ((of_constructed S.stream self.new).state ≡ State.Failed) }
         ensures mode { (of_constructed S.stream self.new).mode ≡ (of_constructed S.stream self.old).mode }
+        ensures unmarked { IfOk result (λ o. IfNone o ((of_constructed S.stream self.new).marked ≡ (of_constructed S.stream self.old).marked)) }
     {
         self.take_tagged(
             tag,
@@ -71,6 +73,7 @@ impl<'a, S: Source> Constructed<'a, S> {
         ensures value { IfOk result (λ x. TakesValue (of_content S.stream) (Untagged (F.post op)) (tagged tag) (of_constructed S.stream self.old) x (of_constructed S.stream self.new)) }
         ensures shorter { OnOk result (length (of_constructed S.stream self.new).stream.rest + 2 ≤ length (of_constructed S.stream self.old).stream.rest) }
         ensures refused { IfErr result (λ e. (IsMissing (tagged tag) (of_constructed S.stream self.old) (of_constructed S.stream self.new) × IsRefusal e) ⊎ RefusesValue IsRefusal (of_content S.stream) (Untagged (F.post op)) (tagged tag) (of_constructed S.stream self.old) e (of_constructed S.stream self.new)) }
+        ensures failed { OnErr result (((of_constructed S.stream self.new).state ≡ State.Failed) ⊎ (IsMissing (tagged tag) (of_constructed S.stream self.old) (of_constructed S.stream self.new) × ((of_constructed S.stream self.new).marked ≡ (of_constructed S.stream self.old).marked))) }
         ensures mode { (of_constructed S.stream self.new).mode ≡ (of_constructed S.stream self.old).mode }
     {
         match self.take_opt_value_if(tag, op)? {

@@ -9,3 +9,6 @@ use Rattle.bcder.proofs.decode.content.Constructed.take_primitive.Goals as goal
 
 pub returns-in-None-clause-refused : goal.returns-in-None-clause-refused
 returns-in-None-clause-refused g c = inl ((rw c.in-None.is at c.in_ok-value.ensures.end, rw c.in-None.is at c.in_ok-value.ensures.done), c.refusal.ensures)
+
+pub returns-in-None-clause-failed : goal.returns-in-None-clause-failed
+returns-in-None-clause-failed g c = inr ((rw c.in-None.is at c.in_ok-value.ensures.end, rw c.in-None.is at c.in_ok-value.ensures.done), rw c.in-None.is at c.in_ok-value.ensures.unmarked)

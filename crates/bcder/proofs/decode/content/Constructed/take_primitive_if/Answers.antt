@@ -9,3 +9,6 @@ use Rattle.bcder.proofs.decode.content.Constructed.take_primitive_if.Goals as go
 
 pub returns-in-None-clause-refused : goal.returns-in-None-clause-refused
 returns-in-None-clause-refused g c = inl ((rw c.in-None.is at c.in_ok-value.ensures.absent, rw c.in-None.is at c.in_ok-value.ensures.left), c.expected.ensures)
+
+pub returns-in-None-clause-failed : goal.returns-in-None-clause-failed
+returns-in-None-clause-failed g c = inr ((rw c.in-None.is at c.in_ok-value.ensures.absent, rw c.in-None.is at c.in_ok-value.ensures.left), rw c.in-None.is at c.in_ok-value.ensures.unmarked)
