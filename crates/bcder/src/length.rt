@@ -75,6 +75,7 @@ fn long_at(mode: Mode, count: usize, octets: &[u8]) -> Option<(Length, &[u8])>
 
 /// The length at the front, and the octets after it.
 #[tactic(auto, using(std::proofs::lemmas::Bool::Decides::nat_tests), unfolding(crate::specs::Reading::read_length))]
+#[inline(always)]
 pub(crate) fn length_at(mode: Mode, octets: &[u8]) -> Option<(Length, &[u8])>
     ensures { MatchOption result (read_length mode octets.now ≡ None) (λ r. read_length mode octets.now ≡ Some (r.0, r.1.now)) }
 {

@@ -382,6 +382,7 @@ impl Tag {
     }
 
     /// Whether a value may have this tag: every tag but that of the end-of-contents octets.
+    #[inline(always)]
     pub(crate) fn is_value(self) -> bool
         ensures { result ≡ is_value_tag self }
     {
@@ -391,6 +392,7 @@ impl Tag {
 
 /// The class that bits 8 and 7 of the leading octet tell (8.1.2.2, table 1).
 #[tactic(auto, using(std::proofs::lemmas::Bool::Decides::nat_tests), unfolding(crate::specs::Reading::class_of))]
+#[inline(always)]
 fn class_at(octet: u8) -> Class
     ensures { class_meant result ≡ class_of octet }
 {
@@ -460,6 +462,7 @@ fn third_digit(high: u32, octets: &[u8]) -> Option<(u32, &[u8])>
 
 /// The tag and the constructed mark of the identifier octets at the front, and the octets after them.
 #[tactic(auto, using(std::proofs::lemmas::Bool::Decides::nat_tests), unfolding(crate::specs::Reading::read_identifier, crate::specs::Reading::is_marked))]
+#[inline(always)]
 pub(crate) fn identifier_at(octets: &[u8]) -> Option<(Tag, bool, &[u8])>
     ensures { MatchOption result (read_identifier octets.now ≡ None) (λ r. read_identifier octets.now ≡ Some (r.0, r.1, r.2.now)) }
 {

@@ -57,6 +57,7 @@ enum Seen {
 }
 
 /// What the octets at hand tell of the length behind the identifier octets at their front.
+#[inline(always)]
 fn look_behind(mode: Mode, tag: Tag, constructed: bool, octets: &[u8], rest: &[u8]) -> Seen
     requires { read_identifier octets.now ≡ Some (tag, constructed, rest.now) }
     ensures { SeesOf mode tag result octets.now }
@@ -84,6 +85,7 @@ fn look_behind(mode: Mode, tag: Tag, constructed: bool, octets: &[u8], rest: &[u
 }
 
 /// What the octets at hand tell of the header at their front.
+#[inline(always)]
 fn look(mode: Mode, octets: &[u8]) -> Seen
     ensures { Sees mode result octets.now }
 {
@@ -123,6 +125,7 @@ fn look_for(mode: Mode, tag: Tag, octets: &[u8]) -> Option<Seen>
 
 /// What stands at the front of a source. It asks for no more octets than the header has, for two at
 /// least, and takes none. An error is the source's own.
+#[inline(always)]
 pub(crate) fn peek<S: Source>(source: &mut S, mode: Mode) -> Result<Peeked, S::Error>
     ensures peeked { IfOk result (λ p. Peeks mode p (S.stream source.new)) }
     ensures no_fault { OnOk result ((S.stream source.new).faults ≡ (S.stream source.old).faults) }

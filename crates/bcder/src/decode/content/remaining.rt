@@ -28,6 +28,7 @@ impl<'a, S: Source> Primitive<'a, S> {
     ///
     /// Where fewer octets come or where the source fails. Then no octet is passed.
     #[tactic(auto, unfolding(crate::specs::Views::of_primitive))]
+    #[inline(always)]
     pub fn skip_all(&mut self) -> Result<(), DecodeError<S::Error>>
         ensures moves { Moves (of_primitive S.stream self.old) (of_primitive S.stream self.new) }
         ensures all { OnOk result ((of_primitive S.stream self.old).owed ≡ Some (length (of_primitive S.stream self.old).stream.rest)) }

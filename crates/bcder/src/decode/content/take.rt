@@ -20,6 +20,7 @@ use crate::mode::Mode;
 use crate::tag::Tag;
 
 /// Whether the octets that a length promises are within what is owed.
+#[inline(always)]
 fn fits(len: Length, owed: Option<usize>) -> bool
     ensures yes { IsTrue result → FitsOwed len owed }
     ensures no { result ≡ false → FitsOwed len owed → ⊥ }
@@ -31,6 +32,7 @@ fn fits(len: Length, owed: Option<usize>) -> bool
 }
 
 /// Whether a mode allows a length (X.690, 9.1, 10.1) in an encoding of a form (8.1.3.2).
+#[inline(always)]
 fn allows(mode: Mode, constructed: bool, len: Length) -> bool
     ensures { result ≡ may_have mode constructed len }
 {
@@ -41,6 +43,7 @@ fn allows(mode: Mode, constructed: bool, len: Length) -> bool
 }
 
 /// Whether this is the header of a value that can be taken.
+#[inline(always)]
 fn accepts(mode: Mode, tag: Tag, constructed: bool, len: Length, owed: Option<usize>) -> bool
     ensures yes { IsTrue result → Accepts mode (record { tag = tag; form = constructed; len = len }) owed }
     ensures no { result ≡ false → Accepts mode (record { tag = tag; form = constructed; len = len }) owed → ⊥ }
@@ -49,6 +52,7 @@ fn accepts(mode: Mode, tag: Tag, constructed: bool, len: Length, owed: Option<us
 }
 
 /// Whether these are end-of-contents octets (8.1.5).
+#[inline(always)]
 fn is_end(tag: Tag, constructed: bool, len: Length) -> bool
     ensures yes { IsTrue result → ◌≡◌ {A = HeaderRead} (record { tag = tag; form = constructed; len = len }) end_header }
     ensures no { result ≡ false → ◌≡◌ {A = HeaderRead} (record { tag = tag; form = constructed; len = len }) end_header → ⊥ }
@@ -73,6 +77,7 @@ impl<'a, S: Source> Constructed<'a, S> {
 
     /// Looks at the front, and takes nothing.
     #[tactic(auto, unfolding(crate::specs::Views::of_constructed))]
+    #[inline(always)]
     fn look(&mut self) -> Result<Peeked, S::Error>
         ensures same { Resembles (of_constructed S.stream self.old) (of_constructed S.stream self.new) }
         ensures peeked { IfOk result (λ p. Peeks self.old.mode p (limited_stream S.stream self.new.source.now)) }
@@ -96,6 +101,7 @@ impl<'a, S: Source> Constructed<'a, S> {
     /// Passes over octets that are at hand. The content has failed until the value that they begin
     /// is taken.
     #[tactic(auto, unfolding(crate::specs::Views::of_constructed))]
+    #[inline(always)]
     fn pass(&mut self, size: usize)
         requires { size ≤ (limited_stream S.stream self.old.source.now).avail }
         ensures advances { Advances (of_constructed S.stream self.old) (of_constructed S.stream self.new) (take size (of_constructed S.stream self.old).stream.rest) }
@@ -112,6 +118,7 @@ impl<'a, S: Source> Constructed<'a, S> {
 
     /// Passes over a header, or an end marker.
     #[tactic(auto, unfolding(crate::specs::Views::of_constructed))]
+    #[inline(always)]
     fn enter(
         &mut self,
         header: Header,
@@ -142,6 +149,7 @@ impl<'a, S: Source> Constructed<'a, S> {
     }
 
     /// Whether the promised octets are used up.
+    #[inline(always)]
     fn is_used_up(&self) -> bool
         ensures yes { IsTrue result → (self.now.kind ≡ Kind.Definite) × (self.now.source.now.limit ≡ Some 0) }
         ensures no { result ≡ false → self.now.kind ≡ Kind.Definite → self.now.source.now.limit ≡ Some 0 → ⊥ }
@@ -158,6 +166,7 @@ impl<'a, S: Source> Constructed<'a, S> {
     /// Passes over the next header, or answers `None` at the end, whose marker it takes. The content
     /// has failed until the value is taken.
     #[tactic(auto, using(crate::proofs::Moving::moves_refl), unfolding(crate::specs::Views::of_constructed))]
+    #[inline(always)]
     fn take_header(&mut self) -> Result<Option<Header>, DecodeError<S::Error>>
         ensures moves { Moves (of_constructed S.stream self.old) (of_constructed S.stream self.new) }
         ensures entered { IfOk result (λ o. IfSome o (λ h. Enters (of_constructed S.stream self.old) (header_of h) (of_constructed S.stream self.new))) }
@@ -234,6 +243,7 @@ impl<'a, S: Source> Constructed<'a, S> {
 impl<'a, S: Source> Content<'a, S> {
     /// Makes sure that the content is at its end, and takes its marker.
     #[tactic(auto, using(crate::proofs::Moving::moves_refl), unfolding(crate::specs::Views::of_constructed, crate::specs::Views::of_primitive))]
+    #[inline(always)]
     fn finish(&mut self) -> Result<(), DecodeError<S::Error>>
         ensures moves { Moves (of_content S.stream self.old) (of_content S.stream self.new) }
         ensures marked { content_mark self.new ≡ content_mark self.old }
@@ -254,6 +264,7 @@ impl<'a, S: Source> Content<'a, S> {
     }
 
     /// Whether a mode was changed.
+    #[inline(always)]
     fn is_marked(&self) -> bool
         ensures { result ≡ content_mark self.now }
     {
@@ -264,6 +275,7 @@ impl<'a, S: Source> Content<'a, S> {
     }
 
     /// Hands the source back to its owner.
+    #[inline(always)]
     fn into_source(self) -> &'a mut LimitedSource<S>
         ensures name { result.ghost_name ≡ content_name self.entry }
         ensures now { result.now ≡ content_source self.entry }
@@ -286,6 +298,7 @@ impl<'a, S: Source> Primitive<'a, S> {
 
 /// Calls the closure on content, which then is at its end.
 #[tactic(auto, using(crate::proofs::Moving::moves_trans, crate::proofs::Names::moves_content_name))]
+#[inline(always)]
 fn run<S: Source, F, T: Drop>(
     content: &mut Content<'_, S>,
     tag: Tag,
@@ -310,6 +323,7 @@ where
 }
 
 #[tactic(auto, using(crate::proofs::Moving::moves_refl, crate::proofs::Moving::moves_trans), unfolding(crate::specs::Views::of_constructed, crate::specs::Views::of_primitive))]
+#[inline(always)]
 fn run_primitive<S: Source, F, T: Drop>(
     source: &mut LimitedSource<S>,
     mode: Mode,
@@ -336,6 +350,7 @@ where
 }
 
 #[tactic(auto, using(crate::proofs::Moving::moves_refl, crate::proofs::Moving::moves_trans), unfolding(crate::specs::Views::of_constructed, crate::specs::Views::of_primitive))]
+#[inline(always)]
 fn run_constructed<S: Source, F, T: Drop>(
     source: &mut LimitedSource<S>,
     kind: Kind,
@@ -365,6 +380,7 @@ where
 }
 
 /// Limits the source to the content of a value, and answers the limit of the content around it.
+#[inline(always)]
 fn push<S>(source: &mut LimitedSource<S>, len: usize) -> Option<usize>
     ensures outer { result ≡ source.old.limit }
     ensures limit { source.new.limit ≡ Some len }
@@ -376,6 +392,7 @@ fn push<S>(source: &mut LimitedSource<S>, len: usize) -> Option<usize>
 }
 
 /// Gives the source the limit of the content around a value back, less what was passed over.
+#[inline(always)]
 fn pop<S>(source: &mut LimitedSource<S>, outer: Option<usize>, len: usize)
     ensures limit { source.new.limit ≡ popped outer len source.old.limit }
     ensures source { source.new.source ≡ source.old.source }
@@ -388,6 +405,7 @@ fn pop<S>(source: &mut LimitedSource<S>, outer: Option<usize>, len: usize)
 }
 
 /// Whether one of two marks is set.
+#[inline(always)]
 fn either(one: bool, other: bool) -> bool
     ensures { result ≡ (one || other) }
 {
@@ -397,6 +415,7 @@ fn either(one: bool, other: bool) -> bool
 impl<'a, S: Source> Constructed<'a, S> {
     /// Takes the content of a value whose header was passed over.
     #[tactic(auto, using(crate::proofs::Moving::moves_refl, crate::proofs::Moving::moves_trans), unfolding(crate::specs::Views::of_constructed, crate::specs::Views::of_primitive))]
+    #[inline(always)]
     fn take_content<F, T: Drop>(
         &mut self,
         header: Header,
@@ -449,6 +468,7 @@ impl<'a, S: Source> Constructed<'a, S> {
 #[tactic(auto, unfolding(crate::specs::Views::of_constructed))]
 impl<'a, S: Source> Constructed<'a, S> {
     /// Takes the next value, or answers `None` at the end.
+    #[inline(always)]
     pub fn take_opt_value<F, T: Drop>(&mut self, op: F) -> Result<Option<T>, DecodeError<S::Error>>
     where
         F: FnOnce(Tag, &mut Content<'_, S>) -> Result<T, DecodeError<S::Error>>,
