@@ -7,6 +7,8 @@
 
 pub mod borrows;
 #[cfg(test)]
+mod content;
+#[cfg(test)]
 mod identifiers;
 pub mod sip;
 #[cfg(test)]
