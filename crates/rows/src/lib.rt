@@ -8,6 +8,8 @@
 pub mod borrows;
 pub mod decoding;
 #[cfg(test)]
+mod content;
+#[cfg(test)]
 mod identifiers;
 pub mod sip;
 #[cfg(test)]
