@@ -6,9 +6,9 @@
 #![tactic(auto)]
 
 pub mod borrows;
-pub mod decoding;
 #[cfg(test)]
 mod content;
+pub mod decoding;
 #[cfg(test)]
 mod identifiers;
 pub mod sip;
