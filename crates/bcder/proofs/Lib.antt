@@ -15,3 +15,4 @@ pub mod Forwarding
 pub mod Remaining
 pub mod Walking
 pub mod Walked
+pub mod Decoding

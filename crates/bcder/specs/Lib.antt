@@ -17,6 +17,7 @@ pub mod Content
 pub mod Views
 pub mod Calls
 pub mod Walking
+pub mod Decoding
 pub mod Begins
 pub mod PeekTag
 pub mod PeekLength

@@ -4,6 +4,7 @@ ghost use Rattle.bcder.specs.Cause.{cause_of, position_of, of_content as of_refu
 ghost use Rattle.bcder.specs.Content.{Octets, Moves};
 ghost use Rattle.bcder.specs.Views.{of_constructed, of_primitive, of_content, content_start};
 
+mod decode;
 mod octets;
 mod remaining;
 mod sequences;

@@ -1,0 +1,158 @@
+//! Decoding the values of a source.
+ghost use Rattle.std.specs.Prelude.{◌≡◌, ◌≢◌, ◌↔◌, ◌≤◌, ◌++◌, ℕ, List, None, IsTrue, IfOk, IfErr, OnOk};
+ghost use Rattle.bcder.specs.Cause.{IsRefusal};
+ghost use Rattle.bcder.specs.Stream.{Stream, borrowed};
+ghost use Rattle.bcder.specs.Content.{Moves, UnboundedValues};
+ghost use Rattle.bcder.specs.Calls.{MayBeCalledOn, IsLawfulOn, IsOver};
+ghost use Rattle.bcder.specs.Decoding.{IsAllOf, IsAllBehind, AnsweredOn, RefusesOn, RanOn, Decodes, RefusesDecode};
+ghost use Rattle.bcder.specs.Views.{of_constructed, limited_stream, lent};
+
+use super::{Constructed, Kind, State};
+use crate::decode::error::{ContentError, DecodeError};
+use crate::decode::source::{IntoSource, LimitedSource, Source};
+use crate::mode::Mode;
+
+impl<'a, S> Constructed<'a, S> {
+    /// Whether a value was refused.
+    fn is_failed(&self) -> bool
+        ensures { IsTrue result ↔ (self.now.state ≡ State.Failed) }
+    {
+        match self.state {
+            State::Failed => true,
+            _ => false,
+        }
+    }
+}
+
+impl<'a, S: Source> Constructed<'a, S> {
+    /// The refusal of content that a closure left failed.
+    fn had_failed(&self) -> DecodeError<S::Error>
+        ensures { IsRefusal result }
+    {
+        self.source
+            .content_err(ContentError::from_static("an earlier value was refused"))
+    }
+}
+
+/// Calls the closure on content, which then has not failed.
+#[tactic(auto, using(crate::proofs::Names::moves_constructed_name), unfolding(crate::specs::Views::of_constructed))]
+fn run<S: Source, F, T: Drop>(
+    cons: &mut Constructed<'_, S>,
+    op: F,
+) -> Result<T, DecodeError<S::Error>>
+where
+    F: FnOnce(&mut Constructed<'_, S>) -> Result<T, DecodeError<S::Error>>,
+    requires callable { MayBeCalledOn (of_constructed S.stream) (λ i. i ≡ of_constructed S.stream cons.old) (F.pre op) }
+    requires lawful { IsLawfulOn (of_constructed S.stream) (λ i. i ≡ of_constructed S.stream cons.old) (F.post op) }
+    ensures moves { Moves (of_constructed S.stream cons.old) (of_constructed S.stream cons.new) }
+    ensures name { cons.new.source.ghost_name ≡ cons.old.source.ghost_name }
+    ensures usable { OnOk result (cons.new.state ≢ State.Failed) }
+    ensures ok { IfOk result (λ x. AnsweredOn (of_constructed S.stream) (F.post op) (of_constructed S.stream cons.old) (Ok x) (of_constructed S.stream cons.new)) }
+    ensures refused { IfErr result (λ e. RefusesOn IsRefusal (of_constructed S.stream) (F.post op) (of_constructed S.stream cons.old) e (of_constructed S.stream cons.new)) }
+{
+    match op(cons) {
+        Ok(value) => {
+            if cons.is_failed() {
+                return Err(cons.had_failed());
+            }
+            Ok(value)
+        }
+        Err(error) => Err(error),
+    }
+}
+
+/// Calls the closure on all values of a source.
+#[tactic(auto, unfolding(crate::specs::Views::of_constructed))]
+fn run_over<S: Source, F, T: Drop>(
+    source: &mut LimitedSource<S>,
+    mode: Mode,
+    op: F,
+) -> Result<T, DecodeError<S::Error>>
+where
+    F: FnOnce(&mut Constructed<'_, S>) -> Result<T, DecodeError<S::Error>>,
+    requires callable { MayBeCalledOn (of_constructed S.stream) (IsOver (limited_stream S.stream source.old) source.old.limit UnboundedValues mode) (F.pre op) }
+    requires lawful { IsLawfulOn (of_constructed S.stream) (IsOver (limited_stream S.stream source.old) source.old.limit UnboundedValues mode) (F.post op) }
+    ensures { RanOn IsRefusal (of_constructed S.stream) (F.post op) (limited_stream S.stream source.old) source.old.limit mode result (limited_stream S.stream source.new) source.new.limit }
+{
+    let start = source.pos();
+    let mut cons = Constructed {
+        source: &mut *source,
+        kind: Kind::Unbounded,
+        state: State::Open,
+        mode,
+        marked: false,
+        start,
+    };
+    run(&mut cons, op)
+}
+
+/// The same over a borrowed source, whose borrow stays the same.
+fn run_lent<S: Source, F, T: Drop>(
+    limited: &mut LimitedSource<&mut S>,
+    mode: Mode,
+    op: F,
+) -> Result<T, DecodeError<S::Error>>
+where
+    F: FnOnce(&mut Constructed<'_, &mut S>) -> Result<T, DecodeError<S::Error>>,
+    requires unlimited { limited.old.limit ≡ None }
+    requires callable { MayBeCalledOn (of_constructed (lent S.stream)) (IsAllOf (lent S.stream limited.old.source) mode) (F.pre op) }
+    requires lawful { IsLawfulOn (of_constructed (lent S.stream)) (IsAllOf (lent S.stream limited.old.source) mode) (F.post op) }
+    ensures name { limited.new.source.ghost_name ≡ limited.old.source.ghost_name }
+    ensures passed { (passed : List ℕ) × ((S.stream limited.old.source.now).rest ≡ passed ++ (S.stream limited.new.source.now).rest) }
+    ensures faults { (S.stream limited.old.source.now).faults ≤ (S.stream limited.new.source.now).faults }
+    ensures kept { (S.stream limited.new.source.now).kept ≡ (S.stream limited.old.source.now).kept }
+    ensures ok { IfOk result (λ x. Decodes (of_constructed (lent S.stream)) (F.post op) (lent S.stream limited.old.source) mode x (lent S.stream limited.new.source)) }
+    ensures refused { IfErr result (λ e. RefusesDecode IsRefusal (of_constructed (lent S.stream)) (F.post op) (lent S.stream limited.old.source) mode e (lent S.stream limited.new.source)) }
+{
+    run_over(limited, mode, op)
+}
+
+impl<'a, S: Source + Drop> Constructed<'a, S> {
+    /// Decodes the values at the front of a source, in a mode.
+    ///
+    /// The closure is handed all of the source as values up to its end, and answers. Octets that
+    /// it leaves aren't looked at. The closure's refusal is answered as it is; content that it
+    /// leaves failed, where it dropped the refusal of a value, is refused too.
+    ///
+    /// The source is gone afterwards: [`decode_lent`](Self::decode_lent) decodes one that its
+    /// owner goes on with.
+    pub fn decode<I, F, T: Drop>(source: I, mode: Mode, op: F) -> Result<T, DecodeError<S::Error>>
+    where
+        I: IntoSource<Source = S>,
+        F: FnOnce(&mut Constructed<'_, S>) -> Result<T, DecodeError<S::Error>>,
+        requires callable { MayBeCalledOn (of_constructed S.stream) (IsAllOf (I.gives source) mode) (F.pre op) }
+        requires lawful { IsLawfulOn (of_constructed S.stream) (IsAllOf (I.gives source) mode) (F.post op) }
+        ensures ok { IfOk result (λ x. (left : Stream) × Decodes (of_constructed S.stream) (F.post op) (I.gives source) mode x left) }
+        ensures refused { IfErr result (λ e. (left : Stream) × RefusesDecode IsRefusal (of_constructed S.stream) (F.post op) (I.gives source) mode e left) }
+    {
+        let mut limited = LimitedSource::new(source.into_source());
+        run_over(&mut limited, mode, op)
+    }
+}
+
+impl<'a, S: Source> Constructed<'a, S> {
+    /// Decodes the values at the front of a borrowed source, in a mode.
+    ///
+    /// It is [`decode`](Self::decode) for a source that its owner goes on with: what is left of the
+    /// source is what the closure left, also where it refused.
+    pub fn decode_lent<F, T: Drop>(
+        source: &mut S,
+        mode: Mode,
+        op: F,
+    ) -> Result<T, DecodeError<S::Error>>
+    where
+        F: FnOnce(&mut Constructed<'_, &mut S>) -> Result<T, DecodeError<S::Error>>,
+        requires callable { MayBeCalledOn (of_constructed (lent S.stream)) (IsAllBehind (S.stream source.old) mode) (F.pre op) }
+        requires lawful { IsLawfulOn (of_constructed (lent S.stream)) (IsAllBehind (S.stream source.old) mode) (F.post op) }
+        ensures ok { IfOk result (λ x. (name : ℕ) × Decodes (of_constructed (lent S.stream)) (F.post op) (borrowed name (S.stream source.old)) mode x (borrowed name (S.stream source.new))) }
+        ensures refused { IfErr result (λ e. (name : ℕ) × RefusesDecode IsRefusal (of_constructed (lent S.stream)) (F.post op) (borrowed name (S.stream source.old)) mode e (borrowed name (S.stream source.new))) }
+        ensures passed { (passed : List ℕ) × ((S.stream source.old).rest ≡ passed ++ (S.stream source.new).rest) }
+        ensures faults { (S.stream source.old).faults ≤ (S.stream source.new).faults }
+        ensures kept { (S.stream source.new).kept ≡ (S.stream source.old).kept }
+    {
+        let mut limited = LimitedSource::new(&mut *source);
+        let result = run_lent(&mut limited, mode, op);
+        let _back = limited.unwrap();
+        result
+    }
+}
