@@ -16,3 +16,4 @@ pub mod Remaining
 pub mod Walking
 pub mod Walked
 pub mod Decoding
+pub mod Insides

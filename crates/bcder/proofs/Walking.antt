@@ -135,6 +135,10 @@ module _ (j k : Reading) (w : Within j) (one : PassesValue j k) (m : MovesBy j k
         closes = closes_back j.kind h.all h.after c;
       }
 
+  pub values_before_trees : (h : HasValues k) → (values_before h).trees ≡ one.tree ∷ₜ h.trees
+  unfolding values_before
+  values_before_trees h = refl
+
 -- ---- a loop over the values
 
 pub walks_refl : (c : Reading) → Walks c c
@@ -177,11 +181,18 @@ walks_refused Own e i j k o w (walking.RefusesWalk.source f) = walking.RefusesVa
 walks_refused Own e i j k o w (walking.RefusesWalk.nothing s n f a) = walking.RefusesValues.broken o (λ h. no_values j s n f (w.remain h)) a
 
 -- at the end no values are left
-none_left : (c : Reading) (after : List ℕ) → c.kind ≢ Octets → IsAtEnd c after → HasValues c
+pub none_left : (c : Reading) (after : List ℕ) → c.kind ≢ Octets → IsAtEnd c after → HasValues c
 none_left c after o (of_octets q e) = absurd (o q)
 none_left c after o (of_definite q e) = record { trees = no_trees; all = []; after = c.stream.rest; encode = refl; rest = refl; closes = subst (λ x. ClosesBefore x c.mode c.owed [] c.stream.rest) (sym q) e }
 none_left c after o (of_indefinite q m) = record { trees = no_trees; all = []; after = c.stream.rest; encode = refl; rest = refl; closes = subst (λ x. ClosesBefore x c.mode c.owed [] c.stream.rest) (sym q) (after, m) }
 none_left c after o (of_unbounded q e) = record { trees = no_trees; all = []; after = c.stream.rest; encode = refl; rest = refl; closes = subst (λ x. ClosesBefore x c.mode c.owed [] c.stream.rest) (sym q) e }
+
+pub none_left_trees : (c : Reading) (after : List ℕ) (o : c.kind ≢ Octets) (e : IsAtEnd c after) → (none_left c after o e).trees ≡ no_trees
+unfolding none_left
+none_left_trees c after o (of_octets q e) = absurd (o q)
+none_left_trees c after o (of_definite q e) = refl
+none_left_trees c after o (of_indefinite q m) = refl
+none_left_trees c after o (of_unbounded q e) = refl
 
 -- the loop stops at the end
 pub walks_all : (i j k : Reading) → i.kind ≢ Octets → Walks i j → EndsAt j k → i.state ≡ Open → HasValues i

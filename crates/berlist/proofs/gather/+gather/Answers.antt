@@ -1,62 +1,74 @@
-use Rattle.std.proofs.Common.{arith}
-use Rattle.bcder.specs.Identifier.{AreOctets}
-use Rattle.bcder.proofs.Fronts.{rest_shorter}
-use Rattle.bcder.proofs.Skip.{at_end_less}
-use Rattle.berlist.proofs.Gathering.{has_line, no_value, short_contents, primitive_value, definite_value, bad_value, marked_value, goes_on, ends_here, fails_here, if_shorter, when_some, when_none}
+use Rattle.std.proofs.Common.{rules, ◌≤◌, length, arith, string_bytes}
+use Rattle.bcder.specs.Cause.{IsRefusal}
+use Rattle.bcder.specs.Views.{of_constructed, of_content}
+use Rattle.bcder.proofs.Moving.{moves_refl, moves_trans}
+use Rattle.bcder.proofs.Names.{within_constructed, constructed_form}
+use Rattle.bcder.proofs.Refusing.{residual}
+use Rattle.bcder.proofs.Walking.{moves_shorter, value_shorter}
+use Rattle.berlist.specs.Gather.{IsWant, RefusesAll}
+use Rattle.berlist.proofs.Gathering.{lists_next, refuses_next, decides_want, heading_first, begins, goes_on, ends_here, refused_here, some_of, none_of}
 use Rattle.berlist.proofs.gather.+gather.Goals as goal
 
-pub value-returns-in_default-clause-read : goal.value-returns-in_default-clause-read
-value-returns-in_default-clause-read t c =
-    let o : AreOctets c.args.octets.now = λ i. omega (arith, c.type_inv.octets i) in
-    no_value _ _ o c.in_default.ensures.none
+pub next_lines-returns-clause-listed : goal.next_lines-returns-clause-listed
+next_lines-returns-clause-listed g t c = lists_next IsRefusal IsWant decides_want string_bytes (of_content g.S.Source.stream) c.args.depth _ (λ tag p r q x. search rules) _ _ c.take_opt_value.result c.take_opt_value.ensures.value
 
-pub value-returns-then-front-len-clause-read : goal.value-returns-then-front-len-clause-read
-value-returns-then-front-len-clause-read t c =
-    let o : AreOctets c.args.octets.now = λ i. omega (arith, c.type_inv.octets i) in
-    let h = has_line _ _ _ _ _ _ _ _ _ o c.in-Some.ensures.found c.in_ok-write.ensures.bytes in
-    short_contents _ _ _ _ _ _ _ _ _ h _ c.in-Some-len.is c.if-front-len.true
+pub next_lines-returns-clause-refused : goal.next_lines-returns-clause-refused
+next_lines-returns-clause-refused g t c = refuses_next IsRefusal IsWant decides_want string_bytes (of_content g.S.Source.stream) c.args.depth _ (λ tag p r q x. search rules) _ _ c.take_opt_value.result (within_constructed g.S.Source.stream g.met.S.Source.sound c.args.cons.now) c.take_opt_value.ensures.refused
 
-pub value-returns-then-not-front-clause-read : goal.value-returns-then-not-front-clause-read
-value-returns-then-not-front-clause-read t c =
-    let o : AreOctets c.args.octets.now = λ i. omega (arith, c.type_inv.octets i) in
-    let h = has_line _ _ _ _ _ _ _ _ _ o c.in-Some.ensures.found c.in_ok-write.ensures.bytes in
-    primitive_value _ _ _ _ _ _ _ _ _ h _ _ c.in-Some-len.is c.if-front-len.false c.if-not-front.true c.split_at.ensures.back
+pub next_lines-take_opt_value-returns-in-Primitive : goal.next_lines-take_opt_value-returns-in-Primitive
+next_lines-take_opt_value-returns-in-Primitive g t c = let e = c.primitive_line.ensures in rw c.in-Primitive.is (record { moves = e.moves; done = e.done; listed = e.listed; refused = e.refused; marked = e.marked })
 
-pub value-returns-then-not-front-clause-less : goal.value-returns-then-not-front-clause-less
-value-returns-then-not-front-clause-less t c = omega (arith, rest_shorter _ _ _ _ _ _ c.in-Some.ensures.found, c.split_at.ensures.back_len)
+pub next_lines-take_opt_value-returns-in-Constructed : goal.next_lines-take_opt_value-returns-in-Constructed
+next_lines-take_opt_value-returns-in-Constructed g t c = let e = c.constructed_lines.ensures in rw c.in-Constructed.is (record { moves = e.moves; done = e.done; listed = e.listed; refused = e.refused; marked = e.marked })
 
-pub value-returns-in-Some-2-clause-read : goal.value-returns-in-Some-2-clause-read
-value-returns-in-Some-2-clause-read t c =
-    let o : AreOctets c.args.octets.now = λ i. omega (arith, c.type_inv.octets i) in
-    let h = has_line _ _ _ _ _ _ _ _ _ o c.in-Some.ensures.found c.in_ok-write.ensures.bytes in
-    definite_value _ _ _ _ _ _ _ _ _ h _ _ _ _ _ c.in-Some-len.is c.if-front-len.false c.if-not-front.false c.split_at.ensures.front c.split_at.ensures.back (when_some _ _ _ _ c.in-Some-2.is c.in_ok-values-in-Some-len.ensures.read)
+pub constructed_lines-returns-in-Ok-clause-listed : goal.constructed_lines-returns-in-Ok-clause-listed
+constructed_lines-returns-in-Ok-clause-listed g t c = heading_first string_bytes (of_constructed g.S.Source.stream c.args.constructed.now) _ _ _ c.values_lines.result (constructed_form g.S.Source.stream c.args.constructed.now) c.in-Ok.ensures c.values_lines.ensures.listed
 
-pub value-returns-in-Some-2-clause-less : goal.value-returns-in-Some-2-clause-less
-value-returns-in-Some-2-clause-less t c = omega (arith, rest_shorter _ _ _ _ _ _ c.in-Some.ensures.found, c.split_at.ensures.back_len)
+pub constructed_lines-returns-in-Err-clause-moves : goal.constructed_lines-returns-in-Err-clause-moves
+constructed_lines-returns-in-Err-clause-moves g t c = moves_refl _
 
-pub value-returns-in-None-2-clause-read : goal.value-returns-in-None-2-clause-read
-value-returns-in-None-2-clause-read t c =
-    let o : AreOctets c.args.octets.now = λ i. omega (arith, c.type_inv.octets i) in
-    let h = has_line _ _ _ _ _ _ _ _ _ o c.in-Some.ensures.found c.in_ok-write.ensures.bytes in
-    bad_value _ _ _ _ _ _ _ _ _ h _ _ c.in-Some-len.is c.if-front-len.false c.if-not-front.false c.split_at.ensures.front (when_none _ _ _ c.in-None-2.is c.in_ok-values-in-Some-len.ensures.read)
+pub values_lines-loop-all-init : goal.values_lines-loop-all-init
+values_lines-loop-all-init g t c = begins _ _ _
 
-pub value-returns-in_ok-after-in-None-clause-read : goal.value-returns-in_ok-after-in-None-clause-read
-value-returns-in_ok-after-in-None-clause-read t c =
-    let o : AreOctets c.args.octets.now = λ i. omega (arith, c.type_inv.octets i) in
-    let h = has_line _ _ _ _ _ _ _ _ _ o c.in-Some.ensures.found c.in_ok-write.ensures.bytes in
-    marked_value _ _ _ _ _ _ _ _ _ h _ (λ r. r.now) _ c.in-None.is c.in_ok-after-in-None.ensures.read
+pub values_lines-next_lines-requires : goal.values_lines-next_lines-requires
+values_lines-next_lines-requires g t c κs within =
+    let h : length (of_constructed g.S.Source.stream c.loop-all.cons).stream.rest ≤ length (of_constructed g.S.Source.stream c.args.cons.now).stream.rest = moves_shorter _ _ c.loop-all.invariant.walks.moves in search rules
 
-pub value-returns-in_ok-after-in-None-clause-less : goal.value-returns-in_ok-after-in-None-clause-less
-value-returns-in_ok-after-in-None-clause-less t c = if_shorter _ (λ r. r.now) _ _ (rest_shorter _ _ _ _ _ _ c.in-Some.ensures.found) c.in_ok-after-in-None.ensures.less
+pub values_lines-returns-in_err-lines-clause-moves : goal.values_lines-returns-in_err-lines-clause-moves
+values_lines-returns-in_err-lines-clause-moves g t c = moves_trans _ _ _ c.loop-all.invariant.walks.moves c.in_err-lines.ensures.moves
 
-pub values-returns-in-Some-clause-read : goal.values-returns-in-Some-clause-read
-values-returns-in-Some-clause-read t c = ends_here _ _ _ _ _ _ _ _ c.loop-after.invariant c.in-Some.ensures
+pub values_lines-returns-in_err-lines-clause-refused : goal.values_lines-returns-in_err-lines-clause-refused
+values_lines-returns-in_err-lines-clause-refused g t c =
+    let i = of_constructed g.S.Source.stream c.args.cons.now in
+    let j = of_constructed g.S.Source.stream c.loop-all.cons in
+    let k = of_constructed g.S.Source.stream c.next_lines.new.cons in
+    residual c.from_residual.result _ (λ e. RefusesAll i e k) c.from_residual.ensures.1
+    (refused_here _ i j k (constructed_form g.S.Source.stream c.args.cons.now) c.loop-all.invariant.walks c.in_err-lines.ensures.refused)
 
-pub values-returns-in-Some-clause-less : goal.values-returns-in-Some-clause-less
-values-returns-in-Some-clause-less t c = omega (arith, c.loop-after.invariant.shorter, at_end_less _ _ _ _ c.loop-after.invariant.are_octets c.in-Some.ensures)
+pub values_lines-returns-in-Err-clause-moves : goal.values_lines-returns-in-Err-clause-moves
+values_lines-returns-in-Err-clause-moves g t c = moves_trans _ _ _ c.loop-all.invariant.walks.moves c.in_ok-lines.ensures.moves
 
-pub values-loop-after-preserved : goal.values-loop-after-preserved
-values-loop-after-preserved t c = goes_on _ _ _ _ _ _ _ _ _ c.loop-after.invariant c.in_default.ensures (when_some _ _ _ _ c.in-Some-2.is c.in_ok-after.ensures.read)
+pub values_lines-loop-all-smaller : goal.values_lines-loop-all-smaller
+values_lines-loop-all-smaller g t c =
+    let j = of_constructed g.S.Source.stream c.loop-all.cons in
+    let k = of_constructed g.S.Source.stream c.next_lines.new.cons in
+    let v = some_of _ _ _ c.in-Some.is c.in_ok-lines.ensures.listed in
+    let h = value_shorter j k v.passes in omega (arith, h)
 
-pub values-returns-in-None-clause-read : goal.values-returns-in-None-clause-read
-values-returns-in-None-clause-read t c = fails_here _ _ _ _ _ _ _ c.loop-after.invariant c.in_default.ensures (when_none _ _ _ c.in-None.is c.in_ok-after.ensures.read)
+pub values_lines-loop-all-preserved : goal.values_lines-loop-all-preserved
+values_lines-loop-all-preserved g t c =
+    let i = of_constructed g.S.Source.stream c.args.cons.now in
+    let j = of_constructed g.S.Source.stream c.loop-all.cons in
+    let k = of_constructed g.S.Source.stream c.next_lines.new.cons in
+    let v = some_of _ _ _ c.in-Some.is c.in_ok-lines.ensures.listed in
+    goes_on i j k _ _ _ _ _ (within_constructed g.S.Source.stream g.met.S.Source.sound c.loop-all.cons) c.loop-all.invariant c.in_ok-lines.ensures.moves c.in_ok-lines.ensures.mode c.in_ok-lines.ensures.marked v (search rules)
+
+pub values_lines-returns-in-None-clause-moves : goal.values_lines-returns-in-None-clause-moves
+values_lines-returns-in-None-clause-moves g t c = moves_trans _ _ _ c.loop-all.invariant.walks.moves c.in_ok-lines.ensures.moves
+
+pub values_lines-returns-in-None-clause-listed : goal.values_lines-returns-in-None-clause-listed
+values_lines-returns-in-None-clause-listed g t c s =
+    let i = of_constructed g.S.Source.stream c.args.cons.now in
+    let j = of_constructed g.S.Source.stream c.loop-all.cons in
+    let k = of_constructed g.S.Source.stream c.next_lines.new.cons in
+    ends_here i j k _ _ _ (constructed_form g.S.Source.stream c.args.cons.now) c.loop-all.invariant (none_of _ _ c.in-None.is c.in_ok-lines.ensures.end) s

@@ -1,12 +1,9 @@
-use Rattle.std.proofs.Common.{arith}
-use Rattle.bcder.specs.Identifier.{AreOctets}
-use Rattle.berlist.proofs.Gathering.{all_listed, no_list, when_some, when_none}
+use Rattle.std.proofs.Common.{rules, subst, refl, string_bytes}
+use Rattle.berlist.specs.Answers.{IsNoList}
+use Rattle.berlist.proofs.Gathering.{refuses_all, slices_faultless}
 use Rattle.berlist.proofs.gather.lines.Goals as goal
 
-pub returns-in-Some : goal.returns-in-Some
-returns-in-Some c =
-    let o : AreOctets c.args.octets.now = λ i. omega (arith, c.type_inv.octets i) in
-    all_listed _ _ _ _ _ o c.new-text.ensures.bytes (when_some _ _ _ _ c.in-Some.is c.in_ok-values.ensures.read)
-
-pub returns-in-None : goal.returns-in-None
-returns-in-None c = no_list _ _ (when_none _ _ _ c.in-None.is c.in_ok-values.ensures.read)
+pub returns-in_ok-into_content-in-Err : goal.returns-in_ok-into_content-in-Err
+returns-in_ok-into_content-in-Err c =
+    let o = c.in_ok-into_content-in-Err.ensures.ok in
+    subst (IsNoList c.args.mode) c.new.ensures.octets (refuses_all _ _ string_bytes (slices_faultless _ (λ x. refl)) (λ p r q x. search rules) _ c.args.mode c.in-Err.error _ (λ h. cc) c.in-Err.ensures.refused.1)
