@@ -27,10 +27,10 @@ use Rattle.bcder.proofs.Moving.{open_not_ended}
 use Rattle.bcder.proofs.Entering.{Within}
 use Rattle.bcder.proofs.Walking.{values_before, values_before_trees, moves_kind, walks_refused, none_left, none_left_trees, walks_refl, walks_value}
 use Rattle.bcder.proofs.Insides.{heading_of_octets, value_of_values}
-use Rattle.bcder.proofs.Walked.{WalksContent, walks_one, walks_marked, refuses_walk}
+use Rattle.bcder.proofs.Walked.{WalksContent, walks_one, refuses_walk}
 use Rattle.berlist.specs.Lines.{line, lines}
 use Rattle.berlist.specs.Gather.{ListsContent, of_octets, of_values, IsWant, ListsValue, ListsValues, RefusesNext, RefusesAll}
-use Rattle.berlist.specs.Answers.{IsNoList, lines_of}
+use Rattle.berlist.specs.Answers.{IsNoList}
 use Rattle.berlist.proofs.Listing.{lines-list}
 
 -- ---- a value that was taken
@@ -104,14 +104,6 @@ module _ {C T E : Type 0} (Own Want : E → Type 0) (decides : (e : E) → Want 
   lists_next c d (Ok None) h = tt
   lists_next c d (Ok (Some x)) h = lists_value c d x h
   lists_next c d (Err e) h = tt
-
-  takes_all : (c d : Reading) (r : Result (Option T) E) → IfOk r (λ o. IfSome o (λ x. TakesValue view post any c x d)) → IfOk r (λ o. IfSome o (λ x. TakesValue view Had any c x d))
-  takes_all c d (Ok None) h = tt
-  takes_all c d (Ok (Some x)) h = taken c d x h
-  takes_all c d (Err e) h = tt
-
-  pub marks_next : (c d : Reading) (r : Result (Option T) E) → IfOk r (λ o. IfSome o (λ x. TakesValue view post any c x d)) → IfOk r (λ o. IfNone o (d.marked ≡ c.marked)) → OnOk r (d.marked ≡ c.marked)
-  marks_next c d r h n = walks_marked Own view Had walks c d r (takes_all c d r h) n
 
   refuses_content : (t : Tag) (i j : Reading) (e : E) → (Want e → ⊥) → RefusesContent Own view post t i e j → RefusesContent Own view Had t i e j
   refuses_content t i j e n (by_closure a) = by_closure (answered t i j (Err e) n a)
@@ -204,9 +196,6 @@ small stream sound c = (limited_sound c.source.now.limit (stream c.source.now.so
 
 -- ---- what an answer says
 
-pub when_some : {X : Type 0} (P : Type 0) (Q : X → Type 0) (r : Option X) (x : X) → r ≡ Some x → MatchOption r P Q → Q x
-when_some P Q r x e m = subst (λ r. MatchOption r P Q) e m
-
 pub when_none : {X : Type 0} (P : Type 0) (Q : X → Type 0) (r : Option X) → r ≡ None → MatchOption r P Q → P
 when_none P Q r e m = subst (λ r. MatchOption r P Q) e m
 
@@ -223,13 +212,6 @@ none_of P o e h = subst (λ o. IfNone o P) e h
 -- ---- all octets
 
 -- values up to the end of unbounded content are all of its octets
-pub all_octets : (i : Reading) (mode : Mode) (w text : List ℕ) → i.kind ≡ UnboundedValues → i.mode ≡ mode → i.stream.rest ≡ w → ListsValues i 0 [] text → (ts : Trees) × AreEncodings mode ts w × (text ≡ lines_of ts)
-all_octets i mode w text k m r l =
-    let h = l.values in
-    let e : h.after ≡ [] = subst (λ z. ClosesBefore z i.mode i.owed h.all h.after) k h.closes in
-    let s : h.all ≡ w = sym (append-nil h.all) ∙ ap (λ z. h.all ++ z) (sym e) ∙ sym h.rest ∙ r in
-    (h.trees, subst (λ z. AreEncodings mode h.trees z) s (subst (λ z. AreEncodings z h.trees h.all) m h.encode), l.is)
-
 pub values_there : (i : Reading) (mode : Mode) (w : List ℕ) (ts : Trees) → i.kind ≡ UnboundedValues → i.mode ≡ mode → i.stream.rest ≡ w → AreEncodings mode ts w → HasValues i
 values_there i mode w ts k m r a = record {
   trees = ts;
@@ -262,14 +244,6 @@ done_not_failed c (inl h) f = cc
 done_not_failed c (inr h) f = let x = h.0 in cc
 
 module _ {C T S : Type 0} (view : C → Reading) (post : MutBor C → Result T (DecodeError S) → MutBor C → Type 0) (bytes : T → List ℕ) (faultless : (c : C) → (view c).stream.faults ≡ 0) (k : (p : MutBor C) (r : Result T (DecodeError S)) (q : MutBor C) → post p r q → ListsAll bytes (view p.now) r (view q.now)) (s : Stream) (mode : Mode) where
-  pub lists_all : (x : T) (s' : Stream) → Decodes view post s mode x s' → (ts : Trees) × AreEncodings mode ts s.rest × (bytes x ≡ lines_of ts)
-  lists_all x s' d =
-      let a = d.answered in
-      let o = d.hands.over in
-      let g = k a.handed (Ok x) a.left a.called in
-      let l = subst (λ z. z.state ≡ Open → ListsValues z 0 [] (bytes x)) a.handed_is g.listed o.state in
-      all_octets d.handed mode s.rest (bytes x) o.kind o.mode (ap (λ (z : Stream). z.rest) o.stream) l
-
   no_values : (e : DecodeError S) (i j : Reading) → (IsWant e → ⊥) → IsAllOf s mode i → j.stream.faults ≡ 0 → RefusesAll i e j → IsNoList mode s.rest
   no_values e i j n o f (inl m) ts a = n m
   no_values e i j n o f (inr (RefusesValues.failed x y)) ts a = let z = o.state in cc
