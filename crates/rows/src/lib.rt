@@ -6,9 +6,11 @@
 #![tactic(auto)]
 
 pub mod borrows;
-pub mod decoding;
 #[cfg(test)]
 mod content;
+#[cfg(test)]
+mod decodes;
+pub mod decoding;
 #[cfg(test)]
 mod identifiers;
 pub mod sip;
