@@ -53,6 +53,9 @@ enum Call {
     /// `take_opt_value` with a closure that leaves the content as it is.
     Leaving,
 
+    /// `walk`, which is no call of content but passes over its next value.
+    Walk,
+
     /// `set_mode` to the Basic Encoding Rules.
     SetBer,
 
@@ -185,9 +188,9 @@ fn take_list<S: Source>(cons: &mut Constructed<'_, S>, call: Call) -> Answer
     }
 }
 
-/// A call whose closure does not take the value, or `set_mode`.
+/// `walk`, `set_mode`, or a call whose closure does not answer that it took the value.
 #[tactic(auto, using(bcder::proofs::Moving::moves_refl, bcder::proofs::Moving::moves_trans))]
-fn misuse<S: Source>(cons: &mut Constructed<'_, S>, call: Call) -> Answer
+fn do_other<S: Source>(cons: &mut Constructed<'_, S>, call: Call) -> Answer
     ensures { Moves (of_constructed S.stream cons.old) (of_constructed S.stream cons.new) }
 {
     match call {
@@ -196,6 +199,7 @@ fn misuse<S: Source>(cons: &mut Constructed<'_, S>, call: Call) -> Answer
             Err::<(), _>(content.content_err(ContentError::from_static("not this one")))
         })),
         Call::Leaving => of_option(cons.take_opt_value(|_, _| Ok(()))),
+        Call::Walk => of_option(walk(cons)),
         _ => {
             cons.set_mode(Mode::Ber);
             Taken
@@ -216,7 +220,9 @@ fn perform<S: Source>(cons: &mut Constructed<'_, S>, call: Call, tag: Tag) -> An
         Call::Constructed | Call::OptConstructed | Call::ConstructedIf | Call::OptConstructedIf =>
             take_constructed(cons, call, tag),
         Call::Sequence | Call::OptSequence | Call::Set | Call::OptSet => take_list(cons, call),
-        Call::Refusing | Call::Leaving | Call::SetBer | Call::Enter => misuse(cons, call),
+        Call::Refusing | Call::Leaving | Call::Walk | Call::SetBer | Call::Enter => do_other(
+            cons, call,
+        ),
     }
 }
 
@@ -659,5 +665,177 @@ fn modes_are_handed_down(rt: HostRuntime) -> Result<(), Fail> {
             ],
             left: None,
         }],
+    )
+}
+
+/// `walk` passes over the encoding of a value in the rules of the content, and refuses all others.
+#[test]
+fn walk_passes_encodings(rt: HostRuntime) -> Result<(), Fail> {
+    check_rows(
+        &rt,
+        rt.alloc(),
+        &[
+            Row {
+                octets: &[0x30, 0x80, 0x02, 0x01, 0x05, 0x00, 0x00, 0xAA],
+                modes: &[Mode::Ber, Mode::Cer],
+                inside: &[],
+                outside: &[(Call::Walk, Tag::END_OF_VALUE, Taken)],
+                left: Some(1),
+            },
+            Row {
+                octets: &[0x30, 0x80, 0x02, 0x01, 0x05, 0x00, 0x00, 0xAA],
+                modes: &[Mode::Der],
+                inside: &[],
+                outside: &[(Call::Walk, Tag::END_OF_VALUE, Refused)],
+                left: None,
+            },
+            Row {
+                octets: &[0x30, 0x03, 0x02, 0x01, 0x05],
+                modes: &[Mode::Ber, Mode::Der],
+                inside: &[],
+                outside: &[(Call::Walk, Tag::END_OF_VALUE, Taken)],
+                left: Some(0),
+            },
+            Row {
+                octets: &[0x30, 0x03, 0x02, 0x01, 0x05],
+                modes: &[Mode::Cer],
+                inside: &[],
+                outside: &[(Call::Walk, Tag::END_OF_VALUE, Refused)],
+                left: None,
+            },
+            Row {
+                octets: &[0x30, 0x81, 0x03, 0x02, 0x01, 0x05],
+                modes: &[Mode::Ber],
+                inside: &[],
+                outside: &[(Call::Walk, Tag::END_OF_VALUE, Taken)],
+                left: Some(0),
+            },
+            Row {
+                octets: &[0x30, 0x81, 0x03, 0x02, 0x01, 0x05],
+                modes: &[Mode::Cer, Mode::Der],
+                inside: &[],
+                outside: &[(Call::Walk, Tag::END_OF_VALUE, Refused)],
+                left: None,
+            },
+            Row {
+                octets: &[0x30, 0x80, 0x00, 0x81, 0x00, 0x30],
+                modes: &[Mode::Ber],
+                inside: &[],
+                outside: &[(Call::Walk, Tag::END_OF_VALUE, Taken)],
+                left: Some(1),
+            },
+            Row {
+                octets: &[0x30, 0x80, 0x00, 0x81, 0x00, 0x30],
+                modes: &[Mode::Cer, Mode::Der],
+                inside: &[],
+                outside: &[(Call::Walk, Tag::END_OF_VALUE, Refused)],
+                left: None,
+            },
+            Row {
+                octets: &[0x20, 0x00],
+                modes: &ALL,
+                inside: &[],
+                outside: &[(Call::Walk, Tag::END_OF_VALUE, Refused)],
+                left: None,
+            },
+            Row {
+                octets: &[0x30, 0x02, 0x20, 0x00],
+                modes: &ALL,
+                inside: &[],
+                outside: &[(Call::Walk, Tag::END_OF_VALUE, Refused)],
+                left: None,
+            },
+            Row {
+                octets: &[0x30, 0x04, 0x30, 0x80, 0x00, 0x00],
+                modes: &[Mode::Ber],
+                inside: &[],
+                outside: &[(Call::Walk, Tag::END_OF_VALUE, Taken)],
+                left: Some(0),
+            },
+            Row {
+                octets: &[0x30, 0x04, 0x30, 0x80, 0x00, 0x00],
+                modes: &[Mode::Cer, Mode::Der],
+                inside: &[],
+                outside: &[(Call::Walk, Tag::END_OF_VALUE, Refused)],
+                left: None,
+            },
+            Row {
+                octets: &[0x30, 0x03, 0x30, 0x80, 0x00, 0x00],
+                modes: &ALL,
+                inside: &[],
+                outside: &[(Call::Walk, Tag::END_OF_VALUE, Refused)],
+                left: None,
+            },
+            Row {
+                octets: &[0x1F, 0x1E, 0x00],
+                modes: &ALL,
+                inside: &[],
+                outside: &[(Call::Walk, Tag::END_OF_VALUE, Refused)],
+                left: None,
+            },
+            Row {
+                octets: &[0x1F, 0x80, 0x1F, 0x00],
+                modes: &ALL,
+                inside: &[],
+                outside: &[(Call::Walk, Tag::END_OF_VALUE, Refused)],
+                left: None,
+            },
+            Row {
+                octets: &[0x1F, 0x1F, 0x00],
+                modes: &ALL,
+                inside: &[],
+                outside: &[(Call::Walk, Tag::END_OF_VALUE, Taken)],
+                left: Some(0),
+            },
+            Row {
+                octets: &[0x30, 0x80, 0x02, 0x01, 0x05, 0x00, 0x82, 0x00, 0x00],
+                modes: &[Mode::Ber],
+                inside: &[],
+                outside: &[(Call::Walk, Tag::END_OF_VALUE, Taken)],
+                left: Some(0),
+            },
+            Row {
+                octets: &[0x30, 0x80, 0x02, 0x01, 0x05, 0x00, 0x82, 0x00, 0x00],
+                modes: &[Mode::Cer, Mode::Der],
+                inside: &[],
+                outside: &[(Call::Walk, Tag::END_OF_VALUE, Refused)],
+                left: None,
+            },
+            Row {
+                octets: &[0x04, 0x84, 0x00, 0x00, 0x00, 0x01, 0x41],
+                modes: &[Mode::Ber],
+                inside: &[],
+                outside: &[(Call::Walk, Tag::END_OF_VALUE, Taken)],
+                left: Some(0),
+            },
+            Row {
+                octets: &[0x04, 0x84, 0x00, 0x00, 0x00, 0x01, 0x41],
+                modes: &[Mode::Cer, Mode::Der],
+                inside: &[],
+                outside: &[(Call::Walk, Tag::END_OF_VALUE, Refused)],
+                left: None,
+            },
+            Row {
+                octets: &[0x04, 0x85, 0x00, 0x00, 0x00, 0x00, 0x01, 0x41],
+                modes: &ALL,
+                inside: &[],
+                outside: &[(Call::Walk, Tag::END_OF_VALUE, Refused)],
+                left: None,
+            },
+            Row {
+                octets: &[0x04, 0x80, 0x00, 0x00],
+                modes: &ALL,
+                inside: &[],
+                outside: &[(Call::Walk, Tag::END_OF_VALUE, Refused)],
+                left: None,
+            },
+            Row {
+                octets: &[],
+                modes: &ALL,
+                inside: &[],
+                outside: &[(Call::Walk, Tag::END_OF_VALUE, Absent)],
+                left: Some(0),
+            },
+        ],
     )
 }

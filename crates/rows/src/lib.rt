@@ -10,6 +10,9 @@ pub mod borrows;
 mod content;
 pub mod decoding;
 #[cfg(test)]
+mod decodes;
+pub mod decoding;
+#[cfg(test)]
 mod identifiers;
 pub mod sip;
 #[cfg(test)]
