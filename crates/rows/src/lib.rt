@@ -8,7 +8,6 @@
 pub mod borrows;
 #[cfg(test)]
 mod content;
-pub mod decoding;
 #[cfg(test)]
 mod decodes;
 pub mod decoding;
