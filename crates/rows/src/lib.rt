@@ -9,6 +9,8 @@ pub mod borrows;
 #[cfg(test)]
 mod content;
 #[cfg(test)]
+mod contents;
+#[cfg(test)]
 mod decodes;
 pub mod decoding;
 #[cfg(test)]
