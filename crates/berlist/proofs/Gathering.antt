@@ -9,10 +9,10 @@ use Rattle.bcder.specs.Tree.{Tree, Trees, no_trees, ◌∷ₜ◌}
 use Rattle.bcder.specs.Encoding.{AreEncodings}
 use Rattle.bcder.specs.Preorder.{preorder, preorders}
 use Rattle.bcder.specs.Content.{Reading, Octets, UnboundedValues, any, HasHeader, Moves, IsDone, EndsAt}
-use Rattle.bcder.specs.Calls.{Hands, Answered, TakesValue, RefusesContent, by_closure, unfinished, RefusesFront, RefusesValue}
+use Rattle.bcder.specs.Calls.{Hands, Answered, TakesValue, RefusesContent, by_closure, unfinished, RefusesValue}
 use Rattle.bcder.specs.Calls as calls
 use Rattle.bcder.specs.Walking.{PassesValue, ClosesBefore, HasValues, RefusesWalk, RefusesOctets, RefusesValues, Walks}
-use Rattle.bcder.specs.Decoding.{IsAllOf, RefusesOn, Decodes, RefusesDecode}
+use Rattle.bcder.specs.Decoding.{IsAllOf, RefusesOn, RefusesDecode}
 use Rattle.bcder.specs.Decoding as decoding
 use Rattle.bcder.specs.declared.decode.content.Primitive.{Primitive}
 use Rattle.bcder.specs.declared.decode.source.slice.SliceSource.{SliceSource}
