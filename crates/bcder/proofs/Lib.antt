@@ -15,5 +15,6 @@ pub mod Forwarding
 pub mod Remaining
 pub mod Walking
 pub mod Walked
+pub mod Stopping
 pub mod Decoding
 pub mod Insides

@@ -6,6 +6,8 @@ use Rattle.bcder.specs.declared.decode.error.ContentError.{ContentError}
 use Rattle.bcder.specs.declared.decode.error.ContentError.TheVariants.{Static, Owned, ExpectedTag, ExpectedInteger, Boxed}
 use Rattle.bcder.specs.declared.decode.error.DecodeError.{DecodeError}
 use Rattle.bcder.specs.declared.decode.error.DecodeError.TheVariants.{Source, Content, NoMemory}
+use Rattle.bcder.specs.declared.decode.content.stop.Stop.{Stop}
+use Rattle.bcder.specs.declared.decode.content.stop.Stop.TheVariants as stop
 
 -- why decoding failed, without the source's own error and the position; E is the type of content errors
 pub data Cause (E : Type 0) : Type 0 where
@@ -73,3 +75,8 @@ decode_text source_text error_text NoMemory = Some (codes "out of memory")
 -- content was refused: neither the source failed nor memory was wanted
 abbrev pub IsRefusal : {S : Type 0} → DecodeError S → Type 0
 IsRefusal e = MatchCause (cause_of e) ⊥ (Unit {0}) ⊥
+
+-- the same of a step that stopped
+abbrev pub IsOwn : {S : Type 0} → Stop S → Type 0
+IsOwn (stop.Refused why) = Unit {0}
+IsOwn (stop.Source e) = ⊥

@@ -1,6 +1,6 @@
 //! Taking the next value.
 ghost use Rattle.std.specs.Prelude.{◌≡◌, ◌≢◌, ℕ, ◌+◌, ◌≤◌, ◌⊎◌, ◌↔◌, ◌||◌, false, true, Bool, List, [], length, take, IsTrue, Option, Some, None, IfOk, IfErr, IfSome, IfNone, OnOk, OnErr};
-ghost use Rattle.bcder.specs.Cause.{IsRefusal};
+ghost use Rattle.bcder.specs.Cause.{IsRefusal, IsOwn};
 ghost use Rattle.bcder.specs.Stream.{Grew};
 ghost use Rattle.bcder.specs.Identifier.{AreOctets, end_of_contents};
 ghost use Rattle.bcder.specs.Reading.{Header as HeaderRead};
@@ -11,6 +11,7 @@ ghost use Rattle.bcder.specs.Content.{Octets, values};
 ghost use Rattle.bcder.specs.Calls.{MayBeCalled, IsLawful, MayBeCalledAt, IsLawfulAt, IsOver, AnswersDone, RefusesContent, RefusesEnd, RanOver, IsInside, TakesContent, TakesValue, RefusesValue, popped};
 ghost use Rattle.bcder.specs.Views.{of_constructed, of_primitive, of_content, limited_stream, content_name, content_source, content_mark};
 
+use super::stop::{Stop, Why};
 use super::{Constructed, Content, Kind, Primitive, State};
 use crate::decode::error::{ContentError, DecodeError};
 use crate::decode::header::{Header, Peeked, PeekedIf, peek, peek_if};
@@ -62,6 +63,7 @@ fn is_end(tag: Tag, constructed: bool, len: Length) -> bool
 
 impl<'a, S: Source> Constructed<'a, S> {
     /// A refusal at the present position.
+    #[cold]
     pub(super) fn refusal(&self, text: &'static str) -> DecodeError<S::Error>
         ensures { IsRefusal result }
     {
@@ -123,13 +125,13 @@ impl<'a, S: Source> Constructed<'a, S> {
         &mut self,
         header: Header,
         size: usize,
-    ) -> Result<Option<Header>, DecodeError<S::Error>>
+    ) -> Result<Option<Header>, Stop<S::Error>>
         requires read { Peeks self.old.mode (Peeked.Front header size) (limited_stream S.stream self.old.source.now) }
         requires usable { self.old.state ≡ State.Open }
         ensures moves { Moves (of_constructed S.stream self.old) (of_constructed S.stream self.new) }
         ensures entered { IfOk result (λ o. IfSome o (λ h. (h ≡ header) × Enters (of_constructed S.stream self.old) (header_of header) (of_constructed S.stream self.new))) }
         ensures ended { IfOk result (λ o. IfNone o ((header.tag ≡ end_of_contents) × TakesMarker (of_constructed S.stream self.old) (of_constructed S.stream self.new))) }
-        ensures refused { IfErr result (λ e. IsRefusal e × NoFront (of_constructed S.stream self.old)) }
+        ensures refused { IfErr result (λ e. IsOwn e × NoFront (of_constructed S.stream self.old)) }
         ensures failed { OnErr result (self.new.state ≡ State.Failed) }
         ensures mode { self.new.mode ≡ self.old.mode }
         ensures marked { self.new.marked ≡ self.old.marked }
@@ -145,7 +147,7 @@ impl<'a, S: Source> Constructed<'a, S> {
                 return Ok(None);
             }
         }
-        Err(self.refusal("malformed value header"))
+        Err(Stop::Refused(Why::ValueHeader))
     }
 
     /// Whether the promised octets are used up.
@@ -167,17 +169,17 @@ impl<'a, S: Source> Constructed<'a, S> {
     /// has failed until the value is taken.
     #[tactic(auto, using(crate::proofs::Moving::moves_refl), unfolding(crate::specs::Views::of_constructed))]
     #[inline(always)]
-    fn take_header(&mut self) -> Result<Option<Header>, DecodeError<S::Error>>
+    pub(super) fn next_header(&mut self) -> Result<Option<Header>, Stop<S::Error>>
         ensures moves { Moves (of_constructed S.stream self.old) (of_constructed S.stream self.new) }
         ensures entered { IfOk result (λ o. IfSome o (λ h. Enters (of_constructed S.stream self.old) (header_of h) (of_constructed S.stream self.new))) }
         ensures end { IfOk result (λ o. IfNone o (EndsAt (of_constructed S.stream self.old) (of_constructed S.stream self.new) × IsDone (of_constructed S.stream self.new))) }
-        ensures refused { IfErr result (λ e. RefusesHeader IsRefusal any (of_constructed S.stream self.old) e (of_constructed S.stream self.new)) }
+        ensures refused { IfErr result (λ e. RefusesHeader IsOwn any (of_constructed S.stream self.old) e (of_constructed S.stream self.new)) }
         ensures failed { OnErr result (self.new.state ≡ State.Failed) }
         ensures mode { self.new.mode ≡ self.old.mode }
         ensures marked { self.new.marked ≡ self.old.marked }
     {
         match self.state {
-            State::Failed => return Err(self.refusal("an earlier value was refused")),
+            State::Failed => return Err(Stop::Refused(Why::Earlier)),
             State::Ended => return Ok(None),
             State::Open => {}
         }
@@ -191,33 +193,50 @@ impl<'a, S: Source> Constructed<'a, S> {
                     return Ok(None);
                 }
                 self.state = State::Failed;
-                Err(self.refusal("unexpected end of data"))
+                Err(Stop::Refused(Why::Short))
             }
             Ok(Peeked::Refused) => {
                 self.state = State::Failed;
-                Err(self.refusal("malformed header"))
+                Err(Stop::Refused(Why::Header))
             }
             Err(error) => {
                 self.state = State::Failed;
-                Err(DecodeError::Source(error))
+                Err(Stop::Source(error))
             }
+        }
+    }
+
+    /// The same, with an error in the place of a stop.
+    #[inline(always)]
+    fn take_header(&mut self) -> Result<Option<Header>, DecodeError<S::Error>>
+        ensures moves { Moves (of_constructed S.stream self.old) (of_constructed S.stream self.new) }
+        ensures entered { IfOk result (λ o. IfSome o (λ h. Enters (of_constructed S.stream self.old) (header_of h) (of_constructed S.stream self.new))) }
+        ensures end { IfOk result (λ o. IfNone o (EndsAt (of_constructed S.stream self.old) (of_constructed S.stream self.new) × IsDone (of_constructed S.stream self.new))) }
+        ensures refused { IfErr result (λ e. RefusesHeader IsRefusal any (of_constructed S.stream self.old) e (of_constructed S.stream self.new)) }
+        ensures failed { OnErr result (self.new.state ≡ State.Failed) }
+        ensures mode { self.new.mode ≡ self.old.mode }
+        ensures marked { self.new.marked ≡ self.old.marked }
+    {
+        match self.next_header() {
+            Ok(next) => Ok(next),
+            Err(stop) => Err(self.stopped(stop)),
         }
     }
 
     /// Passes over the next header if it has this tag. The content has then failed until the value is
     /// taken.
     #[tactic(auto, using(crate::proofs::Moving::moves_refl), unfolding(crate::specs::Views::of_constructed))]
-    fn take_header_if(&mut self, tag: Tag) -> Result<Option<Header>, DecodeError<S::Error>>
+    fn next_header_if(&mut self, tag: Tag) -> Result<Option<Header>, Stop<S::Error>>
         ensures moves { Moves (of_constructed S.stream self.old) (of_constructed S.stream self.new) }
         ensures entered { IfOk result (λ o. IfSome o (λ h. (h.tag ≡ tag) × Enters (of_constructed S.stream self.old) (header_of h) (of_constructed S.stream self.new))) }
         ensures absent { IfOk result (λ o. IfNone o (IsAbsent (tagged tag) (of_constructed S.stream self.old) (of_constructed S.stream self.new).stream.rest × IsLeft tag (of_constructed S.stream self.old) (of_constructed S.stream self.new))) }
-        ensures refused { IfErr result (λ e. RefusesHeader IsRefusal (tagged tag) (of_constructed S.stream self.old) e (of_constructed S.stream self.new)) }
+        ensures refused { IfErr result (λ e. RefusesHeader IsOwn (tagged tag) (of_constructed S.stream self.old) e (of_constructed S.stream self.new)) }
         ensures failed { OnErr result (self.new.state ≡ State.Failed) }
         ensures mode { self.new.mode ≡ self.old.mode }
         ensures marked { self.new.marked ≡ self.old.marked }
     {
         match self.state {
-            State::Failed => return Err(self.refusal("an earlier value was refused")),
+            State::Failed => return Err(Stop::Refused(Why::Earlier)),
             State::Ended => return Ok(None),
             State::Open => {}
         }
@@ -230,12 +249,28 @@ impl<'a, S: Source> Constructed<'a, S> {
             Ok(PeekedIf::Other) => Ok(None),
             Ok(PeekedIf::Refused) => {
                 self.state = State::Failed;
-                Err(self.refusal("malformed header"))
+                Err(Stop::Refused(Why::Header))
             }
             Err(error) => {
                 self.state = State::Failed;
-                Err(DecodeError::Source(error))
+                Err(Stop::Source(error))
             }
+        }
+    }
+
+    /// The same, with an error in the place of a stop.
+    fn take_header_if(&mut self, tag: Tag) -> Result<Option<Header>, DecodeError<S::Error>>
+        ensures moves { Moves (of_constructed S.stream self.old) (of_constructed S.stream self.new) }
+        ensures entered { IfOk result (λ o. IfSome o (λ h. (h.tag ≡ tag) × Enters (of_constructed S.stream self.old) (header_of h) (of_constructed S.stream self.new))) }
+        ensures absent { IfOk result (λ o. IfNone o (IsAbsent (tagged tag) (of_constructed S.stream self.old) (of_constructed S.stream self.new).stream.rest × IsLeft tag (of_constructed S.stream self.old) (of_constructed S.stream self.new))) }
+        ensures refused { IfErr result (λ e. RefusesHeader IsRefusal (tagged tag) (of_constructed S.stream self.old) e (of_constructed S.stream self.new)) }
+        ensures failed { OnErr result (self.new.state ≡ State.Failed) }
+        ensures mode { self.new.mode ≡ self.old.mode }
+        ensures marked { self.new.marked ≡ self.old.marked }
+    {
+        match self.next_header_if(tag) {
+            Ok(next) => Ok(next),
+            Err(stop) => Err(self.stopped(stop)),
         }
     }
 }
@@ -289,6 +324,7 @@ impl<'a, S: Source> Content<'a, S> {
 
 impl<'a, S: Source> Primitive<'a, S> {
     /// A refusal at the present position.
+    #[cold]
     pub(super) fn refusal(&self, text: &'static str) -> DecodeError<S::Error>
         ensures { IsRefusal result }
     {

@@ -41,7 +41,7 @@ returns-clause-moves g c = moves_failed _ _ _ c.pass.ensures.advances (λ x. c.p
 pub returns-clause-refused : goal.returns-clause-refused
 unfolding of_constructed
 returns-clause-refused g c = (
-  c.refusal.ensures,
+  tt,
   no_front (of_constructed g.S.Source.stream c.args.self.now) _ c.args.size (header c.args.header) c.pass.ensures.advances c.pass.ensures.octets c.pass.ensures.within c.requires.read.1 c.requires.usable
       (λ a. c.accepts.ensures.no c.if-accepts.false (unaccepted _ _ _ _ _ c.pass.ensures.mode c.limit-owed.ensures a))
       (λ k e. elim c.match-self.branch [
