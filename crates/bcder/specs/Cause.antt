@@ -71,5 +71,8 @@ decode_text source_text error_text (Content error pos) = error_text error ++? So
 decode_text source_text error_text NoMemory = Some (codes "out of memory")
 
 -- content was refused: neither the source failed nor memory was wanted
+abbrev pub IsOfContent : {E : Type 0} → Cause E → Type 0
+IsOfContent c = MatchCause c ⊥ (Unit {0}) ⊥
+
 abbrev pub IsRefusal : {S : Type 0} → DecodeError S → Type 0
-IsRefusal e = MatchCause (cause_of e) ⊥ (Unit {0}) ⊥
+IsRefusal e = IsOfContent (cause_of e)

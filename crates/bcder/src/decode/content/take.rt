@@ -1,6 +1,6 @@
 //! Taking the next value.
 ghost use Rattle.std.specs.Prelude.{◌≡◌, ◌≢◌, ℕ, ◌+◌, ◌≤◌, ◌⊎◌, ◌↔◌, ◌||◌, false, true, Bool, List, [], length, take, IsTrue, Option, Some, None, IfOk, IfErr, IfSome, IfNone, OnOk, OnErr};
-ghost use Rattle.bcder.specs.Cause.{IsRefusal};
+ghost use Rattle.bcder.specs.Cause.{cause_of, IsRefusal};
 ghost use Rattle.bcder.specs.Stream.{Grew};
 ghost use Rattle.bcder.specs.Identifier.{AreOctets, end_of_contents};
 ghost use Rattle.bcder.specs.Reading.{Header as HeaderRead};
@@ -171,7 +171,7 @@ impl<'a, S: Source> Constructed<'a, S> {
         ensures moves { Moves (of_constructed S.stream self.old) (of_constructed S.stream self.new) }
         ensures entered { IfOk result (λ o. IfSome o (λ h. Enters (of_constructed S.stream self.old) (header_of h) (of_constructed S.stream self.new))) }
         ensures end { IfOk result (λ o. IfNone o (EndsAt (of_constructed S.stream self.old) (of_constructed S.stream self.new) × IsDone (of_constructed S.stream self.new))) }
-        ensures refused { IfErr result (λ e. RefusesHeader IsRefusal any (of_constructed S.stream self.old) e (of_constructed S.stream self.new)) }
+        ensures refused { IfErr result (λ e. RefusesHeader cause_of any (of_constructed S.stream self.old) e (of_constructed S.stream self.new)) }
         ensures failed { OnErr result (self.new.state ≡ State.Failed) }
         ensures mode { self.new.mode ≡ self.old.mode }
         ensures marked { self.new.marked ≡ self.old.marked }
@@ -211,7 +211,7 @@ impl<'a, S: Source> Constructed<'a, S> {
         ensures moves { Moves (of_constructed S.stream self.old) (of_constructed S.stream self.new) }
         ensures entered { IfOk result (λ o. IfSome o (λ h. (h.tag ≡ tag) × Enters (of_constructed S.stream self.old) (header_of h) (of_constructed S.stream self.new))) }
         ensures absent { IfOk result (λ o. IfNone o (IsAbsent (tagged tag) (of_constructed S.stream self.old) (of_constructed S.stream self.new).stream.rest × IsLeft tag (of_constructed S.stream self.old) (of_constructed S.stream self.new))) }
-        ensures refused { IfErr result (λ e. RefusesHeader IsRefusal (tagged tag) (of_constructed S.stream self.old) e (of_constructed S.stream self.new)) }
+        ensures refused { IfErr result (λ e. RefusesHeader cause_of (tagged tag) (of_constructed S.stream self.old) e (of_constructed S.stream self.new)) }
         ensures failed { OnErr result (self.new.state ≡ State.Failed) }
         ensures mode { self.new.mode ≡ self.old.mode }
         ensures marked { self.new.marked ≡ self.old.marked }
@@ -249,7 +249,7 @@ impl<'a, S: Source> Content<'a, S> {
         ensures marked { content_mark self.new ≡ content_mark self.old }
         ensures done { OnOk result (IsDone (of_content S.stream self.new)) }
         ensures end { OnOk result (EndsAt (of_content S.stream self.old) (of_content S.stream self.new)) }
-        ensures refused { IfErr result (λ e. RefusesEnd IsRefusal (of_content S.stream self.old) e (of_content S.stream self.new)) }
+        ensures refused { IfErr result (λ e. RefusesEnd cause_of (of_content S.stream self.old) e (of_content S.stream self.new)) }
     {
         match self {
             Content::Primitive(primitive) => match primitive.source.limit() {
@@ -311,7 +311,7 @@ where
     ensures moves { Moves (of_content S.stream content.old) (of_content S.stream content.new) }
     ensures name { content_name content.new ≡ content_name content.old }
     ensures ok { IfOk result (λ x. AnswersDone (of_content S.stream) (F.post op) tag (of_content S.stream content.old) (Ok x) (of_content S.stream content.new)) }
-    ensures refused { IfErr result (λ e. RefusesContent IsRefusal (of_content S.stream) (F.post op) tag (of_content S.stream content.old) e (of_content S.stream content.new)) }
+    ensures refused { IfErr result (λ e. RefusesContent cause_of (of_content S.stream) (F.post op) tag (of_content S.stream content.old) e (of_content S.stream content.new)) }
 {
     match op(tag, content) {
         Ok(value) => match content.finish() {
@@ -334,7 +334,7 @@ where
     F: FnOnce(Tag, &mut Content<'_, S>) -> Result<T, DecodeError<S::Error>>,
     requires callable { MayBeCalledAt (of_content S.stream) (IsOver (limited_stream S.stream source.old) source.old.limit Octets mode) tag (F.pre op) }
     requires lawful { IsLawfulAt (of_content S.stream) (IsOver (limited_stream S.stream source.old) source.old.limit Octets mode) tag (F.post op) }
-    ensures { RanOver IsRefusal (of_content S.stream) (F.post op) (limited_stream S.stream source.old) source.old.limit Octets mode tag result.0 result.1 (limited_stream S.stream source.new) source.new.limit }
+    ensures { RanOver cause_of (of_content S.stream) (F.post op) (limited_stream S.stream source.old) source.old.limit Octets mode tag result.0 result.1 (limited_stream S.stream source.new) source.new.limit }
 {
     let start = source.pos();
     let mut content = Content::Primitive(Primitive {
@@ -362,7 +362,7 @@ where
     F: FnOnce(Tag, &mut Content<'_, S>) -> Result<T, DecodeError<S::Error>>,
     requires callable { MayBeCalledAt (of_content S.stream) (IsOver (limited_stream S.stream source.old) source.old.limit (values kind) mode) tag (F.pre op) }
     requires lawful { IsLawfulAt (of_content S.stream) (IsOver (limited_stream S.stream source.old) source.old.limit (values kind) mode) tag (F.post op) }
-    ensures { RanOver IsRefusal (of_content S.stream) (F.post op) (limited_stream S.stream source.old) source.old.limit (values kind) mode tag result.0 result.1 (limited_stream S.stream source.new) source.new.limit }
+    ensures { RanOver cause_of (of_content S.stream) (F.post op) (limited_stream S.stream source.old) source.old.limit (values kind) mode tag result.0 result.1 (limited_stream S.stream source.new) source.new.limit }
 {
     let start = source.pos();
     let mut content = Content::Constructed(Constructed {
@@ -426,7 +426,7 @@ impl<'a, S: Source> Constructed<'a, S> {
         requires callable { MayBeCalledAt (of_content S.stream) (IsInside (of_constructed S.stream self.old) 0) header.tag (F.pre op) }
         requires lawful { IsLawfulAt (of_content S.stream) (IsInside (of_constructed S.stream self.old) 0) header.tag (F.post op) }
         requires fits { FitsOwed header.len self.old.source.now.limit }
-        ensures taken { TakesContent IsRefusal (of_content S.stream) (F.post op) (of_constructed S.stream self.old) (header_of header) result (of_constructed S.stream self.new) }
+        ensures taken { TakesContent cause_of (of_content S.stream) (F.post op) (of_constructed S.stream self.old) (header_of header) result (of_constructed S.stream self.new) }
     {
         match header.len {
             Length::Definite(len) => {
@@ -479,7 +479,7 @@ impl<'a, S: Source> Constructed<'a, S> {
         ensures done { IfOk result (λ o. IfNone o (IsDone (of_constructed S.stream self.new))) }
         ensures value { IfOk result (λ o. IfSome o (λ x. TakesValue (of_content S.stream) (F.post op) any (of_constructed S.stream self.old) x (of_constructed S.stream self.new))) }
         ensures shorter { IfOk result (λ o. IfSome o (λ _. length (of_constructed S.stream self.new).stream.rest + 2 ≤ length (of_constructed S.stream self.old).stream.rest)) }
-        ensures refused { IfErr result (λ e. RefusesValue IsRefusal (of_content S.stream) (F.post op) any (of_constructed S.stream self.old) e (of_constructed S.stream self.new)) }
+        ensures refused { IfErr result (λ e. RefusesValue cause_of (of_content S.stream) (F.post op) any (of_constructed S.stream self.old) e (of_constructed S.stream self.new)) }
         ensures failed { OnErr result ((of_constructed S.stream self.new).state ≡ State.Failed) }
         ensures mode { (of_constructed S.stream self.new).mode ≡ (of_constructed S.stream self.old).mode }
         ensures unmarked { IfOk result (λ o. IfNone o ((of_constructed S.stream self.new).marked ≡ (of_constructed S.stream self.old).marked)) }
@@ -509,7 +509,7 @@ impl<'a, S: Source> Constructed<'a, S> {
         ensures left { IfOk result (λ o. IfNone o (IsLeft tag (of_constructed S.stream self.old) (of_constructed S.stream self.new))) }
         ensures value { IfOk result (λ o. IfSome o (λ x. TakesValue (of_content S.stream) (F.post op) (tagged tag) (of_constructed S.stream self.old) x (of_constructed S.stream self.new))) }
         ensures shorter { IfOk result (λ o. IfSome o (λ _. length (of_constructed S.stream self.new).stream.rest + 2 ≤ length (of_constructed S.stream self.old).stream.rest)) }
-        ensures refused { IfErr result (λ e. RefusesValue IsRefusal (of_content S.stream) (F.post op) (tagged tag) (of_constructed S.stream self.old) e (of_constructed S.stream self.new)) }
+        ensures refused { IfErr result (λ e. RefusesValue cause_of (of_content S.stream) (F.post op) (tagged tag) (of_constructed S.stream self.old) e (of_constructed S.stream self.new)) }
         ensures failed { OnErr result ((of_constructed S.stream self.new).state ≡ State.Failed) }
         ensures mode { (of_constructed S.stream self.new).mode ≡ (of_constructed S.stream self.old).mode }
         ensures unmarked { IfOk result (λ o. IfNone o ((of_constructed S.stream self.new).marked ≡ (of_constructed S.stream self.old).marked)) }

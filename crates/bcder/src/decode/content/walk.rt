@@ -1,6 +1,6 @@
 //! Walking over values, which looks at every header inside them.
 ghost use Rattle.std.specs.Prelude.{◌≡◌, IfOk, IfErr, IfSome, IfNone, OnOk, OnErr};
-ghost use Rattle.bcder.specs.Cause.{IsRefusal};
+ghost use Rattle.bcder.specs.Cause.{cause_of};
 ghost use Rattle.bcder.specs.Stream.{Grew};
 ghost use Rattle.bcder.specs.Content.{Moves, EndsAt, IsDone};
 ghost use Rattle.bcder.specs.Walking.{PassesValue, AnswersNext, RefusesWalk, HasValues, RefusesValues};
@@ -27,7 +27,7 @@ pub fn walk<S: Source>(cons: &mut Constructed<'_, S>) -> Result<Option<()>, Deco
     ensures value { IfOk result (λ o. IfSome o (λ _. PassesValue (of_constructed S.stream cons.old) (of_constructed S.stream cons.new))) }
     ensures end { IfOk result (λ o. IfNone o (EndsAt (of_constructed S.stream cons.old) (of_constructed S.stream cons.new))) }
     ensures done { IfOk result (λ o. IfNone o (IsDone (of_constructed S.stream cons.new))) }
-    ensures refused { IfErr result (λ e. RefusesWalk IsRefusal (of_constructed S.stream cons.old) e (of_constructed S.stream cons.new)) }
+    ensures refused { IfErr result (λ e. RefusesWalk cause_of (of_constructed S.stream cons.old) e (of_constructed S.stream cons.new)) }
     ensures exact { (Grew (of_constructed S.stream cons.old).stream.faults (of_constructed S.stream cons.new).stream.faults → ⊥) → AnswersNext (of_constructed S.stream cons.old) result (of_constructed S.stream cons.new) }
     ensures failed { OnErr result ((of_constructed S.stream cons.new).state ≡ State.Failed) }
     ensures mode { (of_constructed S.stream cons.new).mode ≡ (of_constructed S.stream cons.old).mode }
@@ -37,7 +37,7 @@ pub fn walk<S: Source>(cons: &mut Constructed<'_, S>) -> Result<Option<()>, Deco
         |_tag, content|
             ensures moves { Moves (of_content S.stream content.old) (of_content S.stream content.new) }
             ensures done { OnOk result (IsDone (of_content S.stream content.new)) }
-            ensures refused { IfErr result (λ e. RefusesValues IsRefusal (of_content S.stream content.old) e (of_content S.stream content.new)) }
+            ensures refused { IfErr result (λ e. RefusesValues cause_of (of_content S.stream content.old) e (of_content S.stream content.new)) }
             ensures marked { OnOk result ((of_content S.stream content.new).marked ≡ (of_content S.stream content.old).marked) }
         {
             match content {
@@ -54,7 +54,7 @@ fn walk_all<S: Source>(cons: &mut Constructed<'_, S>) -> Result<(), DecodeError<
     ensures moves { Moves (of_constructed S.stream cons.old) (of_constructed S.stream cons.new) }
     ensures all { OnOk result ((of_constructed S.stream cons.old).state ≡ State.Open → HasValues (of_constructed S.stream cons.old)) }
     ensures done { OnOk result (IsDone (of_constructed S.stream cons.new)) }
-    ensures refused { IfErr result (λ e. RefusesValues IsRefusal (of_constructed S.stream cons.old) e (of_constructed S.stream cons.new)) }
+    ensures refused { IfErr result (λ e. RefusesValues cause_of (of_constructed S.stream cons.old) e (of_constructed S.stream cons.new)) }
     ensures failed { OnErr result ((of_constructed S.stream cons.new).state ≡ State.Failed) }
     ensures mode { (of_constructed S.stream cons.new).mode ≡ (of_constructed S.stream cons.old).mode }
     ensures marked { OnOk result ((of_constructed S.stream cons.new).marked ≡ (of_constructed S.stream cons.old).marked) }

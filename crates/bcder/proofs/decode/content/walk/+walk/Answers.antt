@@ -1,5 +1,5 @@
 use Rattle.std.proofs.Common.{rules, ◌≤◌, length, arith}
-use Rattle.bcder.specs.Cause.{IsRefusal}
+use Rattle.bcder.specs.Cause.{cause_of}
 use Rattle.bcder.specs.Content.{EndsAt}
 use Rattle.bcder.specs.Walking.{PassesValue, RefusesValues}
 use Rattle.bcder.specs.Views.{of_constructed, of_content}
@@ -12,22 +12,22 @@ use Rattle.bcder.proofs.decode.content.walk.+walk.Goals as goal
 
 pub walk-take_opt_value-returns-in-Primitive : goal.walk-take_opt_value-returns-in-Primitive
 walk-take_opt_value-returns-in-Primitive g t c =
-    let w = walks_octets IsRefusal g.S.Source.stream c.in-Primitive.primitive c.skip_all.new.self c.skip_all.result c.skip_all.ensures.moves c.skip_all.ensures.none_owed c.skip_all.ensures.refused c.skip_all.ensures.marked in
+    let w = walks_octets cause_of g.S.Source.stream c.in-Primitive.primitive c.skip_all.new.self c.skip_all.result c.skip_all.ensures.moves c.skip_all.ensures.none_owed c.skip_all.ensures.refused c.skip_all.ensures.marked in
     rw c.in-Primitive.is (record { moves = w.moves; done = w.done; refused = w.refused; marked = w.marked })
 
 pub walk-returns-clause-value : goal.walk-returns-clause-value
-walk-returns-clause-value g t c = walks_one IsRefusal (of_content g.S.Source.stream) _ (λ tag p r q x. search rules) _ _ c.take_opt_value.result c.take_opt_value.ensures.value
+walk-returns-clause-value g t c = walks_one cause_of (of_content g.S.Source.stream) _ (λ tag p r q x. search rules) _ _ c.take_opt_value.result c.take_opt_value.ensures.value
 
 pub walk-returns-clause-refused : goal.walk-returns-clause-refused
-walk-returns-clause-refused g t c = refuses_walk IsRefusal (of_content g.S.Source.stream) _ (λ tag p r q x. search rules) _ _ c.take_opt_value.result (within_constructed g.S.Source.stream g.met.S.Source.sound c.args.cons.now) c.take_opt_value.ensures.refused
+walk-returns-clause-refused g t c = refuses_walk cause_of (of_content g.S.Source.stream) _ (λ tag p r q x. search rules) _ _ c.take_opt_value.result (within_constructed g.S.Source.stream g.met.S.Source.sound c.args.cons.now) c.take_opt_value.ensures.refused
 
 pub walk-returns-clause-exact : goal.walk-returns-clause-exact
 walk-returns-clause-exact g t c =
     let w = within_constructed g.S.Source.stream g.met.S.Source.sound c.args.cons.now in
-    answers_next IsRefusal (of_constructed g.S.Source.stream c.args.cons.now) (of_constructed g.S.Source.stream c.take_opt_value.new.self) c.take_opt_value.result w
-    (walks_one IsRefusal (of_content g.S.Source.stream) _ (λ tag p r q x. search rules) _ _ c.take_opt_value.result c.take_opt_value.ensures.value)
+    answers_next cause_of (of_constructed g.S.Source.stream c.args.cons.now) (of_constructed g.S.Source.stream c.take_opt_value.new.self) c.take_opt_value.result w
+    (walks_one cause_of (of_content g.S.Source.stream) _ (λ tag p r q x. search rules) _ _ c.take_opt_value.result c.take_opt_value.ensures.value)
     c.take_opt_value.ensures.end
-    (refuses_walk IsRefusal (of_content g.S.Source.stream) _ (λ tag p r q x. search rules) _ _ c.take_opt_value.result w c.take_opt_value.ensures.refused)
+    (refuses_walk cause_of (of_content g.S.Source.stream) _ (λ tag p r q x. search rules) _ _ c.take_opt_value.result w c.take_opt_value.ensures.refused)
 
 pub walk_all-loop-init : goal.walk_all-loop-init
 walk_all-loop-init g t c = walks_refl _
@@ -44,8 +44,8 @@ walk_all-returns-in_err-walk-clause-refused g t c =
     let i = of_constructed g.S.Source.stream c.args.cons.now in
     let j = of_constructed g.S.Source.stream c.loop.cons in
     let k = of_constructed g.S.Source.stream c.walk.new.cons in
-    residual c.from_residual.result _ (λ e. RefusesValues IsRefusal i e k) c.from_residual.ensures.1
-    (walks_refused IsRefusal _ i j k (constructed_form g.S.Source.stream c.args.cons.now) c.loop.invariant c.in_err-walk.ensures.refused)
+    residual c.from_residual.result _ (λ e. RefusesValues cause_of i e k) c.from_residual.ensures.1
+    (walks_refused cause_of _ i j k (constructed_form g.S.Source.stream c.args.cons.now) c.loop.invariant c.in_err-walk.ensures.refused)
 
 pub walk_all-loop-smaller : goal.walk_all-loop-smaller
 walk_all-loop-smaller g t c =
