@@ -4,6 +4,8 @@ use Rattle.std.specs.Prelude.{Option, Some, None, Result, Ok, Err, IfOk, IfErr}
 use Rattle.std.specs.Borrow.{MutBor}
 use Rattle.bcder.specs.declared.mode.Mode.{Mode}
 use Rattle.bcder.specs.Stream.{Stream, Layer, limited}
+use Rattle.bcder.specs.declared.decode.error.ContentError.{ContentError}
+use Rattle.bcder.specs.Cause.{Cause}
 use Rattle.bcder.specs.Content.{Reading, UnboundedValues, Moves, Falls}
 use Rattle.bcder.specs.Calls.{RunsOver}
 use Rattle.bcder.specs.Decoding.{IsAllOf, HandsAll, RanOn, Decodes, RefusesDecode}
@@ -30,23 +32,23 @@ hands_all s s' m i j o o' n r =
       moves = r.moves;
     }
 
-module _ {C T E : Type 0} (Own : E → Type 0) (view : C → Reading) (post : MutBor C → Result T E → MutBor C → Type 0) (s s' : Stream) (m : Mode) (o o' : Option ℕ) (n : o ≡ None) where
-  pub decoded : (r : Result T E) → RanOn Own view post (limited o s) o m r (limited o' s') o' → IfOk r (λ x. Decodes view post s m x s')
+module _ {C T E : Type 0} (why : E → Cause ContentError) (view : C → Reading) (post : MutBor C → Result T E → MutBor C → Type 0) (s s' : Stream) (m : Mode) (o o' : Option ℕ) (n : o ≡ None) where
+  pub decoded : (r : Result T E) → RanOn why view post (limited o s) o m r (limited o' s') o' → IfOk r (λ x. Decodes view post s m x s')
   decoded (Ok x) h = record { handed = h.handed; left = h.left; hands = hands_all s s' m h.handed h.left o o' n h.runs; answered = h.answers; usable = h.usable }
   decoded (Err e) h = tt
 
-  pub not_decoded : (r : Result T E) → RanOn Own view post (limited o s) o m r (limited o' s') o' → IfErr r (λ e. RefusesDecode Own view post s m e s')
+  pub not_decoded : (r : Result T E) → RanOn why view post (limited o s) o m r (limited o' s') o' → IfErr r (λ e. RefusesDecode why view post s m e s')
   not_decoded (Ok x) h = tt
   not_decoded (Err e) h = record { handed = h.handed; left = h.left; hands = hands_all s s' m h.handed h.left o o' n h.runs; refuses = h.refuses }
 
   -- the same, whatever is left of a source that was handed over
-  pub decoded_once : (t : Stream) → s ≡ t → (r : Result T E) → RanOn Own view post (limited o s) o m r (limited o' s') o' → IfOk r (λ x. (left : Stream) × Decodes view post t m x left)
+  pub decoded_once : (t : Stream) → s ≡ t → (r : Result T E) → RanOn why view post (limited o s) o m r (limited o' s') o' → IfOk r (λ x. (left : Stream) × Decodes view post t m x left)
   decoded_once t e (Ok x) h = (s', subst (λ y. Decodes view post y m x s') e (decoded (Ok x) h))
   decoded_once t e (Err x) h = tt
 
-  pub not_decoded_once : (t : Stream) → s ≡ t → (r : Result T E) → RanOn Own view post (limited o s) o m r (limited o' s') o' → IfErr r (λ x. (left : Stream) × RefusesDecode Own view post t m x left)
+  pub not_decoded_once : (t : Stream) → s ≡ t → (r : Result T E) → RanOn why view post (limited o s) o m r (limited o' s') o' → IfErr r (λ x. (left : Stream) × RefusesDecode why view post t m x left)
   not_decoded_once t e (Ok x) h = tt
-  not_decoded_once t e (Err x) h = (s', subst (λ y. RefusesDecode Own view post y m x s') e (not_decoded (Err x) h))
+  not_decoded_once t e (Err x) h = (s', subst (λ y. RefusesDecode why view post y m x s') e (not_decoded (Err x) h))
 
 module _ (s s' : Stream) (m : Mode) (i j : Reading) (h : HandsAll s m i j s') where
   pub left_kept : s'.kept ≡ s.kept

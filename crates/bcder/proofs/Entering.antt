@@ -12,6 +12,8 @@ use Rattle.bcder.specs.Reading.{Header, is_value_tag, read_identifier, read_fron
 use Rattle.bcder.specs.Encoding.{may_have, IsHeader}
 use Rattle.bcder.specs.Peek.{HasOtherTag, HasNoLength}
 use Rattle.bcder.specs.Stream.{Layer, Stream, IsSound, Grew, cut, past, limited}
+use Rattle.bcder.specs.declared.decode.error.ContentError.{ContentError}
+use Rattle.bcder.specs.Cause.{Cause}
 use Rattle.bcder.specs.Content.{Reading, Asked, any, tagged, IsAsked, HasHeader, HasMarker, HasOther, IndefiniteValues, Falls, FitsOwed, Advances, Moves, Accepts, Enters, TakesMarker, NoFront, Resembles, end_header, values, Octets, DefiniteValues, UnboundedValues, IsUsedUp, IsDone, IsAtEnd, of_octets, of_definite, of_indefinite, of_unbounded, EndsBefore, EndsAt, NotAtEnd, IsElsewhere, none_left, other, marker, IsAbsent, IsLeft, NothingThere, RefusesHeader, failed, source, nothing}
 use Rattle.bcder.specs.Calls.{RefusesEnd, left_failed, source_failed, left_open}
 use Rattle.bcder.specs.laws.Limits.{limit_told, limit_told_after, rest_told, limited_sound}
@@ -324,7 +326,7 @@ grew_moves a b g = g.no_smaller
 
 -- ---- why content is not left at its end
 
-pub end_refused : {E : Type 0} (Own : E → Type 0) (c d : Reading) (e : E) → RefusesHeader Own any c e d → RefusesEnd Own c e d
-end_refused Own c d e (failed s o) = left_failed s o
-end_refused Own c d e (source g) = source_failed g
-end_refused Own c d e (nothing n o) = left_open (record { none = n.absent }) o
+pub end_refused : {E : Type 0} (why : E → Cause ContentError) (c d : Reading) (e : E) → RefusesHeader why any c e d → RefusesEnd why c e d
+end_refused why c d e (failed s o) = left_failed s o
+end_refused why c d e (source k g) = source_failed k g
+end_refused why c d e (nothing n o) = left_open (record { none = n.absent }) o

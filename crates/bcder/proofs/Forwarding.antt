@@ -17,6 +17,8 @@ use Rattle.bcder.specs.Content.{Reading, Form, values, Octets, DefiniteValues, I
 use Rattle.bcder.specs.Calls.{Answered, AnswersDone, TakesValue, RefusesContent, by_closure, unfinished, RefusesFront, RefusesValue, HasForm, IsFormOf, Hands, failed, source, nothing, content}
 use Rattle.bcder.specs.Decoding.{AnsweredOn}
 use Rattle.bcder.specs.Stream.{Stream}
+use Rattle.bcder.specs.declared.decode.error.ContentError.{ContentError}
+use Rattle.bcder.specs.Cause.{Cause, IsOfContent}
 use Rattle.bcder.specs.Views.{of_content, of_constructed, of_primitive}
 use Rattle.bcder.proofs.Names.{primitive_form, constructed_form}
 
@@ -31,17 +33,17 @@ form_of_values m true len k a h e = refl
 form_of_values m false Indefinite k a h e = absurd (let z : false ≡ true = a in cc)
 form_of_values m false (Definite n) k a h e = absurd (e h)
 
-module _ {C D T E : Type 0} (Own : E → Type 0) (view : C → Reading) (post : Tag → MutBor C → Result T E → MutBor C → Type 0) (view' : D → Reading) (post' : Tag → MutBor D → Result T E → MutBor D → Type 0) (Other : Form → Type 0) where
+module _ {C D T E : Type 0} (why : E → Cause ContentError) (view : C → Reading) (post : Tag → MutBor C → Result T E → MutBor C → Type 0) (view' : D → Reading) (post' : Tag → MutBor D → Result T E → MutBor D → Type 0) (Other : Form → Type 0) where
   -- the closure hands its content on, unless it is of another form
   abbrev pub HandsOn : Type 0
-  HandsOn = (t : Tag) (p : MutBor C) (r : Result T E) (q : MutBor C) → post t p r q → IfOk r (λ x. Answered {R = Result T E} view' post' t (view p.now) (Ok x) (view q.now)) × IfErr r (λ e. Other (view p.now).kind × Own e ⊎ Answered {R = Result T E} view' post' t (view p.now) (Err e) (view q.now))
+  HandsOn = (t : Tag) (p : MutBor C) (r : Result T E) (q : MutBor C) → post t p r q → IfOk r (λ x. Answered {R = Result T E} view' post' t (view p.now) (Ok x) (view q.now)) × IfErr r (λ e. Other (view p.now).kind × IsOfContent (why e) ⊎ Answered {R = Result T E} view' post' t (view p.now) (Err e) (view q.now))
 
   module _ (k : HandsOn) where
     answered_on : (t : Tag) (i j : Reading) (x : T) → Answered {R = Result T E} view post t i (Ok x) j → Answered {R = Result T E} view' post' t i (Ok x) j
     answered_on t i j x a = subst (λ z. Answered {R = Result T E} view' post' t z (Ok x) j) a.handed_is (subst (λ z. Answered {R = Result T E} view' post' t (view a.handed.now) (Ok x) z) a.left_is (k t a.handed (Ok x) a.left a.called).0)
 
-    refused_on : (t : Tag) (i j : Reading) (e : E) → Answered {R = Result T E} view post t i (Err e) j → Other i.kind × Own e ⊎ Answered {R = Result T E} view' post' t i (Err e) j
-    refused_on t i j e a = subst (λ z. Other z.kind × Own e ⊎ Answered {R = Result T E} view' post' t z (Err e) j) a.handed_is (subst (λ z. Other (view a.handed.now).kind × Own e ⊎ Answered {R = Result T E} view' post' t (view a.handed.now) (Err e) z) a.left_is (k t a.handed (Err e) a.left a.called).1)
+    refused_on : (t : Tag) (i j : Reading) (e : E) → Answered {R = Result T E} view post t i (Err e) j → Other i.kind × IsOfContent (why e) ⊎ Answered {R = Result T E} view' post' t i (Err e) j
+    refused_on t i j e a = subst (λ z. Other z.kind × IsOfContent (why e) ⊎ Answered {R = Result T E} view' post' t z (Err e) j) a.handed_is (subst (λ z. Other (view a.handed.now).kind × IsOfContent (why e) ⊎ Answered {R = Result T E} view' post' t (view a.handed.now) (Err e) z) a.left_is (k t a.handed (Err e) a.left a.called).1)
 
     value_on : (asked : Asked) (c d : Reading) (x : T) → TakesValue view post asked c x d → TakesValue view' post' asked c x d
     value_on asked c d x v = record {
@@ -66,7 +68,7 @@ module _ {C D T E : Type 0} (Own : E → Type 0) (view : C → Reading) (post : 
       marked = v.marked;
     }
 
-    front_on : (asked : Asked) (c d : Reading) (e : E) (f : RefusesFront Own view post asked c e d) → RefusesContent Own view' post' f.front.tag f.handed e f.left → RefusesFront Own view' post' asked c e d
+    front_on : (asked : Asked) (c d : Reading) (e : E) (f : RefusesFront why view post asked c e d) → RefusesContent why view' post' f.front.tag f.handed e f.left → RefusesFront why view' post' asked c e d
     front_on asked c d e f r = record {
       usable = f.usable;
       after = f.after;
@@ -81,38 +83,38 @@ module _ {C D T E : Type 0} (Own : E → Type 0) (view : C → Reading) (post : 
     }
 
     module _ (b : Bool) (other_form : (m : Mode) (f : Bool) (len : Length) (o : Form) → may_have m f len ≡ true → IsFormOf f len o → Other o → f ≡ b) where
-      content_on : (asked : Asked) (c d : Reading) (e : E) (f : RefusesFront Own view post asked c e d) → RefusesContent Own view post f.front.tag f.handed e f.left → HasForm b asked c × Own e ⊎ RefusesValue Own view' post' asked c e d
+      content_on : (asked : Asked) (c d : Reading) (e : E) (f : RefusesFront why view post asked c e d) → RefusesContent why view post f.front.tag f.handed e f.left → HasForm b asked c × IsOfContent (why e) ⊎ RefusesValue why view' post' asked c e d
       content_on asked c d e f (by_closure a) = elim (refused_on f.front.tag f.handed f.left e a) [
         | inl o ↦ inl (record { usable = f.usable; after = f.after; front = f.front; is = other_form c.mode f.front.form f.front.len f.handed.kind f.front.is_header.allowed f.hands.form o.0 }, o.1)
         | inr r ↦ inr (content (front_on asked c d e f (by_closure r)))
       ]
       content_on asked c d e f (unfinished y l a m z) = inr (content (front_on asked c d e f (unfinished y l (answered_on f.front.tag f.handed l y a) m z)))
 
-      pub value_refused_on : (asked : Asked) (c d : Reading) (e : E) → RefusesValue Own view post asked c e d → HasForm b asked c × Own e ⊎ RefusesValue Own view' post' asked c e d
+      pub value_refused_on : (asked : Asked) (c d : Reading) (e : E) → RefusesValue why view post asked c e d → HasForm b asked c × IsOfContent (why e) ⊎ RefusesValue why view' post' asked c e d
       value_refused_on asked c d e (failed s o) = inr (failed s o)
-      value_refused_on asked c d e (source s) = inr (source s)
+      value_refused_on asked c d e (source k s) = inr (source k s)
       value_refused_on asked c d e (nothing n o) = inr (nothing n o)
       value_refused_on asked c d e (content f) = content_on asked c d e f f.refuses
 
-      pub refuses_opt : {U : Type 0} (asked : Asked) (c d : Reading) (r : Result U E) → IfErr r (λ e. RefusesValue Own view post asked c e d) → IfErr r (λ e. HasForm b asked c × Own e ⊎ RefusesValue Own view' post' asked c e d)
+      pub refuses_opt : {U : Type 0} (asked : Asked) (c d : Reading) (r : Result U E) → IfErr r (λ e. RefusesValue why view post asked c e d) → IfErr r (λ e. HasForm b asked c × IsOfContent (why e) ⊎ RefusesValue why view' post' asked c e d)
       refuses_opt asked c d (Ok x) h = tt
       refuses_opt asked c d (Err e) h = value_refused_on asked c d e h
 
     module _ (never : (o : Form) → Other o → ⊥) where
-      content_all : (asked : Asked) (c d : Reading) (e : E) (f : RefusesFront Own view post asked c e d) → RefusesContent Own view post f.front.tag f.handed e f.left → RefusesValue Own view' post' asked c e d
+      content_all : (asked : Asked) (c d : Reading) (e : E) (f : RefusesFront why view post asked c e d) → RefusesContent why view post f.front.tag f.handed e f.left → RefusesValue why view' post' asked c e d
       content_all asked c d e f (by_closure a) = elim (refused_on f.front.tag f.handed f.left e a) [
         | inl o ↦ absurd (never f.handed.kind o.0)
         | inr r ↦ content (front_on asked c d e f (by_closure r))
       ]
       content_all asked c d e f (unfinished y l a m z) = content (front_on asked c d e f (unfinished y l (answered_on f.front.tag f.handed l y a) m z))
 
-      value_refused_all : (asked : Asked) (c d : Reading) (e : E) → RefusesValue Own view post asked c e d → RefusesValue Own view' post' asked c e d
+      value_refused_all : (asked : Asked) (c d : Reading) (e : E) → RefusesValue why view post asked c e d → RefusesValue why view' post' asked c e d
       value_refused_all asked c d e (failed s o) = failed s o
-      value_refused_all asked c d e (source s) = source s
+      value_refused_all asked c d e (source k s) = source k s
       value_refused_all asked c d e (nothing n o) = nothing n o
       value_refused_all asked c d e (content f) = content_all asked c d e f f.refuses
 
-      pub refuses_all : {U : Type 0} (asked : Asked) (c d : Reading) (r : Result U E) → IfErr r (λ e. RefusesValue Own view post asked c e d) → IfErr r (λ e. RefusesValue Own view' post' asked c e d)
+      pub refuses_all : {U : Type 0} (asked : Asked) (c d : Reading) (r : Result U E) → IfErr r (λ e. RefusesValue why view post asked c e d) → IfErr r (λ e. RefusesValue why view' post' asked c e d)
       refuses_all asked c d (Ok x) h = tt
       refuses_all asked c d (Err e) h = value_refused_all asked c d e h
 
@@ -144,22 +146,22 @@ module _ {C T E : Type 0} (view : C → Reading) (post : Tag → MutBor C → Re
   on_err P (Err e) a = inr a
 
 -- the same where the closure hands on all content
-module _ {C D T E : Type 0} (Own : E → Type 0) (view : C → Reading) (post : Tag → MutBor C → Result T E → MutBor C → Type 0) (view' : D → Reading) (post' : Tag → MutBor D → Result T E → MutBor D → Type 0) where
+module _ {C D T E : Type 0} (why : E → Cause ContentError) (view : C → Reading) (post : Tag → MutBor C → Result T E → MutBor C → Type 0) (view' : D → Reading) (post' : Tag → MutBor D → Result T E → MutBor D → Type 0) where
   abbrev pub HandsAll : Type 0
   HandsAll = (t : Tag) (p : MutBor C) (r : Result T E) (q : MutBor C) → post t p r q → IfOk r (λ x. Answered {R = Result T E} view' post' t (view p.now) (Ok x) (view q.now)) × IfErr r (λ e. Answered {R = Result T E} view' post' t (view p.now) (Err e) (view q.now))
 
-  hands_on : HandsAll → HandsOn Own view post view' post' (λ k. ⊥)
+  hands_on : HandsAll → HandsOn why view post view' post' (λ k. ⊥)
   hands_on h t p r q x = by_result r (h t p r q x)
     where
-      by_result : (r : Result T E) → IfOk r (λ x. Answered {R = Result T E} view' post' t (view p.now) (Ok x) (view q.now)) × IfErr r (λ e. Answered {R = Result T E} view' post' t (view p.now) (Err e) (view q.now)) → IfOk r (λ x. Answered {R = Result T E} view' post' t (view p.now) (Ok x) (view q.now)) × IfErr r (λ e. ⊥ × Own e ⊎ Answered {R = Result T E} view' post' t (view p.now) (Err e) (view q.now))
+      by_result : (r : Result T E) → IfOk r (λ x. Answered {R = Result T E} view' post' t (view p.now) (Ok x) (view q.now)) × IfErr r (λ e. Answered {R = Result T E} view' post' t (view p.now) (Err e) (view q.now)) → IfOk r (λ x. Answered {R = Result T E} view' post' t (view p.now) (Ok x) (view q.now)) × IfErr r (λ e. ⊥ × IsOfContent (why e) ⊎ Answered {R = Result T E} view' post' t (view p.now) (Err e) (view q.now))
       by_result (Ok x) a = (a.0, tt)
       by_result (Err e) a = (tt, inr a.1)
 
   pub takes_all : HandsAll → (asked : Asked) (c d : Reading) (r : Result (Option T) E) → IfOk r (λ o. IfSome o (λ x. TakesValue view post asked c x d)) → IfOk r (λ o. IfSome o (λ x. TakesValue view' post' asked c x d))
-  takes_all h asked c d r v = takes_opt Own view post view' post' (λ k. ⊥) (hands_on h) asked c d r v
+  takes_all h asked c d r v = takes_opt why view post view' post' (λ k. ⊥) (hands_on h) asked c d r v
 
-  pub refuses_every : HandsAll → {U : Type 0} (asked : Asked) (c d : Reading) (r : Result U E) → IfErr r (λ e. RefusesValue Own view post asked c e d) → IfErr r (λ e. RefusesValue Own view' post' asked c e d)
-  refuses_every h asked c d r v = refuses_all Own view post view' post' (λ k. ⊥) (hands_on h) (λ o x. x) asked c d r v
+  pub refuses_every : HandsAll → {U : Type 0} (asked : Asked) (c d : Reading) (r : Result U E) → IfErr r (λ e. RefusesValue why view post asked c e d) → IfErr r (λ e. RefusesValue why view' post' asked c e d)
+  refuses_every h asked c d r v = refuses_all why view post view' post' (λ k. ⊥) (hands_on h) (λ o x. x) asked c d r v
 
 module _ {C T E : Type 0} (view : C → Reading) (post : Tag → MutBor C → Result T E → MutBor C → Type 0) (t : Tag) (i j : Reading) where
   pub on_err_all : (r : Result T E) → Answered {R = Result T E} view post t i r j → IfErr r (λ e. Answered {R = Result T E} view post t i (Err e) j)

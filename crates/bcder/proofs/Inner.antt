@@ -18,6 +18,8 @@ use Rattle.bcder.specs.Tree.{Tree, primitive, constructed, Trees}
 use Rattle.bcder.specs.Encoding.{may_have, IsHeader, IsEncoding, AreEncodings}
 use Rattle.bcder.specs.Reading.{Header}
 use Rattle.bcder.specs.Stream.{Layer, Stream, IsSound, cut, past, limited}
+use Rattle.bcder.specs.declared.decode.error.ContentError.{ContentError}
+use Rattle.bcder.specs.Cause.{Cause}
 use Rattle.bcder.specs.Content.{Reading, Form, Octets, DefiniteValues, IndefiniteValues, UnboundedValues, label, Moves, MovesBy, Whole, Falls, Closes, IsDone, IsUsedUp, Advances, FitsOwed}
 use Rattle.bcder.specs.Calls.{IsFormOf, ContentOf, Hands, AnswersDone, RefusesContent, RunsOver, RanOver, TakesContent, popped}
 use Rattle.bcder.specs.Views.{limited_stream}
@@ -38,7 +40,7 @@ cut_popped : (o : Option ℕ) (n m : ℕ) (p y : List ℕ) → FitsOwed (Definit
 cut_popped None n m p y f e = refl
 cut_popped (Some l) n m p y f e = (let h : length p ≤ l = omega arith in let k : n - m ≡ length p = omega arith in rw k (take_past l p y h))
 
-layer_is : (x y : List ℕ) (a b : ℕ) → x ≡ y → a ≡ b → ◌≡◌ {A = Layer} (record { octets = x; number = a }) (record { octets = y; number = b })
+pub layer_is : (x y : List ℕ) (a b : ℕ) → x ≡ y → a ≡ b → ◌≡◌ {A = Layer} (record { octets = x; number = a }) (record { octets = y; number = b })
 layer_is x y a b e f = cc
 
 past_popped : (o : Option ℕ) (n m : ℕ) (p y : List ℕ) → FitsOwed (Definite n) o → n ≡ length p + m → past (popped o n (Some m)) y ≡ past o (p ++ y)
@@ -60,7 +62,7 @@ falls_some n k (Some m) f = (m, refl, f)
 layers_head : (x y : Layer) (xs ys : List Layer) → ◌≡◌ {A = List Layer} (x ∷ xs) (y ∷ ys) → (x ≡ y) × (xs ≡ ys)
 layers_head x y xs ys e = (cc, cc)
 
-layers_eq : (x y : Layer) (xs ys : List Layer) → x ≡ y → xs ≡ ys → ◌≡◌ {A = List Layer} (x ∷ xs) (y ∷ ys)
+pub layers_eq : (x y : Layer) (xs ys : List Layer) → x ≡ y → xs ≡ ys → ◌≡◌ {A = List Layer} (x ∷ xs) (y ∷ ys)
 layers_eq x y xs ys e f = cc
 
 module _ (c d i j : Reading) (s s' : Stream) (o l : Option ℕ) (n : ℕ) (fits : FitsOwed (Definite n) o)
@@ -192,16 +194,16 @@ take_cut (Some l) n x f = grind (arith, common_steps)
 
 -- ---- the content of a header
 
-module _ {C T E : Type 0} (Own : E → Type 0) (view : C → Reading) (post : Tag → MutBor C → Result T E → MutBor C → Type 0) where
+module _ {C T E : Type 0} (why : E → Cause ContentError) (view : C → Reading) (post : Tag → MutBor C → Result T E → MutBor C → Type 0) where
   on_done : (t : Tag) (i j : Reading) (Q : Type 0) (q : IsDone j → Q) (r : Result T E) → IfOk r (λ x. AnswersDone {R = Result T E} view post t i (Ok x) j) → OnOk r Q
   on_done t i j Q q (Ok x) a = q a.done
   on_done t i j Q q (Err e) a = tt
 
   module _ (c d : Reading) (h : Header) (r : Result T E) (k : d.kind ≡ c.kind) (md : d.mode ≡ c.mode) (nm : d.name ≡ c.name) (st : d.state ≡ c.state) (mark : Bool) (mk : d.marked ≡ (c.marked || mark)) where
     pub takes_definite : (K : Form) (n : ℕ) (s s' : Stream) (o l : Option ℕ) → h.len ≡ Definite n → IsFormOf h.form (Definite n) K → c.stream ≡ limited o s → c.owed ≡ o → d.stream ≡ limited (popped o n l) s' → d.owed ≡ popped o n l → FitsOwed (Definite n) o
-        → (ran : RanOver Own view post (limited (Some n) s) (Some n) K c.mode h.tag r mark (limited l s') l)
+        → (ran : RanOver why view post (limited (Some n) s) (Some n) K c.mode h.tag r mark (limited l s') l)
         → ((octets : List ℕ) → IsHeader c.mode h.tag h.form h.len octets → (mv : MovesBy ran.handed ran.left) → IsDone ran.left → Encodes c.mode ran.left octets mv.passed)
-        → TakesContent Own view post c h r d
+        → TakesContent why view post c h r d
     unfolding Moves
     takes_definite K n s s' o l hn form cs co ds do' fits ran enc = record {
       passed = ran.runs.moves.passed;
@@ -227,9 +229,9 @@ module _ {C T E : Type 0} (Own : E → Type 0) (view : C → Reading) (post : Ta
     }
 
     pub takes_indefinite : h.len ≡ Indefinite
-        → (ran : RanOver Own view post c.stream c.owed IndefiniteValues c.mode h.tag r mark d.stream d.owed)
+        → (ran : RanOver why view post c.stream c.owed IndefiniteValues c.mode h.tag r mark d.stream d.owed)
         → ((octets : List ℕ) → IsHeader c.mode h.tag h.form h.len octets → (mv : MovesBy ran.handed ran.left) → IsDone ran.left → Encodes c.mode ran.left octets mv.passed)
-        → TakesContent Own view post c h r d
+        → TakesContent why view post c h r d
     unfolding Moves
     takes_indefinite hn ran enc = record {
       passed = ran.runs.moves.passed;
@@ -257,10 +259,10 @@ module _ {C T E : Type 0} (Own : E → Type 0) (view : C → Reading) (post : Ta
     module _ {S : Type 0} (stream : S → Stream) (n : ℕ) (l0 l1 l2 l3 : LimitedSource S) (o : Option ℕ) (hn : h.len ≡ Definite n)
         (cs : c.stream ≡ limited_stream stream l0) (co : c.owed ≡ l0.limit) (oo : o ≡ l0.limit) (a1 : l1.limit ≡ Some n) (b1 : l1.source ≡ l0.source)
         (a3 : l3.limit ≡ popped o n l2.limit) (b3 : l3.source ≡ l2.source) (ds : d.stream ≡ limited_stream stream l3) (do' : d.owed ≡ l3.limit) (fits : FitsOwed h.len l0.limit) where
-      ran_at : (K : Form) → RanOver Own view post (limited_stream stream l1) l1.limit K c.mode h.tag r mark (limited_stream stream l2) l2.limit → RanOver Own view post (limited (Some n) (stream l0.source)) (Some n) K c.mode h.tag r mark (limited l2.limit (stream l2.source)) l2.limit
+      ran_at : (K : Form) → RanOver why view post (limited_stream stream l1) l1.limit K c.mode h.tag r mark (limited_stream stream l2) l2.limit → RanOver why view post (limited (Some n) (stream l0.source)) (Some n) K c.mode h.tag r mark (limited l2.limit (stream l2.source)) l2.limit
       ran_at K ran =
-          subst (λ z. RanOver Own view post (limited (Some n) (stream z)) (Some n) K c.mode h.tag r mark (limited_stream stream l2) l2.limit) b1
-          (subst (λ z. RanOver Own view post (limited z (stream l1.source)) z K c.mode h.tag r mark (limited_stream stream l2) l2.limit) a1 ran)
+          subst (λ z. RanOver why view post (limited (Some n) (stream z)) (Some n) K c.mode h.tag r mark (limited_stream stream l2) l2.limit) b1
+          (subst (λ z. RanOver why view post (limited z (stream l1.source)) z K c.mode h.tag r mark (limited_stream stream l2) l2.limit) a1 ran)
 
       limit_is : l3.limit ≡ popped l0.limit n l2.limit
       limit_is = a3 ∙ ap (λ z. popped z n l2.limit) oo
@@ -268,17 +270,17 @@ module _ {C T E : Type 0} (Own : E → Type 0) (view : C → Reading) (post : Ta
       stream_is : d.stream ≡ limited (popped l0.limit n l2.limit) (stream l2.source)
       stream_is = ds ∙ ap (λ z. limited l3.limit (stream z)) b3 ∙ ap (λ z. limited z (stream l2.source)) limit_is
 
-      pub takes_octets : h.form ≡ false → IsSound (stream l0.source) → RanOver Own view post (limited_stream stream l1) l1.limit Octets c.mode h.tag r mark (limited_stream stream l2) l2.limit → TakesContent Own view post c h r d
+      pub takes_octets : h.form ≡ false → IsSound (stream l0.source) → RanOver why view post (limited_stream stream l1) l1.limit Octets c.mode h.tag r mark (limited_stream stream l2) l2.limit → TakesContent why view post c h r d
       takes_octets g so ran =
           let q = ran_at Octets ran in
           takes_definite Octets n (stream l0.source) (stream l2.source) l0.limit l2.limit hn (subst (λ z. IsFormOf z (Definite n) Octets) (sym g) refl) cs co stream_is (do' ∙ limit_is) (subst (λ z. FitsOwed z l0.limit) hn fits) q
           (λ octets e mv w. encodes_primitive c.mode h.tag h.form h.len octets q.handed q.left e q.runs.state q.runs.mode mv w n hn g q.runs.kind q.runs.owed (subst (λ z. AreOctets z.rest) (sym q.runs.stream) ((limited_sound (Some n) (stream l0.source) so).octets)))
 
-      pub takes_values : h.form ≡ true → RanOver Own view post (limited_stream stream l1) l1.limit DefiniteValues c.mode h.tag r mark (limited_stream stream l2) l2.limit → TakesContent Own view post c h r d
+      pub takes_values : h.form ≡ true → RanOver why view post (limited_stream stream l1) l1.limit DefiniteValues c.mode h.tag r mark (limited_stream stream l2) l2.limit → TakesContent why view post c h r d
       takes_values g ran =
           let q = ran_at DefiniteValues ran in
           takes_definite DefiniteValues n (stream l0.source) (stream l2.source) l0.limit l2.limit hn (subst (λ z. IsFormOf z (Definite n) DefiniteValues) (sym g) refl) cs co stream_is (do' ∙ limit_is) (subst (λ z. FitsOwed z l0.limit) hn fits) q
           (λ octets e mv w. encodes_definite c.mode h.tag h.form h.len octets q.handed q.left e q.runs.state q.runs.mode mv w n hn g q.runs.kind q.runs.owed)
 
-    pub takes_marked : h.len ≡ Indefinite → RanOver Own view post c.stream c.owed IndefiniteValues c.mode h.tag r mark d.stream d.owed → TakesContent Own view post c h r d
+    pub takes_marked : h.len ≡ Indefinite → RanOver why view post c.stream c.owed IndefiniteValues c.mode h.tag r mark d.stream d.owed → TakesContent why view post c h r d
     takes_marked hn ran = takes_indefinite hn ran (λ octets e mv w. encodes_indefinite c.mode h.tag h.form h.len octets ran.handed ran.left e ran.runs.state ran.runs.mode mv w hn ran.runs.kind)

@@ -16,5 +16,6 @@ pub mod Remaining
 pub mod Walking
 pub mod Walked
 pub mod Stopping
+pub mod Stepping
 pub mod Decoding
 pub mod Insides

@@ -1,16 +1,18 @@
 -- A step that stopped is an error for the same reason.
-use Rattle.std.proofs.Common.{subst}
+use Rattle.std.proofs.Common.{◌≡◌}
+use Rattle.bcder.specs.declared.decode.error.ContentError.{ContentError}
+use Rattle.bcder.specs.Cause.{Cause, of_source, IsOfContent}
 use Rattle.bcder.specs.Content.{Reading, Asked}
 use Rattle.bcder.specs.Content as content
 use Rattle.bcder.specs.Walking as walking
 
-module _ {E F : Type 0} (Own : E → Type 0) (Own' : F → Type 0) (s : E) (e : F) (own : Own s → Own' e) (c d : Reading) where
-  pub header_stopped : (asked : Asked) → content.RefusesHeader Own asked c s d → content.RefusesHeader Own' asked c e d
+module _ {E F : Type 0} (stopped : E → Cause ContentError) (why : F → Cause ContentError) (s : E) (e : F) (own : IsOfContent (stopped s) → IsOfContent (why e)) (source : stopped s ≡ of_source → why e ≡ of_source) (c d : Reading) where
+  pub header_stopped : (asked : Asked) → content.RefusesHeader stopped asked c s d → content.RefusesHeader why asked c e d
   header_stopped asked (content.RefusesHeader.failed x o) = content.RefusesHeader.failed x (own o)
-  header_stopped asked (content.RefusesHeader.source x) = content.RefusesHeader.source x
+  header_stopped asked (content.RefusesHeader.source k x) = content.RefusesHeader.source (source k) x
   header_stopped asked (content.RefusesHeader.nothing x o) = content.RefusesHeader.nothing x (own o)
 
-  pub walk_stopped : walking.RefusesWalk Own c s d → walking.RefusesWalk Own' c e d
+  pub walk_stopped : walking.RefusesWalk stopped c s d → walking.RefusesWalk why c e d
   walk_stopped (walking.RefusesWalk.failed x o) = walking.RefusesWalk.failed x (own o)
-  walk_stopped (walking.RefusesWalk.source x) = walking.RefusesWalk.source x
+  walk_stopped (walking.RefusesWalk.source k x) = walking.RefusesWalk.source (source k) x
   walk_stopped (walking.RefusesWalk.nothing s n f o) = walking.RefusesWalk.nothing s n f (own o)

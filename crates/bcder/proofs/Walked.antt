@@ -9,49 +9,44 @@ use Rattle.bcder.specs.Tree.{Tree}
 use Rattle.bcder.specs.Encoding.{IsEncoding}
 use Rattle.bcder.specs.Grammar.{IsOnly}
 use Rattle.bcder.specs.Stream.{Stream, Grew}
+use Rattle.bcder.specs.declared.decode.error.ContentError.{ContentError}
+use Rattle.bcder.specs.Cause.{Cause, of_source, IsOfContent}
 use Rattle.bcder.specs.Content.{Reading, any, label, Moves, IsDone, EndsBefore, EndsAt}
 use Rattle.bcder.specs.Calls.{Answered, AnswersDone, TakesValue, RefusesContent, by_closure, unfinished, RefusesFront, RefusesValue}
 use Rattle.bcder.specs.Calls as calls
 use Rattle.bcder.specs.Views.{of_primitive}
-use Rattle.bcder.specs.Walking.{HasValue, NoValue, PassesValue, AnswersNext}
+use Rattle.bcder.specs.Walking.{HasValue, NoValue, PassesValue, AnswersNext, WalksBy}
 use Rattle.bcder.specs.Walking as walking
 use Rattle.bcder.specs.laws.Complete.{only_at_front}
 use Rattle.bcder.proofs.Moving.{open_not_failed}
 use Rattle.bcder.proofs.Entering.{Within, header_not_at_end}
 use Rattle.bcder.proofs.Walking.{no_value_of_nothing, end_of_nothing, refused_inside, refused_end as refused_left, value_not_at_end, value_once}
 
--- a closure that walks its content to the end
-pub record WalksBy {E : Type 0} (Own : E → Type 0) {T : Type 0} (i : Reading) (r : Result T E) (j : Reading) : Type 0 where
-  pub moves : Moves i j
-  pub marked : OnOk r (j.marked ≡ i.marked)
-  pub done : OnOk r (IsDone j)
-  pub refused : IfErr r (λ e. walking.RefusesValues Own i e j)
+abbrev pub WalksContent : {C T E : Type 0} → (E → Cause ContentError) → (C → Reading) → (Tag → MutBor C → Result T E → MutBor C → Type 0) → Type 0
+WalksContent {C} {T} {E} why view post = (t : Tag) (p : MutBor C) (r : Result T E) (q : MutBor C) → post t p r q → WalksBy why (view p.now) r (view q.now)
 
-abbrev pub WalksContent : {C T E : Type 0} → (E → Type 0) → (C → Reading) → (Tag → MutBor C → Result T E → MutBor C → Type 0) → Type 0
-WalksContent {C} {T} {E} Own view post = (t : Tag) (p : MutBor C) (r : Result T E) (q : MutBor C) → post t p r q → WalksBy Own (view p.now) r (view q.now)
-
-module _ {C T E : Type 0} (Own : E → Type 0) (view : C → Reading) (post : Tag → MutBor C → Result T E → MutBor C → Type 0) (k : WalksContent Own view post) where
-  walks_by : (t : Tag) (i j : Reading) (r : Result T E) → Answered {R = Result T E} view post t i r j → WalksBy Own i r j
-  walks_by t i j r a = subst (λ z. WalksBy Own z r j) a.handed_is (subst (λ z. WalksBy Own (view a.handed.now) r z) a.left_is (k t a.handed r a.left a.called))
+module _ {C T E : Type 0} (why : E → Cause ContentError) (view : C → Reading) (post : Tag → MutBor C → Result T E → MutBor C → Type 0) (k : WalksContent why view post) where
+  walks_by : (t : Tag) (i j : Reading) (r : Result T E) → Answered {R = Result T E} view post t i r j → WalksBy why i r j
+  walks_by t i j r a = subst (λ z. WalksBy why z r j) a.handed_is (subst (λ z. WalksBy why (view a.handed.now) r z) a.left_is (k t a.handed r a.left a.called))
 
   -- ---- refused
 
-  front_refused : (c d : Reading) (e : E) (f : RefusesFront Own view post any c e d) → RefusesContent Own view post f.front.tag f.handed e f.left → Grew c.stream.faults d.stream.faults ⊎ (NoValue c × Own e)
-  front_refused c d e f (by_closure x) = refused_inside Own e c d f.handed f.left f.after f.front f.hands f.faults_handed f.faults_left (walks_by f.front.tag f.handed f.left (Err e) x).refused
+  front_refused : (c d : Reading) (e : E) (f : RefusesFront why view post any c e d) → RefusesContent why view post f.front.tag f.handed e f.left → ((why e ≡ of_source) × Grew c.stream.faults d.stream.faults) ⊎ (NoValue c × IsOfContent (why e))
+  front_refused c d e f (by_closure x) = refused_inside why e c d f.handed f.left f.after f.front f.hands f.faults_handed f.faults_left (walks_by f.front.tag f.handed f.left (Err e) x).refused
   front_refused c d e f (unfinished y l x m z) =
       let w = walks_by f.front.tag f.handed l (Ok y) x in
-      inl (refused_left Own e c d f.handed f.left f.after f.front f.hands f.faults_handed f.faults_left l w.done w.moves z)
+      inl (refused_left why e c d f.handed f.left f.after f.front f.hands f.faults_handed f.faults_left l w.done w.moves z)
 
-  walk_refused : (c d : Reading) (e : E) → Within c → RefusesValue Own view post any c e d → walking.RefusesWalk Own c e d
+  walk_refused : (c d : Reading) (e : E) → Within c → RefusesValue why view post any c e d → walking.RefusesWalk why c e d
   walk_refused c d e w (calls.RefusesValue.failed s a) = walking.RefusesWalk.failed s a
-  walk_refused c d e w (calls.RefusesValue.source s) = walking.RefusesWalk.source s
+  walk_refused c d e w (calls.RefusesValue.source k s) = walking.RefusesWalk.source k s
   walk_refused c d e w (calls.RefusesValue.nothing n a) = walking.RefusesWalk.nothing n.usable (no_value_of_nothing c w n) (end_of_nothing c n) a
   walk_refused c d e w (calls.RefusesValue.content f) = elim (front_refused c d e f f.refuses) [
-    | inl s ↦ walking.RefusesWalk.source s
+    | inl s ↦ walking.RefusesWalk.source s.0 s.1
     | inr n ↦ walking.RefusesWalk.nothing f.usable n.0 (header_not_at_end c f.after w f.usable f.front) n.1
   ]
 
-  pub refuses_walk : {U : Type 0} (c d : Reading) (r : Result U E) → Within c → IfErr r (λ e. RefusesValue Own view post any c e d) → IfErr r (λ e. walking.RefusesWalk Own c e d)
+  pub refuses_walk : {U : Type 0} (c d : Reading) (r : Result U E) → Within c → IfErr r (λ e. RefusesValue why view post any c e d) → IfErr r (λ e. walking.RefusesWalk why c e d)
   refuses_walk c d (Ok x) w h = tt
   refuses_walk c d (Err e) w h = walk_refused c d e w h
 
@@ -91,29 +86,29 @@ module _ {C T E : Type 0} (Own : E → Type 0) (view : C → Reading) (post : Ta
 
 -- ---- exactly where a value stands in front
 
-module _ {E : Type 0} (Own : E → Type 0) (c d : Reading) where
-  refused_value : (e : E) (t : Tree) (v after : List ℕ) → HasValue c t v after → (Grew c.stream.faults d.stream.faults → ⊥) → walking.RefusesWalk Own c e d → ⊥
+module _ {E : Type 0} (why : E → Cause ContentError) (c d : Reading) where
+  refused_value : (e : E) (t : Tree) (v after : List ℕ) → HasValue c t v after → (Grew c.stream.faults d.stream.faults → ⊥) → walking.RefusesWalk why c e d → ⊥
   refused_value e t v after h n (walking.RefusesWalk.failed s a) = open_not_failed c.state h.usable s
-  refused_value e t v after h n (walking.RefusesWalk.source s) = n s
+  refused_value e t v after h n (walking.RefusesWalk.source k s) = n s
   refused_value e t v after h n (walking.RefusesWalk.nothing s x y a) = x.none t v after h.encodes h.rest
 
-  refused_end : (e : E) (after : List ℕ) → EndsBefore c after → (Grew c.stream.faults d.stream.faults → ⊥) → walking.RefusesWalk Own c e d → ⊥
+  refused_end : (e : E) (after : List ℕ) → EndsBefore c after → (Grew c.stream.faults d.stream.faults → ⊥) → walking.RefusesWalk why c e d → ⊥
   refused_end e after (inl h) n (walking.RefusesWalk.failed s a) = (let x : Ended ≡ Failed = sym h ∙ s in cc)
   refused_end e after (inr h) n (walking.RefusesWalk.failed s a) = open_not_failed c.state h.0 s
-  refused_end e after h n (walking.RefusesWalk.source s) = n s
+  refused_end e after h n (walking.RefusesWalk.source k s) = n s
   refused_end e after h n (walking.RefusesWalk.nothing s x y a) = y.none after h
 
-  pub answers_next : {T : Type 0} (r : Result (Option T) E) → Within c → IfOk r (λ o. IfSome o (λ _. PassesValue c d)) → IfOk r (λ o. IfNone o (EndsAt c d)) → IfErr r (λ e. walking.RefusesWalk Own c e d) → (Grew c.stream.faults d.stream.faults → ⊥) → AnswersNext c r d
+  pub answers_next : {T : Type 0} (r : Result (Option T) E) → Within c → IfOk r (λ o. IfSome o (λ _. PassesValue c d)) → IfOk r (λ o. IfNone o (EndsAt c d)) → IfErr r (λ e. walking.RefusesWalk why c e d) → (Grew c.stream.faults d.stream.faults → ⊥) → AnswersNext c r d
   answers_next (Ok None) w a b f n = record { found = λ t v after h. absurd (let z = value_not_at_end c w t v after h in z.none d.stream.rest b); ended = λ after h. refl }
   answers_next (Ok (Some x)) w a b f n = record { found = λ t v after h. (refl, (let s = value_once c a.tree t a.value v d.stream.rest after a.has h in s.rest)); ended = λ after h. absurd (let z = value_not_at_end c w a.tree a.value d.stream.rest a.has in z.none after h) }
   answers_next (Err e) w a b f n = record { found = λ t v after h. absurd (refused_value e t v after h n f); ended = λ after h. absurd (refused_end e after h n f) }
 
 -- ---- the octets of a primitive value
 
-module _ {S E : Type 0} (Own : E → Type 0) (stream : S → Stream) (a b : Primitive S) where
-  octets_refused : (e : E) → walking.RefusesOctets Own (of_primitive stream a) e (of_primitive stream b) → walking.RefusesValues Own (of_primitive stream a) e (of_primitive stream b)
+module _ {S E : Type 0} (why : E → Cause ContentError) (stream : S → Stream) (a b : Primitive S) where
+  octets_refused : (e : E) → walking.RefusesOctets why (of_primitive stream a) e (of_primitive stream b) → walking.RefusesValues why (of_primitive stream a) e (of_primitive stream b)
   unfolding of_primitive
-  octets_refused e (walking.RefusesOctets.failing x) = walking.RefusesValues.source x
+  octets_refused e (walking.RefusesOctets.failing k x) = walking.RefusesValues.source k x
   octets_refused e (walking.RefusesOctets.few x o) = walking.RefusesValues.short refl x o
 
   octets_done : {T : Type 0} (r : Result T E) → OnOk r ((of_primitive stream b).owed ≡ Some 0) → OnOk r (IsDone (of_primitive stream b))
@@ -121,7 +116,7 @@ module _ {S E : Type 0} (Own : E → Type 0) (stream : S → Stream) (a b : Prim
   octets_done (Ok x) e = inr (refl, e)
   octets_done (Err x) e = tt
 
-  octets_refuse : {T : Type 0} (r : Result T E) → IfErr r (λ e. walking.RefusesOctets Own (of_primitive stream a) e (of_primitive stream b)) → IfErr r (λ e. walking.RefusesValues Own (of_primitive stream a) e (of_primitive stream b))
+  octets_refuse : {T : Type 0} (r : Result T E) → IfErr r (λ e. walking.RefusesOctets why (of_primitive stream a) e (of_primitive stream b)) → IfErr r (λ e. walking.RefusesValues why (of_primitive stream a) e (of_primitive stream b))
   octets_refuse (Ok x) h = tt
   octets_refuse (Err x) h = octets_refused x h
 
@@ -129,7 +124,7 @@ module _ {S E : Type 0} (Own : E → Type 0) (stream : S → Stream) (a b : Prim
   always P (Ok x) p = p
   always P (Err x) p = tt
 
-  pub walks_octets : {T : Type 0} (r : Result T E) → Moves (of_primitive stream a) (of_primitive stream b) → OnOk r ((of_primitive stream b).owed ≡ Some 0) → IfErr r (λ e. walking.RefusesOctets Own (of_primitive stream a) e (of_primitive stream b)) → (of_primitive stream b).marked ≡ (of_primitive stream a).marked → WalksBy Own (of_primitive stream a) r (of_primitive stream b)
+  pub walks_octets : {T : Type 0} (r : Result T E) → Moves (of_primitive stream a) (of_primitive stream b) → OnOk r ((of_primitive stream b).owed ≡ Some 0) → IfErr r (λ e. walking.RefusesOctets why (of_primitive stream a) e (of_primitive stream b)) → (of_primitive stream b).marked ≡ (of_primitive stream a).marked → WalksBy why (of_primitive stream a) r (of_primitive stream b)
   walks_octets r m o e g = record { moves = m; done = octets_done r o; refused = octets_refuse r e; marked = always _ r g }
 
 -- ---- what a call answered

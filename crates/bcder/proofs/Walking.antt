@@ -11,6 +11,8 @@ use Rattle.bcder.specs.Length.{IsEndOfContents}
 use Rattle.bcder.specs.Tree.{Tree, Trees, no_trees, ◌∷ₜ◌}
 use Rattle.bcder.specs.Encoding.{IsEncoding, AreEncodings}
 use Rattle.bcder.specs.Stream.{Grew}
+use Rattle.bcder.specs.declared.decode.error.ContentError.{ContentError}
+use Rattle.bcder.specs.Cause.{Cause, of_source, IsOfContent}
 use Rattle.bcder.specs.Content.{Reading, Form, octets, values, Octets, DefiniteValues, IndefiniteValues, UnboundedValues, any, HasHeader, HasMarker, Moves, MovesBy, Falls, FitsOwed, IsDone, IsUsedUp, IsAtEnd, of_octets, of_definite, of_indefinite, of_unbounded, EndsBefore, EndsAt, NotAtEnd, NothingThere}
 use Rattle.bcder.specs.Calls.{Hands, IsFormOf, ContentOf, RefusesEnd, left_failed, source_failed, left_open}
 use Rattle.bcder.specs.Walking.{HasValue, NoValue, PassesValue, ClosesBefore, HasValues, IsShort, Walks, broken, short}
@@ -175,10 +177,10 @@ pub grew_from : (a b c : ℕ) → a ≤ b → Grew b c → Grew a c
 grew_from a b c h g = record { no_smaller = (let x : b ≤ c = g.no_smaller in omega arith); larger_or_last = elim g.larger_or_last [ inl x ↦ inl (omega arith) | inr x ↦ inr x ] }
 
 -- the loop stops at an error
-pub walks_refused : {E : Type 0} (Own : E → Type 0) (e : E) (i j k : Reading) → i.kind ≢ Octets → Walks i j → walking.RefusesWalk Own j e k → walking.RefusesValues Own i e k
-walks_refused Own e i j k o w (walking.RefusesWalk.failed f a) = walking.RefusesValues.failed (w.failed f) a
-walks_refused Own e i j k o w (walking.RefusesWalk.source f) = walking.RefusesValues.source (grew_from _ _ _ (moves_faults i j w.moves) f)
-walks_refused Own e i j k o w (walking.RefusesWalk.nothing s n f a) = walking.RefusesValues.broken o (λ h. no_values j s n f (w.remain h)) a
+pub walks_refused : {E : Type 0} (why : E → Cause ContentError) (e : E) (i j k : Reading) → i.kind ≢ Octets → Walks i j → walking.RefusesWalk why j e k → walking.RefusesValues why i e k
+walks_refused why e i j k o w (walking.RefusesWalk.failed f a) = walking.RefusesValues.failed (w.failed f) a
+walks_refused why e i j k o w (walking.RefusesWalk.source s f) = walking.RefusesValues.source s (grew_from _ _ _ (moves_faults i j w.moves) f)
+walks_refused why e i j k o w (walking.RefusesWalk.nothing s n f a) = walking.RefusesValues.broken o (λ h. no_values j s n f (w.remain h)) a
 
 -- at the end no values are left
 pub none_left : (c : Reading) (after : List ℕ) → c.kind ≢ Octets → IsAtEnd c after → HasValues c
@@ -283,14 +285,14 @@ not_failed_done j (inr s) e = (let x : Open ≡ Failed = sym s.0 ∙ e in cc)
 grew_between : (a b c d : ℕ) → a ≤ b → Grew b c → c ≡ d → Grew a d
 grew_between a b c d h g e = subst (λ x. Grew a x) e (grew_from a b c h g)
 
-module _ {E : Type 0} (Own : E → Type 0) (e : E) (c d i j : Reading) (after : List ℕ) (f : HasHeader any c after) (g : Hands c.mode f.form f.len after i) (b : c.stream.faults ≤ i.stream.faults) (s : j.stream.faults ≡ d.stream.faults) where
-  pub refused_inside : walking.RefusesValues Own i e j → Grew c.stream.faults d.stream.faults ⊎ (NoValue c × Own e)
+module _ {E : Type 0} (why : E → Cause ContentError) (e : E) (c d i j : Reading) (after : List ℕ) (f : HasHeader any c after) (g : Hands c.mode f.form f.len after i) (b : c.stream.faults ≤ i.stream.faults) (s : j.stream.faults ≡ d.stream.faults) where
+  pub refused_inside : walking.RefusesValues why i e j → ((why e ≡ of_source) × Grew c.stream.faults d.stream.faults) ⊎ (NoValue c × IsOfContent (why e))
   refused_inside (walking.RefusesValues.failed x a) = absurd (open_not_failed i.state g.state x)
-  refused_inside (walking.RefusesValues.source x) = inl (grew_between _ _ _ _ b x s)
+  refused_inside (walking.RefusesValues.source k x) = inl (k, grew_between _ _ _ _ b x s)
   refused_inside (walking.RefusesValues.broken k n a) = inr (broken_front c i after f g k n, a)
   refused_inside (walking.RefusesValues.short k n a) = inr (short_front c i after f g k n, a)
 
-  pub refused_end : (l : Reading) → IsDone l → Moves i l → RefusesEnd Own l e j → Grew c.stream.faults d.stream.faults
+  pub refused_end : (l : Reading) → IsDone l → Moves i l → RefusesEnd why l e j → (why e ≡ of_source) × Grew c.stream.faults d.stream.faults
   refused_end l q m (left_failed x a) = absurd (not_failed_done l q x)
-  refused_end l q m (source_failed x) = (let y : i.stream.faults ≤ l.stream.faults = moves_faults i l m in let z : c.stream.faults ≤ l.stream.faults = omega arith in grew_between _ _ _ _ z x s)
+  refused_end l q m (source_failed k x) = (k, let y : i.stream.faults ≤ l.stream.faults = moves_faults i l m in let z : c.stream.faults ≤ l.stream.faults = omega arith in grew_between _ _ _ _ z x s)
   refused_end l q m (left_open x a) = absurd (done_ends l i.kind (moves_kind i l m) (not_unbounded c i after f g) q x)

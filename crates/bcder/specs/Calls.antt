@@ -5,8 +5,10 @@ use Rattle.bcder.specs.declared.mode.Mode.{Mode}
 use Rattle.bcder.specs.declared.length.Length.{Length}
 use Rattle.bcder.specs.declared.length.Length.TheVariants.{Definite, Indefinite}
 use Rattle.bcder.specs.declared.decode.content.State.TheVariants.{Open, Failed}
-use Rattle.bcder.specs.Identifier.{Tag, IsTag}
+use Rattle.bcder.specs.Identifier.{Tag, IsValueTag}
 use Rattle.bcder.specs.Tree.{Tree}
+use Rattle.bcder.specs.declared.decode.error.ContentError.{ContentError}
+use Rattle.bcder.specs.Cause.{Cause, of_source, IsOfContent}
 use Rattle.bcder.specs.Encoding.{IsHeader, IsEncoding}
 use Rattle.bcder.specs.Reading.{Header}
 use Rattle.bcder.specs.Stream.{Stream, Grew, limited}
@@ -42,26 +44,20 @@ pub record IsOver (s : Stream) (o : Option ℕ) (k : Form) (m : Mode) (i : Readi
   pub mode : i.mode ≡ m
   pub marked : i.marked ≡ false
 
--- content that can be handed inside the content c: open, unmarked, in its mode, and shorter by what the header takes
+-- content that can be handed inside the content c: open, unmarked, in its mode, not at top level, and shorter by what the header takes
 pub record IsInside (c : Reading) (taken : ℕ) (i : Reading) : Type 0 where
   pub state : i.state ≡ Open
   pub mode : i.mode ≡ c.mode
   pub marked : i.marked ≡ false
+  pub bounded : i.kind ≢ UnboundedValues
   pub shorter : length i.stream.rest + taken ≤ length c.stream.rest
-
--- content that can be handed at top level
-pub record IsTopLevel (m : Mode) (i : Reading) : Type 0 where
-  pub state : i.state ≡ Open
-  pub mode : i.mode ≡ m
-  pub marked : i.marked ≡ false
-  pub kind : i.kind ≡ UnboundedValues
 
 -- ---- what is asked of a closure of a tag and content, and of one of content alone
 
 module _ {C : Type 0} (view : C → Reading) (Handed : Reading → Type 0) where
-  -- the closure may be called at any tag and any content that it can be handed
+  -- the closure may be called at any tag of a value and any content that it can be handed
   abbrev pub MayBeCalled : (Tag → MutBor C → Type 0) → Type 0
-  MayBeCalled pre = (t : Tag) (p : MutBor C) → IsTag t → Handed (view p.now) → pre t p
+  MayBeCalled pre = (t : Tag) (p : MutBor C) → IsValueTag t → Handed (view p.now) → pre t p
 
   -- the same at one tag
   abbrev pub MayBeCalledAt : Tag → (Tag → MutBor C → Type 0) → Type 0
@@ -74,7 +70,7 @@ module _ {C : Type 0} (view : C → Reading) (Handed : Reading → Type 0) where
 module _ {C R : Type 0} (view : C → Reading) (Handed : Reading → Type 0) where
   -- and what it leaves is where it moved that content to
   abbrev pub IsLawful : (Tag → MutBor C → R → MutBor C → Type 0) → Type 0
-  IsLawful post = (t : Tag) (p : MutBor C) (r : R) (q : MutBor C) → IsTag t → Handed (view p.now) → post t p r q → Moves (view p.now) (view q.now)
+  IsLawful post = (t : Tag) (p : MutBor C) (r : R) (q : MutBor C) → IsValueTag t → Handed (view p.now) → post t p r q → Moves (view p.now) (view q.now)
 
   abbrev pub IsLawfulAt : Tag → (Tag → MutBor C → R → MutBor C → Type 0) → Type 0
   IsLawfulAt t post = (p : MutBor C) (r : R) (q : MutBor C) → Handed (view p.now) → post t p r q → Moves (view p.now) (view q.now)
@@ -106,16 +102,16 @@ module _ {C R : Type 0} (view : C → Reading) where
     pub ends : EndsAt left j
     pub done : IsDone j
 
--- why content was not left at its end, and e was answered; `Own` holds of the refusals of content
-pub data RefusesEnd {E : Type 0} (Own : E → Type 0) (c : Reading) (e : E) (d : Reading) : Type 0 where
-  left_failed : c.state ≡ Failed → Own e → RefusesEnd Own c e d
-  source_failed : Grew c.stream.faults d.stream.faults → RefusesEnd Own c e d
-  left_open : NotAtEnd c → Own e → RefusesEnd Own c e d
+-- why content was not left at its end, and e was answered; `why` tells its cause
+pub data RefusesEnd {E : Type 0} (why : E → Cause ContentError) (c : Reading) (e : E) (d : Reading) : Type 0 where
+  left_failed : c.state ≡ Failed → IsOfContent (why e) → RefusesEnd why c e d
+  source_failed : why e ≡ of_source → Grew c.stream.faults d.stream.faults → RefusesEnd why c e d
+  left_open : NotAtEnd c → IsOfContent (why e) → RefusesEnd why c e d
 
--- why the content i of a value was refused with e, and left as j: the closure refused it, or what the closure left is not at its end
-pub data RefusesContent {C T E : Type 0} (Own : E → Type 0) (view : C → Reading) (post : Tag → MutBor C → Result T E → MutBor C → Type 0) (t : Tag) (i : Reading) (e : E) (j : Reading) : Type 0 where
-  by_closure : Answered {R = Result T E} view post t i (Err e) j → RefusesContent Own view post t i e j
-  unfinished : (x : T) (left : Reading) → Answered {R = Result T E} view post t i (Ok x) left → Moves left j → RefusesEnd Own left e j → RefusesContent Own view post t i e j
+-- why the content i of a value was refused with e, whose cause `why` tells, and left as j: the closure refused it, or what the closure left is not at its end
+pub data RefusesContent {C T E : Type 0} (why : E → Cause ContentError) (view : C → Reading) (post : Tag → MutBor C → Result T E → MutBor C → Type 0) (t : Tag) (i : Reading) (e : E) (j : Reading) : Type 0 where
+  by_closure : Answered {R = Result T E} view post t i (Err e) j → RefusesContent why view post t i e j
+  unfinished : (x : T) (left : Reading) → Answered {R = Result T E} view post t i (Ok x) left → Moves left j → RefusesEnd why left e j → RefusesContent why view post t i e j
 
 -- ---- a value that was taken, or not
 
@@ -136,7 +132,7 @@ module _ {C T E : Type 0} (view : C → Reading) (post : Tag → MutBor C → Re
     pub marked : d.marked ≡ (c.marked || left.marked)
 
 -- a header stands in front whose content was refused
-pub record RefusesFront {C T E : Type 0} (Own : E → Type 0) (view : C → Reading) (post : Tag → MutBor C → Result T E → MutBor C → Type 0) (asked : Asked) (c : Reading) (e : E) (d : Reading) : Type 0 where
+pub record RefusesFront {C T E : Type 0} (why : E → Cause ContentError) (view : C → Reading) (post : Tag → MutBor C → Result T E → MutBor C → Type 0) (asked : Asked) (c : Reading) (e : E) (d : Reading) : Type 0 where
   pub usable : c.state ≡ Open
   pub after : List ℕ
   pub front : HasHeader asked c after
@@ -146,14 +142,14 @@ pub record RefusesFront {C T E : Type 0} (Own : E → Type 0) (view : C → Read
   pub moves : Moves handed left
   pub faults_handed : c.stream.faults ≤ handed.stream.faults
   pub faults_left : left.stream.faults ≡ d.stream.faults
-  pub refuses : RefusesContent Own view post front.tag handed e left
+  pub refuses : RefusesContent why view post front.tag handed e left
 
--- why no value was taken from c, and e was answered
-pub data RefusesValue {C T E : Type 0} (Own : E → Type 0) (view : C → Reading) (post : Tag → MutBor C → Result T E → MutBor C → Type 0) (asked : Asked) (c : Reading) (e : E) (d : Reading) : Type 0 where
-  failed : c.state ≡ Failed → Own e → RefusesValue Own view post asked c e d
-  source : Grew c.stream.faults d.stream.faults → RefusesValue Own view post asked c e d
-  nothing : NothingThere asked c → Own e → RefusesValue Own view post asked c e d
-  content : RefusesFront Own view post asked c e d → RefusesValue Own view post asked c e d
+-- why no value was taken from c, and e was answered; `why` tells its cause
+pub data RefusesValue {C T E : Type 0} (why : E → Cause ContentError) (view : C → Reading) (post : Tag → MutBor C → Result T E → MutBor C → Type 0) (asked : Asked) (c : Reading) (e : E) (d : Reading) : Type 0 where
+  failed : c.state ≡ Failed → IsOfContent (why e) → RefusesValue why view post asked c e d
+  source : why e ≡ of_source → Grew c.stream.faults d.stream.faults → RefusesValue why view post asked c e d
+  nothing : NothingThere asked c → IsOfContent (why e) → RefusesValue why view post asked c e d
+  content : RefusesFront why view post asked c e d → RefusesValue why view post asked c e d
 
 -- a header of another form stands in front
 pub record HasForm (f : Bool) (asked : Asked) (c : Reading) : Type 0 where
@@ -176,7 +172,7 @@ pub record RunsOver (s : Stream) (o : Option ℕ) (k : Form) (m : Mode) (handed 
   pub left_owed : left.owed ≡ o'
   pub moves : Moves handed left
 
-module _ {C T E : Type 0} (Own : E → Type 0) (view : C → Reading) (post : Tag → MutBor C → Result T E → MutBor C → Type 0) where
+module _ {C T E : Type 0} (why : E → Cause ContentError) (view : C → Reading) (post : Tag → MutBor C → Result T E → MutBor C → Type 0) where
   -- a closure ran on content over a source
   pub record RanOver (s : Stream) (o : Option ℕ) (k : Form) (m : Mode) (t : Tag) (r : Result T E) (mark : Bool) (s' : Stream) (o' : Option ℕ) : Type 0 where
     pub handed : Reading
@@ -184,7 +180,7 @@ module _ {C T E : Type 0} (Own : E → Type 0) (view : C → Reading) (post : Ta
     pub runs : RunsOver s o k m handed left s' o'
     pub marks : left.marked ≡ mark
     pub answers : IfOk r (λ x. AnswersDone {R = Result T E} view post t handed (Ok x) left)
-    pub refuses : IfErr r (λ e. RefusesContent Own view post t handed e left)
+    pub refuses : IfErr r (λ e. RefusesContent why view post t handed e left)
 
   -- the content of a header was taken
   pub record TakesContent (c : Reading) (h : Header) (r : Result T E) (d : Reading) : Type 0 where
@@ -201,7 +197,7 @@ module _ {C T E : Type 0} (Own : E → Type 0) (view : C → Reading) (post : Ta
     pub faults_handed : handed.stream.faults ≡ c.stream.faults
     pub faults_left : left.stream.faults ≡ d.stream.faults
     pub answers : IfOk r (λ x. AnswersDone {R = Result T E} view post h.tag handed (Ok x) left)
-    pub refuses : IfErr r (λ e. RefusesContent Own view post h.tag handed e left)
+    pub refuses : IfErr r (λ e. RefusesContent why view post h.tag handed e left)
 
 -- the limit after a value of n octets, of which some are left
 abbrev pub popped : Option ℕ → ℕ → Option ℕ → Option ℕ

@@ -1,13 +1,13 @@
 -- What an error of decoding tells.
-use Rattle.std.specs.Prelude.{◌≡◌, ℕ, ◌++◌, Bool, true, false, List, Option, Some, None, codes, string_bytes}
+use Rattle.std.specs.Prelude.{◌≡◌, ℕ, ◌++◌, Bool, true, false, List, [], Option, Some, None, codes, string_bytes}
 use Rattle.std.specs.Fmt.{decimal, ◌++?◌}
 use Rattle.bcder.specs.Identifier.{Tag}
 use Rattle.bcder.specs.declared.decode.error.ContentError.{ContentError}
 use Rattle.bcder.specs.declared.decode.error.ContentError.TheVariants.{Static, Owned, ExpectedTag, ExpectedInteger, Boxed}
 use Rattle.bcder.specs.declared.decode.error.DecodeError.{DecodeError}
 use Rattle.bcder.specs.declared.decode.error.DecodeError.TheVariants.{Source, Content, NoMemory}
-use Rattle.bcder.specs.declared.decode.content.stop.Stop.{Stop}
-use Rattle.bcder.specs.declared.decode.content.stop.Stop.TheVariants as stop
+use Rattle.bcder.specs.declared.decode.stop.Stop.{Stop}
+use Rattle.bcder.specs.declared.decode.stop.Stop.TheVariants as stop
 
 -- why decoding failed, without the source's own error and the position; E is the type of content errors
 pub data Cause (E : Type 0) : Type 0 where
@@ -73,10 +73,18 @@ decode_text source_text error_text (Content error pos) = error_text error ++? So
 decode_text source_text error_text NoMemory = Some (codes "out of memory")
 
 -- content was refused: neither the source failed nor memory was wanted
-abbrev pub IsRefusal : {S : Type 0} → DecodeError S → Type 0
-IsRefusal e = MatchCause (cause_of e) ⊥ (Unit {0}) ⊥
+abbrev pub IsOfContent : {E : Type 0} → Cause E → Type 0
+IsOfContent c = MatchCause c ⊥ (Unit {0}) ⊥
 
--- the same of a step that stopped
-abbrev pub IsOwn : {S : Type 0} → Stop S → Type 0
-IsOwn (stop.Refused why) = Unit {0}
-IsOwn (stop.Source e) = ⊥
+abbrev pub IsRefusal : {S : Type 0} → DecodeError S → Type 0
+IsRefusal e = IsOfContent (cause_of e)
+
+-- why a step stopped; the text is left open
+abbrev pub stop_cause : {S : Type 0} → Stop S → Cause ContentError
+stop_cause (stop.Refused why) = of_content (Static [])
+stop_cause (stop.Source e) = of_source
+
+-- a fact for each reason to stop
+abbrev pub MatchStop : {S : Type 0} → Stop S → Type 0 → Type 0 → Type 0
+MatchStop (stop.Source e) A B = A
+MatchStop (stop.Refused why) A B = B

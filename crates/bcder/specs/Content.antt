@@ -15,6 +15,8 @@ use Rattle.bcder.specs.Tree.{Trees}
 use Rattle.bcder.specs.Encoding.{may_have, IsHeader, AreEncodings}
 use Rattle.bcder.specs.Reading.{Header, is_value_tag}
 use Rattle.bcder.specs.Stream.{Stream, Grew}
+use Rattle.bcder.specs.declared.decode.error.ContentError.{ContentError}
+use Rattle.bcder.specs.Cause.{Cause, of_source, IsOfContent}
 
 -- what content is made of: octets, or values whose end is known in one of three ways
 pub data Form : Type 0 where
@@ -249,8 +251,8 @@ pub record Resembles (c d : Reading) : Type 0 where
   pub marked : d.marked ≡ c.marked
   pub name : d.name ≡ c.name
 
--- why no header was passed, and e was answered; `Own` holds of the refusals of content
-pub data RefusesHeader {E : Type 0} (Own : E → Type 0) (asked : Asked) (c : Reading) (e : E) (d : Reading) : Type 0 where
-  failed : c.state ≡ Failed → Own e → RefusesHeader Own asked c e d
-  source : Grew c.stream.faults d.stream.faults → RefusesHeader Own asked c e d
-  nothing : NothingThere asked c → Own e → RefusesHeader Own asked c e d
+-- why no header was passed, and e was answered; `why` tells its cause
+pub data RefusesHeader {E : Type 0} (why : E → Cause ContentError) (asked : Asked) (c : Reading) (e : E) (d : Reading) : Type 0 where
+  failed : c.state ≡ Failed → IsOfContent (why e) → RefusesHeader why asked c e d
+  source : why e ≡ of_source → Grew c.stream.faults d.stream.faults → RefusesHeader why asked c e d
+  nothing : NothingThere asked c → IsOfContent (why e) → RefusesHeader why asked c e d

@@ -4,6 +4,8 @@ use Rattle.std.specs.Borrow.{MutBor}
 use Rattle.bcder.specs.declared.mode.Mode.{Mode}
 use Rattle.bcder.specs.declared.decode.content.State.TheVariants.{Failed}
 use Rattle.bcder.specs.Stream.{Stream, limited, borrowed}
+use Rattle.bcder.specs.declared.decode.error.ContentError.{ContentError}
+use Rattle.bcder.specs.Cause.{Cause, IsOfContent}
 use Rattle.bcder.specs.Content.{Reading, UnboundedValues, Moves}
 use Rattle.bcder.specs.Calls.{IsOver, RunsOver}
 
@@ -23,19 +25,19 @@ pub record AnsweredOn {C R : Type 0} (view : C → Reading) (post : MutBor C →
   pub left_is : view left.now ≡ j
   pub called : post handed r left
 
--- why content i was refused with e, and left as j: the closure refused it, or answered and left failed content; `Own` holds of the refusals of content
-pub data RefusesOn {C T E : Type 0} (Own : E → Type 0) (view : C → Reading) (post : MutBor C → Result T E → MutBor C → Type 0) (i : Reading) (e : E) (j : Reading) : Type 0 where
-  by_closure : AnsweredOn {R = Result T E} view post i (Err e) j → RefusesOn Own view post i e j
-  left_failed : (x : T) → AnsweredOn {R = Result T E} view post i (Ok x) j → j.state ≡ Failed → Own e → RefusesOn Own view post i e j
+-- why content i was refused with e, and left as j: the closure refused it, or answered and left failed content; `why` tells its cause
+pub data RefusesOn {C T E : Type 0} (why : E → Cause ContentError) (view : C → Reading) (post : MutBor C → Result T E → MutBor C → Type 0) (i : Reading) (e : E) (j : Reading) : Type 0 where
+  by_closure : AnsweredOn {R = Result T E} view post i (Err e) j → RefusesOn why view post i e j
+  left_failed : (x : T) → AnsweredOn {R = Result T E} view post i (Ok x) j → j.state ≡ Failed → IsOfContent (why e) → RefusesOn why view post i e j
 
 -- a closure ran on values up to the end of a source
-pub record RanOn {C T E : Type 0} (Own : E → Type 0) (view : C → Reading) (post : MutBor C → Result T E → MutBor C → Type 0) (s : Stream) (o : Option ℕ) (m : Mode) (r : Result T E) (s' : Stream) (o' : Option ℕ) : Type 0 where
+pub record RanOn {C T E : Type 0} (why : E → Cause ContentError) (view : C → Reading) (post : MutBor C → Result T E → MutBor C → Type 0) (s : Stream) (o : Option ℕ) (m : Mode) (r : Result T E) (s' : Stream) (o' : Option ℕ) : Type 0 where
   pub handed : Reading
   pub left : Reading
   pub runs : RunsOver s o UnboundedValues m handed left s' o'
   pub usable : OnOk r (left.state ≢ Failed)
   pub answers : IfOk r (λ x. AnsweredOn {R = Result T E} view post handed (Ok x) left)
-  pub refuses : IfErr r (λ e. RefusesOn Own view post handed e left)
+  pub refuses : IfErr r (λ e. RefusesOn why view post handed e left)
 
 -- content i over the source s was handed, and j over s' was left
 pub record HandsAll (s : Stream) (m : Mode) (i j : Reading) (s' : Stream) : Type 0 where
@@ -52,8 +54,8 @@ pub record Decodes {C T E : Type 0} (view : C → Reading) (post : MutBor C → 
   pub usable : left.state ≢ Failed
 
 -- nothing was decoded from the source s in a mode, but e answered, and s' is left of it
-pub record RefusesDecode {C T E : Type 0} (Own : E → Type 0) (view : C → Reading) (post : MutBor C → Result T E → MutBor C → Type 0) (s : Stream) (m : Mode) (e : E) (s' : Stream) : Type 0 where
+pub record RefusesDecode {C T E : Type 0} (why : E → Cause ContentError) (view : C → Reading) (post : MutBor C → Result T E → MutBor C → Type 0) (s : Stream) (m : Mode) (e : E) (s' : Stream) : Type 0 where
   pub handed : Reading
   pub left : Reading
   pub hands : HandsAll s m handed left s'
-  pub refuses : RefusesOn Own view post handed e left
+  pub refuses : RefusesOn why view post handed e left

@@ -1,13 +1,17 @@
 -- When the next value, and all values up to the end of content, are there.
-use Rattle.std.specs.Prelude.{◌≡◌, ◌≢◌, ℕ, ◌<◌, List, [], ◌++◌, length, Option, Some, Result, IsOkAnd, IsTrue, is_some, is_none}
+use Rattle.std.specs.Borrow.{MutBor}
+use Rattle.std.specs.Prelude.{◌≡◌, ◌≢◌, ℕ, ◌<◌, List, [], ◌++◌, length, Option, Some, Result, IsOkAnd, IfErr, OnOk, IsTrue, is_some, is_none}
 use Rattle.bcder.specs.declared.mode.Mode.{Mode}
 use Rattle.bcder.specs.declared.decode.content.Kind.TheVariants as kind
 use Rattle.bcder.specs.declared.decode.content.State.TheVariants.{Open, Ended, Failed}
+use Rattle.bcder.specs.Identifier.{Tag}
 use Rattle.bcder.specs.Tree.{Tree, Trees}
 use Rattle.bcder.specs.Encoding.{IsEncoding, AreEncodings}
 use Rattle.bcder.specs.Grammar.{IsOnly}
 use Rattle.bcder.specs.Stream.{Grew}
-use Rattle.bcder.specs.Content.{Reading, Form, octets, values, Octets, Moves, HasMarker, EndsBefore, NotAtEnd}
+use Rattle.bcder.specs.declared.decode.error.ContentError.{ContentError}
+use Rattle.bcder.specs.Cause.{Cause, of_source, IsOfContent}
+use Rattle.bcder.specs.Content.{Reading, Form, octets, values, Octets, Moves, HasMarker, EndsBefore, NotAtEnd, IsDone}
 
 -- ---- one value
 
@@ -29,11 +33,11 @@ pub record PassesValue (c d : Reading) : Type 0 where
   pub only : IsOnly c.mode tree value c.stream.rest
   pub stays : d.state ≡ Open
 
--- why no value of c was passed, and e was answered; `Own` holds of the refusals of content
-pub data RefusesWalk {E : Type 0} (Own : E → Type 0) (c : Reading) (e : E) (d : Reading) : Type 0 where
-  failed : c.state ≡ Failed → Own e → RefusesWalk Own c e d
-  source : Grew c.stream.faults d.stream.faults → RefusesWalk Own c e d
-  nothing : c.state ≡ Open → NoValue c → NotAtEnd c → Own e → RefusesWalk Own c e d
+-- why no value of c was passed, and e was answered; `why` tells its cause
+pub data RefusesWalk {E : Type 0} (why : E → Cause ContentError) (c : Reading) (e : E) (d : Reading) : Type 0 where
+  failed : c.state ≡ Failed → IsOfContent (why e) → RefusesWalk why c e d
+  source : why e ≡ of_source → Grew c.stream.faults d.stream.faults → RefusesWalk why c e d
+  nothing : c.state ≡ Open → NoValue c → NotAtEnd c → IsOfContent (why e) → RefusesWalk why c e d
 
 -- what is answered where a value stands in front, and what at the end
 pub record AnswersNext {T E : Type 0} (c : Reading) (r : Result (Option T) E) (d : Reading) : Type 0 where
@@ -62,17 +66,17 @@ pub record HasValues (c : Reading) : Type 0 where
 pub record IsShort (c : Reading) : Type 0 where
   pub short : (n : ℕ) → c.owed ≡ Some n → length c.stream.rest < n
 
--- why the octets of a primitive value were not passed, and e was answered; `Own` holds of the refusals of content
-pub data RefusesOctets {E : Type 0} (Own : E → Type 0) (c : Reading) (e : E) (d : Reading) : Type 0 where
-  failing : Grew c.stream.faults d.stream.faults → RefusesOctets Own c e d
-  few : IsShort c → Own e → RefusesOctets Own c e d
+-- why the octets of a primitive value were not passed, and e was answered; `why` tells its cause
+pub data RefusesOctets {E : Type 0} (why : E → Cause ContentError) (c : Reading) (e : E) (d : Reading) : Type 0 where
+  failing : why e ≡ of_source → Grew c.stream.faults d.stream.faults → RefusesOctets why c e d
+  few : IsShort c → IsOfContent (why e) → RefusesOctets why c e d
 
--- why content was not passed to its end, and e was answered
-pub data RefusesValues {E : Type 0} (Own : E → Type 0) (c : Reading) (e : E) (d : Reading) : Type 0 where
-  failed : c.state ≡ Failed → Own e → RefusesValues Own c e d
-  source : Grew c.stream.faults d.stream.faults → RefusesValues Own c e d
-  broken : c.kind ≢ Octets → (HasValues c → ⊥) → Own e → RefusesValues Own c e d
-  short : c.kind ≡ Octets → IsShort c → Own e → RefusesValues Own c e d
+-- why content was not passed to its end, and e was answered; `why` tells its cause
+pub data RefusesValues {E : Type 0} (why : E → Cause ContentError) (c : Reading) (e : E) (d : Reading) : Type 0 where
+  failed : c.state ≡ Failed → IsOfContent (why e) → RefusesValues why c e d
+  source : why e ≡ of_source → Grew c.stream.faults d.stream.faults → RefusesValues why c e d
+  broken : c.kind ≢ Octets → (HasValues c → ⊥) → IsOfContent (why e) → RefusesValues why c e d
+  short : c.kind ≡ Octets → IsShort c → IsOfContent (why e) → RefusesValues why c e d
 
 -- what a loop over values keeps: each that was passed was a whole one, so values up to the end remain exactly where they were there at first
 pub record Walks (c d : Reading) : Type 0 where
@@ -83,3 +87,17 @@ pub record Walks (c d : Reading) : Type 0 where
   pub failed : d.state ≡ Failed → c.state ≡ Failed
   pub remain : HasValues c → HasValues d
   pub were : HasValues d → HasValues c
+
+-- content was walked to its end, or not
+pub record WalksBy {E : Type 0} (why : E → Cause ContentError) {T : Type 0} (i : Reading) (r : Result T E) (j : Reading) : Type 0 where
+  pub moves : Moves i j
+  pub marked : OnOk r (j.marked ≡ i.marked)
+  pub done : OnOk r (IsDone j)
+  pub refused : IfErr r (λ e. RefusesValues why i e j)
+
+abbrev pub itself : Reading → Reading
+itself c = c
+
+-- the same as a closure's step over content
+abbrev pub walked : {T E : Type 0} → (E → Cause ContentError) → Tag → MutBor Reading → Result T E → MutBor Reading → Type 0
+walked why t p r q = WalksBy why p.now r q.now

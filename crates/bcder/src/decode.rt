@@ -3,6 +3,7 @@ mod content;
 mod error;
 mod header;
 mod source;
+mod stop;
 
 pub use content::walk::walk;
 pub use content::{Constructed, Content, Primitive};

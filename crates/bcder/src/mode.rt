@@ -1,7 +1,7 @@
 //! The three sets of encoding rules.
 ghost use Rattle.std.specs.Prelude.{◌≡◌, ◌↔◌, ◌≤◌, ◌++◌, ℕ, List, IsTrue, IfOk, IfErr};
 ghost use Rattle.bcder.specs.Calls.{MayBeCalledOn, IsLawfulOn};
-ghost use Rattle.bcder.specs.Cause.{IsRefusal};
+ghost use Rattle.bcder.specs.Cause.{cause_of};
 ghost use Rattle.bcder.specs.Decoding.{IsAllOf, IsAllBehind, Decodes, RefusesDecode};
 ghost use Rattle.bcder.specs.Stream.{Stream, borrowed};
 ghost use Rattle.bcder.specs.Views.{of_constructed, lent};
@@ -39,7 +39,7 @@ impl Mode {
         requires callable { MayBeCalledOn (of_constructed I.Source.stream) (IsAllOf (I.gives source) self) (F.pre op) }
         requires lawful { IsLawfulOn (of_constructed I.Source.stream) (IsAllOf (I.gives source) self) (F.post op) }
         ensures ok { IfOk result (λ x. (left : Stream) × Decodes (of_constructed I.Source.stream) (F.post op) (I.gives source) self x left) }
-        ensures refused { IfErr result (λ e. (left : Stream) × RefusesDecode IsRefusal (of_constructed I.Source.stream) (F.post op) (I.gives source) self e left) }
+        ensures refused { IfErr result (λ e. (left : Stream) × RefusesDecode cause_of (of_constructed I.Source.stream) (F.post op) (I.gives source) self e left) }
     {
         Constructed::decode(source, self, op)
     }
@@ -56,7 +56,7 @@ impl Mode {
         requires callable { MayBeCalledOn (of_constructed (lent S.stream)) (IsAllBehind (S.stream source.old) self) (F.pre op) }
         requires lawful { IsLawfulOn (of_constructed (lent S.stream)) (IsAllBehind (S.stream source.old) self) (F.post op) }
         ensures ok { IfOk result (λ x. (name : ℕ) × Decodes (of_constructed (lent S.stream)) (F.post op) (borrowed name (S.stream source.old)) self x (borrowed name (S.stream source.new))) }
-        ensures refused { IfErr result (λ e. (name : ℕ) × RefusesDecode IsRefusal (of_constructed (lent S.stream)) (F.post op) (borrowed name (S.stream source.old)) self e (borrowed name (S.stream source.new))) }
+        ensures refused { IfErr result (λ e. (name : ℕ) × RefusesDecode cause_of (of_constructed (lent S.stream)) (F.post op) (borrowed name (S.stream source.old)) self e (borrowed name (S.stream source.new))) }
         ensures passed { (passed : List ℕ) × ((S.stream source.old).rest ≡ passed ++ (S.stream source.new).rest) }
         ensures faults { (S.stream source.old).faults ≤ (S.stream source.new).faults }
         ensures kept { (S.stream source.new).kept ≡ (S.stream source.old).kept }

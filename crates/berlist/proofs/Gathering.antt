@@ -9,6 +9,7 @@ use Rattle.bcder.specs.Tree.{Tree, Trees, no_trees, ◌∷ₜ◌}
 use Rattle.bcder.specs.Encoding.{AreEncodings}
 use Rattle.bcder.specs.Preorder.{preorder, preorders}
 use Rattle.bcder.specs.Content.{Reading, Octets, UnboundedValues, any, HasHeader, Moves, IsDone, EndsAt}
+use Rattle.bcder.specs.declared.decode.error.ContentError.{ContentError}
 use Rattle.bcder.specs.Calls.{Hands, Answered, TakesValue, RefusesContent, by_closure, unfinished, RefusesValue}
 use Rattle.bcder.specs.Calls as calls
 use Rattle.bcder.specs.Walking.{PassesValue, ClosesBefore, HasValues, RefusesWalk, RefusesOctets, RefusesValues, Walks}
@@ -22,7 +23,7 @@ use Rattle.bcder.specs.declared.decode.content.Constructed.{Constructed}
 use Rattle.bcder.specs.Stream.{Stream, IsSound, Grew}
 use Rattle.bcder.specs.laws.Limits.{limited_sound}
 use Rattle.bcder.specs.Views.{of_primitive, of_constructed}
-use Rattle.bcder.specs.Cause.{IsRefusal}
+use Rattle.bcder.specs.Cause.{Cause, cause_of}
 use Rattle.bcder.proofs.Moving.{open_not_ended}
 use Rattle.bcder.proofs.Entering.{Within}
 use Rattle.bcder.proofs.Walking.{values_before, values_before_trees, moves_kind, walks_refused, none_left, none_left_trees, walks_refl, walks_value}
@@ -43,24 +44,24 @@ value_lines c d i after text depth f g p (of_octets k e) =
 value_lines c d i after text depth f g p (of_values k h e) = e ∙ ap (λ t. lines (preorder t depth)) (value_of_values c d i after f g p k h)
 
 -- what a closure makes of content
-pub record Gathers {T E : Type 0} (Own Want : E → Type 0) (bytes : T → List ℕ) (i : Reading) (tag : Tag) (depth : ℕ) (r : Result T E) (j : Reading) : Type 0 where
+pub record Gathers {T E : Type 0} (why : E → Cause ContentError) (Want : E → Type 0) (bytes : T → List ℕ) (i : Reading) (tag : Tag) (depth : ℕ) (r : Result T E) (j : Reading) : Type 0 where
   pub moves : Moves i j
   pub done : OnOk r (IsDone j)
   pub listed : IfOk r (λ x. i.state ≡ Open → ListsContent i tag depth (bytes x))
-  pub refused : IfErr r (λ e. Want e ⊎ RefusesValues Own i e j)
+  pub refused : IfErr r (λ e. Want e ⊎ RefusesValues why i e j)
   pub marked : OnOk r (j.marked ≡ i.marked)
 
-module _ {C T E : Type 0} (Own Want : E → Type 0) (decides : (e : E) → Want e ⊎ (Want e → ⊥)) (bytes : T → List ℕ) (view : C → Reading) (depth : ℕ) (post : Tag → MutBor C → Result T E → MutBor C → Type 0) (k : (t : Tag) (p : MutBor C) (r : Result T E) (q : MutBor C) → post t p r q → Gathers Own Want bytes (view p.now) t depth r (view q.now)) where
+module _ {C T E : Type 0} (why : E → Cause ContentError) (Want : E → Type 0) (decides : (e : E) → Want e ⊎ (Want e → ⊥)) (bytes : T → List ℕ) (view : C → Reading) (depth : ℕ) (post : Tag → MutBor C → Result T E → MutBor C → Type 0) (k : (t : Tag) (p : MutBor C) (r : Result T E) (q : MutBor C) → post t p r q → Gathers why Want bytes (view p.now) t depth r (view q.now)) where
   -- the closure, where it had memory
   abbrev Had : Tag → MutBor C → Result T E → MutBor C → Type 0
   Had t p r q = post t p r q × IfErr r (λ e. Want e → ⊥)
 
-  without : (i j : Reading) (r : Result T E) → IfErr r (λ e. Want e ⊎ RefusesValues Own i e j) → IfErr r (λ e. Want e → ⊥) → IfErr r (λ e. RefusesValues Own i e j)
+  without : (i j : Reading) (r : Result T E) → IfErr r (λ e. Want e ⊎ RefusesValues why i e j) → IfErr r (λ e. Want e → ⊥) → IfErr r (λ e. RefusesValues why i e j)
   without i j (Ok x) h n = tt
   without i j (Err e) (inl w) n = absurd (n w)
   without i j (Err e) (inr w) n = w
 
-  walks : WalksContent Own view Had
+  walks : WalksContent why view Had
   walks t p r q x = let g = k t p r q x.0 in record { moves = g.moves; marked = g.marked; done = g.done; refused = without (view p.now) (view q.now) r g.refused x.1 }
 
   answered : (t : Tag) (i j : Reading) (r : Result T E) → IfErr r (λ e. Want e → ⊥) → Answered {R = Result T E} view post t i r j → Answered {R = Result T E} view Had t i r j
@@ -97,7 +98,7 @@ module _ {C T E : Type 0} (Own Want : E → Type 0) (decides : (e : E) → Want 
 
   lists_value : (c d : Reading) (x : T) → TakesValue view post any c x d → ListsValue c depth (bytes x) d
   lists_value c d x v =
-      let p : PassesValue c d = walks_one Own view Had walks c d (Ok (Some x)) (taken c d x v) in
+      let p : PassesValue c d = walks_one why view Had walks c d (Ok (Some x)) (taken c d x v) in
       record { passes = p; is = value_lines c d v.handed (v.passed ++ d.stream.rest) (bytes x) depth v.front v.hands p (content_of c d x v) }
 
   pub lists_next : (c d : Reading) (r : Result (Option T) E) → IfOk r (λ o. IfSome o (λ x. TakesValue view post any c x d)) → IfOk r (λ o. IfSome o (λ x. ListsValue c depth (bytes x) d))
@@ -105,13 +106,13 @@ module _ {C T E : Type 0} (Own Want : E → Type 0) (decides : (e : E) → Want 
   lists_next c d (Ok (Some x)) h = lists_value c d x h
   lists_next c d (Err e) h = tt
 
-  refuses_content : (t : Tag) (i j : Reading) (e : E) → (Want e → ⊥) → RefusesContent Own view post t i e j → RefusesContent Own view Had t i e j
+  refuses_content : (t : Tag) (i j : Reading) (e : E) → (Want e → ⊥) → RefusesContent why view post t i e j → RefusesContent why view Had t i e j
   refuses_content t i j e n (by_closure a) = by_closure (answered t i j (Err e) n a)
   refuses_content t i j e n (unfinished x l a m z) = unfinished x l (answered t i l (Ok x) tt a) m z
 
-  refuses_value : (c d : Reading) (e : E) → (Want e → ⊥) → RefusesValue Own view post any c e d → RefusesValue Own view Had any c e d
+  refuses_value : (c d : Reading) (e : E) → (Want e → ⊥) → RefusesValue why view post any c e d → RefusesValue why view Had any c e d
   refuses_value c d e n (calls.RefusesValue.failed s o) = calls.RefusesValue.failed s o
-  refuses_value c d e n (calls.RefusesValue.source s) = calls.RefusesValue.source s
+  refuses_value c d e n (calls.RefusesValue.source x s) = calls.RefusesValue.source x s
   refuses_value c d e n (calls.RefusesValue.nothing x o) = calls.RefusesValue.nothing x o
   refuses_value c d e n (calls.RefusesValue.content f) = calls.RefusesValue.content (record {
     usable = f.usable;
@@ -126,21 +127,21 @@ module _ {C T E : Type 0} (Own Want : E → Type 0) (decides : (e : E) → Want 
     refuses = refuses_content f.front.tag f.handed f.left e n f.refuses;
   })
 
-  refused_next : (U : Type 0) (c d : Reading) (e : E) → Within c → RefusesValue Own view post any c e d → Want e ⊎ RefusesWalk Own c e d
+  refused_next : (U : Type 0) (c d : Reading) (e : E) → Within c → RefusesValue why view post any c e d → Want e ⊎ RefusesWalk why c e d
   refused_next U c d e w h = elim (decides e) [
     | inl m ↦ inl m
-    | inr n ↦ inr (refuses_walk Own view Had walks {U = U} c d (Err e) w (refuses_value c d e n h))
+    | inr n ↦ inr (refuses_walk why view Had walks {U = U} c d (Err e) w (refuses_value c d e n h))
   ]
 
-  pub refuses_next : {U : Type 0} (c d : Reading) (r : Result U E) → Within c → IfErr r (λ e. RefusesValue Own view post any c e d) → IfErr r (λ e. Want e ⊎ RefusesWalk Own c e d)
+  pub refuses_next : {U : Type 0} (c d : Reading) (r : Result U E) → Within c → IfErr r (λ e. RefusesValue why view post any c e d) → IfErr r (λ e. Want e ⊎ RefusesWalk why c e d)
   refuses_next c d (Ok x) w h = tt
   refuses_next {U} c d (Err e) w h = refused_next U c d e w h
 
 -- ---- a primitive value
 
-pub octets_refused : {E : Type 0} (Own : E → Type 0) (i j : Reading) (e : E) → i.kind ≡ Octets → RefusesOctets Own i e j → RefusesValues Own i e j
-octets_refused Own i j e k (RefusesOctets.failing x) = RefusesValues.source x
-octets_refused Own i j e k (RefusesOctets.few x o) = RefusesValues.short k x o
+pub octets_refused : {E : Type 0} (why : E → Cause ContentError) (i j : Reading) (e : E) → i.kind ≡ Octets → RefusesOctets why i e j → RefusesValues why i e j
+octets_refused why i j e k (RefusesOctets.failing y x) = RefusesValues.source y x
+octets_refused why i j e k (RefusesOctets.few x o) = RefusesValues.short k x o
 
 pub primitive_done : {S : Type 0} (stream : S → Stream) (p : Primitive S) → (of_primitive stream p).owed ≡ Some 0 → IsDone (of_primitive stream p)
 unfolding of_primitive
@@ -182,7 +183,7 @@ ends_here i j k depth old mid o g (inr e) s =
 
 pub refused_here : {S : Type 0} (e : DecodeError S) (i j k : Reading) → i.kind ≢ Octets → Walks i j → RefusesNext j e k → RefusesAll i e k
 refused_here e i j k o w (inl m) = inl m
-refused_here e i j k o w (inr r) = inr (walks_refused IsRefusal e i j k o w r)
+refused_here e i j k o w (inr r) = inr (walks_refused cause_of e i j k o w r)
 
 pub decides_want : {S : Type 0} (e : DecodeError S) → IsWant e ⊎ (IsWant e → ⊥)
 decides_want (error.Source e) = inr (λ h. cc)
@@ -247,16 +248,16 @@ module _ {C T S : Type 0} (view : C → Reading) (post : MutBor C → Result T (
   no_values : (e : DecodeError S) (i j : Reading) → (IsWant e → ⊥) → IsAllOf s mode i → j.stream.faults ≡ 0 → RefusesAll i e j → IsNoList mode s.rest
   no_values e i j n o f (inl m) ts a = n m
   no_values e i j n o f (inr (RefusesValues.failed x y)) ts a = let z = o.state in cc
-  no_values e i j n o f (inr (RefusesValues.source x)) ts a = grew_past i.stream.faults j.stream.faults x f
+  no_values e i j n o f (inr (RefusesValues.source k x)) ts a = grew_past i.stream.faults j.stream.faults x f
   no_values e i j n o f (inr (RefusesValues.broken x h y)) ts a = h (values_there i mode s.rest ts o.kind o.mode (ap (λ (z : Stream). z.rest) o.stream) a)
   no_values e i j n o f (inr (RefusesValues.short x h y)) ts a = let z = o.kind in cc
 
-  none_listed : (e : DecodeError S) (i j : Reading) → (IsWant e → ⊥) → IsAllOf s mode i → RefusesOn IsRefusal view post i e j → IsNoList mode s.rest
+  none_listed : (e : DecodeError S) (i j : Reading) → (IsWant e → ⊥) → IsAllOf s mode i → RefusesOn cause_of view post i e j → IsNoList mode s.rest
   none_listed e i j n o (decoding.by_closure a) =
       let g = k a.handed (Err e) a.left a.called in
       let f = ap (λ (z : Reading). z.stream.faults) (sym a.left_is) ∙ faultless a.left.now in
       no_values e i j n o f (subst (λ z. RefusesAll i e z) a.left_is (subst (λ z. RefusesAll z e (view a.left.now)) a.handed_is g.refused))
   none_listed e i j n o (decoding.left_failed x a z y) = absurd (done_not_failed j (subst IsDone a.left_is (k a.handed (Ok x) a.left a.called).done) z)
 
-  pub refuses_all : (e : DecodeError S) (s' : Stream) → (IsWant e → ⊥) → RefusesDecode IsRefusal view post s mode e s' → IsNoList mode s.rest
+  pub refuses_all : (e : DecodeError S) (s' : Stream) → (IsWant e → ⊥) → RefusesDecode cause_of view post s mode e s' → IsNoList mode s.rest
   refuses_all e s' n d = none_listed e d.handed d.left n d.hands.over d.refuses

@@ -29,8 +29,8 @@ pub record ListsValues (c : Reading) (depth : ℕ) (old new : List ℕ) : Type 0
 
 -- why no lines of the next value were gathered: there was no memory, or there is no such value
 abbrev pub RefusesNext : {S : Type 0} → Reading → DecodeError S → Reading → Type 0
-RefusesNext c e d = IsWant e ⊎ RefusesWalk IsRefusal c e d
+RefusesNext c e d = IsWant e ⊎ RefusesWalk cause_of c e d
 
 -- the same of all values up to the end
 abbrev pub RefusesAll : {S : Type 0} → Reading → DecodeError S → Reading → Type 0
-RefusesAll c e d = IsWant e ⊎ RefusesValues IsRefusal c e d
+RefusesAll c e d = IsWant e ⊎ RefusesValues cause_of c e d

@@ -9,7 +9,6 @@ mod forms;
 mod octets;
 mod remaining;
 mod sequences;
-mod stop;
 mod take;
 mod values;
 pub(super) mod walk;

@@ -1,6 +1,6 @@
 //! Decoding the values of a source.
 ghost use Rattle.std.specs.Prelude.{◌≡◌, ◌≢◌, ◌↔◌, ◌≤◌, ◌++◌, ℕ, List, None, IsTrue, IfOk, IfErr, OnOk};
-ghost use Rattle.bcder.specs.Cause.{IsRefusal};
+ghost use Rattle.bcder.specs.Cause.{cause_of, IsRefusal};
 ghost use Rattle.bcder.specs.Stream.{Stream, borrowed};
 ghost use Rattle.bcder.specs.Content.{Moves, UnboundedValues};
 ghost use Rattle.bcder.specs.Calls.{MayBeCalledOn, IsLawfulOn, IsOver};
@@ -48,7 +48,7 @@ where
     ensures name { cons.new.source.ghost_name ≡ cons.old.source.ghost_name }
     ensures usable { OnOk result (cons.new.state ≢ State.Failed) }
     ensures ok { IfOk result (λ x. AnsweredOn (of_constructed S.stream) (F.post op) (of_constructed S.stream cons.old) (Ok x) (of_constructed S.stream cons.new)) }
-    ensures refused { IfErr result (λ e. RefusesOn IsRefusal (of_constructed S.stream) (F.post op) (of_constructed S.stream cons.old) e (of_constructed S.stream cons.new)) }
+    ensures refused { IfErr result (λ e. RefusesOn cause_of (of_constructed S.stream) (F.post op) (of_constructed S.stream cons.old) e (of_constructed S.stream cons.new)) }
 {
     match op(cons) {
         Ok(value) => {
@@ -72,7 +72,7 @@ where
     F: FnOnce(&mut Constructed<'_, S>) -> Result<T, DecodeError<S::Error>>,
     requires callable { MayBeCalledOn (of_constructed S.stream) (IsOver (limited_stream S.stream source.old) source.old.limit UnboundedValues mode) (F.pre op) }
     requires lawful { IsLawfulOn (of_constructed S.stream) (IsOver (limited_stream S.stream source.old) source.old.limit UnboundedValues mode) (F.post op) }
-    ensures { RanOn IsRefusal (of_constructed S.stream) (F.post op) (limited_stream S.stream source.old) source.old.limit mode result (limited_stream S.stream source.new) source.new.limit }
+    ensures { RanOn cause_of (of_constructed S.stream) (F.post op) (limited_stream S.stream source.old) source.old.limit mode result (limited_stream S.stream source.new) source.new.limit }
 {
     let start = source.pos();
     let mut cons = Constructed {
@@ -102,7 +102,7 @@ where
     ensures faults { (S.stream limited.old.source.now).faults ≤ (S.stream limited.new.source.now).faults }
     ensures kept { (S.stream limited.new.source.now).kept ≡ (S.stream limited.old.source.now).kept }
     ensures ok { IfOk result (λ x. Decodes (of_constructed (lent S.stream)) (F.post op) (lent S.stream limited.old.source) mode x (lent S.stream limited.new.source)) }
-    ensures refused { IfErr result (λ e. RefusesDecode IsRefusal (of_constructed (lent S.stream)) (F.post op) (lent S.stream limited.old.source) mode e (lent S.stream limited.new.source)) }
+    ensures refused { IfErr result (λ e. RefusesDecode cause_of (of_constructed (lent S.stream)) (F.post op) (lent S.stream limited.old.source) mode e (lent S.stream limited.new.source)) }
 {
     run_over(limited, mode, op)
 }
@@ -123,7 +123,7 @@ impl<'a, S: Source + Drop> Constructed<'a, S> {
         requires callable { MayBeCalledOn (of_constructed S.stream) (IsAllOf (I.gives source) mode) (F.pre op) }
         requires lawful { IsLawfulOn (of_constructed S.stream) (IsAllOf (I.gives source) mode) (F.post op) }
         ensures ok { IfOk result (λ x. (left : Stream) × Decodes (of_constructed S.stream) (F.post op) (I.gives source) mode x left) }
-        ensures refused { IfErr result (λ e. (left : Stream) × RefusesDecode IsRefusal (of_constructed S.stream) (F.post op) (I.gives source) mode e left) }
+        ensures refused { IfErr result (λ e. (left : Stream) × RefusesDecode cause_of (of_constructed S.stream) (F.post op) (I.gives source) mode e left) }
     {
         let mut limited = LimitedSource::new(source.into_source());
         run_over(&mut limited, mode, op)
@@ -145,7 +145,7 @@ impl<'a, S: Source> Constructed<'a, S> {
         requires callable { MayBeCalledOn (of_constructed (lent S.stream)) (IsAllBehind (S.stream source.old) mode) (F.pre op) }
         requires lawful { IsLawfulOn (of_constructed (lent S.stream)) (IsAllBehind (S.stream source.old) mode) (F.post op) }
         ensures ok { IfOk result (λ x. (name : ℕ) × Decodes (of_constructed (lent S.stream)) (F.post op) (borrowed name (S.stream source.old)) mode x (borrowed name (S.stream source.new))) }
-        ensures refused { IfErr result (λ e. (name : ℕ) × RefusesDecode IsRefusal (of_constructed (lent S.stream)) (F.post op) (borrowed name (S.stream source.old)) mode e (borrowed name (S.stream source.new))) }
+        ensures refused { IfErr result (λ e. (name : ℕ) × RefusesDecode cause_of (of_constructed (lent S.stream)) (F.post op) (borrowed name (S.stream source.old)) mode e (borrowed name (S.stream source.new))) }
         ensures passed { (passed : List ℕ) × ((S.stream source.old).rest ≡ passed ++ (S.stream source.new).rest) }
         ensures faults { (S.stream source.old).faults ≤ (S.stream source.new).faults }
         ensures kept { (S.stream source.new).kept ≡ (S.stream source.old).kept }

@@ -1,6 +1,6 @@
 //! Taking the next value.
 ghost use Rattle.std.specs.Prelude.{◌≡◌, ◌≢◌, ℕ, ◌+◌, ◌≤◌, ◌⊎◌, ◌↔◌, ◌||◌, false, true, Bool, List, [], length, take, IsTrue, Option, Some, None, IfOk, IfErr, IfSome, IfNone, OnOk, OnErr};
-ghost use Rattle.bcder.specs.Cause.{IsRefusal, IsOwn};
+ghost use Rattle.bcder.specs.Cause.{cause_of, stop_cause, of_source, IsOfContent, IsRefusal};
 ghost use Rattle.bcder.specs.Stream.{Grew};
 ghost use Rattle.bcder.specs.Identifier.{AreOctets, end_of_contents};
 ghost use Rattle.bcder.specs.Reading.{Header as HeaderRead};
@@ -11,11 +11,11 @@ ghost use Rattle.bcder.specs.Content.{Octets, values};
 ghost use Rattle.bcder.specs.Calls.{MayBeCalled, IsLawful, MayBeCalledAt, IsLawfulAt, IsOver, AnswersDone, RefusesContent, RefusesEnd, RanOver, IsInside, TakesContent, TakesValue, RefusesValue, popped};
 ghost use Rattle.bcder.specs.Views.{of_constructed, of_primitive, of_content, limited_stream, content_name, content_source, content_mark};
 
-use super::stop::{Stop, Why};
 use super::{Constructed, Content, Kind, Primitive, State};
 use crate::decode::error::{ContentError, DecodeError};
 use crate::decode::header::{Header, Peeked, PeekedIf, peek, peek_if};
 use crate::decode::source::{LimitedSource, Source};
+use crate::decode::stop::{Stop, Why};
 use crate::length::Length;
 use crate::mode::Mode;
 use crate::tag::Tag;
@@ -70,6 +70,18 @@ impl<'a, S: Source> Constructed<'a, S> {
         self.source.content_err(ContentError::from_static(text))
     }
 
+    /// The error that a stop is, at the present position.
+    #[cold]
+    pub(super) fn stopped(&self, stop: Stop<S::Error>) -> DecodeError<S::Error>
+        ensures refused { IsOfContent (stop_cause stop) → IsRefusal result }
+        ensures source { stop_cause stop ≡ of_source → cause_of result ≡ of_source }
+    {
+        match stop {
+            Stop::Refused(why) => self.refusal(why.text()),
+            Stop::Source(error) => DecodeError::Source(error),
+        }
+    }
+
     /// A refusal of what is not this tag.
     pub(super) fn expected(&self, tag: Tag) -> DecodeError<S::Error>
         ensures { IsRefusal result }
@@ -121,17 +133,13 @@ impl<'a, S: Source> Constructed<'a, S> {
     /// Passes over a header, or an end marker.
     #[tactic(auto, unfolding(crate::specs::Views::of_constructed))]
     #[inline(always)]
-    fn enter(
-        &mut self,
-        header: Header,
-        size: usize,
-    ) -> Result<Option<Header>, Stop<S::Error>>
+    fn enter(&mut self, header: Header, size: usize) -> Result<Option<Header>, Stop<S::Error>>
         requires read { Peeks self.old.mode (Peeked.Front header size) (limited_stream S.stream self.old.source.now) }
         requires usable { self.old.state ≡ State.Open }
         ensures moves { Moves (of_constructed S.stream self.old) (of_constructed S.stream self.new) }
         ensures entered { IfOk result (λ o. IfSome o (λ h. (h ≡ header) × Enters (of_constructed S.stream self.old) (header_of header) (of_constructed S.stream self.new))) }
         ensures ended { IfOk result (λ o. IfNone o ((header.tag ≡ end_of_contents) × TakesMarker (of_constructed S.stream self.old) (of_constructed S.stream self.new))) }
-        ensures refused { IfErr result (λ e. IsOwn e × NoFront (of_constructed S.stream self.old)) }
+        ensures refused { IfErr result (λ e. IsOfContent (stop_cause e) × NoFront (of_constructed S.stream self.old)) }
         ensures failed { OnErr result (self.new.state ≡ State.Failed) }
         ensures mode { self.new.mode ≡ self.old.mode }
         ensures marked { self.new.marked ≡ self.old.marked }
@@ -173,7 +181,7 @@ impl<'a, S: Source> Constructed<'a, S> {
         ensures moves { Moves (of_constructed S.stream self.old) (of_constructed S.stream self.new) }
         ensures entered { IfOk result (λ o. IfSome o (λ h. Enters (of_constructed S.stream self.old) (header_of h) (of_constructed S.stream self.new))) }
         ensures end { IfOk result (λ o. IfNone o (EndsAt (of_constructed S.stream self.old) (of_constructed S.stream self.new) × IsDone (of_constructed S.stream self.new))) }
-        ensures refused { IfErr result (λ e. RefusesHeader IsOwn any (of_constructed S.stream self.old) e (of_constructed S.stream self.new)) }
+        ensures refused { IfErr result (λ e. RefusesHeader stop_cause any (of_constructed S.stream self.old) e (of_constructed S.stream self.new)) }
         ensures failed { OnErr result (self.new.state ≡ State.Failed) }
         ensures mode { self.new.mode ≡ self.old.mode }
         ensures marked { self.new.marked ≡ self.old.marked }
@@ -212,7 +220,7 @@ impl<'a, S: Source> Constructed<'a, S> {
         ensures moves { Moves (of_constructed S.stream self.old) (of_constructed S.stream self.new) }
         ensures entered { IfOk result (λ o. IfSome o (λ h. Enters (of_constructed S.stream self.old) (header_of h) (of_constructed S.stream self.new))) }
         ensures end { IfOk result (λ o. IfNone o (EndsAt (of_constructed S.stream self.old) (of_constructed S.stream self.new) × IsDone (of_constructed S.stream self.new))) }
-        ensures refused { IfErr result (λ e. RefusesHeader IsRefusal any (of_constructed S.stream self.old) e (of_constructed S.stream self.new)) }
+        ensures refused { IfErr result (λ e. RefusesHeader cause_of any (of_constructed S.stream self.old) e (of_constructed S.stream self.new)) }
         ensures failed { OnErr result (self.new.state ≡ State.Failed) }
         ensures mode { self.new.mode ≡ self.old.mode }
         ensures marked { self.new.marked ≡ self.old.marked }
@@ -230,7 +238,7 @@ impl<'a, S: Source> Constructed<'a, S> {
         ensures moves { Moves (of_constructed S.stream self.old) (of_constructed S.stream self.new) }
         ensures entered { IfOk result (λ o. IfSome o (λ h. (h.tag ≡ tag) × Enters (of_constructed S.stream self.old) (header_of h) (of_constructed S.stream self.new))) }
         ensures absent { IfOk result (λ o. IfNone o (IsAbsent (tagged tag) (of_constructed S.stream self.old) (of_constructed S.stream self.new).stream.rest × IsLeft tag (of_constructed S.stream self.old) (of_constructed S.stream self.new))) }
-        ensures refused { IfErr result (λ e. RefusesHeader IsOwn (tagged tag) (of_constructed S.stream self.old) e (of_constructed S.stream self.new)) }
+        ensures refused { IfErr result (λ e. RefusesHeader stop_cause (tagged tag) (of_constructed S.stream self.old) e (of_constructed S.stream self.new)) }
         ensures failed { OnErr result (self.new.state ≡ State.Failed) }
         ensures mode { self.new.mode ≡ self.old.mode }
         ensures marked { self.new.marked ≡ self.old.marked }
@@ -263,7 +271,7 @@ impl<'a, S: Source> Constructed<'a, S> {
         ensures moves { Moves (of_constructed S.stream self.old) (of_constructed S.stream self.new) }
         ensures entered { IfOk result (λ o. IfSome o (λ h. (h.tag ≡ tag) × Enters (of_constructed S.stream self.old) (header_of h) (of_constructed S.stream self.new))) }
         ensures absent { IfOk result (λ o. IfNone o (IsAbsent (tagged tag) (of_constructed S.stream self.old) (of_constructed S.stream self.new).stream.rest × IsLeft tag (of_constructed S.stream self.old) (of_constructed S.stream self.new))) }
-        ensures refused { IfErr result (λ e. RefusesHeader IsRefusal (tagged tag) (of_constructed S.stream self.old) e (of_constructed S.stream self.new)) }
+        ensures refused { IfErr result (λ e. RefusesHeader cause_of (tagged tag) (of_constructed S.stream self.old) e (of_constructed S.stream self.new)) }
         ensures failed { OnErr result (self.new.state ≡ State.Failed) }
         ensures mode { self.new.mode ≡ self.old.mode }
         ensures marked { self.new.marked ≡ self.old.marked }
@@ -284,7 +292,7 @@ impl<'a, S: Source> Content<'a, S> {
         ensures marked { content_mark self.new ≡ content_mark self.old }
         ensures done { OnOk result (IsDone (of_content S.stream self.new)) }
         ensures end { OnOk result (EndsAt (of_content S.stream self.old) (of_content S.stream self.new)) }
-        ensures refused { IfErr result (λ e. RefusesEnd IsRefusal (of_content S.stream self.old) e (of_content S.stream self.new)) }
+        ensures refused { IfErr result (λ e. RefusesEnd cause_of (of_content S.stream self.old) e (of_content S.stream self.new)) }
     {
         match self {
             Content::Primitive(primitive) => match primitive.source.limit() {
@@ -347,7 +355,7 @@ where
     ensures moves { Moves (of_content S.stream content.old) (of_content S.stream content.new) }
     ensures name { content_name content.new ≡ content_name content.old }
     ensures ok { IfOk result (λ x. AnswersDone (of_content S.stream) (F.post op) tag (of_content S.stream content.old) (Ok x) (of_content S.stream content.new)) }
-    ensures refused { IfErr result (λ e. RefusesContent IsRefusal (of_content S.stream) (F.post op) tag (of_content S.stream content.old) e (of_content S.stream content.new)) }
+    ensures refused { IfErr result (λ e. RefusesContent cause_of (of_content S.stream) (F.post op) tag (of_content S.stream content.old) e (of_content S.stream content.new)) }
 {
     match op(tag, content) {
         Ok(value) => match content.finish() {
@@ -370,7 +378,7 @@ where
     F: FnOnce(Tag, &mut Content<'_, S>) -> Result<T, DecodeError<S::Error>>,
     requires callable { MayBeCalledAt (of_content S.stream) (IsOver (limited_stream S.stream source.old) source.old.limit Octets mode) tag (F.pre op) }
     requires lawful { IsLawfulAt (of_content S.stream) (IsOver (limited_stream S.stream source.old) source.old.limit Octets mode) tag (F.post op) }
-    ensures { RanOver IsRefusal (of_content S.stream) (F.post op) (limited_stream S.stream source.old) source.old.limit Octets mode tag result.0 result.1 (limited_stream S.stream source.new) source.new.limit }
+    ensures { RanOver cause_of (of_content S.stream) (F.post op) (limited_stream S.stream source.old) source.old.limit Octets mode tag result.0 result.1 (limited_stream S.stream source.new) source.new.limit }
 {
     let start = source.pos();
     let mut content = Content::Primitive(Primitive {
@@ -398,7 +406,7 @@ where
     F: FnOnce(Tag, &mut Content<'_, S>) -> Result<T, DecodeError<S::Error>>,
     requires callable { MayBeCalledAt (of_content S.stream) (IsOver (limited_stream S.stream source.old) source.old.limit (values kind) mode) tag (F.pre op) }
     requires lawful { IsLawfulAt (of_content S.stream) (IsOver (limited_stream S.stream source.old) source.old.limit (values kind) mode) tag (F.post op) }
-    ensures { RanOver IsRefusal (of_content S.stream) (F.post op) (limited_stream S.stream source.old) source.old.limit (values kind) mode tag result.0 result.1 (limited_stream S.stream source.new) source.new.limit }
+    ensures { RanOver cause_of (of_content S.stream) (F.post op) (limited_stream S.stream source.old) source.old.limit (values kind) mode tag result.0 result.1 (limited_stream S.stream source.new) source.new.limit }
 {
     let start = source.pos();
     let mut content = Content::Constructed(Constructed {
@@ -417,7 +425,7 @@ where
 
 /// Limits the source to the content of a value, and answers the limit of the content around it.
 #[inline(always)]
-fn push<S>(source: &mut LimitedSource<S>, len: usize) -> Option<usize>
+pub(super) fn push<S>(source: &mut LimitedSource<S>, len: usize) -> Option<usize>
     ensures outer { result ≡ source.old.limit }
     ensures limit { source.new.limit ≡ Some len }
     ensures source { source.new.source ≡ source.old.source }
@@ -429,7 +437,7 @@ fn push<S>(source: &mut LimitedSource<S>, len: usize) -> Option<usize>
 
 /// Gives the source the limit of the content around a value back, less what was passed over.
 #[inline(always)]
-fn pop<S>(source: &mut LimitedSource<S>, outer: Option<usize>, len: usize)
+pub(super) fn pop<S>(source: &mut LimitedSource<S>, outer: Option<usize>, len: usize)
     ensures limit { source.new.limit ≡ popped outer len source.old.limit }
     ensures source { source.new.source ≡ source.old.source }
 {
@@ -462,7 +470,7 @@ impl<'a, S: Source> Constructed<'a, S> {
         requires callable { MayBeCalledAt (of_content S.stream) (IsInside (of_constructed S.stream self.old) 0) header.tag (F.pre op) }
         requires lawful { IsLawfulAt (of_content S.stream) (IsInside (of_constructed S.stream self.old) 0) header.tag (F.post op) }
         requires fits { FitsOwed header.len self.old.source.now.limit }
-        ensures taken { TakesContent IsRefusal (of_content S.stream) (F.post op) (of_constructed S.stream self.old) (header_of header) result (of_constructed S.stream self.new) }
+        ensures taken { TakesContent cause_of (of_content S.stream) (F.post op) (of_constructed S.stream self.old) (header_of header) result (of_constructed S.stream self.new) }
     {
         match header.len {
             Length::Definite(len) => {
@@ -515,7 +523,7 @@ impl<'a, S: Source> Constructed<'a, S> {
         ensures done { IfOk result (λ o. IfNone o (IsDone (of_constructed S.stream self.new))) }
         ensures value { IfOk result (λ o. IfSome o (λ x. TakesValue (of_content S.stream) (F.post op) any (of_constructed S.stream self.old) x (of_constructed S.stream self.new))) }
         ensures shorter { IfOk result (λ o. IfSome o (λ _. length (of_constructed S.stream self.new).stream.rest + 2 ≤ length (of_constructed S.stream self.old).stream.rest)) }
-        ensures refused { IfErr result (λ e. RefusesValue IsRefusal (of_content S.stream) (F.post op) any (of_constructed S.stream self.old) e (of_constructed S.stream self.new)) }
+        ensures refused { IfErr result (λ e. RefusesValue cause_of (of_content S.stream) (F.post op) any (of_constructed S.stream self.old) e (of_constructed S.stream self.new)) }
         ensures failed { OnErr result ((of_constructed S.stream self.new).state ≡ State.Failed) }
         ensures mode { (of_constructed S.stream self.new).mode ≡ (of_constructed S.stream self.old).mode }
         ensures unmarked { IfOk result (λ o. IfNone o ((of_constructed S.stream self.new).marked ≡ (of_constructed S.stream self.old).marked)) }
@@ -545,7 +553,7 @@ impl<'a, S: Source> Constructed<'a, S> {
         ensures left { IfOk result (λ o. IfNone o (IsLeft tag (of_constructed S.stream self.old) (of_constructed S.stream self.new))) }
         ensures value { IfOk result (λ o. IfSome o (λ x. TakesValue (of_content S.stream) (F.post op) (tagged tag) (of_constructed S.stream self.old) x (of_constructed S.stream self.new))) }
         ensures shorter { IfOk result (λ o. IfSome o (λ _. length (of_constructed S.stream self.new).stream.rest + 2 ≤ length (of_constructed S.stream self.old).stream.rest)) }
-        ensures refused { IfErr result (λ e. RefusesValue IsRefusal (of_content S.stream) (F.post op) (tagged tag) (of_constructed S.stream self.old) e (of_constructed S.stream self.new)) }
+        ensures refused { IfErr result (λ e. RefusesValue cause_of (of_content S.stream) (F.post op) (tagged tag) (of_constructed S.stream self.old) e (of_constructed S.stream self.new)) }
         ensures failed { OnErr result ((of_constructed S.stream self.new).state ≡ State.Failed) }
         ensures mode { (of_constructed S.stream self.new).mode ≡ (of_constructed S.stream self.old).mode }
         ensures unmarked { IfOk result (λ o. IfNone o ((of_constructed S.stream self.new).marked ≡ (of_constructed S.stream self.old).marked)) }

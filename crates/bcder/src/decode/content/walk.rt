@@ -1,14 +1,22 @@
 //! Walking over values, which looks at every header inside them.
-ghost use Rattle.std.specs.Prelude.{◌≡◌, IfOk, IfErr, IfSome, IfNone, OnOk, OnErr};
-ghost use Rattle.bcder.specs.Cause.{IsRefusal};
+ghost use Rattle.std.specs.Prelude.{◌≡◌, ◌≢◌, false, IfOk, IfErr, IfSome, IfNone, OnOk, OnErr};
+ghost use Rattle.bcder.specs.Cause.{cause_of, stop_cause};
 ghost use Rattle.bcder.specs.Stream.{Grew};
-ghost use Rattle.bcder.specs.Content.{Moves, EndsAt, IsDone};
-ghost use Rattle.bcder.specs.Walking.{PassesValue, AnswersNext, RefusesWalk, HasValues, RefusesValues};
-ghost use Rattle.bcder.specs.Views.{of_constructed, of_content};
+ghost use Rattle.bcder.specs.Identifier.{Tag as TagValue};
+ghost use Rattle.bcder.specs.Peek.{header as header_of};
+ghost use Rattle.bcder.specs.Content.{Moves, EndsAt, IsDone, FitsOwed, values};
+ghost use Rattle.bcder.specs.Calls.{RanOver, TakesContent};
+ghost use Rattle.bcder.specs.Walking.{PassesValue, AnswersNext, RefusesWalk, HasValues, RefusesValues, itself, walked};
+ghost use Rattle.bcder.specs.Views.{of_constructed, limited_stream};
 
-use super::{Constructed, Content, State};
+use super::take::{pop, push};
+use super::{Constructed, Kind, State};
 use crate::decode::error::DecodeError;
-use crate::decode::source::Source;
+use crate::decode::header::Header;
+use crate::decode::source::{LimitedSource, Source};
+use crate::decode::stop::Stop;
+use crate::length::Length;
+use crate::mode::Mode;
 
 /// Passes over the next value, or answers `None` at the end of the content, whose marker it takes.
 ///
@@ -21,44 +29,116 @@ use crate::decode::source::Source;
 ///
 /// Where neither the encoding of a value nor the end stands in front, where an earlier value was
 /// refused or where the source fails. The content has then failed.
-#[cycle(walk)]
+#[inline(always)]
 pub fn walk<S: Source>(cons: &mut Constructed<'_, S>) -> Result<Option<()>, DecodeError<S::Error>>
     ensures moves { Moves (of_constructed S.stream cons.old) (of_constructed S.stream cons.new) }
     ensures value { IfOk result (λ o. IfSome o (λ _. PassesValue (of_constructed S.stream cons.old) (of_constructed S.stream cons.new))) }
     ensures end { IfOk result (λ o. IfNone o (EndsAt (of_constructed S.stream cons.old) (of_constructed S.stream cons.new))) }
     ensures done { IfOk result (λ o. IfNone o (IsDone (of_constructed S.stream cons.new))) }
-    ensures refused { IfErr result (λ e. RefusesWalk IsRefusal (of_constructed S.stream cons.old) e (of_constructed S.stream cons.new)) }
+    ensures refused { IfErr result (λ e. RefusesWalk cause_of (of_constructed S.stream cons.old) e (of_constructed S.stream cons.new)) }
     ensures exact { (Grew (of_constructed S.stream cons.old).stream.faults (of_constructed S.stream cons.new).stream.faults → ⊥) → AnswersNext (of_constructed S.stream cons.old) result (of_constructed S.stream cons.new) }
     ensures failed { OnErr result ((of_constructed S.stream cons.new).state ≡ State.Failed) }
     ensures mode { (of_constructed S.stream cons.new).mode ≡ (of_constructed S.stream cons.old).mode }
     ensures marked { OnOk result ((of_constructed S.stream cons.new).marked ≡ (of_constructed S.stream cons.old).marked) }
 {
-    cons.take_opt_value(
-        |_tag, content|
-            ensures moves { Moves (of_content S.stream content.old) (of_content S.stream content.new) }
-            ensures done { OnOk result (IsDone (of_content S.stream content.new)) }
-            ensures refused { IfErr result (λ e. RefusesValues IsRefusal (of_content S.stream content.old) e (of_content S.stream content.new)) }
-            ensures marked { OnOk result ((of_content S.stream content.new).marked ≡ (of_content S.stream content.old).marked) }
-        {
-            match content {
-                Content::Primitive(primitive) => primitive.skip_all(),
-                Content::Constructed(constructed) => walk_all(constructed),
+    match step(cons) {
+        Ok(passed) => Ok(passed),
+        Err(stop) => Err(cons.stopped(stop)),
+    }
+}
+
+/// The same, with a stop in the place of an error.
+#[cycle(walk)]
+#[tactic(auto, unfolding(crate::specs::Views::of_constructed))]
+#[inline(always)]
+fn step<S: Source>(cons: &mut Constructed<'_, S>) -> Result<Option<()>, Stop<S::Error>>
+    ensures moves { Moves (of_constructed S.stream cons.old) (of_constructed S.stream cons.new) }
+    ensures value { IfOk result (λ o. IfSome o (λ _. PassesValue (of_constructed S.stream cons.old) (of_constructed S.stream cons.new))) }
+    ensures end { IfOk result (λ o. IfNone o (EndsAt (of_constructed S.stream cons.old) (of_constructed S.stream cons.new))) }
+    ensures done { IfOk result (λ o. IfNone o (IsDone (of_constructed S.stream cons.new))) }
+    ensures refused { IfErr result (λ e. RefusesWalk stop_cause (of_constructed S.stream cons.old) e (of_constructed S.stream cons.new)) }
+    ensures failed { OnErr result ((of_constructed S.stream cons.new).state ≡ State.Failed) }
+    ensures mode { (of_constructed S.stream cons.new).mode ≡ (of_constructed S.stream cons.old).mode }
+    ensures marked { (of_constructed S.stream cons.new).marked ≡ (of_constructed S.stream cons.old).marked }
+{
+    match cons.next_header() {
+        Ok(None) => Ok(None),
+        Ok(Some(header)) => match pass_content(cons, header) {
+            Ok(()) => {
+                cons.state = State::Open;
+                Ok(Some(()))
             }
+            Err(stop) => Err(stop),
         },
-    )
+        Err(stop) => Err(stop),
+    }
+}
+
+/// Passes over the content of a value whose header was passed over.
+#[cycle(walk)]
+#[tactic(auto, using(crate::proofs::Moving::moves_refl, crate::proofs::Moving::moves_trans), unfolding(crate::specs::Views::of_constructed))]
+#[inline(always)]
+fn pass_content<S: Source>(
+    cons: &mut Constructed<'_, S>,
+    header: Header,
+) -> Result<(), Stop<S::Error>>
+    requires { FitsOwed header.len cons.old.source.now.limit }
+    ensures taken { TakesContent stop_cause itself (walked stop_cause) (of_constructed S.stream cons.old) (header_of header) result (of_constructed S.stream cons.new) }
+    ensures mode { cons.new.mode ≡ cons.old.mode }
+    ensures marked { cons.new.marked ≡ cons.old.marked }
+    ensures state { cons.new.state ≡ cons.old.state }
+{
+    match header.len {
+        Length::Definite(len) => {
+            if header.constructed {
+                let outer = push(cons.source, len);
+                let result = walk_over(cons.source, Kind::Definite, cons.mode);
+                pop(cons.source, outer, len);
+                result
+            } else {
+                cons.source.skip_owed(len)
+            }
+        }
+        Length::Indefinite => walk_over(cons.source, Kind::Indefinite, cons.mode),
+    }
+}
+
+/// Passes over the values inside a value.
+#[cycle(walk)]
+#[tactic(auto, using(crate::proofs::Moving::moves_refl, crate::proofs::Moving::moves_trans), unfolding(crate::specs::Views::of_constructed))]
+#[inline(never)]
+fn walk_over<S: Source>(
+    source: &mut LimitedSource<S>,
+    kind: Kind,
+    mode: Mode,
+) -> Result<(), Stop<S::Error>>
+    requires { kind ≢ Kind.Unbounded }
+    ensures { (t : TagValue) → RanOver stop_cause itself (walked stop_cause) (limited_stream S.stream source.old) source.old.limit (values kind) mode t result false (limited_stream S.stream source.new) source.new.limit }
+{
+    let start = source.pos();
+    let mut cons = Constructed {
+        source: &mut *source,
+        kind,
+        state: State::Open,
+        mode,
+        marked: false,
+        start,
+    };
+    walk_all(&mut cons)
 }
 
 /// Passes over all values up to the end of the content, whose marker it takes.
 #[cycle(walk)]
-fn walk_all<S: Source>(cons: &mut Constructed<'_, S>) -> Result<(), DecodeError<S::Error>>
+fn walk_all<S: Source>(cons: &mut Constructed<'_, S>) -> Result<(), Stop<S::Error>>
     ensures moves { Moves (of_constructed S.stream cons.old) (of_constructed S.stream cons.new) }
     ensures all { OnOk result ((of_constructed S.stream cons.old).state ≡ State.Open → HasValues (of_constructed S.stream cons.old)) }
     ensures done { OnOk result (IsDone (of_constructed S.stream cons.new)) }
-    ensures refused { IfErr result (λ e. RefusesValues IsRefusal (of_constructed S.stream cons.old) e (of_constructed S.stream cons.new)) }
+    ensures refused { IfErr result (λ e. RefusesValues stop_cause (of_constructed S.stream cons.old) e (of_constructed S.stream cons.new)) }
     ensures failed { OnErr result ((of_constructed S.stream cons.new).state ≡ State.Failed) }
     ensures mode { (of_constructed S.stream cons.new).mode ≡ (of_constructed S.stream cons.old).mode }
-    ensures marked { OnOk result ((of_constructed S.stream cons.new).marked ≡ (of_constructed S.stream cons.old).marked) }
+    ensures marked { (of_constructed S.stream cons.new).marked ≡ (of_constructed S.stream cons.old).marked }
+    ensures name { cons.new.source.ghost_name ≡ cons.old.source.ghost_name }
 {
-    while walk(cons)?.is_some() {}
+    while step(cons)?.is_some() {}
     Ok(())
 }

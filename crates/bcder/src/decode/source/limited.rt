@@ -1,6 +1,8 @@
 //! A source that is cut at a limit.
 ghost use Rattle.std.specs.Prelude.{◌≡◌, true, ℕ, ◌+◌, ◌-◌, ◌^◌, ◌<◌, ◌≤◌, List, [], ◌∷◌, ◌++◌, length, take, drop, slice_range, Some, None, IsSome, IfOk, IfErr, OnOk, OnErr};
-ghost use Rattle.bcder.specs.Cause.{cause_of, MatchCause};
+ghost use Rattle.bcder.specs.Calls.{popped};
+ghost use Rattle.bcder.specs.Cause.{cause_of, MatchCause, MatchStop};
+ghost use Rattle.bcder.specs.Content.{FitsOwed};
 ghost use Rattle.bcder.specs.Sources.{wrapped, limit_of, owed};
 ghost use Rattle.bcder.specs.Stream.{Grew, limited, IsNoLooser, IsUsedUp};
 ghost use Rattle.bcder.specs.laws.Limits.{limited_sound};
@@ -9,6 +11,8 @@ use super::capture::take_front;
 use super::{Pos, Source};
 use crate::NoMemory;
 use crate::decode::error::{ContentError, DecodeError};
+use crate::decode::stop::{Stop, Why};
+use crate::length::Length;
 use bytes::Bytes;
 use std::alloc::Global;
 use std::mem;
@@ -99,6 +103,37 @@ impl<S: Source> LimitedSource<S> {
         self.source.advance(limit);
         self.limit = Some(0);
         Ok(())
+    }
+
+    /// Passes over so many octets, which the limit allows. A refusal passes over none.
+    #[inline(always)]
+    pub(crate) fn skip_owed(&mut self, len: usize) -> Result<(), Stop<S::Error>>
+        requires { FitsOwed (Length.Definite len) self.old.limit }
+        ensures enough { OnOk result (len ≤ length (S.stream self.old.source).rest) }
+        ensures limit { OnOk result (self.new.limit ≡ popped self.old.limit len (Some 0)) }
+        ensures rest { OnOk result ((S.stream self.new.source).rest ≡ drop len (S.stream self.old.source).rest) }
+        ensures no_fault { OnOk result ((S.stream self.new.source).faults ≡ (S.stream self.old.source).faults) }
+        ensures cause { IfErr result (λ e. MatchStop e
+            (Grew (S.stream self.old.source).faults (S.stream self.new.source).faults)
+            (length (S.stream self.old.source).rest < len)) }
+        ensures no_fewer { (S.stream self.old.source).faults ≤ (S.stream self.new.source).faults }
+        ensures err { OnErr result ((S.stream self.new.source).rest ≡ (S.stream self.old.source).rest) }
+        ensures err_limit { OnErr result (self.new.limit ≡ self.old.limit) }
+        ensures kept { (S.stream self.new.source).kept ≡ (S.stream self.old.source).kept }
+    {
+        match self.source.request(len) {
+            Ok(found) => {
+                if found < len {
+                    return Err(Stop::Refused(Why::Short));
+                }
+                self.source.advance(len);
+                if let Some(limit) = self.limit {
+                    self.limit = Some(limit - len);
+                }
+                Ok(())
+            }
+            Err(error) => Err(Stop::Source(error)),
+        }
     }
 
     /// Takes all octets up to the limit, of which there has to be one.

@@ -1,5 +1,5 @@
 use Rattle.std.proofs.Common.{rules, ◌≤◌, length, arith, string_bytes}
-use Rattle.bcder.specs.Cause.{IsRefusal}
+use Rattle.bcder.specs.Cause.{cause_of}
 use Rattle.bcder.specs.Views.{of_constructed, of_content}
 use Rattle.bcder.proofs.Moving.{moves_refl, moves_trans}
 use Rattle.bcder.proofs.Names.{within_constructed, constructed_form}
@@ -10,10 +10,10 @@ use Rattle.berlist.proofs.Gathering.{lists_next, refuses_next, decides_want, hea
 use Rattle.berlist.proofs.gather.+gather.Goals as goal
 
 pub next_lines-returns-clause-listed : goal.next_lines-returns-clause-listed
-next_lines-returns-clause-listed g t c = lists_next IsRefusal IsWant decides_want string_bytes (of_content g.S.Source.stream) c.args.depth _ (λ tag p r q x. search rules) _ _ c.take_opt_value.result c.take_opt_value.ensures.value
+next_lines-returns-clause-listed g t c = lists_next cause_of IsWant decides_want string_bytes (of_content g.S.Source.stream) c.args.depth _ (λ tag p r q x. search rules) _ _ c.take_opt_value.result c.take_opt_value.ensures.value
 
 pub next_lines-returns-clause-refused : goal.next_lines-returns-clause-refused
-next_lines-returns-clause-refused g t c = refuses_next IsRefusal IsWant decides_want string_bytes (of_content g.S.Source.stream) c.args.depth _ (λ tag p r q x. search rules) _ _ c.take_opt_value.result (within_constructed g.S.Source.stream g.met.S.Source.sound c.args.cons.now) c.take_opt_value.ensures.refused
+next_lines-returns-clause-refused g t c = refuses_next cause_of IsWant decides_want string_bytes (of_content g.S.Source.stream) c.args.depth _ (λ tag p r q x. search rules) _ _ c.take_opt_value.result (within_constructed g.S.Source.stream g.met.S.Source.sound c.args.cons.now) c.take_opt_value.ensures.refused
 
 pub next_lines-take_opt_value-returns-in-Primitive : goal.next_lines-take_opt_value-returns-in-Primitive
 next_lines-take_opt_value-returns-in-Primitive g t c = let e = c.primitive_line.ensures in rw c.in-Primitive.is (record { moves = e.moves; done = e.done; listed = e.listed; refused = e.refused; marked = e.marked })

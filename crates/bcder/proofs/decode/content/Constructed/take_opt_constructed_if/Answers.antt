@@ -1,13 +1,13 @@
 use Rattle.std.proofs.Common.{true, false}
 use Rattle.std.proofs.Common.{rules, refl, ◌≡◌, ◌≢◌, ◌∙◌, sym, ap, inl, inr}
-use Rattle.bcder.specs.Cause.{IsRefusal}
+use Rattle.bcder.specs.Cause.{cause_of}
 use Rattle.bcder.specs.Content.{any, tagged, Octets}
 use Rattle.bcder.specs.Views.{of_constructed, of_primitive, of_content}
 use Rattle.bcder.proofs.Forwarding.{takes_opt, refuses_opt, primitive_other}
 use Rattle.bcder.proofs.decode.content.Constructed.take_opt_constructed_if.Goals as goal
 
 pub returns-clause-value : goal.returns-clause-value
-returns-clause-value g c = takes_opt IsRefusal (of_content g.S.Source.stream) _ (of_constructed g.S.Source.stream) _ (λ k. k ≡ Octets) (λ t p r q x. search rules) (tagged c.args.tag) (of_constructed g.S.Source.stream c.args.self.now) (of_constructed g.S.Source.stream c.take_tagged.new.self) c.take_tagged.result c.take_tagged.ensures.value
+returns-clause-value g c = takes_opt cause_of (of_content g.S.Source.stream) _ (of_constructed g.S.Source.stream) _ (λ k. k ≡ Octets) (λ t p r q x. search rules) (tagged c.args.tag) (of_constructed g.S.Source.stream c.args.self.now) (of_constructed g.S.Source.stream c.take_tagged.new.self) c.take_tagged.result c.take_tagged.ensures.value
 
 pub returns-clause-refused : goal.returns-clause-refused
-returns-clause-refused g c = refuses_opt IsRefusal (of_content g.S.Source.stream) _ (of_constructed g.S.Source.stream) _ (λ k. k ≡ Octets) (λ t p r q x. search rules) false primitive_other (tagged c.args.tag) (of_constructed g.S.Source.stream c.args.self.now) (of_constructed g.S.Source.stream c.take_tagged.new.self) c.take_tagged.result c.take_tagged.ensures.refused
+returns-clause-refused g c = refuses_opt cause_of (of_content g.S.Source.stream) _ (of_constructed g.S.Source.stream) _ (λ k. k ≡ Octets) (λ t p r q x. search rules) false primitive_other (tagged c.args.tag) (of_constructed g.S.Source.stream c.args.self.now) (of_constructed g.S.Source.stream c.take_tagged.new.self) c.take_tagged.result c.take_tagged.ensures.refused

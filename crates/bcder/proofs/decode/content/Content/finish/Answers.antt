@@ -1,5 +1,5 @@
 use Rattle.std.proofs.Common.{◌≡◌, ◌∙◌, refl, sym, ap, subst, rules}
-use Rattle.bcder.specs.Cause.{IsRefusal}
+use Rattle.bcder.specs.Cause.{cause_of}
 use Rattle.bcder.specs.Content.{any}
 use Rattle.bcder.specs.Calls.{RefusesEnd, left_open}
 use Rattle.bcder.specs.Views.{of_constructed, of_content}
@@ -10,7 +10,7 @@ use Rattle.bcder.proofs.decode.content.Content.finish.Goals as goal
 
 pub returns-in_err-take_header-in-Constructed-clause-refused : goal.returns-in_err-take_header-in-Constructed-clause-refused
 returns-in_err-take_header-in-Constructed-clause-refused g c =
-    residual c.from_residual.result _ (λ e. RefusesEnd IsRefusal (of_content g.S.Source.stream c.args.self.now) e (of_constructed g.S.Source.stream c.take_header.new.self)) c.from_residual.ensures.1 (rw c.in-Constructed.is (end_refused IsRefusal _ _ _ c.in_err-take_header-in-Constructed.ensures.refused))
+    residual c.from_residual.result _ (λ e. RefusesEnd cause_of (of_content g.S.Source.stream c.args.self.now) e (of_constructed g.S.Source.stream c.take_header.new.self)) c.from_residual.ensures.1 (rw c.in-Constructed.is (end_refused cause_of _ _ _ c.in_err-take_header-in-Constructed.ensures.refused))
 
 pub returns-in-Some-clause-refused : goal.returns-in-Some-clause-refused
 returns-in-Some-clause-refused g c =

@@ -1,4 +1,4 @@
-use Rattle.bcder.specs.Cause.{IsRefusal}
+use Rattle.bcder.specs.Cause.{cause_of}
 use Rattle.bcder.specs.Views.{of_constructed, lent}
 use Rattle.bcder.proofs.Decoding.{hands_all, left_kept, left_passed, left_faults, decoded, not_decoded, same_borrow, same_behind}
 use Rattle.bcder.proofs.decode.content.decode.run_lent.Goals as goal
@@ -9,10 +9,10 @@ returns-clause-name g c =
     same_borrow g.S.Source.stream c.args.limited.now.source c.run_over.new.source.source (left_kept old new _ _ _ (hands_all old new _ _ _ _ _ c.requires.unlimited c.run_over.ensures.runs))
 
 pub returns-clause-ok : goal.returns-clause-ok
-returns-clause-ok g c = decoded IsRefusal (of_constructed (lent g.S.Source.stream)) _ _ _ _ _ _ c.requires.unlimited _ c.run_over.ensures
+returns-clause-ok g c = decoded cause_of (of_constructed (lent g.S.Source.stream)) _ _ _ _ _ _ c.requires.unlimited _ c.run_over.ensures
 
 pub returns-clause-refused : goal.returns-clause-refused
-returns-clause-refused g c = not_decoded IsRefusal (of_constructed (lent g.S.Source.stream)) _ _ _ _ _ _ c.requires.unlimited _ c.run_over.ensures
+returns-clause-refused g c = not_decoded cause_of (of_constructed (lent g.S.Source.stream)) _ _ _ _ _ _ c.requires.unlimited _ c.run_over.ensures
 
 pub returns-clause-passed : goal.returns-clause-passed
 returns-clause-passed g c =

@@ -1,72 +1,130 @@
-use Rattle.std.proofs.Common.{rules, ◌≤◌, length, arith}
-use Rattle.bcder.specs.Cause.{IsRefusal}
-use Rattle.bcder.specs.Content.{EndsAt}
-use Rattle.bcder.specs.Walking.{PassesValue, RefusesValues}
-use Rattle.bcder.specs.Views.{of_constructed, of_content}
+use Rattle.std.proofs.Common.{rules, false, ◌≡◌, ◌+◌, ◌≤◌, length, arith, refl, ap}
+use Rattle.std.specs.Prelude.{Ok, Some}
+use Rattle.bcder.specs.Cause.{stop_cause}
+use Rattle.bcder.specs.Content.{any, EndsAt, values}
+use Rattle.bcder.specs.Calls.{content}
+use Rattle.bcder.specs.Peek.{header}
+use Rattle.bcder.specs.Walking.{PassesValue, RefusesValues, itself, walked}
+use Rattle.bcder.specs.Views.{of_constructed, limited_stream}
 use Rattle.bcder.proofs.Moving.{moves_trans}
-use Rattle.bcder.proofs.Names.{within_constructed, constructed_form}
-use Rattle.bcder.proofs.Refusing.{residual}
+use Rattle.bcder.proofs.Names.{within_constructed, constructed_form, moves_constructed_name}
+use Rattle.bcder.proofs.Refusing.{residual, if_err}
+use Rattle.bcder.proofs.Entering.{kind_of}
+use Rattle.bcder.proofs.Inner.{takes_values, takes_marked}
+use Rattle.bcder.proofs.Taking.{taken_value, taken_moves, refused_front, refused_moves}
+use Rattle.bcder.proofs.Stepping.{step_refused, next_refused, entered_shorter, stop_reason, or_none, ran_values, skips}
 use Rattle.bcder.proofs.Walking.{walks_refl, walks_value, walks_refused, walks_all, moves_shorter, value_shorter}
-use Rattle.bcder.proofs.Walked.{refuses_walk, walks_one, answers_next, walks_octets, some_value, none_value}
+use Rattle.bcder.proofs.Walked.{walks_one, some_value, none_value}
 use Rattle.bcder.proofs.decode.content.walk.+walk.Goals as goal
 
-pub walk-take_opt_value-returns-in-Primitive : goal.walk-take_opt_value-returns-in-Primitive
-walk-take_opt_value-returns-in-Primitive g t c =
-    let w = walks_octets IsRefusal g.S.Source.stream c.in-Primitive.primitive c.skip_all.new.self c.skip_all.result c.skip_all.ensures.moves c.skip_all.ensures.none_owed c.skip_all.ensures.refused c.skip_all.ensures.marked in
-    rw c.in-Primitive.is (record { moves = w.moves; done = w.done; refused = w.refused; marked = w.marked })
+pub step-pass_content-requires : goal.step-pass_content-requires
+unfolding of_constructed
+step-pass_content-requires g t c κs within =
+    let e = rw c.in-Ok-Some.field-0-is at c.in-Ok-Some.ensures.entered in
+    let f = e.fits in let h : length (of_constructed g.S.Source.stream c.next_header.new.self).stream.rest + 2 ≤ length (of_constructed g.S.Source.stream c.args.cons.now).stream.rest = entered_shorter _ _ _ e in search rules
 
-pub walk-returns-clause-value : goal.walk-returns-clause-value
-walk-returns-clause-value g t c = walks_one IsRefusal (of_content g.S.Source.stream) _ (λ tag p r q x. search rules) _ _ c.take_opt_value.result c.take_opt_value.ensures.value
+pub step-returns-in-Ok-clause-moves : goal.step-returns-in-Ok-clause-moves
+unfolding of_constructed
+step-returns-in-Ok-clause-moves g t c =
+    let e = rw c.in-Ok-Some.field-0-is at c.in-Ok-Some.ensures.entered in
+    taken_moves (of_constructed g.S.Source.stream c.args.cons.now) (of_constructed g.S.Source.stream c.next_header.new.self) (of_constructed g.S.Source.stream c.pass_content.new.cons) (header c.in-Ok-Some.header) any refl e stop_cause itself (walked stop_cause) _ refl refl refl _ c.in-Ok.ensures.taken refl refl refl refl
 
-pub walk-returns-clause-refused : goal.walk-returns-clause-refused
-walk-returns-clause-refused g t c = refuses_walk IsRefusal (of_content g.S.Source.stream) _ (λ tag p r q x. search rules) _ _ c.take_opt_value.result (within_constructed g.S.Source.stream g.met.S.Source.sound c.args.cons.now) c.take_opt_value.ensures.refused
+pub step-returns-in-Ok-clause-value : goal.step-returns-in-Ok-clause-value
+unfolding of_constructed
+step-returns-in-Ok-clause-value g t c =
+    let e = rw c.in-Ok-Some.field-0-is at c.in-Ok-Some.ensures.entered in
+    walks_one stop_cause itself (walked stop_cause) (λ t p r q x. x) (of_constructed g.S.Source.stream c.args.cons.now) _ (Ok (Some _)) (taken_value (of_constructed g.S.Source.stream c.args.cons.now) (of_constructed g.S.Source.stream c.next_header.new.self) (of_constructed g.S.Source.stream c.pass_content.new.cons) (header c.in-Ok-Some.header) any refl e stop_cause itself (walked stop_cause) _ refl refl refl _ c.in-Ok.ensures.taken)
 
-pub walk-returns-clause-exact : goal.walk-returns-clause-exact
-walk-returns-clause-exact g t c =
-    let w = within_constructed g.S.Source.stream g.met.S.Source.sound c.args.cons.now in
-    answers_next IsRefusal (of_constructed g.S.Source.stream c.args.cons.now) (of_constructed g.S.Source.stream c.take_opt_value.new.self) c.take_opt_value.result w
-    (walks_one IsRefusal (of_content g.S.Source.stream) _ (λ tag p r q x. search rules) _ _ c.take_opt_value.result c.take_opt_value.ensures.value)
-    c.take_opt_value.ensures.end
-    (refuses_walk IsRefusal (of_content g.S.Source.stream) _ (λ tag p r q x. search rules) _ _ c.take_opt_value.result w c.take_opt_value.ensures.refused)
+pub step-returns-in-Err-pass_content-clause-moves : goal.step-returns-in-Err-pass_content-clause-moves
+unfolding of_constructed
+step-returns-in-Err-pass_content-clause-moves g t c =
+    let e = rw c.in-Ok-Some.field-0-is at c.in-Ok-Some.ensures.entered in
+    refused_moves (of_constructed g.S.Source.stream c.args.cons.now) (of_constructed g.S.Source.stream c.next_header.new.self) (of_constructed g.S.Source.stream c.pass_content.new.cons) (header c.in-Ok-Some.header) any refl e stop_cause itself (walked stop_cause) _ c.in-Err-pass_content.ensures.taken
+
+pub step-returns-in-Err-pass_content-clause-refused : goal.step-returns-in-Err-pass_content-clause-refused
+unfolding of_constructed
+step-returns-in-Err-pass_content-clause-refused g t c =
+    let e = rw c.in-Ok-Some.field-0-is at c.in-Ok-Some.ensures.entered in
+    step_refused stop_cause (of_constructed g.S.Source.stream c.args.cons.now) (of_constructed g.S.Source.stream c.pass_content.new.cons) _ (within_constructed g.S.Source.stream g.met.S.Source.sound c.args.cons.now)
+    (content (refused_front (of_constructed g.S.Source.stream c.args.cons.now) (of_constructed g.S.Source.stream c.next_header.new.self) (of_constructed g.S.Source.stream c.pass_content.new.cons) (header c.in-Ok-Some.header) any refl e stop_cause itself (walked stop_cause) _ c.in-Err-pass_content.ensures.taken))
+
+pub step-returns-in-Err-clause-refused : goal.step-returns-in-Err-clause-refused
+unfolding of_constructed
+step-returns-in-Err-clause-refused g t c =
+    next_refused stop_cause (of_constructed g.S.Source.stream c.args.cons.now) (of_constructed g.S.Source.stream c.next_header.new.self) _ (within_constructed g.S.Source.stream g.met.S.Source.sound c.args.cons.now) c.in-Err.ensures.refused
+
+pub pass_content-returns-then-header-clause-taken : goal.pass_content-returns-then-header-clause-taken
+unfolding of_constructed
+pass_content-returns-then-header-clause-taken g t c =
+    takes_values stop_cause itself (walked stop_cause) (of_constructed g.S.Source.stream c.args.cons.now) _ (header c.args.header) _ refl refl refl refl false (or_none _ _ refl)
+    g.S.Source.stream c.in-Definite.len c.args.cons.now.source.now c.push-outer.new.source c.walk_over-result.new.source c.pop.new.source c.push-outer.result c.in-Definite.is
+    refl refl c.push-outer.ensures.outer c.push-outer.ensures.limit c.push-outer.ensures.source c.pop.ensures.limit c.pop.ensures.source refl refl c.requires c.if-header.true (c.walk_over-result.ensures c.args.header.tag)
+
+pub pass_content-returns-else-header-clause-taken : goal.pass_content-returns-else-header-clause-taken
+unfolding of_constructed
+pass_content-returns-else-header-clause-taken g t c =
+    let s = g.S.Source.stream c.args.cons.now.source.now.source in
+    let x = g.S.Source.stream c.skip_owed.new.self.source in
+    skips stop_cause (of_constructed g.S.Source.stream c.args.cons.now) _ (header c.args.header) c.in-Definite.len s x c.args.cons.now.source.now.limit c.in-Definite.is c.if-header.false (rw c.in-Definite.is at c.requires) (g.met.S.Source.sound c.args.cons.now.source.now.source) refl refl refl refl refl refl refl
+    c.skip_owed.result c.skip_owed.new.self.limit refl refl c.skip_owed.ensures.limit c.skip_owed.ensures.enough c.skip_owed.ensures.rest c.skip_owed.ensures.no_fault (if_err c.skip_owed.result _ _ (λ e h. stop_reason _ _ e h) c.skip_owed.ensures.cause)
+    c.skip_owed.ensures.err c.skip_owed.ensures.err_limit c.skip_owed.ensures.no_fewer c.skip_owed.ensures.kept
+
+pub pass_content-returns-in-Indefinite-clause-taken : goal.pass_content-returns-in-Indefinite-clause-taken
+unfolding of_constructed
+pass_content-returns-in-Indefinite-clause-taken g t c =
+    takes_marked stop_cause itself (walked stop_cause) (of_constructed g.S.Source.stream c.args.cons.now) _ (header c.args.header) _ refl refl refl refl false (or_none _ _ refl) c.in-Indefinite.is (c.walk_over.ensures c.args.header.tag)
+
+pub walk_over-returns : goal.walk_over-returns
+unfolding of_constructed
+walk_over-returns g t c u =
+    let same : c.walk_all.new.cons.source.now ≡ c.source-2-1.given.0 = search rules in
+    ran_values stop_cause _ (of_constructed g.S.Source.stream c.walk_all.new.cons) c.walk_all.result c.walk_all.ensures.moves c.walk_all.ensures.marked c.walk_all.ensures.done c.walk_all.ensures.refused
+    (limited_stream g.S.Source.stream c.args.source.now) (limited_stream g.S.Source.stream c.source-2-1.given.0) c.args.source.now.limit c.source-2-1.given.0.limit (values c.args.kind) c.args.mode u refl refl refl refl refl refl (ap (limited_stream g.S.Source.stream) same) (ap (λ z. z.limit) same) (λ e. c.requires (kind_of _ _ e))
 
 pub walk_all-loop-init : goal.walk_all-loop-init
 walk_all-loop-init g t c = walks_refl _
 
-pub walk_all-walk-requires : goal.walk_all-walk-requires
-walk_all-walk-requires g t c κs within =
+pub walk_all-step-requires : goal.walk_all-step-requires
+walk_all-step-requires g t c κs within =
     let h : length (of_constructed g.S.Source.stream c.loop.cons).stream.rest ≤ length (of_constructed g.S.Source.stream c.args.cons.now).stream.rest = moves_shorter _ _ c.loop.invariant.moves in search rules
 
-pub walk_all-returns-in_err-walk-clause-moves : goal.walk_all-returns-in_err-walk-clause-moves
-walk_all-returns-in_err-walk-clause-moves g t c = moves_trans _ _ _ c.loop.invariant.moves c.in_err-walk.ensures.moves
+pub walk_all-returns-in_err-step-clause-moves : goal.walk_all-returns-in_err-step-clause-moves
+walk_all-returns-in_err-step-clause-moves g t c = moves_trans _ _ _ c.loop.invariant.moves c.in_err-step.ensures.moves
 
-pub walk_all-returns-in_err-walk-clause-refused : goal.walk_all-returns-in_err-walk-clause-refused
-walk_all-returns-in_err-walk-clause-refused g t c =
+pub walk_all-returns-in_err-step-clause-refused : goal.walk_all-returns-in_err-step-clause-refused
+walk_all-returns-in_err-step-clause-refused g t c =
     let i = of_constructed g.S.Source.stream c.args.cons.now in
     let j = of_constructed g.S.Source.stream c.loop.cons in
-    let k = of_constructed g.S.Source.stream c.walk.new.cons in
-    residual c.from_residual.result _ (λ e. RefusesValues IsRefusal i e k) c.from_residual.ensures.1
-    (walks_refused IsRefusal _ i j k (constructed_form g.S.Source.stream c.args.cons.now) c.loop.invariant c.in_err-walk.ensures.refused)
+    let k = of_constructed g.S.Source.stream c.step.new.cons in
+    residual c.from_residual.result _ (λ e. RefusesValues stop_cause i e k) c.from_residual.ensures.1
+    (walks_refused stop_cause _ i j k (constructed_form g.S.Source.stream c.args.cons.now) c.loop.invariant c.in_err-step.ensures.refused)
 
 pub walk_all-loop-smaller : goal.walk_all-loop-smaller
 walk_all-loop-smaller g t c =
     let j = of_constructed g.S.Source.stream c.loop.cons in
-    let k = of_constructed g.S.Source.stream c.walk.new.cons in
-    let h = value_shorter j k (some_value (PassesValue j k) _ c.if-is_some.ensures c.in_ok-walk.ensures.value) in omega (arith, h)
+    let k = of_constructed g.S.Source.stream c.step.new.cons in
+    let h = value_shorter j k (some_value (PassesValue j k) _ c.if-is_some.ensures c.in_ok-step.ensures.value) in omega (arith, h)
 
 pub walk_all-loop-preserved : goal.walk_all-loop-preserved
 walk_all-loop-preserved g t c =
     let i = of_constructed g.S.Source.stream c.args.cons.now in
     let j = of_constructed g.S.Source.stream c.loop.cons in
-    let k = of_constructed g.S.Source.stream c.walk.new.cons in
-    walks_value i j k (within_constructed g.S.Source.stream g.met.S.Source.sound c.loop.cons) c.loop.invariant c.in_ok-walk.ensures.moves c.in_ok-walk.ensures.mode c.in_ok-walk.ensures.marked
-    (some_value (PassesValue j k) _ c.if-is_some.ensures c.in_ok-walk.ensures.value)
+    let k = of_constructed g.S.Source.stream c.step.new.cons in
+    walks_value i j k (within_constructed g.S.Source.stream g.met.S.Source.sound c.loop.cons) c.loop.invariant c.in_ok-step.ensures.moves c.in_ok-step.ensures.mode c.in_ok-step.ensures.marked
+    (some_value (PassesValue j k) _ c.if-is_some.ensures c.in_ok-step.ensures.value)
 
 pub walk_all-returns-clause-moves : goal.walk_all-returns-clause-moves
-walk_all-returns-clause-moves g t c = moves_trans _ _ _ c.loop.invariant.moves c.in_ok-walk.ensures.moves
+walk_all-returns-clause-moves g t c = moves_trans _ _ _ c.loop.invariant.moves c.in_ok-step.ensures.moves
 
 pub walk_all-returns-clause-all : goal.walk_all-returns-clause-all
 walk_all-returns-clause-all g t c s =
     let i = of_constructed g.S.Source.stream c.args.cons.now in
     let j = of_constructed g.S.Source.stream c.loop.cons in
-    let k = of_constructed g.S.Source.stream c.walk.new.cons in
-    walks_all i j k (constructed_form g.S.Source.stream c.args.cons.now) c.loop.invariant (none_value (EndsAt j k) _ c.if-is_some.ensures c.in_ok-walk.ensures.end) s
+    let k = of_constructed g.S.Source.stream c.step.new.cons in
+    walks_all i j k (constructed_form g.S.Source.stream c.args.cons.now) c.loop.invariant (none_value (EndsAt j k) _ c.if-is_some.ensures c.in_ok-step.ensures.end) s
+
+pub walk_all-returns-in_err-step-clause-name : goal.walk_all-returns-in_err-step-clause-name
+walk_all-returns-in_err-step-clause-name g t c = moves_constructed_name g.S.Source.stream c.args.cons.now c.step.new.cons (moves_trans _ _ _ c.loop.invariant.moves c.in_err-step.ensures.moves)
+
+pub walk_all-returns-clause-name : goal.walk_all-returns-clause-name
+walk_all-returns-clause-name g t c = moves_constructed_name g.S.Source.stream c.args.cons.now c.step.new.cons (moves_trans _ _ _ c.loop.invariant.moves c.in_ok-step.ensures.moves)

@@ -1,5 +1,4 @@
 use Rattle.std.proofs.Common.{rules, refl, ◌≡◌, ◌≢◌, ◌∙◌, sym, ap, inl, inr}
-use Rattle.bcder.specs.Cause.{IsRefusal}
 use Rattle.bcder.specs.Content.{any, tagged, Octets}
 use Rattle.bcder.specs.Views.{of_constructed, of_primitive, of_content}
 use Rattle.bcder.proofs.Forwarding.{on_ok, on_err_all}
