@@ -1,23 +1,22 @@
 -- Steps over content that runs no closure, as a closure's steps are said.
-use Rattle.std.proofs.Common.{◌≡◌, ◌≢◌, ℕ, ◌+◌, ◌-◌, ◌<◌, ◌≤◌, Bool, true, false, List, [], ◌∷◌, ◌++◌, length, take, drop, refl, ap, sym, ◌∙◌, arith, append-nil, subst, inl, inr, length-append}
+use Rattle.std.proofs.Common.{◌≡◌, ℕ, ◌+◌, ◌-◌, ◌<◌, ◌≤◌, Bool, true, false, length, take, drop, refl, ap, sym, ◌∙◌, arith, append-nil, subst, inl, inr, length-append}
 use Rattle.std.proofs.lemmas.Grind.{common_steps}
 use Rattle.std.specs.Borrow.{GName, MutBor}
 use Rattle.std.specs.Prelude.{Option, Some, None, Result, Ok, Err, ◌⊎◌, ◌||◌, IfOk, IfErr, OnOk, OnErr}
 use Rattle.bcder.specs.declared.mode.Mode.{Mode}
-use Rattle.bcder.specs.declared.length.Length.{Length}
-use Rattle.bcder.specs.declared.length.Length.TheVariants.{Definite, Indefinite}
+use Rattle.bcder.specs.declared.length.Length.TheVariants.{Definite}
 use Rattle.bcder.specs.declared.decode.content.Kind.TheVariants as kind
-use Rattle.bcder.specs.declared.decode.content.State.TheVariants.{Open, Ended, Failed}
+use Rattle.bcder.specs.declared.decode.content.State.TheVariants.{Open}
 use Rattle.bcder.specs.declared.decode.error.ContentError.{ContentError}
 use Rattle.bcder.specs.Cause.{Cause, of_source, IsOfContent, stop_cause, MatchStop}
 use Rattle.bcder.specs.declared.decode.stop.Stop.{Stop}
 use Rattle.bcder.specs.declared.decode.stop.Stop.TheVariants as stop
 use Rattle.bcder.specs.Identifier.{Tag, AreOctets}
 use Rattle.bcder.specs.Reading.{Header}
-use Rattle.bcder.specs.Stream.{Layer, Stream, IsSound, Grew, past, limited}
+use Rattle.bcder.specs.Stream.{Stream, IsSound, Grew, past, limited}
 use Rattle.bcder.specs.Content.{Reading, Form, octets, values, Octets, UnboundedValues, any, Enters, RefusesHeader, Moves, Advances, FitsOwed, IsDone, IsUsedUp, of_octets, of_definite, EndsAt}
 use Rattle.bcder.specs.Calls.{IsFormOf, Answered, AnswersDone, RefusesContent, by_closure, RanOver, TakesContent, RefusesValue, popped}
-use Rattle.bcder.specs.Walking.{IsShort, WalksBy, itself, walked}
+use Rattle.bcder.specs.Walking.{WalksBy, itself, walked}
 use Rattle.bcder.specs.Walking as walking
 use Rattle.bcder.specs.laws.Limits.{limited_sound}
 use Rattle.bcder.proofs.Moving.{moves_refl, moves_still, moves_octets}
