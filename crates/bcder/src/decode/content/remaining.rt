@@ -1,9 +1,9 @@
 //! What remains of the octets of a primitive value.
 ghost use Rattle.std.specs.Prelude.{◌≡◌, ℕ, [], length, Some, IfErr, OnOk, OnErr};
-ghost use Rattle.bcder.specs.Cause.{IsRefusal};
-ghost use Rattle.bcder.specs.Stream.{limit_or};
+ghost use Rattle.bcder.specs.Cause.{IsRefusal, cause_of, MatchCause};
+ghost use Rattle.bcder.specs.Stream.{Grew, limit_or};
 ghost use Rattle.bcder.specs.Content.{Moves};
-ghost use Rattle.bcder.specs.Walking.{RefusesOctets};
+ghost use Rattle.bcder.specs.Walking.{IsShort, RefusesOctets};
 ghost use Rattle.bcder.specs.Views.{of_primitive};
 
 use super::Primitive;
@@ -36,6 +36,7 @@ impl<'a, S: Source> Primitive<'a, S> {
         ensures none_left { OnOk result ((of_primitive S.stream self.new).stream.rest ≡ []) }
         ensures no_fault { OnOk result ((of_primitive S.stream self.new).stream.faults ≡ (of_primitive S.stream self.old).stream.faults) }
         ensures refused { IfErr result (λ e. RefusesOctets IsRefusal (of_primitive S.stream self.old) e (of_primitive S.stream self.new)) }
+        ensures cause { IfErr result (λ e. MatchCause (cause_of e) (Grew (of_primitive S.stream self.old).stream.faults (of_primitive S.stream self.new).stream.faults) (IsShort (of_primitive S.stream self.old)) ⊥) }
         ensures kept { OnErr result ((of_primitive S.stream self.new).stream.rest ≡ (of_primitive S.stream self.old).stream.rest) }
         ensures still_owed { OnErr result ((of_primitive S.stream self.new).owed ≡ (of_primitive S.stream self.old).owed) }
         ensures mode { (of_primitive S.stream self.new).mode ≡ (of_primitive S.stream self.old).mode }
