@@ -94,6 +94,8 @@ impl<S: Source> LimitedSource<S> {
         ensures err { OnErr result
             ((S.stream (wrapped self.new)).rest ≡ (S.stream (wrapped self.old)).rest) }
         ensures err_limit { OnErr result (limit_of self.new ≡ limit_of self.old) }
+        ensures err_position { OnErr result
+            ((S.stream (wrapped self.new)).position ≡ (S.stream (wrapped self.old)).position) }
         ensures kept { (S.stream (wrapped self.new)).kept ≡ (S.stream (wrapped self.old)).kept }
     {
         let limit = self.limit.unwrap();
@@ -155,6 +157,8 @@ impl<S: Source> LimitedSource<S> {
         ensures err { OnErr result
             ((S.stream (wrapped self.new)).rest ≡ (S.stream (wrapped self.old)).rest) }
         ensures err_limit { OnErr result (limit_of self.new ≡ limit_of self.old) }
+        ensures err_position { OnErr result
+            ((S.stream (wrapped self.new)).position ≡ (S.stream (wrapped self.old)).position) }
         ensures kept { (S.stream (wrapped self.new)).kept ≡ (S.stream (wrapped self.old)).kept }
     {
         let limit = self.limit.unwrap();
@@ -181,6 +185,7 @@ impl<S: Source> LimitedSource<S> {
             ⊥) }
         ensures limit { limit_of self.new ≡ limit_of self.old }
         ensures rest { (S.stream (wrapped self.new)).rest ≡ (S.stream (wrapped self.old)).rest }
+        ensures position { (S.stream (wrapped self.new)).position ≡ (S.stream (wrapped self.old)).position }
         ensures kept { (S.stream (wrapped self.new)).kept ≡ (S.stream (wrapped self.old)).kept }
     {
         match self.limit {
