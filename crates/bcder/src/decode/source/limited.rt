@@ -129,8 +129,8 @@ impl<S: Source> LimitedSource<S> {
                     return Err(Stop::Refused(Why::Short));
                 }
                 self.source.advance(len);
-                if let Some(limit) = self.limit {
-                    self.limit = Some(limit - len);
+                if let Some(owed) = self.limit {
+                    self.limit = Some(owed - len);
                 }
                 Ok(())
             }
