@@ -1,5 +1,5 @@
 -- What is left of a source whose values were decoded.
-use Rattle.std.proofs.Common.{◌≡◌, ℕ, ◌≤◌, List, [], ◌∷◌, ◌++◌, length, refl, sym, ◌∙◌, ap, subst, arith}
+use Rattle.std.proofs.Common.{◌≡◌, ℕ, ◌≤◌, List, ◌++◌, length, refl, sym, ◌∙◌, ap, subst}
 use Rattle.std.specs.Prelude.{Option, Some, None, Result, Ok, Err, IfOk, IfErr}
 use Rattle.std.specs.Borrow.{MutBor}
 use Rattle.bcder.specs.declared.mode.Mode.{Mode}
@@ -8,7 +8,7 @@ use Rattle.bcder.specs.declared.decode.error.ContentError.{ContentError}
 use Rattle.bcder.specs.Cause.{Cause}
 use Rattle.bcder.specs.Content.{Reading, UnboundedValues, Moves, Falls}
 use Rattle.bcder.specs.Calls.{RunsOver}
-use Rattle.bcder.specs.Decoding.{IsAllOf, HandsAll, RanOn, Decodes, RefusesDecode}
+use Rattle.bcder.specs.Decoding.{HandsAll, RanOn, Decodes, RefusesDecode}
 use Rattle.bcder.specs.Views.{lent}
 use Rattle.bcder.specs.laws.Limits.{first_kept, rest_kept}
 

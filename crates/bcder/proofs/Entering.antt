@@ -1,11 +1,9 @@
 -- What follows from passing over a header.
-use Rattle.std.proofs.Common.{◌≡◌, ◌≢◌, ℕ, ◌+◌, ◌-◌, ◌<◌, ◌≤◌, Bool, true, false, List, [], ◌∷◌, ◌++◌, length, take, drop, Option, Some, None, refl, ap, sym, ◌∙◌, arith, rules, length-append, append_assoc, subst, inl, inr}
-use Rattle.std.specs.Prelude.{◌⊎◌}
+use Rattle.std.proofs.Common.{◌≡◌, ◌≢◌, ℕ, ◌-◌, ◌≤◌, Bool, true, false, List, [], ◌∷◌, ◌++◌, length, take, drop, Option, Some, None, refl, ap, sym, ◌∙◌, arith, subst, inl, inr}
 use Rattle.std.proofs.lemmas.List.{take-append-drop, length-take-le, take_at}
 use Rattle.std.proofs.lemmas.Grind.{common_steps}
 use Rattle.bcder.specs.declared.mode.Mode.{Mode}
 use Rattle.bcder.specs.declared.decode.content.Kind.{Kind}
-use Rattle.bcder.specs.declared.decode.content.Kind.TheVariants as kind
 use Rattle.bcder.specs.declared.decode.content.State.TheVariants.{Open, Ended, Failed}
 use Rattle.bcder.specs.Identifier.{AreOctets, Tag, end_of_contents}
 use Rattle.bcder.specs.Reading.{Header, is_value_tag, read_identifier, read_front}
@@ -14,13 +12,13 @@ use Rattle.bcder.specs.Peek.{HasOtherTag, HasNoLength}
 use Rattle.bcder.specs.Stream.{Layer, Stream, IsSound, Grew, cut, past, limited}
 use Rattle.bcder.specs.declared.decode.error.ContentError.{ContentError}
 use Rattle.bcder.specs.Cause.{Cause}
-use Rattle.bcder.specs.Content.{Reading, Asked, any, tagged, IsAsked, HasHeader, HasMarker, HasOther, IndefiniteValues, Falls, FitsOwed, Advances, Moves, Accepts, Enters, TakesMarker, NoFront, Resembles, end_header, values, Octets, DefiniteValues, UnboundedValues, IsUsedUp, IsDone, IsAtEnd, of_octets, of_definite, of_indefinite, of_unbounded, EndsBefore, EndsAt, NotAtEnd, IsElsewhere, none_left, other, marker, IsAbsent, IsLeft, NothingThere, RefusesHeader, failed, source, nothing}
+use Rattle.bcder.specs.Content.{Reading, Asked, any, tagged, IsAsked, HasHeader, HasMarker, IndefiniteValues, Falls, Advances, Moves, Accepts, Enters, TakesMarker, NoFront, Resembles, end_header, values, Octets, DefiniteValues, UnboundedValues, IsDone, IsAtEnd, of_octets, of_definite, of_indefinite, of_unbounded, EndsAt, NotAtEnd, IsElsewhere, none_left, other, marker, IsAbsent, IsLeft, NothingThere, RefusesHeader, failed, source, nothing}
 use Rattle.bcder.specs.Calls.{RefusesEnd, left_failed, source_failed, left_open}
-use Rattle.bcder.specs.laws.Limits.{limit_told, limit_told_after, rest_told, limited_sound}
+use Rattle.bcder.specs.laws.Limits.{limit_told_after, limited_sound}
 use Rattle.bcder.specs.laws.Sound.{none_is}
 use Rattle.bcder.specs.laws.Stands.{Headed}
 use Rattle.bcder.proofs.Moving.{Falls-refl, moves_failed, moves_marker, moves_still, open_not_ended}
-use Rattle.bcder.proofs.Headers.{no_header_unread, no_header_empty, header_no_marker, no_marker_unread, no_marker_empty, no_other_front, no_other_unread, no_other_empty, other_of, unread_of, has_front, front_of_header, header_of_front, marker_of_front, no_header_tag, no_header_form, no_header_long, no_marker_other, size_is}
+use Rattle.bcder.proofs.Headers.{no_header_unread, no_header_empty, header_no_marker, no_marker_unread, no_marker_empty, no_other_front, no_other_unread, other_of, unread_of, header_of_front, marker_of_front, no_header_tag, no_header_form, no_header_long, no_marker_other, size_is}
 
 -- ---- an advance of a limited source
 

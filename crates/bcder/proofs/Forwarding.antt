@@ -1,25 +1,23 @@
 -- A call that hands on its closure's content says of that closure what it knows of its own.
-use Rattle.std.proofs.Common.{◌≡◌, ◌≢◌, ℕ, ◌+◌, ◌<◌, ◌≤◌, Bool, true, false, List, ◌++◌, length, refl, ap, sym, ◌∙◌, subst, inl, inr}
+use Rattle.std.proofs.Common.{◌≡◌, ◌≢◌, Bool, true, false, refl, ap, sym, ◌∙◌, subst, inl, inr}
 use Rattle.std.specs.Prelude.{Option, Some, None, Result, Ok, Err, ◌⊎◌, IfOk, IfErr, IfSome}
 use Rattle.std.specs.Borrow.{MutBor}
 use Rattle.bcder.specs.declared.mode.Mode.{Mode}
-use Rattle.bcder.specs.declared.mode.Mode.TheVariants.{Ber, Cer, Der}
 use Rattle.bcder.specs.declared.length.Length.{Length}
 use Rattle.bcder.specs.declared.length.Length.TheVariants.{Definite, Indefinite}
-use Rattle.bcder.specs.declared.decode.content.Kind.{Kind}
 use Rattle.bcder.specs.declared.decode.content.Primitive.{Primitive}
 use Rattle.bcder.specs.declared.decode.content.Constructed.{Constructed}
 use Rattle.bcder.specs.declared.decode.content.Content.{Content}
 use Rattle.bcder.specs.declared.decode.content.Content.TheVariants as variant
 use Rattle.bcder.specs.Identifier.{Tag}
 use Rattle.bcder.specs.Encoding.{may_have}
-use Rattle.bcder.specs.Content.{Reading, Form, values, Octets, DefiniteValues, IndefiniteValues, Asked, Moves}
-use Rattle.bcder.specs.Calls.{Answered, AnswersDone, TakesValue, RefusesContent, by_closure, unfinished, RefusesFront, RefusesValue, HasForm, IsFormOf, Hands, failed, source, nothing, content}
+use Rattle.bcder.specs.Content.{Reading, Form, Octets, DefiniteValues, IndefiniteValues, Asked}
+use Rattle.bcder.specs.Calls.{Answered, TakesValue, RefusesContent, by_closure, unfinished, RefusesFront, RefusesValue, HasForm, IsFormOf, failed, source, nothing, content}
 use Rattle.bcder.specs.Decoding.{AnsweredOn}
 use Rattle.bcder.specs.Stream.{Stream}
 use Rattle.bcder.specs.declared.decode.error.ContentError.{ContentError}
 use Rattle.bcder.specs.Cause.{Cause, IsOfContent}
-use Rattle.bcder.specs.Views.{of_content, of_constructed, of_primitive}
+use Rattle.bcder.specs.Views.{of_content}
 use Rattle.bcder.proofs.Names.{primitive_form, constructed_form}
 
 -- the content of octets comes after a header of a primitive value, and values after one of a constructed value

@@ -1,17 +1,16 @@
 -- What stands in front of octets, by what is read there.
-use Rattle.std.proofs.Common.{◌≡◌, ◌≢◌, ℕ, ◌+◌, ◌-◌, ◌<◌, ◌≤◌, ◌^◌, Bool, true, false, ◌&&◌, List, [], ◌∷◌, ◌++◌, length, take, drop, Option, Some, None, option_map, option_and_then, refl, ap, sym, ◌∙◌, arith, rules, length-append, append_assoc, append-nil, subst, inl, inr}
-use Rattle.std.specs.Prelude.{◌⊎◌}
+use Rattle.std.proofs.Common.{◌≡◌, ℕ, ◌+◌, ◌-◌, ◌≤◌, Bool, true, false, List, [], ◌∷◌, ◌++◌, length, drop, Option, Some, None, option_map, refl, ap, sym, ◌∙◌, arith, length-append, append_assoc, subst, inl, inr}
 use Rattle.std.proofs.lemmas.Grind.{common_steps}
 use Rattle.bcder.specs.declared.mode.Mode.{Mode}
 use Rattle.bcder.specs.declared.length.Length.{Length}
 use Rattle.bcder.specs.declared.length.Length.TheVariants.{Definite, Indefinite}
-use Rattle.bcder.specs.Identifier.{AreOctets, Tag, IsTag, IsValueTag, identifier, end_of_contents}
+use Rattle.bcder.specs.Identifier.{AreOctets, Tag, IsTag, identifier, end_of_contents}
 use Rattle.bcder.specs.Length.{IsEndOfContents}
-use Rattle.bcder.specs.Tree.{Tree, primitive, constructed, Trees, no_trees, ◌∷ₜ◌}
-use Rattle.bcder.specs.Encoding.{may_have, IsHeader, IsDefinite, IsIndefinite, IsFramed, IsEncoding, AreEncodings}
+use Rattle.bcder.specs.Tree.{Tree, primitive, constructed, Trees}
+use Rattle.bcder.specs.Encoding.{may_have, IsHeader, IsDefinite, IsFramed, IsEncoding, AreEncodings}
 use Rattle.bcder.specs.Reading.{is_value_tag, Header, read_identifier, read_length, read_front, read_header}
 use Rattle.bcder.specs.Peek.{HasOtherTag, HasNoLength}
-use Rattle.bcder.specs.Content.{Reading, Asked, any, tagged, IsAsked, HasHeader, HasMarker, HasOther, Falls, FitsOwed, end_header}
+use Rattle.bcder.specs.Content.{Reading, Asked, IsAsked, HasHeader, HasMarker, HasOther, Falls, FitsOwed, end_header}
 use Rattle.bcder.specs.laws.Identifiers.{read_identifier-identifier}
 use Rattle.bcder.specs.laws.Lengths.{read_length-tells}
 use Rattle.bcder.specs.laws.Sound.{none_is, mapped, chained, some_inj, identifier_sound, length_sound}

@@ -1,27 +1,25 @@
 -- What a value's content is to the content around it.
-use Rattle.std.proofs.Common.{◌≡◌, ◌≢◌, ℕ, ◌+◌, ◌-◌, ◌<◌, ◌≤◌, Bool, true, false, List, [], ◌∷◌, ◌++◌, length, take, drop, refl, ap, sym, ◌∙◌, arith, rules, length-append, append_assoc, append-nil, subst, inl, inr}
+use Rattle.std.proofs.Common.{◌≡◌, ◌≢◌, ℕ, ◌+◌, ◌-◌, ◌≤◌, Bool, true, false, List, ◌∷◌, ◌++◌, length, take, drop, refl, ap, sym, ◌∙◌, arith, length-append, append-nil, subst, inl, inr}
 use Rattle.std.proofs.lemmas.List.{take_at}
 use Rattle.std.proofs.Math.Seq.{take-append-add, drop-append-add}
 use Rattle.std.proofs.lemmas.Grind.{common_steps}
 use Rattle.std.specs.Borrow.{MutBor}
-use Rattle.std.specs.Prelude.{Option, Some, None, Result, Ok, Err, ◌⊎◌, ◌||◌, IfOk, IfErr, OnOk}
+use Rattle.std.specs.Prelude.{Option, Some, None, Result, Ok, Err, ◌||◌, IfOk, OnOk}
 use Rattle.bcder.specs.declared.mode.Mode.{Mode}
-use Rattle.bcder.specs.declared.mode.Mode.TheVariants.{Ber, Cer, Der}
 use Rattle.bcder.specs.declared.length.Length.{Length}
 use Rattle.bcder.specs.declared.length.Length.TheVariants.{Definite, Indefinite}
 use Rattle.bcder.specs.declared.decode.source.limited.LimitedSource.{LimitedSource}
-use Rattle.bcder.specs.declared.decode.content.State.{State}
 use Rattle.bcder.specs.declared.decode.content.State.TheVariants.{Open, Ended, Failed}
 use Rattle.bcder.specs.Identifier.{AreOctets, Tag}
 use Rattle.bcder.specs.Length.{IsEndOfContents}
-use Rattle.bcder.specs.Tree.{Tree, primitive, constructed, Trees}
+use Rattle.bcder.specs.Tree.{Tree, primitive, constructed}
 use Rattle.bcder.specs.Encoding.{may_have, IsHeader, IsEncoding, AreEncodings}
 use Rattle.bcder.specs.Reading.{Header}
 use Rattle.bcder.specs.Stream.{Layer, Stream, IsSound, cut, past, limited}
 use Rattle.bcder.specs.declared.decode.error.ContentError.{ContentError}
 use Rattle.bcder.specs.Cause.{Cause}
-use Rattle.bcder.specs.Content.{Reading, Form, Octets, DefiniteValues, IndefiniteValues, UnboundedValues, label, Moves, MovesBy, Whole, Falls, Closes, IsDone, IsUsedUp, Advances, FitsOwed}
-use Rattle.bcder.specs.Calls.{IsFormOf, ContentOf, Hands, AnswersDone, RefusesContent, RunsOver, RanOver, TakesContent, popped}
+use Rattle.bcder.specs.Content.{Reading, Form, Octets, DefiniteValues, IndefiniteValues, label, Moves, MovesBy, Whole, Falls, Closes, IsDone, IsUsedUp, Advances, FitsOwed}
+use Rattle.bcder.specs.Calls.{IsFormOf, ContentOf, AnswersDone, RanOver, TakesContent, popped}
 use Rattle.bcder.specs.Views.{limited_stream}
 use Rattle.bcder.specs.laws.Limits.{rest_told_behind, limited_sound}
 use Rattle.bcder.specs.laws.Sound.{AreOctets-take}

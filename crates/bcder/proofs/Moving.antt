@@ -1,16 +1,15 @@
 -- `Moves` is reflexive and transitive, and what single steps give.
-use Rattle.std.proofs.Common.{◌≡◌, ◌≢◌, ℕ, ◌+◌, ◌<◌, ◌≤◌, Bool, true, false, List, [], ◌∷◌, ◌++◌, length, refl, ap, sym, ◌∙◌, arith, rules, length-append, append_assoc, append-nil, subst, inl, inr}
+use Rattle.std.proofs.Common.{◌≡◌, ◌≢◌, ℕ, ◌+◌, ◌≤◌, Bool, true, false, List, [], ◌++◌, refl, ap, sym, ◌∙◌, arith, length-append, append_assoc, append-nil, subst, inl, inr}
 use Rattle.std.specs.Prelude.{Option, Some, None, ◌⊎◌}
 use Rattle.std.proofs.lemmas.Grind.{common_steps}
 use Rattle.bcder.specs.declared.mode.Mode.{Mode}
-use Rattle.bcder.specs.declared.mode.Mode.TheVariants.{Ber, Cer, Der}
+use Rattle.bcder.specs.declared.mode.Mode.TheVariants.{Ber}
 use Rattle.bcder.specs.declared.decode.content.State.{State}
 use Rattle.bcder.specs.declared.decode.content.State.TheVariants.{Open, Ended, Failed}
-use Rattle.bcder.specs.Length.{IsDefiniteLength, IsEndOfContents}
-use Rattle.bcder.specs.Tree.{Tree, Trees, no_trees, ◌∷ₜ◌, ◌+++◌}
-use Rattle.bcder.specs.Encoding.{IsEncoding, AreEncodings}
-use Rattle.bcder.specs.Stream.{Stream}
-use Rattle.bcder.specs.Content.{Reading, Form, Octets, DefiniteValues, IndefiniteValues, UnboundedValues, label, Moves, Whole, Falls, Closes, IsDone, Advances}
+use Rattle.bcder.specs.Length.{IsEndOfContents}
+use Rattle.bcder.specs.Tree.{Tree, no_trees, ◌∷ₜ◌, ◌+++◌}
+use Rattle.bcder.specs.Encoding.{IsEncoding}
+use Rattle.bcder.specs.Content.{Reading, Octets, IndefiniteValues, label, Moves, Whole, Falls, Closes, Advances}
 use Rattle.bcder.specs.laws.Lists.{AreEncodings-join, AreEncodings-one}
 use Rattle.bcder.specs.laws.Canonical.{AreEncodings-in_ber}
 use Rattle.bcder.specs.laws.Lengths.{IsLengthForm-from_length}

@@ -1,15 +1,12 @@
 -- content that moved still holds the same borrow
-use Rattle.std.proofs.Common.{◌≡◌, ◌≢◌, ℕ, ◌≤◌, List, [], ◌∷◌, ◌++◌, length, take, refl, sym, ◌∙◌, ap, subst, arith}
+use Rattle.std.proofs.Common.{◌≡◌, ◌≢◌, ℕ, ◌≤◌, List, length, take, refl, sym, ◌∙◌, arith}
 use Rattle.std.proofs.lemmas.Grind.{common_steps}
-use Rattle.std.specs.Prelude.{Option, Some, None}
-use Rattle.std.specs.Borrow.{GName}
-use Rattle.bcder.specs.declared.mode.Mode.{Mode}
 use Rattle.bcder.specs.declared.decode.content.Constructed.{Constructed}
 use Rattle.bcder.specs.declared.decode.content.Content.{Content}
 use Rattle.bcder.specs.declared.decode.content.Content.TheVariants as content
 use Rattle.bcder.specs.declared.decode.content.Primitive.{Primitive}
-use Rattle.bcder.specs.Stream.{Stream, IsSound, limited}
-use Rattle.bcder.specs.Content.{Reading, Form, octets, values, Octets, Moves, MovesBy, Falls}
+use Rattle.bcder.specs.Stream.{Stream, IsSound}
+use Rattle.bcder.specs.Content.{octets, values, Octets, Moves}
 use Rattle.bcder.specs.laws.Limits.{limited_sound}
 use Rattle.bcder.proofs.Entering.{Within}
 use Rattle.bcder.specs.Views.{of_content, of_primitive, of_constructed, content_name, content_source, content_mark, limited_stream}

@@ -1,7 +1,7 @@
 -- The headings of values, each before those inside it.
-use Rattle.std.proofs.Common.{◌≡◌, ℕ, Bool, true, false, List, [], ◌∷◌, refl}
+use Rattle.std.proofs.Common.{◌≡◌, ℕ, Bool, true, false, [], ◌∷◌, refl}
 use Rattle.bcder.specs.Identifier.{universal}
-use Rattle.bcder.specs.Tree.{Tree, primitive, constructed, Trees, no_trees, ◌∷ₜ◌}
+use Rattle.bcder.specs.Tree.{no_trees, ◌∷ₜ◌}
 use Rattle.bcder.specs.Preorder.{Heading, preorder, preorders}
 use Rattle.bcder.proofs.rows.Values.{boolean, integer, octet_string, sequence}
 

@@ -1,5 +1,5 @@
 -- Length octets (X.690, 8.1.3, 10.1) and end-of-contents octets (8.1.5).
-use Rattle.std.proofs.Common.{◌≡◌, ℕ, List, [], ◌∷◌, refl}
+use Rattle.std.proofs.Common.{ℕ, [], ◌∷◌, refl}
 use Rattle.bcder.specs.declared.mode.Mode.{Mode}
 use Rattle.bcder.specs.declared.length.Length.TheVariants.{Indefinite}
 use Rattle.bcder.specs.Length.{AreLengthOctets}

@@ -1,6 +1,6 @@
 -- What is cut off at a limit, and what is kept of it.
-use Rattle.std.specs.Prelude.{◌≡◌, ◌+◌, ◌-◌, ◌<◌, ◌≤◌, ◌^◌, ℕ, List, [], ◌∷◌, ◌++◌, Option, Some, None, length, take, drop, min, refl}
-use Rattle.std.proofs.Common.{arith, rules, ap, sym, ◌∙◌, append_assoc, zero, suc}
+use Rattle.std.specs.Prelude.{◌≡◌, ◌-◌, ◌≤◌, ℕ, List, [], ◌∷◌, ◌++◌, Option, Some, None, length, take, drop, min, refl}
+use Rattle.std.proofs.Common.{arith, ap, sym, ◌∙◌, append_assoc, zero, suc}
 use Rattle.std.proofs.lemmas.Grind.{common_steps}
 use Rattle.bcder.specs.Identifier.{AreOctets}
 use Rattle.bcder.specs.Stream.{Layer, Stream, IsSound, cut, capped, past, limited, ahead, borrowed, smaller_limit, limit_left}

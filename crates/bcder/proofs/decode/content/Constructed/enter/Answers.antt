@@ -1,7 +1,6 @@
-use Rattle.std.proofs.Common.{◌≡◌, ◌∙◌, refl, sym, ap, subst, rules}
-use Rattle.bcder.specs.declared.decode.content.State.TheVariants.{Open, Ended, Failed}
+use Rattle.std.proofs.Common.{◌∙◌, refl, sym, ap}
 use Rattle.bcder.specs.Peek.{header}
-use Rattle.bcder.specs.Content.{values, end_header, Accepts, IndefiniteValues}
+use Rattle.bcder.specs.Content.{values}
 use Rattle.bcder.specs.Views.{of_constructed}
 use Rattle.bcder.proofs.Moving.{moves_failed, open_not_ended}
 use Rattle.bcder.proofs.Entering.{enters, takes_marker, marker_moves, no_front, accepted, unaccepted, advances_to, kind_of}

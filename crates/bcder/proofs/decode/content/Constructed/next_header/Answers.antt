@@ -1,6 +1,5 @@
-use Rattle.std.proofs.Common.{◌≡◌, ◌∙◌, ℕ, refl, sym, ap, subst, rules}
-use Rattle.std.specs.Prelude.{IfErr}
-use Rattle.bcder.specs.Content.{any, nothing, source, values, RefusesHeader}
+use Rattle.std.proofs.Common.{◌∙◌, refl, sym}
+use Rattle.bcder.specs.Content.{nothing}
 use Rattle.bcder.specs.Views.{of_constructed}
 use Rattle.bcder.proofs.Moving.{moves_trans}
 use Rattle.bcder.proofs.Entering.{looked_moves, looked_failed, looked_front, front_nothing, unread_at, empty_nothing, no_fewer, grew_least, kind_of}

@@ -1,9 +1,8 @@
-use Rattle.std.proofs.Common.{◌≡◌, ◌∙◌, ℕ, refl, sym, ap, subst, rules}
-use Rattle.std.specs.Prelude.{IfErr}
-use Rattle.bcder.specs.Content.{tagged, nothing, source, values, RefusesHeader}
+use Rattle.std.proofs.Common.{refl}
+use Rattle.bcder.specs.Content.{nothing}
 use Rattle.bcder.specs.Views.{of_constructed}
 use Rattle.bcder.proofs.Moving.{moves_trans}
-use Rattle.bcder.proofs.Entering.{looked_moves, looked_failed, looked_front, if_unread_at, if_other_at, if_none_at, if_front_nothing, no_fewer, grew_least}
+use Rattle.bcder.proofs.Entering.{looked_moves, looked_failed, looked_front, if_unread_at, if_other_at, if_front_nothing, no_fewer, grew_least}
 use Rattle.bcder.proofs.Names.{within_constructed}
 use Rattle.bcder.proofs.Refusing.{if_err}
 use Rattle.bcder.proofs.decode.content.Constructed.next_header_if.Goals as goal

@@ -1,9 +1,9 @@
-use Rattle.std.proofs.Common.{◌≡◌, false, inl, inr}
+use Rattle.std.proofs.Common.{false, inl, inr}
 use Rattle.std.specs.Prelude.{◌⊎◌}
 use Rattle.bcder.specs.Cause.{cause_of, IsRefusal}
-use Rattle.bcder.specs.Content.{any, tagged, IsMissing}
+use Rattle.bcder.specs.Content.{any, IsMissing}
 use Rattle.bcder.specs.Calls.{HasForm, RefusesValue}
-use Rattle.bcder.specs.Views.{of_constructed, of_primitive, of_content}
+use Rattle.bcder.specs.Views.{of_constructed}
 use Rattle.bcder.proofs.Refusing.{residual}
 use Rattle.bcder.proofs.decode.content.Constructed.take_constructed.Goals as goal
 

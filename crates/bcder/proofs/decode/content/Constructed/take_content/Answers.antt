@@ -1,8 +1,7 @@
-use Rattle.std.proofs.Common.{refl, ◌≡◌, ◌∙◌, sym, ap, subst}
+use Rattle.std.proofs.Common.{refl}
 use Rattle.bcder.specs.Cause.{cause_of}
-use Rattle.bcder.specs.Content.{FitsOwed}
 use Rattle.bcder.specs.Peek.{header}
-use Rattle.bcder.specs.Views.{of_constructed, of_primitive, of_content, limited_stream}
+use Rattle.bcder.specs.Views.{of_constructed, of_content}
 use Rattle.bcder.proofs.Inner.{takes_octets, takes_values, takes_marked}
 use Rattle.bcder.proofs.decode.content.Constructed.take_content.Goals as goal
 

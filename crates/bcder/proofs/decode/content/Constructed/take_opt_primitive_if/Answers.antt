@@ -1,7 +1,7 @@
-use Rattle.std.proofs.Common.{true, false}
-use Rattle.std.proofs.Common.{rules, refl, ◌≡◌, ◌≢◌, ◌∙◌, sym, ap, inl, inr}
+use Rattle.std.proofs.Common.{true}
+use Rattle.std.proofs.Common.{rules, ◌≢◌}
 use Rattle.bcder.specs.Cause.{cause_of}
-use Rattle.bcder.specs.Content.{any, tagged, Octets}
+use Rattle.bcder.specs.Content.{tagged, Octets}
 use Rattle.bcder.specs.Views.{of_constructed, of_primitive, of_content}
 use Rattle.bcder.proofs.Forwarding.{takes_opt, refuses_opt, constructed_other}
 use Rattle.bcder.proofs.decode.content.Constructed.take_opt_primitive_if.Goals as goal

@@ -1,11 +1,10 @@
-use Rattle.std.proofs.Common.{rules, refl, ◌≡◌, ◌∙◌, sym, ap, subst}
-use Rattle.std.specs.Prelude.{Result, Ok, Err}
+use Rattle.std.proofs.Common.{refl}
 use Rattle.bcder.specs.Cause.{cause_of}
-use Rattle.bcder.specs.Content.{any, tagged}
+use Rattle.bcder.specs.Content.{any}
 use Rattle.bcder.specs.Calls.{RefusesValue, content}
 use Rattle.bcder.specs.Peek.{header}
 use Rattle.bcder.specs.Views.{of_constructed, of_content}
-use Rattle.bcder.proofs.Taking.{taken_value, taken_moves, taken_shorter, refused_front, refused_moves, value_refused, inside_entered, tag_entered}
+use Rattle.bcder.proofs.Taking.{taken_value, taken_moves, taken_shorter, refused_front, refused_moves, inside_entered, tag_entered}
 use Rattle.bcder.proofs.Refusing.{residual}
 use Rattle.bcder.proofs.decode.content.Constructed.take_opt_value.Goals as goal
 

@@ -1,7 +1,7 @@
-use Rattle.std.proofs.Common.{rules, refl, ◌≡◌, ◌≢◌, ◌∙◌, sym, ap, inl, inr}
+use Rattle.std.proofs.Common.{rules}
 use Rattle.bcder.specs.Cause.{cause_of}
-use Rattle.bcder.specs.Content.{any, tagged, Octets}
-use Rattle.bcder.specs.Views.{of_constructed, of_primitive, of_content}
+use Rattle.bcder.specs.Content.{tagged}
+use Rattle.bcder.specs.Views.{of_constructed, of_content}
 use Rattle.bcder.proofs.Forwarding.{takes_all, refuses_every}
 use Rattle.bcder.proofs.decode.content.Constructed.take_opt_value_if.Goals as goal
 

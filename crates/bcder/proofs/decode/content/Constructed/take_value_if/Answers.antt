@@ -1,9 +1,9 @@
-use Rattle.std.proofs.Common.{◌≡◌, inl, inr}
+use Rattle.std.proofs.Common.{inl, inr}
 use Rattle.std.specs.Prelude.{◌⊎◌}
 use Rattle.bcder.specs.Cause.{cause_of, IsRefusal}
-use Rattle.bcder.specs.Content.{any, tagged, IsMissing}
+use Rattle.bcder.specs.Content.{tagged, IsMissing}
 use Rattle.bcder.specs.Calls.{RefusesValue}
-use Rattle.bcder.specs.Views.{of_constructed, of_primitive, of_content}
+use Rattle.bcder.specs.Views.{of_constructed, of_content}
 use Rattle.bcder.proofs.Refusing.{residual}
 use Rattle.bcder.proofs.decode.content.Constructed.take_value_if.Goals as goal
 

@@ -1,4 +1,4 @@
-use Rattle.std.proofs.Common.{◌≡◌, ◌∙◌, refl, sym, ap, subst, rules}
+use Rattle.std.proofs.Common.{refl}
 use Rattle.bcder.specs.Cause.{cause_of}
 use Rattle.bcder.specs.Content.{any}
 use Rattle.bcder.specs.Calls.{RefusesEnd, left_open}

@@ -1,5 +1,4 @@
-use Rattle.std.proofs.Common.{rules, refl, ◌≡◌, ◌∙◌, sym, ap, subst}
-use Rattle.std.specs.Prelude.{Result, Ok, Err}
+use Rattle.std.proofs.Common.{refl, ◌∙◌, sym}
 use Rattle.bcder.specs.Calls.{by_closure, unfinished}
 use Rattle.bcder.specs.Views.{of_content}
 use Rattle.bcder.proofs.Names.{mark_of_content}

@@ -1,7 +1,7 @@
-use Rattle.std.proofs.Common.{rules, refl, ◌≡◌, ◌≢◌, ◌∙◌, sym, ap, inl, inr}
+use Rattle.std.proofs.Common.{rules, refl, ◌≡◌, sym, ap, inl}
 use Rattle.bcder.specs.Cause.{IsRefusal}
-use Rattle.bcder.specs.Content.{any, tagged, Octets}
-use Rattle.bcder.specs.Views.{of_constructed, of_primitive, of_content}
+use Rattle.bcder.specs.Content.{Octets}
+use Rattle.bcder.specs.Views.{of_constructed, of_content}
 use Rattle.bcder.proofs.Moving.{moves_refl}
 use Rattle.bcder.proofs.Forwarding.{on_ok, on_err, primitive_content}
 use Rattle.bcder.proofs.decode.content.fn.Constructed.take_opt_constructed.take_opt_value.Goals as goal

@@ -1,6 +1,5 @@
-use Rattle.std.proofs.Common.{rules, refl, ◌≡◌, ◌≢◌, ◌∙◌, sym, ap, inl, inr}
-use Rattle.bcder.specs.Content.{any, tagged, Octets}
-use Rattle.bcder.specs.Views.{of_constructed, of_primitive, of_content}
+use Rattle.std.proofs.Common.{rules, refl}
+use Rattle.bcder.specs.Views.{of_content}
 use Rattle.bcder.proofs.Forwarding.{on_ok, on_err_all}
 use Rattle.bcder.proofs.decode.content.fn.Constructed.take_opt_value_if.take_tagged.Goals as goal
 
