@@ -26,6 +26,10 @@ pub enum Mode {
 
 impl Mode {
     /// Decodes the values at the front of a source in this mode, as [`Constructed::decode`] does.
+    ///
+    /// # Errors
+    ///
+    /// Those of `Constructed::decode`.
     pub fn decode<I: IntoSource, F, T: Drop>(
         self,
         source: I,
@@ -46,6 +50,10 @@ impl Mode {
 
     /// Decodes the values at the front of a borrowed source in this mode, as
     /// [`Constructed::decode_lent`] does.
+    ///
+    /// # Errors
+    ///
+    /// Those of `Constructed::decode_lent`.
     pub fn decode_lent<S: Source, F, T: Drop>(
         self,
         source: &mut S,

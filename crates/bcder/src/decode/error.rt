@@ -50,7 +50,9 @@ impl ContentError {
 
     /// An error with the text of a message of the user's own, which is copied.
     ///
-    /// It answers `NoMemory` where there is no memory for the text.
+    /// # Errors
+    ///
+    /// `NoMemory` where there is no memory for the text.
     pub fn from_boxed(alloc: Global, message: Box<dyn Message>) -> Result<ContentError, NoMemory>
         ensures { IfOk result (λ e. IsBoxed e (shown message)) }
     {
@@ -174,8 +176,11 @@ impl DecodeError<Infallible> {
         }
     }
 
-    /// Why the content was refused, or `NoMemory` where there was no memory. There is no other cause,
-    /// since the source can't fail.
+    /// Why the content was refused. The source can't have failed.
+    ///
+    /// # Errors
+    ///
+    /// `NoMemory` where there was no memory.
     pub fn into_content(self) -> Result<ContentError, NoMemory>
         ensures ok { IfOk result (λ e. cause_of self ≡ of_content e) }
         ensures err { IfErr result (λ _. cause_of self ≡ of_memory) }

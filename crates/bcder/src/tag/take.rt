@@ -121,9 +121,13 @@ fn invalid<S: Source>(source: &S) -> DecodeError<S::Error>
 }
 
 impl Tag {
-    /// Takes identifier octets: the tag, and whether the encoding is constructed. `None` is for a source
-    /// at its end. Octets that begin no identifier octets are refused. A refusal takes nothing (X.690,
-    /// 8.1.2).
+    /// Takes identifier octets (X.690, 8.1.2): the tag, and whether the encoding is constructed. `None` is
+    /// for a source at its end.
+    ///
+    /// # Errors
+    ///
+    /// Where the octets in front are no identifier octets, and where the source fails. Then nothing is
+    /// taken.
     pub fn take_opt_from<S: Source>(
         source: &mut S,
     ) -> Result<Option<(Tag, bool)>, DecodeError<S::Error>>
@@ -156,9 +160,12 @@ impl Tag {
         }
     }
 
-    /// Takes identifier octets: the tag, and whether the encoding is constructed. Octets that begin no
-    /// identifier octets are refused, and so is the end of the source. A refusal takes nothing (X.690,
-    /// 8.1.2).
+    /// Takes identifier octets (X.690, 8.1.2): the tag, and whether the encoding is constructed.
+    ///
+    /// # Errors
+    ///
+    /// Where the octets in front are no identifier octets, where there are none, and where the source
+    /// fails. Then nothing is taken.
     #[tactic(auto, using(crate::proofs::Beginnings::end_begins_no_identifier))]
     pub fn take_from<S: Source>(source: &mut S) -> Result<(Tag, bool), DecodeError<S::Error>>
         ensures ok { IfOk result (λ r. IsTag r.0 × ((S.stream source.old).rest ≡ identifier r.0 r.1 ++ (S.stream source.new).rest)) }
@@ -187,9 +194,13 @@ impl Tag {
         }
     }
 
-    /// Takes the identifier octets of this tag, and answers whether the encoding is constructed. `None` is
-    /// for those of another tag and for a source at its end, and takes nothing. Octets that begin no
-    /// identifier octets are refused. A refusal takes nothing (X.690, 8.1.2).
+    /// Takes the identifier octets (X.690, 8.1.2) of this tag, and answers whether the encoding is
+    /// constructed. `None` is for those of another tag and for a source at its end, and takes nothing.
+    ///
+    /// # Errors
+    ///
+    /// Where the octets in front are no identifier octets, and where the source fails. Then nothing is
+    /// taken.
     pub fn take_from_if<S: Source>(
         self,
         source: &mut S,

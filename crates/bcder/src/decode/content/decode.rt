@@ -111,11 +111,15 @@ impl<'a, S: Source + Drop> Constructed<'a, S> {
     /// Decodes the values at the front of a source, in a mode.
     ///
     /// The closure is handed all of the source as values up to its end, and answers. Octets that
-    /// it leaves aren't looked at. The closure's refusal is answered as it is; content that it
-    /// leaves failed, where it dropped the refusal of a value, is refused too.
+    /// it leaves aren't looked at.
     ///
     /// The source is gone afterwards: [`decode_lent`](Self::decode_lent) decodes one that its
     /// owner goes on with.
+    ///
+    /// # Errors
+    ///
+    /// The closure's refusal as it is; and a refusal where the closure leaves failed content, that is,
+    /// where it dropped the refusal of a value.
     pub fn decode<I, F, T: Drop>(source: I, mode: Mode, op: F) -> Result<T, DecodeError<S::Error>>
     where
         I: IntoSource<Source = S>,
@@ -135,6 +139,10 @@ impl<'a, S: Source> Constructed<'a, S> {
     ///
     /// It is [`decode`](Self::decode) for a source that its owner goes on with: what is left of the
     /// source is what the closure left, also where it refused.
+    ///
+    /// # Errors
+    ///
+    /// Those of `decode`.
     pub fn decode_lent<F, T: Drop>(
         source: &mut S,
         mode: Mode,

@@ -12,9 +12,11 @@ use crate::decode::source::Source;
 
 #[tactic(auto, using(crate::proofs::Moving::moves_refl))]
 impl<'a, S: Source> Content<'a, S> {
-    /// Calls the closure on the content of a primitive value.
+    /// Calls the closure on the content of a primitive value, and answers what it answers.
     ///
-    /// Content of the other form is refused and stays as it is.
+    /// # Errors
+    ///
+    /// The closure's refusal; and where the value is constructed: its content then stays as it is.
     pub fn as_primitive<F, T: Drop>(&mut self, op: F) -> Result<T, DecodeError<S::Error>>
     where
         F: FnOnce(&mut Primitive<'_, S>) -> Result<T, DecodeError<S::Error>>,
@@ -32,9 +34,11 @@ impl<'a, S: Source> Content<'a, S> {
         }
     }
 
-    /// Calls the closure on the content of a constructed value.
+    /// Calls the closure on the content of a constructed value, and answers what it answers.
     ///
-    /// Content of the other form is refused and stays as it is.
+    /// # Errors
+    ///
+    /// The closure's refusal; and where the value is primitive: its content then stays as it is.
     pub fn as_constructed<F, T: Drop>(&mut self, op: F) -> Result<T, DecodeError<S::Error>>
     where
         F: FnOnce(&mut Constructed<'_, S>) -> Result<T, DecodeError<S::Error>>,

@@ -12,7 +12,14 @@ use crate::tag::Tag;
 
 #[tactic(auto, using(crate::proofs::Moving::moves_refl))]
 impl<'a, S: Source> Constructed<'a, S> {
-    /// Takes the next value, which is primitive, or answers `None` at the end.
+    /// Takes the next value, which has to be primitive, or answers `None` at the end of the content.
+    ///
+    /// The closure is handed the value's tag and its contents octets. All else is as
+    /// [`take_opt_value`](Self::take_opt_value) has it.
+    ///
+    /// # Errors
+    ///
+    /// Those of `take_opt_value`, and where the value is constructed: the content has then failed.
     pub fn take_opt_primitive<F, T: Drop>(
         &mut self,
         op: F,
@@ -49,7 +56,12 @@ impl<'a, S: Source> Constructed<'a, S> {
         )
     }
 
-    /// Takes the next value, which must be there and is primitive.
+    /// Takes the next value, which has to be there and primitive.
+    ///
+    /// # Errors
+    ///
+    /// Those of [`take_opt_primitive`](Self::take_opt_primitive), and at the end of the content, which then
+    /// stays usable.
     pub fn take_primitive<F, T: Drop>(&mut self, op: F) -> Result<T, DecodeError<S::Error>>
     where
         F: FnOnce(Tag, &mut Primitive<'_, S>) -> Result<T, DecodeError<S::Error>>,
@@ -68,7 +80,15 @@ impl<'a, S: Source> Constructed<'a, S> {
         }
     }
 
-    /// Takes the next value, which is primitive, if it has this tag, or answers `None` at the end or another tag.
+    /// Takes the next value if it has this tag, or answers `None`. It then has to be primitive.
+    ///
+    /// The closure is handed the value's contents octets. All else is as
+    /// [`take_opt_value_if`](Self::take_opt_value_if) has it.
+    ///
+    /// # Errors
+    ///
+    /// Those of `take_opt_value_if`, and where the value of this tag is constructed: the content has then
+    /// failed.
     pub fn take_opt_primitive_if<F, T: Drop>(
         &mut self,
         tag: Tag,
@@ -107,7 +127,12 @@ impl<'a, S: Source> Constructed<'a, S> {
         )
     }
 
-    /// Takes the next value, which must have this tag and is primitive.
+    /// Takes the next value, which has to have this tag and be primitive.
+    ///
+    /// # Errors
+    ///
+    /// Those of [`take_opt_primitive_if`](Self::take_opt_primitive_if), and `ContentError::ExpectedTag`
+    /// where that answers `None`: the content then stays usable.
     pub fn take_primitive_if<F, T: Drop>(
         &mut self,
         tag: Tag,

@@ -13,7 +13,14 @@ use crate::tag::Tag;
 
 #[tactic(auto, using(crate::proofs::Moving::moves_refl))]
 impl<'a, S: Source> Constructed<'a, S> {
-    /// Takes the next value, which is constructed, or answers `None` at the end.
+    /// Takes the next value, which has to be constructed, or answers `None` at the end of the content.
+    ///
+    /// The closure is handed the value's tag and its values. All else is as
+    /// [`take_opt_value`](Self::take_opt_value) has it.
+    ///
+    /// # Errors
+    ///
+    /// Those of `take_opt_value`, and where the value is primitive: the content has then failed.
     pub fn take_opt_constructed<F, T: Drop>(
         &mut self,
         op: F,
@@ -50,7 +57,12 @@ impl<'a, S: Source> Constructed<'a, S> {
         )
     }
 
-    /// Takes the next value, which must be there and is constructed.
+    /// Takes the next value, which has to be there and constructed.
+    ///
+    /// # Errors
+    ///
+    /// Those of [`take_opt_constructed`](Self::take_opt_constructed), and at the end of the content, which then
+    /// stays usable.
     pub fn take_constructed<F, T: Drop>(&mut self, op: F) -> Result<T, DecodeError<S::Error>>
     where
         F: FnOnce(Tag, &mut Constructed<'_, S>) -> Result<T, DecodeError<S::Error>>,
@@ -69,7 +81,15 @@ impl<'a, S: Source> Constructed<'a, S> {
         }
     }
 
-    /// Takes the next value, which is constructed, if it has this tag, or answers `None` at the end or another tag.
+    /// Takes the next value if it has this tag, or answers `None`. It then has to be constructed.
+    ///
+    /// The closure is handed the value's values. All else is as
+    /// [`take_opt_value_if`](Self::take_opt_value_if) has it.
+    ///
+    /// # Errors
+    ///
+    /// Those of `take_opt_value_if`, and where the value of this tag is primitive: the content has then
+    /// failed.
     pub fn take_opt_constructed_if<F, T: Drop>(
         &mut self,
         tag: Tag,
@@ -108,7 +128,12 @@ impl<'a, S: Source> Constructed<'a, S> {
         )
     }
 
-    /// Takes the next value, which must have this tag and is constructed.
+    /// Takes the next value, which has to have this tag and be constructed.
+    ///
+    /// # Errors
+    ///
+    /// Those of [`take_opt_constructed_if`](Self::take_opt_constructed_if), and `ContentError::ExpectedTag`
+    /// where that answers `None`: the content then stays usable.
     pub fn take_constructed_if<F, T: Drop>(
         &mut self,
         tag: Tag,
@@ -131,7 +156,13 @@ impl<'a, S: Source> Constructed<'a, S> {
         }
     }
 
-    /// Takes the next value, which must be a SEQUENCE (X.690, 8.9 to 8.12).
+    /// Takes the next value, which has to be a SEQUENCE (X.690, 8.9, 8.10).
+    ///
+    /// It is [`take_constructed_if`](Self::take_constructed_if) with `Tag::SEQUENCE`.
+    ///
+    /// # Errors
+    ///
+    /// Those of `take_constructed_if`.
     pub fn take_sequence<F, T: Drop>(&mut self, op: F) -> Result<T, DecodeError<S::Error>>
     where
         F: FnOnce(&mut Constructed<'_, S>) -> Result<T, DecodeError<S::Error>>,
@@ -147,7 +178,13 @@ impl<'a, S: Source> Constructed<'a, S> {
         self.take_constructed_if(Tag::SEQUENCE, op)
     }
 
-    /// Takes the next value if it is a SEQUENCE, or answers `None` at the end or another tag.
+    /// Takes the next value if it is a SEQUENCE (X.690, 8.9, 8.10), or answers `None`.
+    ///
+    /// It is [`take_opt_constructed_if`](Self::take_opt_constructed_if) with `Tag::SEQUENCE`.
+    ///
+    /// # Errors
+    ///
+    /// Those of `take_opt_constructed_if`.
     pub fn take_opt_sequence<F, T: Drop>(
         &mut self,
         op: F,
@@ -169,7 +206,13 @@ impl<'a, S: Source> Constructed<'a, S> {
         self.take_opt_constructed_if(Tag::SEQUENCE, op)
     }
 
-    /// Takes the next value, which must be a SET (X.690, 8.9 to 8.12).
+    /// Takes the next value, which has to be a SET (X.690, 8.11, 8.12).
+    ///
+    /// It is [`take_constructed_if`](Self::take_constructed_if) with `Tag::SET`.
+    ///
+    /// # Errors
+    ///
+    /// Those of `take_constructed_if`.
     pub fn take_set<F, T: Drop>(&mut self, op: F) -> Result<T, DecodeError<S::Error>>
     where
         F: FnOnce(&mut Constructed<'_, S>) -> Result<T, DecodeError<S::Error>>,
@@ -185,7 +228,13 @@ impl<'a, S: Source> Constructed<'a, S> {
         self.take_constructed_if(Tag::SET, op)
     }
 
-    /// Takes the next value if it is a SET, or answers `None` at the end or another tag.
+    /// Takes the next value if it is a SET (X.690, 8.11, 8.12), or answers `None`.
+    ///
+    /// It is [`take_opt_constructed_if`](Self::take_opt_constructed_if) with `Tag::SET`.
+    ///
+    /// # Errors
+    ///
+    /// Those of `take_opt_constructed_if`.
     pub fn take_opt_set<F, T: Drop>(&mut self, op: F) -> Result<Option<T>, DecodeError<S::Error>>
     where
         F: FnOnce(&mut Constructed<'_, S>) -> Result<T, DecodeError<S::Error>>,

@@ -511,7 +511,18 @@ impl<'a, S: Source> Constructed<'a, S> {
 
 #[tactic(auto, unfolding(crate::specs::Views::of_constructed))]
 impl<'a, S: Source> Constructed<'a, S> {
-    /// Takes the next value, or answers `None` at the end.
+    /// Takes the next value, or answers `None` at the end of the content.
+    ///
+    /// The closure is handed the value's tag and its content, open and in this content's mode, and has to
+    /// take all of it. Its answer is answered. At the end the end-of-contents octets, if any, are taken
+    /// (X.690, 8.1.5).
+    ///
+    /// # Errors
+    ///
+    /// Where neither the end nor the header of a value stands in front, allowed by the mode and with no
+    /// more octets than are owed (8.1.2, 8.1.3); where the closure refuses, or leaves octets, values or
+    /// failed content; where an earlier value was refused; where the source fails. The content has then
+    /// failed, and every later take refuses.
     #[inline(always)]
     pub fn take_opt_value<F, T: Drop>(&mut self, op: F) -> Result<Option<T>, DecodeError<S::Error>>
     where

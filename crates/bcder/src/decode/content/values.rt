@@ -12,7 +12,13 @@ use crate::tag::Tag;
 
 #[tactic(auto, using(crate::proofs::Moving::moves_refl))]
 impl<'a, S: Source> Constructed<'a, S> {
-    /// Takes the next value, which must be there.
+    /// Takes the next value, which has to be there.
+    ///
+    /// The closure is called as that of [`take_opt_value`](Self::take_opt_value) is.
+    ///
+    /// # Errors
+    ///
+    /// Those of `take_opt_value`, and at the end of the content, which then stays usable.
     pub fn take_value<F, T: Drop>(&mut self, op: F) -> Result<T, DecodeError<S::Error>>
     where
         F: FnOnce(Tag, &mut Content<'_, S>) -> Result<T, DecodeError<S::Error>>,
@@ -31,7 +37,19 @@ impl<'a, S: Source> Constructed<'a, S> {
         }
     }
 
-    /// Takes the next value if it has this tag, or answers `None` at the end or another tag.
+    /// Takes the next value if it has this tag, or answers `None`.
+    ///
+    /// `None` is for the end of the content and for a value of another tag. Both stay where they are, so
+    /// that a later call takes them; a call for `Tag::END_OF_VALUE` takes end-of-contents octets (X.690,
+    /// 8.1.5). The closure is handed the value's content, open and in this content's mode, and has to take
+    /// all of it. Its answer is answered.
+    ///
+    /// # Errors
+    ///
+    /// Where no identifier octets stand in front, or those of this tag with no header of a value that the
+    /// mode allows, with no more octets than are owed (8.1.2, 8.1.3); where the closure refuses, or leaves
+    /// octets, values or failed content; where an earlier value was refused; where the source fails. The
+    /// content has then failed, and every later take refuses.
     pub fn take_opt_value_if<F, T: Drop>(
         &mut self,
         tag: Tag,
@@ -63,7 +81,14 @@ impl<'a, S: Source> Constructed<'a, S> {
         )
     }
 
-    /// Takes the next value, which must have this tag.
+    /// Takes the next value, which has to have this tag.
+    ///
+    /// The closure is called as that of [`take_opt_value_if`](Self::take_opt_value_if) is.
+    ///
+    /// # Errors
+    ///
+    /// Those of `take_opt_value_if`, and `ContentError::ExpectedTag` where that answers `None`: the content
+    /// then stays usable.
     pub fn take_value_if<F, T: Drop>(&mut self, tag: Tag, op: F) -> Result<T, DecodeError<S::Error>>
     where
         F: FnOnce(&mut Content<'_, S>) -> Result<T, DecodeError<S::Error>>,

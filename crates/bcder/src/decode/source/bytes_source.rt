@@ -80,7 +80,9 @@ impl BytesSource {
 
     /// Takes the first `len` octets, of which there have to be as many, and answers them, shared.
     ///
-    /// Where there is no memory to share them, the source is as it was.
+    /// # Errors
+    ///
+    /// Where there is no memory to share them. The source is then as it was.
     pub fn split_to(&mut self, len: usize) -> Result<Bytes, NoMemory>
         requires { len ≤ length (shared_rest self.old) }
         ensures front { IfOk result (λ b. b ≡ take len (shared_rest self.old)) }

@@ -52,7 +52,11 @@ impl<'a, S: Source> CaptureSource<'a, S> {
     /// The octets that were passed over. They leave the borrowed source.
     ///
     /// They have to be available there, as they are after a request and the calls of `advance` that
-    /// it allows. Where there is no memory for them, the borrowed source is as it was.
+    /// it allows.
+    ///
+    /// # Errors
+    ///
+    /// Where there is no memory for them. The borrowed source is then as it was.
     pub fn into_bytes(self, alloc: Global) -> Result<Bytes, NoMemory>
         requires { passed self ≤ (S.stream (behind self)).avail }
         ensures value { IfOk result

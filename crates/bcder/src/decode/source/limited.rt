@@ -77,7 +77,9 @@ impl<S> LimitedSource<S> {
 impl<S: Source> LimitedSource<S> {
     /// Passes over all octets up to the limit, of which there has to be one.
     ///
-    /// It refuses where the wrapped source ends before the limit; an error passes over none.
+    /// # Errors
+    ///
+    /// Where the wrapped source ends before the limit, and where it fails. Then no octet is passed.
     pub fn skip_all(&mut self) -> Result<(), DecodeError<S::Error>>
         requires { IsSome (limit_of self.old) }
         ensures enough { OnOk result (owed self.old ≤ length (S.stream (wrapped self.old)).rest) }
@@ -140,8 +142,10 @@ impl<S: Source> LimitedSource<S> {
 
     /// Takes all octets up to the limit, of which there has to be one.
     ///
-    /// It refuses where the wrapped source ends before the limit; an error takes none, as does
-    /// want of memory.
+    /// # Errors
+    ///
+    /// Where the wrapped source ends before the limit, where it fails, and where there is no memory for
+    /// the octets. Then none is taken.
     pub fn take_all(&mut self, alloc: Global) -> Result<Bytes, DecodeError<S::Error>>
         requires { IsSome (limit_of self.old) }
         ensures value { IfOk result
@@ -173,8 +177,12 @@ impl<S: Source> LimitedSource<S> {
         Ok(taken)
     }
 
-    /// Refuses where octets are left: where the limit isn't 0, or without a limit where the wrapped
-    /// source isn't at its end.
+    /// Makes sure that no octets are left: that the limit is 0, or without a limit that the wrapped
+    /// source is at its end.
+    ///
+    /// # Errors
+    ///
+    /// Where octets are left, and where the wrapped source fails.
     pub fn exhausted(&mut self) -> Result<(), DecodeError<S::Error>>
         ensures ok { OnOk result (IsUsedUp (limit_of self.old) (S.stream (wrapped self.old)).rest) }
         ensures no_fault { OnOk result
