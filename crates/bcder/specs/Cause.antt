@@ -79,6 +79,10 @@ IsOfContent c = MatchCause c ⊥ (Unit {0}) ⊥
 abbrev pub IsRefusal : {S : Type 0} → DecodeError S → Type 0
 IsRefusal e = IsOfContent (cause_of e)
 
+-- the refusal of what is not this tag, which it names
+abbrev pub NamesTag : {S : Type 0} → Tag → DecodeError S → Type 0
+NamesTag tag e = cause_of e ≡ of_content (ExpectedTag tag)
+
 -- why a step stopped; the text is left open
 abbrev pub stop_cause : {S : Type 0} → Stop S → Cause ContentError
 stop_cause (stop.Refused why) = of_content (Static [])

@@ -1,6 +1,6 @@
 //! Taking constructed values.
 ghost use Rattle.std.specs.Prelude.{◌≡◌, ◌≢◌, ◌⊎◌, ℕ, ◌+◌, ◌≤◌, true, false, length, Ok, Err, IfOk, IfErr, IfSome, IfNone, OnOk, OnErr};
-ghost use Rattle.bcder.specs.Cause.{cause_of, IsRefusal};
+ghost use Rattle.bcder.specs.Cause.{cause_of, IsRefusal, NamesTag};
 ghost use Rattle.bcder.specs.Content.{Octets, Moves, any, tagged, EndsAt, IsDone, IsAbsent, IsLeft, IsMissing};
 ghost use Rattle.bcder.specs.Identifier.{sequence_tag, set_tag};
 ghost use Rattle.bcder.specs.Calls.{MayBeCalled, IsLawful, MayBeCalledOn, IsLawfulOn, IsInside, Untagged, Answered, TakesValue, RefusesValue, HasForm};
@@ -146,7 +146,7 @@ impl<'a, S: Source> Constructed<'a, S> {
         ensures moves { Moves (of_constructed S.stream self.old) (of_constructed S.stream self.new) }
         ensures value { IfOk result (λ x. TakesValue (of_constructed S.stream) (Untagged (F.post op)) (tagged tag) (of_constructed S.stream self.old) x (of_constructed S.stream self.new)) }
         ensures shorter { OnOk result (length (of_constructed S.stream self.new).stream.rest + 2 ≤ length (of_constructed S.stream self.old).stream.rest) }
-        ensures refused { IfErr result (λ e. (IsMissing (tagged tag) (of_constructed S.stream self.old) (of_constructed S.stream self.new) × IsRefusal e) ⊎ ((HasForm false (tagged tag) (of_constructed S.stream self.old) × IsRefusal e) ⊎ RefusesValue cause_of (of_constructed S.stream) (Untagged (F.post op)) (tagged tag) (of_constructed S.stream self.old) e (of_constructed S.stream self.new))) }
+        ensures refused { IfErr result (λ e. (IsMissing (tagged tag) (of_constructed S.stream self.old) (of_constructed S.stream self.new) × NamesTag tag e) ⊎ ((HasForm false (tagged tag) (of_constructed S.stream self.old) × IsRefusal e) ⊎ RefusesValue cause_of (of_constructed S.stream) (Untagged (F.post op)) (tagged tag) (of_constructed S.stream self.old) e (of_constructed S.stream self.new))) }
         ensures failed { OnErr result (((of_constructed S.stream self.new).state ≡ State.Failed) ⊎ (IsMissing (tagged tag) (of_constructed S.stream self.old) (of_constructed S.stream self.new) × ((of_constructed S.stream self.new).marked ≡ (of_constructed S.stream self.old).marked))) }
         ensures mode { (of_constructed S.stream self.new).mode ≡ (of_constructed S.stream self.old).mode }
     {
@@ -171,7 +171,7 @@ impl<'a, S: Source> Constructed<'a, S> {
         ensures moves { Moves (of_constructed S.stream self.old) (of_constructed S.stream self.new) }
         ensures value { IfOk result (λ x. TakesValue (of_constructed S.stream) (Untagged (F.post op)) (tagged sequence_tag) (of_constructed S.stream self.old) x (of_constructed S.stream self.new)) }
         ensures shorter { OnOk result (length (of_constructed S.stream self.new).stream.rest + 2 ≤ length (of_constructed S.stream self.old).stream.rest) }
-        ensures refused { IfErr result (λ e. (IsMissing (tagged sequence_tag) (of_constructed S.stream self.old) (of_constructed S.stream self.new) × IsRefusal e) ⊎ ((HasForm false (tagged sequence_tag) (of_constructed S.stream self.old) × IsRefusal e) ⊎ RefusesValue cause_of (of_constructed S.stream) (Untagged (F.post op)) (tagged sequence_tag) (of_constructed S.stream self.old) e (of_constructed S.stream self.new))) }
+        ensures refused { IfErr result (λ e. (IsMissing (tagged sequence_tag) (of_constructed S.stream self.old) (of_constructed S.stream self.new) × NamesTag sequence_tag e) ⊎ ((HasForm false (tagged sequence_tag) (of_constructed S.stream self.old) × IsRefusal e) ⊎ RefusesValue cause_of (of_constructed S.stream) (Untagged (F.post op)) (tagged sequence_tag) (of_constructed S.stream self.old) e (of_constructed S.stream self.new))) }
         ensures failed { OnErr result (((of_constructed S.stream self.new).state ≡ State.Failed) ⊎ (IsMissing (tagged sequence_tag) (of_constructed S.stream self.old) (of_constructed S.stream self.new) × ((of_constructed S.stream self.new).marked ≡ (of_constructed S.stream self.old).marked))) }
         ensures mode { (of_constructed S.stream self.new).mode ≡ (of_constructed S.stream self.old).mode }
     {
@@ -221,7 +221,7 @@ impl<'a, S: Source> Constructed<'a, S> {
         ensures moves { Moves (of_constructed S.stream self.old) (of_constructed S.stream self.new) }
         ensures value { IfOk result (λ x. TakesValue (of_constructed S.stream) (Untagged (F.post op)) (tagged set_tag) (of_constructed S.stream self.old) x (of_constructed S.stream self.new)) }
         ensures shorter { OnOk result (length (of_constructed S.stream self.new).stream.rest + 2 ≤ length (of_constructed S.stream self.old).stream.rest) }
-        ensures refused { IfErr result (λ e. (IsMissing (tagged set_tag) (of_constructed S.stream self.old) (of_constructed S.stream self.new) × IsRefusal e) ⊎ ((HasForm false (tagged set_tag) (of_constructed S.stream self.old) × IsRefusal e) ⊎ RefusesValue cause_of (of_constructed S.stream) (Untagged (F.post op)) (tagged set_tag) (of_constructed S.stream self.old) e (of_constructed S.stream self.new))) }
+        ensures refused { IfErr result (λ e. (IsMissing (tagged set_tag) (of_constructed S.stream self.old) (of_constructed S.stream self.new) × NamesTag set_tag e) ⊎ ((HasForm false (tagged set_tag) (of_constructed S.stream self.old) × IsRefusal e) ⊎ RefusesValue cause_of (of_constructed S.stream) (Untagged (F.post op)) (tagged set_tag) (of_constructed S.stream self.old) e (of_constructed S.stream self.new))) }
         ensures failed { OnErr result (((of_constructed S.stream self.new).state ≡ State.Failed) ⊎ (IsMissing (tagged set_tag) (of_constructed S.stream self.old) (of_constructed S.stream self.new) × ((of_constructed S.stream self.new).marked ≡ (of_constructed S.stream self.old).marked))) }
         ensures mode { (of_constructed S.stream self.new).mode ≡ (of_constructed S.stream self.old).mode }
     {

@@ -1,6 +1,6 @@
 //! Taking the next value.
 ghost use Rattle.std.specs.Prelude.{◌≡◌, ◌≢◌, ℕ, ◌+◌, ◌≤◌, ◌⊎◌, ◌↔◌, ◌||◌, false, true, Bool, List, [], length, take, IsTrue, Option, Some, None, IfOk, IfErr, IfSome, IfNone, OnOk, OnErr};
-ghost use Rattle.bcder.specs.Cause.{cause_of, stop_cause, of_source, IsOfContent, IsRefusal};
+ghost use Rattle.bcder.specs.Cause.{cause_of, stop_cause, of_source, IsOfContent, IsRefusal, NamesTag};
 ghost use Rattle.bcder.specs.Stream.{Grew};
 ghost use Rattle.bcder.specs.Identifier.{AreOctets, end_of_contents};
 ghost use Rattle.bcder.specs.Reading.{Header as HeaderRead};
@@ -84,7 +84,7 @@ impl<'a, S: Source> Constructed<'a, S> {
 
     /// A refusal of what is not this tag.
     pub(super) fn expected(&self, tag: Tag) -> DecodeError<S::Error>
-        ensures { IsRefusal result }
+        ensures { NamesTag tag result }
     {
         self.source.content_err(ContentError::ExpectedTag(tag))
     }

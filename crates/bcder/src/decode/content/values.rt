@@ -1,6 +1,6 @@
 //! Taking values of either form.
 ghost use Rattle.std.specs.Prelude.{◌≡◌, ◌≢◌, ◌⊎◌, ℕ, ◌+◌, ◌≤◌, true, false, length, Ok, Err, IfOk, IfErr, IfSome, IfNone, OnOk, OnErr};
-ghost use Rattle.bcder.specs.Cause.{cause_of, IsRefusal};
+ghost use Rattle.bcder.specs.Cause.{cause_of, IsRefusal, NamesTag};
 ghost use Rattle.bcder.specs.Content.{Octets, Moves, any, tagged, EndsAt, IsDone, IsAbsent, IsLeft, IsMissing};
 ghost use Rattle.bcder.specs.Calls.{MayBeCalled, IsLawful, MayBeCalledOn, IsLawfulOn, IsInside, Untagged, Answered, TakesValue, RefusesValue, HasForm};
 ghost use Rattle.bcder.specs.Views.{of_constructed, of_primitive, of_content};
@@ -97,7 +97,7 @@ impl<'a, S: Source> Constructed<'a, S> {
         ensures moves { Moves (of_constructed S.stream self.old) (of_constructed S.stream self.new) }
         ensures value { IfOk result (λ x. TakesValue (of_content S.stream) (Untagged (F.post op)) (tagged tag) (of_constructed S.stream self.old) x (of_constructed S.stream self.new)) }
         ensures shorter { OnOk result (length (of_constructed S.stream self.new).stream.rest + 2 ≤ length (of_constructed S.stream self.old).stream.rest) }
-        ensures refused { IfErr result (λ e. (IsMissing (tagged tag) (of_constructed S.stream self.old) (of_constructed S.stream self.new) × IsRefusal e) ⊎ RefusesValue cause_of (of_content S.stream) (Untagged (F.post op)) (tagged tag) (of_constructed S.stream self.old) e (of_constructed S.stream self.new)) }
+        ensures refused { IfErr result (λ e. (IsMissing (tagged tag) (of_constructed S.stream self.old) (of_constructed S.stream self.new) × NamesTag tag e) ⊎ RefusesValue cause_of (of_content S.stream) (Untagged (F.post op)) (tagged tag) (of_constructed S.stream self.old) e (of_constructed S.stream self.new)) }
         ensures failed { OnErr result (((of_constructed S.stream self.new).state ≡ State.Failed) ⊎ (IsMissing (tagged tag) (of_constructed S.stream self.old) (of_constructed S.stream self.new) × ((of_constructed S.stream self.new).marked ≡ (of_constructed S.stream self.old).marked))) }
         ensures mode { (of_constructed S.stream self.new).mode ≡ (of_constructed S.stream self.old).mode }
     {
