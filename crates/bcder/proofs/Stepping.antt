@@ -14,7 +14,7 @@ use Rattle.bcder.specs.declared.decode.stop.Stop.TheVariants as stop
 use Rattle.bcder.specs.Identifier.{Tag, AreOctets}
 use Rattle.bcder.specs.Reading.{Header}
 use Rattle.bcder.specs.Stream.{Stream, IsSound, Grew, past, limited}
-use Rattle.bcder.specs.Content.{Reading, Form, octets, values, Octets, UnboundedValues, any, Enters, RefusesHeader, Moves, Advances, FitsOwed, IsDone, IsUsedUp, of_octets, of_definite, EndsAt}
+use Rattle.bcder.specs.Content.{Reading, Form, octets, values, Octets, UnboundedValues, any, Enters, RefusesHeader, Moves, Advances, FitsOwed, IsDone}
 use Rattle.bcder.specs.Calls.{IsFormOf, Answered, AnswersDone, RefusesContent, by_closure, RanOver, TakesContent, RefusesValue, popped}
 use Rattle.bcder.specs.Walking.{WalksBy, itself, walked}
 use Rattle.bcder.specs.Walking as walking
@@ -22,18 +22,10 @@ use Rattle.bcder.specs.laws.Limits.{limited_sound}
 use Rattle.bcder.proofs.Moving.{moves_refl, moves_still, moves_octets}
 use Rattle.bcder.specs.laws.Complete.{header_size}
 use Rattle.bcder.proofs.Entering.{Within}
-use Rattle.bcder.proofs.Walking.{moves_kind}
+use Rattle.bcder.proofs.Walking.{moves_kind, done_here}
 use Rattle.bcder.proofs.Walked.{refuses_walk}
 use Rattle.bcder.proofs.Taking.{value_refused}
 use Rattle.bcder.proofs.Inner.{layer_is, layers_eq, takes_definite, encodes_primitive}
-
--- content that is done is at its end, unless it is unbounded
-done_here : (j : Reading) (f : Form) → j.kind ≡ f → (f ≡ UnboundedValues → ⊥) → IsDone j → EndsAt j j
-done_here j f e u (inl s) = inl s
-done_here j octets e u (inr s) = inr (s.0, of_octets e (subst (λ x. IsUsedUp x j.owed) e s.1))
-done_here j (values kind.Definite) e u (inr s) = inr (s.0, of_definite e (subst (λ x. IsUsedUp x j.owed) e s.1))
-done_here j (values kind.Indefinite) e u (inr s) = absurd (subst (λ x. IsUsedUp x j.owed) e s.1)
-done_here j (values kind.Unbounded) e u (inr s) = absurd (u refl)
 
 -- a borrow of content
 held : Reading → MutBor Reading
