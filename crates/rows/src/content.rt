@@ -67,6 +67,7 @@ enum Call {
 type Step = (Call, Tag, Answer);
 
 /// Steps on octets in some modes.
+#[derive(Drop)]
 struct Row<'a> {
     octets: &'a [u8],
     modes: &'a [Mode],
@@ -668,174 +669,67 @@ fn modes_are_handed_down(rt: HostRuntime) -> Result<(), Fail> {
     )
 }
 
-/// `walk` passes over the encoding of a value in the rules of the content, and refuses all others.
+/// Walks over the next value, in a mode, over three sources.
+fn check_walk(
+    rt: &impl Abort,
+    alloc: Global,
+    octets: &[u8],
+    mode: Mode,
+    answer: Answer,
+    left: Option<usize>,
+) -> Result<(), Fail> {
+    check_rows(
+        rt,
+        alloc,
+        &[Row {
+            octets,
+            modes: &[mode],
+            inside: &[],
+            outside: &[(Call::Walk, Tag::END_OF_VALUE, answer)],
+            left,
+        }],
+    )
+}
+
+/// `walk` passes over the encoding of a value in the rules of the content, and refuses all others. With
+/// the octets stand the modes in which a front of them is an encoding, and how many are behind it.
 #[test]
 fn walk_passes_encodings(rt: HostRuntime) -> Result<(), Fail> {
-    check_rows(
-        &rt,
-        rt.alloc(),
-        &[
-            Row {
-                octets: &[0x30, 0x80, 0x02, 0x01, 0x05, 0x00, 0x00, 0xAA],
-                modes: &[Mode::Ber, Mode::Cer],
-                inside: &[],
-                outside: &[(Call::Walk, Tag::END_OF_VALUE, Taken)],
-                left: Some(1),
-            },
-            Row {
-                octets: &[0x30, 0x80, 0x02, 0x01, 0x05, 0x00, 0x00, 0xAA],
-                modes: &[Mode::Der],
-                inside: &[],
-                outside: &[(Call::Walk, Tag::END_OF_VALUE, Refused)],
-                left: None,
-            },
-            Row {
-                octets: &[0x30, 0x03, 0x02, 0x01, 0x05],
-                modes: &[Mode::Ber, Mode::Der],
-                inside: &[],
-                outside: &[(Call::Walk, Tag::END_OF_VALUE, Taken)],
-                left: Some(0),
-            },
-            Row {
-                octets: &[0x30, 0x03, 0x02, 0x01, 0x05],
-                modes: &[Mode::Cer],
-                inside: &[],
-                outside: &[(Call::Walk, Tag::END_OF_VALUE, Refused)],
-                left: None,
-            },
-            Row {
-                octets: &[0x30, 0x81, 0x03, 0x02, 0x01, 0x05],
-                modes: &[Mode::Ber],
-                inside: &[],
-                outside: &[(Call::Walk, Tag::END_OF_VALUE, Taken)],
-                left: Some(0),
-            },
-            Row {
-                octets: &[0x30, 0x81, 0x03, 0x02, 0x01, 0x05],
-                modes: &[Mode::Cer, Mode::Der],
-                inside: &[],
-                outside: &[(Call::Walk, Tag::END_OF_VALUE, Refused)],
-                left: None,
-            },
-            Row {
-                octets: &[0x30, 0x80, 0x00, 0x81, 0x00, 0x30],
-                modes: &[Mode::Ber],
-                inside: &[],
-                outside: &[(Call::Walk, Tag::END_OF_VALUE, Taken)],
-                left: Some(1),
-            },
-            Row {
-                octets: &[0x30, 0x80, 0x00, 0x81, 0x00, 0x30],
-                modes: &[Mode::Cer, Mode::Der],
-                inside: &[],
-                outside: &[(Call::Walk, Tag::END_OF_VALUE, Refused)],
-                left: None,
-            },
-            Row {
-                octets: &[0x20, 0x00],
-                modes: &ALL,
-                inside: &[],
-                outside: &[(Call::Walk, Tag::END_OF_VALUE, Refused)],
-                left: None,
-            },
-            Row {
-                octets: &[0x30, 0x02, 0x20, 0x00],
-                modes: &ALL,
-                inside: &[],
-                outside: &[(Call::Walk, Tag::END_OF_VALUE, Refused)],
-                left: None,
-            },
-            Row {
-                octets: &[0x30, 0x04, 0x30, 0x80, 0x00, 0x00],
-                modes: &[Mode::Ber],
-                inside: &[],
-                outside: &[(Call::Walk, Tag::END_OF_VALUE, Taken)],
-                left: Some(0),
-            },
-            Row {
-                octets: &[0x30, 0x04, 0x30, 0x80, 0x00, 0x00],
-                modes: &[Mode::Cer, Mode::Der],
-                inside: &[],
-                outside: &[(Call::Walk, Tag::END_OF_VALUE, Refused)],
-                left: None,
-            },
-            Row {
-                octets: &[0x30, 0x03, 0x30, 0x80, 0x00, 0x00],
-                modes: &ALL,
-                inside: &[],
-                outside: &[(Call::Walk, Tag::END_OF_VALUE, Refused)],
-                left: None,
-            },
-            Row {
-                octets: &[0x1F, 0x1E, 0x00],
-                modes: &ALL,
-                inside: &[],
-                outside: &[(Call::Walk, Tag::END_OF_VALUE, Refused)],
-                left: None,
-            },
-            Row {
-                octets: &[0x1F, 0x80, 0x1F, 0x00],
-                modes: &ALL,
-                inside: &[],
-                outside: &[(Call::Walk, Tag::END_OF_VALUE, Refused)],
-                left: None,
-            },
-            Row {
-                octets: &[0x1F, 0x1F, 0x00],
-                modes: &ALL,
-                inside: &[],
-                outside: &[(Call::Walk, Tag::END_OF_VALUE, Taken)],
-                left: Some(0),
-            },
-            Row {
-                octets: &[0x30, 0x80, 0x02, 0x01, 0x05, 0x00, 0x82, 0x00, 0x00],
-                modes: &[Mode::Ber],
-                inside: &[],
-                outside: &[(Call::Walk, Tag::END_OF_VALUE, Taken)],
-                left: Some(0),
-            },
-            Row {
-                octets: &[0x30, 0x80, 0x02, 0x01, 0x05, 0x00, 0x82, 0x00, 0x00],
-                modes: &[Mode::Cer, Mode::Der],
-                inside: &[],
-                outside: &[(Call::Walk, Tag::END_OF_VALUE, Refused)],
-                left: None,
-            },
-            Row {
-                octets: &[0x04, 0x84, 0x00, 0x00, 0x00, 0x01, 0x41],
-                modes: &[Mode::Ber],
-                inside: &[],
-                outside: &[(Call::Walk, Tag::END_OF_VALUE, Taken)],
-                left: Some(0),
-            },
-            Row {
-                octets: &[0x04, 0x84, 0x00, 0x00, 0x00, 0x01, 0x41],
-                modes: &[Mode::Cer, Mode::Der],
-                inside: &[],
-                outside: &[(Call::Walk, Tag::END_OF_VALUE, Refused)],
-                left: None,
-            },
-            Row {
-                octets: &[0x04, 0x85, 0x00, 0x00, 0x00, 0x00, 0x01, 0x41],
-                modes: &ALL,
-                inside: &[],
-                outside: &[(Call::Walk, Tag::END_OF_VALUE, Refused)],
-                left: None,
-            },
-            Row {
-                octets: &[0x04, 0x80, 0x00, 0x00],
-                modes: &ALL,
-                inside: &[],
-                outside: &[(Call::Walk, Tag::END_OF_VALUE, Refused)],
-                left: None,
-            },
-            Row {
-                octets: &[],
-                modes: &ALL,
-                inside: &[],
-                outside: &[(Call::Walk, Tag::END_OF_VALUE, Absent)],
-                left: Some(0),
-            },
-        ],
-    )
+    let rows: &[(&[u8], &[Mode], usize)] = &[
+        (
+            &[0x30, 0x80, 0x02, 0x01, 0x05, 0x00, 0x00, 0xAA],
+            &[Mode::Ber, Mode::Cer],
+            1,
+        ),
+        (&[0x30, 0x03, 0x02, 0x01, 0x05], &[Mode::Ber, Mode::Der], 0),
+        (&[0x30, 0x81, 0x03, 0x02, 0x01, 0x05], &[Mode::Ber], 0),
+        (&[0x30, 0x80, 0x00, 0x81, 0x00, 0x30], &[Mode::Ber], 1),
+        (&[0x20, 0x00], &[], 0),
+        (&[0x30, 0x02, 0x20, 0x00], &[], 0),
+        (&[0x30, 0x04, 0x30, 0x80, 0x00, 0x00], &[Mode::Ber], 0),
+        (&[0x30, 0x03, 0x30, 0x80, 0x00, 0x00], &[], 0),
+        (&[0x1F, 0x1E, 0x00], &[], 0),
+        (&[0x1F, 0x80, 0x1F, 0x00], &[], 0),
+        (&[0x1F, 0x1F, 0x00], &ALL, 0),
+        (
+            &[0x30, 0x80, 0x02, 0x01, 0x05, 0x00, 0x82, 0x00, 0x00],
+            &[Mode::Ber],
+            0,
+        ),
+        (&[0x04, 0x84, 0x00, 0x00, 0x00, 0x01, 0x41], &[Mode::Ber], 0),
+        (&[0x04, 0x85, 0x00, 0x00, 0x00, 0x00, 0x01, 0x41], &[], 0),
+        (&[0x04, 0x80, 0x00, 0x00], &[], 0),
+    ];
+    for row in rows {
+        for mode in ALL {
+            let is_one = row.1.contains(&mode);
+            let answer = if is_one { Taken } else { Refused };
+            let left = if is_one { Some(row.2) } else { None };
+            check_walk(&rt, rt.alloc(), row.0, mode, answer, left)?;
+        }
+    }
+    for mode in ALL {
+        check_walk(&rt, rt.alloc(), &[], mode, Absent, Some(0))?;
+    }
+    Ok(())
 }
