@@ -17,5 +17,6 @@ pub mod Walking
 pub mod Walked
 pub mod Stopping
 pub mod Stepping
+pub mod Passing
 pub mod Decoding
 pub mod Insides

@@ -5,7 +5,6 @@ use Rattle.std.specs.Borrow.{GName, MutBor}
 use Rattle.std.specs.Prelude.{Option, Some, None, Result, Ok, Err, ◌⊎◌, ◌||◌, IfOk, IfErr, OnOk, OnErr}
 use Rattle.bcder.specs.declared.mode.Mode.{Mode}
 use Rattle.bcder.specs.declared.length.Length.TheVariants.{Definite}
-use Rattle.bcder.specs.declared.decode.content.Kind.TheVariants as kind
 use Rattle.bcder.specs.declared.decode.content.State.TheVariants.{Open}
 use Rattle.bcder.specs.declared.decode.error.ContentError.{ContentError}
 use Rattle.bcder.specs.Cause.{Cause, of_source, IsOfContent, stop_cause, MatchStop}
@@ -14,7 +13,7 @@ use Rattle.bcder.specs.declared.decode.stop.Stop.TheVariants as stop
 use Rattle.bcder.specs.Identifier.{Tag, AreOctets}
 use Rattle.bcder.specs.Reading.{Header}
 use Rattle.bcder.specs.Stream.{Stream, IsSound, Grew, past, limited}
-use Rattle.bcder.specs.Content.{Reading, Form, octets, values, Octets, UnboundedValues, any, Enters, RefusesHeader, Moves, Advances, FitsOwed, IsDone}
+use Rattle.bcder.specs.Content.{Reading, Form, octets, Octets, UnboundedValues, any, Enters, RefusesHeader, Moves, Advances, FitsOwed, IsDone}
 use Rattle.bcder.specs.Calls.{IsFormOf, Answered, AnswersDone, RefusesContent, by_closure, RanOver, TakesContent, RefusesValue, popped}
 use Rattle.bcder.specs.Walking.{WalksBy, itself, walked}
 use Rattle.bcder.specs.Walking as walking

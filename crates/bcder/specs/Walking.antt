@@ -1,6 +1,6 @@
 -- When the next value, and all values up to the end of content, are there.
 use Rattle.std.specs.Borrow.{MutBor}
-use Rattle.std.specs.Prelude.{◌≡◌, ◌≢◌, ℕ, ◌<◌, List, [], ◌++◌, length, Option, Some, Result, IsOkAnd, IfErr, OnOk, IsTrue, is_some, is_none}
+use Rattle.std.specs.Prelude.{◌≡◌, ◌≢◌, ℕ, ◌+◌, ◌<◌, true, false, List, [], ◌++◌, length, Option, Some, Result, IsOkAnd, IfErr, OnOk, IsTrue, is_some, is_none}
 use Rattle.bcder.specs.declared.mode.Mode.{Mode}
 use Rattle.bcder.specs.declared.decode.content.Kind.TheVariants as kind
 use Rattle.bcder.specs.declared.decode.content.State.TheVariants.{Open, Ended, Failed}
@@ -11,7 +11,12 @@ use Rattle.bcder.specs.Grammar.{IsOnly}
 use Rattle.bcder.specs.Stream.{Grew}
 use Rattle.bcder.specs.declared.decode.error.ContentError.{ContentError}
 use Rattle.bcder.specs.Cause.{Cause, of_source, IsOfContent}
-use Rattle.bcder.specs.Content.{Reading, Form, octets, values, Octets, Moves, HasMarker, EndsBefore, NotAtEnd, IsDone}
+use Rattle.bcder.specs.declared.length.Length.TheVariants.{Definite}
+use Rattle.bcder.specs.declared.decode.content.walk.Next.{Next}
+use Rattle.bcder.specs.declared.decode.content.walk.Next.TheVariants as next
+use Rattle.bcder.specs.Reading.{Header, is_value_tag}
+use Rattle.bcder.specs.Peek.{header}
+use Rattle.bcder.specs.Content.{Reading, Form, octets, values, Octets, Moves, HasMarker, EndsBefore, EndsAt, NotAtEnd, IsDone, Enters}
 
 -- ---- one value
 
@@ -43,6 +48,20 @@ pub data RefusesWalk {E : Type 0} (why : E → Cause ContentError) (c : Reading)
 pub record AnswersNext {T E : Type 0} (c : Reading) (r : Result (Option T) E) (d : Reading) : Type 0 where
   pub found : (t : Tree) (w after : List ℕ) → HasValue c t w after → IsOkAnd r (λ o. IsTrue (is_some o)) × (d.stream.rest ≡ after)
   pub ended : (after : List ℕ) → EndsBefore c after → IsOkAnd r (λ o. IsTrue (is_none o))
+
+-- a header of so many octets is that of a primitive value of n octets in all
+pub record IsPrimitive (h : Header) (size n : ℕ) : Type 0 where
+  pub is_value : is_value_tag h.tag ≡ true
+  pub form : h.form ≡ false
+  pub len : ℕ
+  pub tells : h.len ≡ Definite len
+  pub all : n ≡ size + len
+
+-- a step over content went to the inside of a value, over a value, or to the end
+abbrev pub Goes : Reading → Next → Reading → Type 0
+Goes c (next.Entered h) d = Enters c (header h) d
+Goes c next.Passed d = PassesValue c d
+Goes c next.Ended d = EndsAt c d × IsDone d
 
 -- ---- all values
 

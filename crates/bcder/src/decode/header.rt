@@ -19,6 +19,13 @@ pub(crate) struct Header {
     pub len: Length,
 }
 
+/// A header at the front of a source, and how many octets it has.
+#[derive(Clone, Copy)]
+pub(crate) struct Front {
+    pub header: Header,
+    pub size: usize,
+}
+
 /// What stands at the front of a source.
 pub(crate) enum Peeked {
     /// The source is at its end.

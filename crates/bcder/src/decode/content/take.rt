@@ -13,7 +13,7 @@ ghost use Rattle.bcder.specs.Views.{of_constructed, of_primitive, of_content, li
 
 use super::{Constructed, Content, Kind, Primitive, State};
 use crate::decode::error::{ContentError, DecodeError};
-use crate::decode::header::{Header, Peeked, PeekedIf, peek, peek_if};
+use crate::decode::header::{Front, Header, Peeked, PeekedIf, peek, peek_if};
 use crate::decode::source::{LimitedSource, Source};
 use crate::decode::stop::{Stop, Why};
 use crate::length::Length;
@@ -116,7 +116,7 @@ impl<'a, S: Source> Constructed<'a, S> {
     /// is taken.
     #[tactic(auto, unfolding(crate::specs::Views::of_constructed))]
     #[inline(always)]
-    fn pass(&mut self, size: usize)
+    pub(super) fn pass(&mut self, size: usize)
         requires { size ≤ (limited_stream S.stream self.old.source.now).avail }
         ensures advances { Advances (of_constructed S.stream self.old) (of_constructed S.stream self.new) (take size (of_constructed S.stream self.old).stream.rest) }
         ensures octets { AreOctets (of_constructed S.stream self.old).stream.rest }
@@ -126,14 +126,18 @@ impl<'a, S: Source> Constructed<'a, S> {
         ensures mode { self.new.mode ≡ self.old.mode }
         ensures marked { self.new.marked ≡ self.old.marked }
     {
-        self.source.advance(size);
         self.state = State::Failed;
+        self.source.advance(size);
     }
 
     /// Passes over a header, or an end marker.
     #[tactic(auto, unfolding(crate::specs::Views::of_constructed))]
     #[inline(always)]
-    fn enter(&mut self, header: Header, size: usize) -> Result<Option<Header>, Stop<S::Error>>
+    pub(super) fn enter(
+        &mut self,
+        header: Header,
+        size: usize,
+    ) -> Result<Option<Header>, Stop<S::Error>>
         requires read { Peeks self.old.mode (Peeked.Front header size) (limited_stream S.stream self.old.source.now) }
         requires usable { self.old.state ≡ State.Open }
         ensures moves { Moves (of_constructed S.stream self.old) (of_constructed S.stream self.new) }
@@ -173,13 +177,16 @@ impl<'a, S: Source> Constructed<'a, S> {
         }
     }
 
-    /// Passes over the next header, or answers `None` at the end, whose marker it takes. The content
-    /// has failed until the value is taken.
+    /// Looks at the next header and takes nothing, or answers `None` where the content is at its end and
+    /// has no marker there.
     #[tactic(auto, using(crate::proofs::Moving::moves_refl), unfolding(crate::specs::Views::of_constructed))]
     #[inline(always)]
-    pub(super) fn next_header(&mut self) -> Result<Option<Header>, Stop<S::Error>>
+    pub(super) fn front(&mut self) -> Result<Option<Front>, Stop<S::Error>>
         ensures moves { Moves (of_constructed S.stream self.old) (of_constructed S.stream self.new) }
-        ensures entered { IfOk result (λ o. IfSome o (λ h. Enters (of_constructed S.stream self.old) (header_of h) (of_constructed S.stream self.new))) }
+        ensures same { IfOk result (λ o. IfSome o (λ _. Resembles (of_constructed S.stream self.old) (of_constructed S.stream self.new))) }
+        ensures usable { IfOk result (λ o. IfSome o (λ _. self.new.state ≡ State.Open)) }
+        ensures peeked { IfOk result (λ o. IfSome o (λ f. Peeks self.new.mode (Peeked.Front f.header f.size) (limited_stream S.stream self.new.source.now))) }
+        ensures no_fault { OnOk result ((of_constructed S.stream self.new).stream.faults ≡ (of_constructed S.stream self.old).stream.faults) }
         ensures end { IfOk result (λ o. IfNone o (EndsAt (of_constructed S.stream self.old) (of_constructed S.stream self.new) × IsDone (of_constructed S.stream self.new))) }
         ensures refused { IfErr result (λ e. RefusesHeader stop_cause any (of_constructed S.stream self.old) e (of_constructed S.stream self.new)) }
         ensures failed { OnErr result (self.new.state ≡ State.Failed) }
@@ -195,7 +202,7 @@ impl<'a, S: Source> Constructed<'a, S> {
             return Ok(None);
         }
         match self.look() {
-            Ok(Peeked::Front { header, size }) => self.enter(header, size),
+            Ok(Peeked::Front { header, size }) => Ok(Some(Front { header, size })),
             Ok(Peeked::Nothing) => {
                 if let Kind::Unbounded = self.kind {
                     return Ok(None);
@@ -211,6 +218,26 @@ impl<'a, S: Source> Constructed<'a, S> {
                 self.state = State::Failed;
                 Err(Stop::Source(error))
             }
+        }
+    }
+
+    /// Passes over the next header, or answers `None` at the end, whose marker it takes. The content
+    /// has failed until the value is taken.
+    #[tactic(auto, using(crate::proofs::Moving::moves_refl), unfolding(crate::specs::Views::of_constructed))]
+    #[inline(always)]
+    pub(super) fn next_header(&mut self) -> Result<Option<Header>, Stop<S::Error>>
+        ensures moves { Moves (of_constructed S.stream self.old) (of_constructed S.stream self.new) }
+        ensures entered { IfOk result (λ o. IfSome o (λ h. Enters (of_constructed S.stream self.old) (header_of h) (of_constructed S.stream self.new))) }
+        ensures end { IfOk result (λ o. IfNone o (EndsAt (of_constructed S.stream self.old) (of_constructed S.stream self.new) × IsDone (of_constructed S.stream self.new))) }
+        ensures refused { IfErr result (λ e. RefusesHeader stop_cause any (of_constructed S.stream self.old) e (of_constructed S.stream self.new)) }
+        ensures failed { OnErr result (self.new.state ≡ State.Failed) }
+        ensures mode { self.new.mode ≡ self.old.mode }
+        ensures marked { self.new.marked ≡ self.old.marked }
+    {
+        match self.front() {
+            Ok(Some(front)) => self.enter(front.header, front.size),
+            Ok(None) => Ok(None),
+            Err(stop) => Err(stop),
         }
     }
 

@@ -1,45 +1,19 @@
-use Rattle.std.proofs.Common.{◌∙◌, refl, sym}
+use Rattle.std.proofs.Common.{◌∙◌, sym}
 use Rattle.bcder.specs.Content.{nothing}
 use Rattle.bcder.specs.Views.{of_constructed}
 use Rattle.bcder.proofs.Moving.{moves_trans}
-use Rattle.bcder.proofs.Entering.{looked_moves, looked_failed, looked_front, front_nothing, unread_at, empty_nothing, no_fewer, grew_least, kind_of}
+use Rattle.bcder.proofs.Entering.{looked_front, front_nothing, no_fewer}
 use Rattle.bcder.proofs.Names.{within_constructed, constructed_form}
 use Rattle.bcder.proofs.Refusing.{if_err}
 use Rattle.bcder.proofs.decode.content.Constructed.next_header.Goals as goal
 
-pub returns-in-Unbounded-clause-moves : goal.returns-in-Unbounded-clause-moves
-returns-in-Unbounded-clause-moves g c = looked_moves _ _ c.look.ensures.same (no_fewer _ _ c.in-Ok-Nothing.ensures.no_fault)
+pub returns-in-Ok-Some-clause-moves : goal.returns-in-Ok-Some-clause-moves
+returns-in-Ok-Some-clause-moves g c = moves_trans _ _ _ c.front.ensures.moves c.enter.ensures.moves
 
-pub returns-in-Ok-Front-clause-moves : goal.returns-in-Ok-Front-clause-moves
-returns-in-Ok-Front-clause-moves g c = moves_trans _ _ _ (looked_moves _ _ c.look.ensures.same (no_fewer _ _ c.in-Ok-Front.ensures.no_fault)) c.enter.ensures.moves
-
-pub returns-in-Ok-Front-clause-refused : goal.returns-in-Ok-Front-clause-refused
+pub returns-in-Ok-Some-clause-refused : goal.returns-in-Ok-Some-clause-refused
 unfolding of_constructed
-returns-in-Ok-Front-clause-refused g c =
+returns-in-Ok-Some-clause-refused g c =
     let i = of_constructed g.S.Source.stream c.args.self.now in
-    if_err c.enter.result _ _ (λ e h. nothing (front_nothing i (within_constructed g.S.Source.stream g.met.S.Source.sound c.args.self.now) (constructed_form g.S.Source.stream c.args.self.now) c.in-Open.is (looked_front i _ c.look.ensures.same (no_fewer _ _ c.in-Ok-Front.ensures.no_fault) h.1)) h.0) c.enter.ensures.refused
-
-pub returns-in_default-clause-moves : goal.returns-in_default-clause-moves
-unfolding of_constructed
-returns-in_default-clause-moves g c = looked_failed _ _ c.look.ensures.same (no_fewer _ _ c.in-Ok-Nothing.ensures.no_fault) _ c.in-Open.is refl refl refl refl refl refl refl
-
-pub returns-in_default-clause-refused : goal.returns-in_default-clause-refused
-unfolding of_constructed
-returns-in_default-clause-refused g c =
-    let i = of_constructed g.S.Source.stream c.args.self.now in
-    nothing (empty_nothing i (constructed_form g.S.Source.stream c.args.self.now) (λ k o. c.is_used_up.ensures.no c.if-is_used_up.false (kind_of _ _ k) o) (λ k. c.in_default.not-Unbounded (kind_of _ _ (c.look.ensures.same.kind ∙ k))) c.in-Open.is (sym c.look.ensures.same.rest ∙ (rw c.in-Ok-Nothing.field-0-is at c.in-Ok-Nothing.ensures.peeked))) tt
-
-pub returns-in-Ok-Refused-clause-moves : goal.returns-in-Ok-Refused-clause-moves
-unfolding of_constructed
-returns-in-Ok-Refused-clause-moves g c = looked_failed _ _ c.look.ensures.same (no_fewer _ _ c.in-Ok-Refused.ensures.no_fault) _ c.in-Open.is refl refl refl refl refl refl refl
-
-pub returns-in-Ok-Refused-clause-refused : goal.returns-in-Ok-Refused-clause-refused
-unfolding of_constructed
-returns-in-Ok-Refused-clause-refused g c =
-    let i = of_constructed g.S.Source.stream c.args.self.now in
-    let p = rw c.in-Ok-Refused.field-0-is at c.in-Ok-Refused.ensures.peeked in
-    nothing (front_nothing i (within_constructed g.S.Source.stream g.met.S.Source.sound c.args.self.now) (constructed_form g.S.Source.stream c.args.self.now) c.in-Open.is (unread_at i (of_constructed g.S.Source.stream c.look.new.self) c.look.ensures.same c.in-Open.is p.0 p.1)) tt
-
-pub returns-in-Err-clause-moves : goal.returns-in-Err-clause-moves
-unfolding of_constructed
-returns-in-Err-clause-moves g c = looked_failed _ _ c.look.ensures.same (grew_least _ _ c.in-Err.ensures.fault) _ c.in-Open.is refl refl refl refl refl refl refl
+    let s = rw c.in-Ok-Some.field-0-is at c.in-Ok-Some.ensures.same in
+    let u = rw c.in-Ok-Some.field-0-is at c.in-Ok-Some.ensures.usable in
+    if_err c.enter.result _ _ (λ e h. nothing (front_nothing i (within_constructed g.S.Source.stream g.met.S.Source.sound c.args.self.now) (constructed_form g.S.Source.stream c.args.self.now) (sym s.state ∙ u) (looked_front i _ s (no_fewer _ _ c.in-Ok-Some.ensures.no_fault) h.1)) h.0) c.enter.ensures.refused

@@ -20,38 +20,38 @@ use Rattle.bcder.proofs.decode.content.walk.+walk.Goals as goal
 pub step-pass_content-requires : goal.step-pass_content-requires
 unfolding of_constructed
 step-pass_content-requires g t c κs within =
-    let e = rw c.in-Ok-Some.field-0-is at c.in-Ok-Some.ensures.entered in
-    let f = e.fits in let h : length (of_constructed g.S.Source.stream c.next_header.new.self).stream.rest + 2 ≤ length (of_constructed g.S.Source.stream c.args.cons.now).stream.rest = entered_shorter _ _ _ e in search rules
+    let e = rw c.in-Ok-Entered.field-0-is at c.in-Ok-Entered.ensures.goes in
+    let f = e.fits in let h : length (of_constructed g.S.Source.stream c.go_on.new.cons).stream.rest + 2 ≤ length (of_constructed g.S.Source.stream c.args.cons.now).stream.rest = entered_shorter _ _ _ e in search rules
 
 pub step-returns-in-Ok-clause-moves : goal.step-returns-in-Ok-clause-moves
 unfolding of_constructed
 step-returns-in-Ok-clause-moves g t c =
-    let e = rw c.in-Ok-Some.field-0-is at c.in-Ok-Some.ensures.entered in
-    taken_moves (of_constructed g.S.Source.stream c.args.cons.now) (of_constructed g.S.Source.stream c.next_header.new.self) (of_constructed g.S.Source.stream c.pass_content.new.cons) (header c.in-Ok-Some.header) any refl e stop_cause itself (walked stop_cause) _ refl refl refl _ c.in-Ok.ensures.taken refl refl refl refl
+    let e = rw c.in-Ok-Entered.field-0-is at c.in-Ok-Entered.ensures.goes in
+    taken_moves (of_constructed g.S.Source.stream c.args.cons.now) (of_constructed g.S.Source.stream c.go_on.new.cons) (of_constructed g.S.Source.stream c.pass_content.new.cons) (header c.in-Ok-Entered.header) any refl e stop_cause itself (walked stop_cause) _ refl refl refl _ c.in-Ok.ensures.taken refl refl refl refl
 
 pub step-returns-in-Ok-clause-value : goal.step-returns-in-Ok-clause-value
 unfolding of_constructed
 step-returns-in-Ok-clause-value g t c =
-    let e = rw c.in-Ok-Some.field-0-is at c.in-Ok-Some.ensures.entered in
-    walks_one stop_cause itself (walked stop_cause) (λ t p r q x. x) (of_constructed g.S.Source.stream c.args.cons.now) _ (Ok (Some _)) (taken_value (of_constructed g.S.Source.stream c.args.cons.now) (of_constructed g.S.Source.stream c.next_header.new.self) (of_constructed g.S.Source.stream c.pass_content.new.cons) (header c.in-Ok-Some.header) any refl e stop_cause itself (walked stop_cause) _ refl refl refl _ c.in-Ok.ensures.taken)
+    let e = rw c.in-Ok-Entered.field-0-is at c.in-Ok-Entered.ensures.goes in
+    walks_one stop_cause itself (walked stop_cause) (λ t p r q x. x) (of_constructed g.S.Source.stream c.args.cons.now) _ (Ok (Some _)) (taken_value (of_constructed g.S.Source.stream c.args.cons.now) (of_constructed g.S.Source.stream c.go_on.new.cons) (of_constructed g.S.Source.stream c.pass_content.new.cons) (header c.in-Ok-Entered.header) any refl e stop_cause itself (walked stop_cause) _ refl refl refl _ c.in-Ok.ensures.taken)
 
 pub step-returns-in-Err-pass_content-clause-moves : goal.step-returns-in-Err-pass_content-clause-moves
 unfolding of_constructed
 step-returns-in-Err-pass_content-clause-moves g t c =
-    let e = rw c.in-Ok-Some.field-0-is at c.in-Ok-Some.ensures.entered in
-    refused_moves (of_constructed g.S.Source.stream c.args.cons.now) (of_constructed g.S.Source.stream c.next_header.new.self) (of_constructed g.S.Source.stream c.pass_content.new.cons) (header c.in-Ok-Some.header) any refl e stop_cause itself (walked stop_cause) _ c.in-Err-pass_content.ensures.taken
+    let e = rw c.in-Ok-Entered.field-0-is at c.in-Ok-Entered.ensures.goes in
+    refused_moves (of_constructed g.S.Source.stream c.args.cons.now) (of_constructed g.S.Source.stream c.go_on.new.cons) (of_constructed g.S.Source.stream c.pass_content.new.cons) (header c.in-Ok-Entered.header) any refl e stop_cause itself (walked stop_cause) _ c.in-Err-pass_content.ensures.taken
 
 pub step-returns-in-Err-pass_content-clause-refused : goal.step-returns-in-Err-pass_content-clause-refused
 unfolding of_constructed
 step-returns-in-Err-pass_content-clause-refused g t c =
-    let e = rw c.in-Ok-Some.field-0-is at c.in-Ok-Some.ensures.entered in
+    let e = rw c.in-Ok-Entered.field-0-is at c.in-Ok-Entered.ensures.goes in
     step_refused stop_cause (of_constructed g.S.Source.stream c.args.cons.now) (of_constructed g.S.Source.stream c.pass_content.new.cons) _ (within_constructed g.S.Source.stream g.met.S.Source.sound c.args.cons.now)
-    (content (refused_front (of_constructed g.S.Source.stream c.args.cons.now) (of_constructed g.S.Source.stream c.next_header.new.self) (of_constructed g.S.Source.stream c.pass_content.new.cons) (header c.in-Ok-Some.header) any refl e stop_cause itself (walked stop_cause) _ c.in-Err-pass_content.ensures.taken))
+    (content (refused_front (of_constructed g.S.Source.stream c.args.cons.now) (of_constructed g.S.Source.stream c.go_on.new.cons) (of_constructed g.S.Source.stream c.pass_content.new.cons) (header c.in-Ok-Entered.header) any refl e stop_cause itself (walked stop_cause) _ c.in-Err-pass_content.ensures.taken))
 
 pub step-returns-in-Err-clause-refused : goal.step-returns-in-Err-clause-refused
 unfolding of_constructed
 step-returns-in-Err-clause-refused g t c =
-    next_refused stop_cause (of_constructed g.S.Source.stream c.args.cons.now) (of_constructed g.S.Source.stream c.next_header.new.self) _ (within_constructed g.S.Source.stream g.met.S.Source.sound c.args.cons.now) c.in-Err.ensures.refused
+    next_refused stop_cause (of_constructed g.S.Source.stream c.args.cons.now) (of_constructed g.S.Source.stream c.go_on.new.cons) _ (within_constructed g.S.Source.stream g.met.S.Source.sound c.args.cons.now) c.in-Err.ensures.refused
 
 pub pass_content-returns-then-header-clause-taken : goal.pass_content-returns-then-header-clause-taken
 unfolding of_constructed

@@ -1,0 +1,32 @@
+use Rattle.std.proofs.Common.{◌∙◌, refl}
+use Rattle.bcder.specs.Peek.{header}
+use Rattle.bcder.specs.Views.{of_constructed}
+use Rattle.bcder.proofs.Moving.{moves_trans}
+use Rattle.bcder.proofs.Entering.{looked_moves, looked_failed, advances_to, no_fewer, grew_least}
+use Rattle.bcder.proofs.Passing.{passes_primitive, moves_primitive, looked_read, looked_passes}
+use Rattle.bcder.proofs.decode.content.Constructed.pass_primitive.Goals as goal
+
+pub returns-then-found-all-clause-moves : goal.returns-then-found-all-clause-moves
+returns-then-found-all-clause-moves g c = looked_moves _ _ c.ask.ensures.same (no_fewer _ _ c.in-Ok.ensures.no_fault)
+
+pub returns-else-found-all-clause-moves : goal.returns-else-found-all-clause-moves
+unfolding of_constructed
+returns-else-found-all-clause-moves g c =
+    let i = of_constructed g.S.Source.stream c.args.self.now in
+    let j = of_constructed g.S.Source.stream c.ask.new.self in
+    let s = c.ask.ensures.same in
+    moves_trans _ _ _ (looked_moves i j s (no_fewer _ _ c.in-Ok.ensures.no_fault))
+    (moves_primitive j _ (header c.args.header) c.args.size c.in-Some.all c.in-Some.ensures (looked_read i j _ _ s c.requires.read.1) c.pass.ensures.octets c.pass.ensures.within (advances_to j _ _ _ c.pass.ensures.advances refl refl refl refl refl) (s.state ∙ c.requires.usable) refl c.pass.ensures.marked)
+
+pub returns-else-found-all-clause-passed : goal.returns-else-found-all-clause-passed
+unfolding of_constructed
+returns-else-found-all-clause-passed g c _ =
+    let i = of_constructed g.S.Source.stream c.args.self.now in
+    let j = of_constructed g.S.Source.stream c.ask.new.self in
+    let s = c.ask.ensures.same in
+    looked_passes i j _ s
+    (passes_primitive j _ (header c.args.header) c.args.size c.in-Some.all c.in-Some.ensures (looked_read i j _ _ s c.requires.read.1) c.pass.ensures.octets c.pass.ensures.within (advances_to j _ _ _ c.pass.ensures.advances refl refl refl refl refl) (s.state ∙ c.requires.usable) refl)
+
+pub returns-in-Err-clause-moves : goal.returns-in-Err-clause-moves
+unfolding of_constructed
+returns-in-Err-clause-moves g c = looked_failed _ _ c.ask.ensures.same (grew_least _ _ c.in-Err.ensures.fault) _ c.requires.usable refl refl refl refl refl refl refl
