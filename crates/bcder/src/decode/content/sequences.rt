@@ -15,7 +15,7 @@ use crate::tag::Tag;
 impl<'a, S: Source> Constructed<'a, S> {
     /// Takes the next value, which has to be constructed, or answers `None` at the end of the content.
     ///
-    /// The closure is handed the value's tag and its values. All else is as
+    /// The closure is handed the value's tag and the values inside it. All else is as
     /// [`take_opt_value`](Self::take_opt_value) has it.
     ///
     /// # Errors
@@ -83,7 +83,7 @@ impl<'a, S: Source> Constructed<'a, S> {
 
     /// Takes the next value if it has this tag, or answers `None`. It then has to be constructed.
     ///
-    /// The closure is handed the value's values. All else is as
+    /// The closure is handed the values inside it. All else is as
     /// [`take_opt_value_if`](Self::take_opt_value_if) has it.
     ///
     /// # Errors

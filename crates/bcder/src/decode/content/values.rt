@@ -39,15 +39,15 @@ impl<'a, S: Source> Constructed<'a, S> {
 
     /// Takes the next value if it has this tag, or answers `None`.
     ///
-    /// `None` is for the end of the content and for a value of another tag. Both stay where they are, so
-    /// that a later call takes them; a call for `Tag::END_OF_VALUE` takes end-of-contents octets (X.690,
-    /// 8.1.5). The closure is handed the value's content, open and in this content's mode, and has to take
+    /// `None` is for the end of the content, for a source that has no more octets, and for a value of
+    /// another tag. What stands there stays, so that a later call takes it; a call for
+    /// `Tag::END_OF_VALUE` takes end-of-contents octets (X.690, 8.1.5). The closure is handed the value's content, open and in this content's mode, and has to take
     /// all of it. Its answer is answered.
     ///
     /// # Errors
     ///
-    /// Where no identifier octets stand in front, or those of this tag with no header of a value that the
-    /// mode allows, with no more octets than are owed (8.1.2, 8.1.3); where the closure refuses, or leaves
+    /// Where octets stand in front that are no identifier octets, or those of this tag without a header
+    /// of a value that the mode allows, with no more octets than are owed (8.1.2, 8.1.3); where the closure refuses, or leaves
     /// octets, values or failed content; where an earlier value was refused; where the source fails. The
     /// content has then failed, and every later take refuses.
     pub fn take_opt_value_if<F, T: Drop>(
