@@ -1,6 +1,5 @@
 -- A primitive value that is passed in one step.
 use Rattle.std.proofs.Common.{◌≡◌, ℕ, ◌+◌, ◌≤◌, true, false, List, ◌++◌, length, take, drop, Some, refl, ap, sym, ◌∙◌, arith, subst}
-use Rattle.std.proofs.lemmas.List.{length-take-le}
 use Rattle.std.proofs.lemmas.Grind.{common_steps}
 use Rattle.std.proofs.Math.Seq.{take-append-add}
 use Rattle.bcder.specs.declared.length.Length.TheVariants.{Definite}
@@ -14,8 +13,7 @@ use Rattle.bcder.specs.Content.{Reading, Advances, Moves, Resembles}
 use Rattle.bcder.specs.Walking.{PassesValue, IsPrimitive}
 use Rattle.bcder.specs.laws.Complete.{only_at_front}
 use Rattle.bcder.specs.laws.Limits.{AreOctets-drop}
-use Rattle.bcder.specs.laws.Sound.{AreOctets-take}
-use Rattle.bcder.specs.laws.Stands.{Headed}
+use Rattle.bcder.specs.laws.Stands.{Headed, primitive_encodes}
 use Rattle.bcder.proofs.Headers.{header_of_front, size_is}
 use Rattle.bcder.proofs.Moving.{moves_value}
 
@@ -29,8 +27,8 @@ module _ (c d : Reading) (h : Header) (size n : ℕ) (p : IsPrimitive h size n) 
   abbrev contents : List ℕ
   contents = take p.len (drop size c.stream.rest)
 
-  contents_long : length contents ≡ p.len
-  contents_long = length-take-le p.len (drop size c.stream.rest) (let x : n ≡ size + p.len = p.all in grind (arith, common_steps))
+  within : p.len ≤ length (drop size c.stream.rest)
+  within = (let x : n ≡ size + p.len = p.all in grind (arith, common_steps))
 
   header_long : length headed.octets ≡ size
   header_long = size_is size headed.octets c.stream.rest (drop size c.stream.rest) headed.is refl (let x : n ≡ size + p.len = p.all in omega arith)
@@ -44,11 +42,11 @@ module _ (c d : Reading) (h : Header) (size n : ℕ) (p : IsPrimitive h size n) 
   abbrev tree : Tree
   tree = primitive h.tag contents
 
-  is_header : IsHeader c.mode h.tag false (Definite (length contents)) headed.octets
-  is_header = subst (λ z. IsHeader c.mode h.tag false z headed.octets) (p.tells ∙ ap (λ z. Definite z) (sym contents_long)) (subst (λ z. IsHeader c.mode h.tag z h.len headed.octets) p.form headed.is_header)
+  is_header : IsHeader c.mode h.tag false (Definite p.len) headed.octets
+  is_header = subst (λ z. IsHeader c.mode h.tag false z headed.octets) p.tells (subst (λ z. IsHeader c.mode h.tag z h.len headed.octets) p.form headed.is_header)
 
   encodes : IsEncoding c.mode tree (take n c.stream.rest)
-  encodes = (AreOctets-take p.len (drop size c.stream.rest) (AreOctets-drop size c.stream.rest o), record { header = headed.octets; is_header = is_header; is = value_is })
+  encodes = subst (λ w. IsEncoding c.mode tree w) (sym value_is) (primitive_encodes c.mode h.tag headed.octets (drop size c.stream.rest) p.len (AreOctets-drop size c.stream.rest o) is_header within)
 
   pub passes_primitive : PassesValue c d
   passes_primitive = record {

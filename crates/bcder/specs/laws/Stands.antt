@@ -75,11 +75,15 @@ header_sound mode w r o e =
 
 -- ---- values
 
+-- a header and as many contents octets as it tells
+pub primitive_encodes : (mode : Mode) (t : Tag) (h z : List ℕ) (n : ℕ) → AreOctets z → IsHeader mode t false (Definite n) h → n ≤ length z → IsEncoding mode (primitive t (take n z)) (h ++ take n z)
+primitive_encodes mode t h z n o is_header within = (AreOctets-take n z o, record { header = h; is_header = rw (length-take-le n z within) is_header; is = refl })
+
 primitive_stands : (mode : Mode) (t : Tag) (h z : List ℕ) (n : ℕ) → AreOctets z → IsHeader mode t false (Definite n) h → n ≤ length z → Stands mode (primitive t (take n z)) (h ++ z) (drop n z)
 primitive_stands mode t h z n o is_header within =
     record {
       front = h ++ take n z;
-      is_encoding = (AreOctets-take n z o, record { header = h; is_header = rw (length-take-le n z within) is_header; is = refl });
+      is_encoding = primitive_encodes mode t h z n o is_header within;
       is = ap (λ y. h ++ y) (sym (take-append-drop n z)) ∙ sym (append_assoc h (take n z) (drop n z));
     }
 
