@@ -1,3 +1,4 @@
+pub mod Carrying
 mod rows
 pub mod Steps
 pub mod Skip

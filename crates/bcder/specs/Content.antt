@@ -94,6 +94,10 @@ pub record MovesBy (c d : Reading) : Type 0 where
 unfoldable pub Moves : Reading → Reading → Type 0
 Moves c d = MovesBy c d
 
+-- whatever moved to c moves to d: steps in a row chain by themselves
+abbrev pub Carries : Reading → Reading → Type 0
+Carries c d = (b : Reading) → Moves b c → Moves b d
+
 -- octets were passed, and neither the kind nor the mode changed
 pub record Advances (c d : Reading) (passed : List ℕ) : Type 0 where
   pub rest : c.stream.rest ≡ passed ++ d.stream.rest

@@ -8,7 +8,8 @@ use Rattle.bcder.specs.declared.decode.content.Content.{Content}
 use Rattle.bcder.specs.declared.decode.content.Content.TheVariants as content
 use Rattle.bcder.specs.declared.decode.content.State.TheVariants as state
 use Rattle.bcder.specs.Stream.{Stream, limited, borrowed}
-use Rattle.bcder.specs.Content.{Reading, octets, values}
+use Rattle.bcder.specs.Content.{Reading, octets, values, Carries}
+use denote.Triple.Both.{Both}
 
 module _ {S : Type 0} (stream : S → Stream) where
   abbrev pub limited_stream : LimitedSource S → Stream
@@ -61,3 +62,13 @@ content_start (content.Constructed c) = c.start
 -- the stream of a source behind a borrow
 abbrev pub lent : {S : Type 0} → (S → Stream) → MutBor S → Stream
 lent stream s = borrowed s.ghost_name (stream s.now)
+
+-- what a parameter of constructed content, of octets or of either is at the exit, it was carried to from what it was at the entry
+abbrev pub Moved : {S : Type 0} → (S → Stream) → Both (MutBor (Constructed S)) (MutBor (Constructed S)) → Type 0
+Moved stream c = Carries (of_constructed stream c.entry.now) (of_constructed stream c.exit.now)
+
+abbrev pub MovedOctets : {S : Type 0} → (S → Stream) → Both (MutBor (Primitive S)) (MutBor (Primitive S)) → Type 0
+MovedOctets stream c = Carries (of_primitive stream c.entry.now) (of_primitive stream c.exit.now)
+
+abbrev pub MovedContent : {S : Type 0} → (S → Stream) → Both (MutBor (Content S)) (MutBor (Content S)) → Type 0
+MovedContent stream c = Carries (of_content stream c.entry.now) (of_content stream c.exit.now)

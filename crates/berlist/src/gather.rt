@@ -58,6 +58,7 @@ fn heading_line(
 }
 
 /// The line of a primitive value.
+#[tactic(auto, using(bcder::proofs::Moving::moves_refl))]
 fn primitive_line<S: Source>(
     alloc: Global,
     tag: Tag,

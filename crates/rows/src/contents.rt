@@ -1,8 +1,7 @@
 //! Content: what it says of itself, why it refuses, and what stands after its source failed.
-#![tactic(auto, using(bcder::proofs::Moving::moves_refl, bcder::proofs::Moving::moves_trans))]
+#![tactic(auto, using(bcder::proofs::Moving::moves_refl))]
 
-ghost use Rattle.bcder.specs.Content.{Moves};
-ghost use Rattle.bcder.specs.Views.{of_constructed, of_content, of_primitive};
+ghost use Rattle.bcder.specs.Views.{Moved, MovedContent};
 
 use crate::sip::Sip;
 use bcder::decode::{
@@ -20,7 +19,7 @@ fn sip(alloc: Global, octets: &[u8], failing: usize) -> Result<Sip, Fail> {
 
 /// Passes over what is inside a value.
 fn pass<S: Source>(content: &mut Content<'_, S>) -> Result<(), DecodeError<S::Error>>
-    ensures { Moves (of_content S.stream content.old) (of_content S.stream content.new) }
+    ensures { MovedContent S.stream content }
 {
     if content.is_primitive() {
         content.as_primitive(|octets| octets.skip_all())
@@ -31,7 +30,7 @@ fn pass<S: Source>(content: &mut Content<'_, S>) -> Result<(), DecodeError<S::Er
 
 /// Passes over a value, if there is one.
 fn pass_one<S: Source>(values: &mut Constructed<'_, S>) -> Result<(), DecodeError<S::Error>>
-    ensures { Moves (of_constructed S.stream values.old) (of_constructed S.stream values.new) }
+    ensures { Moved S.stream values }
 {
     walk(values)?;
     Ok(())
@@ -47,7 +46,7 @@ fn is_expected<E>(error: &DecodeError<E>, tag: Tag) -> bool {
 
 /// Asks for a tag that the next value has not.
 fn check_expected<S: Source>(rt: &impl Abort, cons: &mut Constructed<'_, S>, tag: Tag)
-    ensures { Moves (of_constructed S.stream cons.old) (of_constructed S.stream cons.new) }
+    ensures { Moved S.stream cons }
 {
     let taken = cons.take_value_if(tag, |content| pass(content));
     assert!(rt; taken.is_err_and(|error| is_expected(&error, tag)));
@@ -59,7 +58,7 @@ fn check_missing<S: Source>(
     cons: &mut Constructed<'_, S>,
     inside: bool,
 ) -> Result<(), DecodeError<S::Error>>
-    ensures { Moves (of_constructed S.stream cons.old) (of_constructed S.stream cons.new) }
+    ensures { Moved S.stream cons }
 {
     if inside {
         cons.take_sequence(|inner| {
@@ -113,7 +112,7 @@ fn refuse<S: Source>(
     cons: &mut Constructed<'_, S>,
     whose: Whose,
 ) -> Result<(), DecodeError<S::Error>>
-    ensures { Moves (of_constructed S.stream cons.old) (of_constructed S.stream cons.new) }
+    ensures { Moved S.stream cons }
 {
     let bad = ContentError::from_static("bad");
     match whose {
@@ -196,7 +195,7 @@ fn check_values<S: Source>(
     values: &mut Constructed<'_, S>,
     mode: Mode,
 ) -> Result<(), DecodeError<S::Error>>
-    ensures { Moves (of_constructed S.stream values.old) (of_constructed S.stream values.new) }
+    ensures { Moved S.stream values }
 {
     assert_eq!(rt; values.mode(), mode);
     values.set_mode(Mode::Cer);
@@ -211,7 +210,7 @@ fn check_form<S: Source>(
     mode: Mode,
     primitive: bool,
 ) -> Result<(), DecodeError<S::Error>>
-    ensures { Moves (of_content S.stream content.old) (of_content S.stream content.new) }
+    ensures { MovedContent S.stream content }
 {
     assert_eq!(rt; content.mode(), mode);
     assert_eq!(rt; content.is_primitive(), primitive);
@@ -227,7 +226,7 @@ fn check_all<S: Source>(
     cons: &mut Constructed<'_, S>,
     mode: Mode,
 ) -> Result<(), DecodeError<S::Error>>
-    ensures { Moves (of_constructed S.stream cons.old) (of_constructed S.stream cons.new) }
+    ensures { Moved S.stream cons }
 {
     cons.take_primitive(|_, octets| check_octets(rt, octets, mode))?;
     assert_eq!(rt; cons.mode(), mode);
@@ -255,7 +254,7 @@ fn content_tells_of_itself(rt: HostRuntime) -> Result<(), Fail> {
 
 /// Takes a value, and drops the error of a source that failed: then no other one is taken.
 fn take_failing<S: Source>(rt: &impl Abort, cons: &mut Constructed<'_, S>)
-    ensures { Moves (of_constructed S.stream cons.old) (of_constructed S.stream cons.new) }
+    ensures { Moved S.stream cons }
 {
     if let Err(error) = cons.take_primitive(|_, octets| octets.skip_all()) {
         assert!(rt; error.is_source());
@@ -266,7 +265,7 @@ fn take_failing<S: Source>(rt: &impl Abort, cons: &mut Constructed<'_, S>)
 
 /// The same of a value in a sequence, which then is refused.
 fn enter_failing<S: Source>(rt: &impl Abort, cons: &mut Constructed<'_, S>)
-    ensures { Moves (of_constructed S.stream cons.old) (of_constructed S.stream cons.new) }
+    ensures { Moved S.stream cons }
 {
     let entered = cons.take_sequence(|inner| {
         take_failing(rt, inner);

@@ -1,17 +1,16 @@
 //! Readers as users of the crate write them. No closure here has a clause, but for one that asks
 //! content for its form.
-#![tactic(auto, using(bcder::proofs::Moving::moves_refl, bcder::proofs::Moving::moves_trans))]
+#![tactic(auto, using(bcder::proofs::Moving::moves_refl))]
 
 ghost use Rattle.std.specs.Prelude.{◌≡◌, ℕ, List, ◌++◌};
-ghost use Rattle.bcder.specs.Content.{Moves};
-ghost use Rattle.bcder.specs.Views.{of_constructed, of_primitive, of_content};
+ghost use Rattle.bcder.specs.Views.{Moved, MovedOctets, MovedContent};
 
 use bcder::decode::{Constructed, Content, DecodeError, Primitive, Source};
 use bcder::{Mode, Tag};
 
 /// The number of the contents octets, which are passed over.
 fn take_len<S: Source>(octets: &mut Primitive<'_, S>) -> Result<usize, DecodeError<S::Error>>
-    ensures { Moves (of_primitive S.stream octets.old) (of_primitive S.stream octets.new) }
+    ensures { MovedOctets S.stream octets }
 {
     let len = octets.remaining();
     octets.skip_all()?;
@@ -33,7 +32,7 @@ impl Validity {
     pub fn take_from<S: Source>(
         cons: &mut Constructed<'_, S>,
     ) -> Result<Validity, DecodeError<S::Error>>
-        ensures { Moves (of_constructed S.stream cons.old) (of_constructed S.stream cons.new) }
+        ensures { Moved S.stream cons }
     {
         cons.take_sequence(|inner| {
             let from = inner.take_primitive(|_tag, time| take_len(time))?;
@@ -61,7 +60,7 @@ impl Certificate {
     pub fn take_from<S: Source>(
         cons: &mut Constructed<'_, S>,
     ) -> Result<Certificate, DecodeError<S::Error>>
-        ensures { Moves (of_constructed S.stream cons.old) (of_constructed S.stream cons.new) }
+        ensures { Moved S.stream cons }
     {
         cons.take_sequence(|certificate| Certificate::take_parts(certificate))
     }
@@ -70,7 +69,7 @@ impl Certificate {
     fn take_parts<S: Source>(
         cons: &mut Constructed<'_, S>,
     ) -> Result<Certificate, DecodeError<S::Error>>
-        ensures { Moves (of_constructed S.stream cons.old) (of_constructed S.stream cons.new) }
+        ensures { Moved S.stream cons }
     {
         let serial = cons.take_primitive_if(Tag::INTEGER, |number| take_len(number))?;
         let validity = Validity::take_from(cons)?;
@@ -87,7 +86,7 @@ impl Certificate {
 
 /// The number of values in a SEQUENCE OF primitive values, by a loop over them.
 pub fn count_all<S: Source>(cons: &mut Constructed<'_, S>) -> Result<u64, DecodeError<S::Error>>
-    ensures { Moves (of_constructed S.stream cons.old) (of_constructed S.stream cons.new) }
+    ensures { Moved S.stream cons }
 {
     let mut all = 0u64;
     while let Some(()) = cons.take_opt_primitive(|_tag, octets| octets.skip_all())? {
@@ -98,11 +97,11 @@ pub fn count_all<S: Source>(cons: &mut Constructed<'_, S>) -> Result<u64, Decode
 
 /// A value of either form: the octets of a primitive one, or the first value inside.
 pub fn take_choice<S: Source>(cons: &mut Constructed<'_, S>) -> Result<usize, DecodeError<S::Error>>
-    ensures { Moves (of_constructed S.stream cons.old) (of_constructed S.stream cons.new) }
+    ensures { Moved S.stream cons }
 {
     cons.take_value(
         |_tag, content|
-            ensures { Moves (of_content S.stream content.old) (of_content S.stream content.new) }
+            ensures { MovedContent S.stream content }
         {
             match content {
                 Content::Primitive(octets) => take_len(octets),
@@ -118,7 +117,7 @@ pub fn take_choice<S: Source>(cons: &mut Constructed<'_, S>) -> Result<usize, De
 pub fn take_primitive_len<S: Source>(
     cons: &mut Constructed<'_, S>,
 ) -> Result<usize, DecodeError<S::Error>>
-    ensures { Moves (of_constructed S.stream cons.old) (of_constructed S.stream cons.new) }
+    ensures { Moved S.stream cons }
 {
     cons.take_value(|_tag, content| content.as_primitive(|octets| take_len(octets)))
 }

@@ -6,10 +6,9 @@
 //! agree with it were kept.
 //!
 //! Then `walk` and the plain reader are compared with each other on all short lists of some octets.
-#![tactic(auto)]
+#![tactic(auto, using(bcder::proofs::Moving::moves_refl))]
 
-ghost use Rattle.bcder.specs.Content.{Moves};
-ghost use Rattle.bcder.specs.Views.{of_constructed};
+ghost use Rattle.bcder.specs.Views.{Moved};
 
 use anyhow::Error;
 use bcder::Mode;
@@ -57,7 +56,7 @@ fn plainly(mode: Mode, octets: &[u8]) -> Option<usize> {
 
 /// Whether a value was passed over.
 fn passes<S: Source>(cons: &mut Constructed<'_, S>) -> Result<bool, DecodeError<S::Error>>
-    ensures { Moves (of_constructed S.stream cons.old) (of_constructed S.stream cons.new) }
+    ensures { Moved S.stream cons }
 {
     Ok(walk(cons)?.is_some())
 }

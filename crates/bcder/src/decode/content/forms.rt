@@ -1,7 +1,7 @@
 //! What a closure makes of content of one form.
 ghost use Rattle.std.specs.Prelude.{◌≡◌, ◌≢◌, ◌⊎◌, Ok, Err, IfOk, IfErr};
 ghost use Rattle.bcder.specs.Cause.{IsRefusal};
-ghost use Rattle.bcder.specs.Content.{Octets, Moves};
+ghost use Rattle.bcder.specs.Content.{Octets, Moves, Carries};
 ghost use Rattle.bcder.specs.Calls.{MayBeCalledOn, IsLawfulOn};
 ghost use Rattle.bcder.specs.Decoding.{AnsweredOn};
 ghost use Rattle.bcder.specs.Views.{of_constructed, of_primitive, of_content};
@@ -10,7 +10,7 @@ use super::{Constructed, Content, Primitive};
 use crate::decode::error::DecodeError;
 use crate::decode::source::Source;
 
-#[tactic(auto, using(crate::proofs::Moving::moves_refl))]
+#[tactic(auto, using(crate::proofs::Moving::moves_refl, crate::proofs::Moving::moves_trans))]
 impl<'a, S: Source> Content<'a, S> {
     /// Calls the closure on the content of a primitive value, and answers what it answers.
     ///
@@ -22,7 +22,7 @@ impl<'a, S: Source> Content<'a, S> {
         F: FnOnce(&mut Primitive<'_, S>) -> Result<T, DecodeError<S::Error>>,
         requires callable { MayBeCalledOn (of_primitive S.stream) (λ i. i ≡ of_content S.stream self.old) (F.pre op) }
         requires lawful { IsLawfulOn (of_primitive S.stream) (λ i. i ≡ of_content S.stream self.old) (F.post op) }
-        ensures moves { Moves (of_content S.stream self.old) (of_content S.stream self.new) }
+        ensures moves { Carries (of_content S.stream self.old) (of_content S.stream self.new) }
         ensures ok { IfOk result (λ x. AnsweredOn (of_primitive S.stream) (F.post op) (of_content S.stream self.old) (Ok x) (of_content S.stream self.new)) }
         ensures refused { IfErr result (λ e. (((of_content S.stream self.old).kind ≢ Octets) × (of_content S.stream self.new ≡ of_content S.stream self.old) × IsRefusal e) ⊎ AnsweredOn (of_primitive S.stream) (F.post op) (of_content S.stream self.old) (Err e) (of_content S.stream self.new)) }
     {
@@ -44,7 +44,7 @@ impl<'a, S: Source> Content<'a, S> {
         F: FnOnce(&mut Constructed<'_, S>) -> Result<T, DecodeError<S::Error>>,
         requires callable { MayBeCalledOn (of_constructed S.stream) (λ i. i ≡ of_content S.stream self.old) (F.pre op) }
         requires lawful { IsLawfulOn (of_constructed S.stream) (λ i. i ≡ of_content S.stream self.old) (F.post op) }
-        ensures moves { Moves (of_content S.stream self.old) (of_content S.stream self.new) }
+        ensures moves { Carries (of_content S.stream self.old) (of_content S.stream self.new) }
         ensures ok { IfOk result (λ x. AnsweredOn (of_constructed S.stream) (F.post op) (of_content S.stream self.old) (Ok x) (of_content S.stream self.new)) }
         ensures refused { IfErr result (λ e. (((of_content S.stream self.old).kind ≡ Octets) × (of_content S.stream self.new ≡ of_content S.stream self.old) × IsRefusal e) ⊎ AnsweredOn (of_constructed S.stream) (F.post op) (of_content S.stream self.old) (Err e) (of_content S.stream self.new)) }
     {

@@ -1,7 +1,7 @@
 //! Taking primitive values.
 ghost use Rattle.std.specs.Prelude.{◌≡◌, ◌≢◌, ◌⊎◌, ℕ, ◌+◌, ◌≤◌, true, false, length, Ok, Err, IfOk, IfErr, IfSome, IfNone, OnOk, OnErr};
 ghost use Rattle.bcder.specs.Cause.{cause_of, IsRefusal, NamesTag};
-ghost use Rattle.bcder.specs.Content.{Octets, Moves, any, tagged, EndsAt, IsDone, IsAbsent, IsLeft, IsMissing};
+ghost use Rattle.bcder.specs.Content.{Octets, Moves, Carries, any, tagged, EndsAt, IsDone, IsAbsent, IsLeft, IsMissing};
 ghost use Rattle.bcder.specs.Calls.{MayBeCalled, IsLawful, MayBeCalledOn, IsLawfulOn, IsInside, Untagged, Answered, TakesValue, RefusesValue, HasForm};
 ghost use Rattle.bcder.specs.Views.{of_constructed, of_primitive, of_content};
 
@@ -10,7 +10,7 @@ use crate::decode::error::DecodeError;
 use crate::decode::source::Source;
 use crate::tag::Tag;
 
-#[tactic(auto, using(crate::proofs::Moving::moves_refl))]
+#[tactic(auto, using(crate::proofs::Moving::moves_refl, crate::proofs::Moving::moves_trans))]
 impl<'a, S: Source> Constructed<'a, S> {
     /// Takes the next value, which has to be primitive, or answers `None` at the end of the content.
     ///
@@ -28,7 +28,7 @@ impl<'a, S: Source> Constructed<'a, S> {
         F: FnOnce(Tag, &mut Primitive<'_, S>) -> Result<T, DecodeError<S::Error>>,
         requires callable { MayBeCalled (of_primitive S.stream) (IsInside (of_constructed S.stream self.old) 2) (F.pre op) }
         requires lawful { IsLawful (of_primitive S.stream) (IsInside (of_constructed S.stream self.old) 2) (F.post op) }
-        ensures moves { Moves (of_constructed S.stream self.old) (of_constructed S.stream self.new) }
+        ensures moves { Carries (of_constructed S.stream self.old) (of_constructed S.stream self.new) }
         ensures end { IfOk result (λ o. IfNone o (EndsAt (of_constructed S.stream self.old) (of_constructed S.stream self.new))) }
         ensures done { IfOk result (λ o. IfNone o (IsDone (of_constructed S.stream self.new))) }
         ensures value { IfOk result (λ o. IfSome o (λ x. TakesValue (of_primitive S.stream) (F.post op) any (of_constructed S.stream self.old) x (of_constructed S.stream self.new))) }
@@ -67,7 +67,7 @@ impl<'a, S: Source> Constructed<'a, S> {
         F: FnOnce(Tag, &mut Primitive<'_, S>) -> Result<T, DecodeError<S::Error>>,
         requires callable { MayBeCalled (of_primitive S.stream) (IsInside (of_constructed S.stream self.old) 2) (F.pre op) }
         requires lawful { IsLawful (of_primitive S.stream) (IsInside (of_constructed S.stream self.old) 2) (F.post op) }
-        ensures moves { Moves (of_constructed S.stream self.old) (of_constructed S.stream self.new) }
+        ensures moves { Carries (of_constructed S.stream self.old) (of_constructed S.stream self.new) }
         ensures value { IfOk result (λ x. TakesValue (of_primitive S.stream) (F.post op) any (of_constructed S.stream self.old) x (of_constructed S.stream self.new)) }
         ensures shorter { OnOk result (length (of_constructed S.stream self.new).stream.rest + 2 ≤ length (of_constructed S.stream self.old).stream.rest) }
         ensures refused { IfErr result (λ e. (IsMissing any (of_constructed S.stream self.old) (of_constructed S.stream self.new) × IsRefusal e) ⊎ ((HasForm true any (of_constructed S.stream self.old) × IsRefusal e) ⊎ RefusesValue cause_of (of_primitive S.stream) (F.post op) any (of_constructed S.stream self.old) e (of_constructed S.stream self.new))) }
@@ -98,7 +98,7 @@ impl<'a, S: Source> Constructed<'a, S> {
         F: FnOnce(&mut Primitive<'_, S>) -> Result<T, DecodeError<S::Error>>,
         requires callable { MayBeCalledOn (of_primitive S.stream) (IsInside (of_constructed S.stream self.old) 2) (F.pre op) }
         requires lawful { IsLawfulOn (of_primitive S.stream) (IsInside (of_constructed S.stream self.old) 2) (F.post op) }
-        ensures moves { Moves (of_constructed S.stream self.old) (of_constructed S.stream self.new) }
+        ensures moves { Carries (of_constructed S.stream self.old) (of_constructed S.stream self.new) }
         ensures absent { IfOk result (λ o. IfNone o (IsAbsent (tagged tag) (of_constructed S.stream self.old) (of_constructed S.stream self.new).stream.rest)) }
         ensures left { IfOk result (λ o. IfNone o (IsLeft tag (of_constructed S.stream self.old) (of_constructed S.stream self.new))) }
         ensures value { IfOk result (λ o. IfSome o (λ x. TakesValue (of_primitive S.stream) (Untagged (F.post op)) (tagged tag) (of_constructed S.stream self.old) x (of_constructed S.stream self.new))) }
@@ -142,7 +142,7 @@ impl<'a, S: Source> Constructed<'a, S> {
         F: FnOnce(&mut Primitive<'_, S>) -> Result<T, DecodeError<S::Error>>,
         requires callable { MayBeCalledOn (of_primitive S.stream) (IsInside (of_constructed S.stream self.old) 2) (F.pre op) }
         requires lawful { IsLawfulOn (of_primitive S.stream) (IsInside (of_constructed S.stream self.old) 2) (F.post op) }
-        ensures moves { Moves (of_constructed S.stream self.old) (of_constructed S.stream self.new) }
+        ensures moves { Carries (of_constructed S.stream self.old) (of_constructed S.stream self.new) }
         ensures value { IfOk result (λ x. TakesValue (of_primitive S.stream) (Untagged (F.post op)) (tagged tag) (of_constructed S.stream self.old) x (of_constructed S.stream self.new)) }
         ensures shorter { OnOk result (length (of_constructed S.stream self.new).stream.rest + 2 ≤ length (of_constructed S.stream self.old).stream.rest) }
         ensures refused { IfErr result (λ e. (IsMissing (tagged tag) (of_constructed S.stream self.old) (of_constructed S.stream self.new) × NamesTag tag e) ⊎ ((HasForm true (tagged tag) (of_constructed S.stream self.old) × IsRefusal e) ⊎ RefusesValue cause_of (of_primitive S.stream) (Untagged (F.post op)) (tagged tag) (of_constructed S.stream self.old) e (of_constructed S.stream self.new))) }

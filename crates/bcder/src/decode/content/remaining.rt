@@ -2,7 +2,7 @@
 ghost use Rattle.std.specs.Prelude.{◌≡◌, ℕ, [], length, Some, IfErr, OnOk, OnErr};
 ghost use Rattle.bcder.specs.Cause.{cause_of, IsRefusal};
 ghost use Rattle.bcder.specs.Stream.{limit_or};
-ghost use Rattle.bcder.specs.Content.{Moves};
+ghost use Rattle.bcder.specs.Content.{Moves, Carries};
 ghost use Rattle.bcder.specs.Walking.{RefusesOctets};
 ghost use Rattle.bcder.specs.Views.{of_primitive};
 
@@ -27,10 +27,10 @@ impl<'a, S: Source> Primitive<'a, S> {
     /// # Errors
     ///
     /// Where fewer octets come or where the source fails. Then no octet is passed.
-    #[tactic(auto, unfolding(crate::specs::Views::of_primitive))]
+    #[tactic(auto, using(crate::proofs::Moving::moves_refl, crate::proofs::Moving::moves_trans), unfolding(crate::specs::Views::of_primitive))]
     #[inline(always)]
     pub fn skip_all(&mut self) -> Result<(), DecodeError<S::Error>>
-        ensures moves { Moves (of_primitive S.stream self.old) (of_primitive S.stream self.new) }
+        ensures moves { Carries (of_primitive S.stream self.old) (of_primitive S.stream self.new) }
         ensures all { OnOk result ((of_primitive S.stream self.old).owed ≡ Some (length (of_primitive S.stream self.old).stream.rest)) }
         ensures none_owed { OnOk result ((of_primitive S.stream self.new).owed ≡ Some 0) }
         ensures none_left { OnOk result ((of_primitive S.stream self.new).stream.rest ≡ []) }

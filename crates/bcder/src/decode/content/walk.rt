@@ -4,7 +4,7 @@ ghost use Rattle.bcder.specs.Cause.{cause_of, stop_cause, of_source};
 ghost use Rattle.bcder.specs.Stream.{Grew, Provides};
 ghost use Rattle.bcder.specs.Identifier.{Tag as TagValue};
 ghost use Rattle.bcder.specs.Peek.{header as header_of, Peeks};
-ghost use Rattle.bcder.specs.Content.{Moves, EndsAt, IsDone, FitsOwed, values, any, Resembles, RefusesHeader};
+ghost use Rattle.bcder.specs.Content.{Moves, Carries, EndsAt, IsDone, FitsOwed, values, any, Resembles, RefusesHeader};
 ghost use Rattle.bcder.specs.Calls.{RanOver, TakesContent};
 ghost use Rattle.bcder.specs.Walking.{PassesValue, IsPrimitive, Goes, AnswersNext, RefusesWalk, HasValues, RefusesValues, itself, walked};
 ghost use Rattle.bcder.specs.Views.{of_constructed, limited_stream};
@@ -29,9 +29,10 @@ use crate::mode::Mode;
 ///
 /// Where neither the encoding of a value nor the end stands in front, where an earlier value was
 /// refused or where the source fails. The content has then failed.
+#[tactic(auto, using(crate::proofs::Moving::moves_trans))]
 #[inline(always)]
 pub fn walk<S: Source>(cons: &mut Constructed<'_, S>) -> Result<Option<()>, DecodeError<S::Error>>
-    ensures moves { Moves (of_constructed S.stream cons.old) (of_constructed S.stream cons.new) }
+    ensures moves { Carries (of_constructed S.stream cons.old) (of_constructed S.stream cons.new) }
     ensures value { IfOk result (λ o. IfSome o (λ _. PassesValue (of_constructed S.stream cons.old) (of_constructed S.stream cons.new))) }
     ensures end { IfOk result (λ o. IfNone o (EndsAt (of_constructed S.stream cons.old) (of_constructed S.stream cons.new))) }
     ensures done { IfOk result (λ o. IfNone o (IsDone (of_constructed S.stream cons.new))) }
