@@ -1,7 +1,7 @@
 //! Content: what it says of itself, why it refuses, and what stands after its source failed.
 #![tactic(auto, using(bcder::proofs::Moving::moves_refl))]
 
-ghost use Rattle.bcder.specs.Views.{Moved, MovedContent};
+ghost use Rattle.bcder.specs.Views.{Moved, MovedContent, MovedOctets};
 
 use crate::sip::Sip;
 use bcder::decode::{
@@ -178,7 +178,7 @@ fn check_octets<S: Source>(
     octets: &mut Primitive<'_, S>,
     mode: Mode,
 ) -> Result<(), DecodeError<S::Error>>
-    ensures { Moves (of_primitive S.stream octets.old) (of_primitive S.stream octets.new) }
+    ensures { MovedOctets S.stream octets }
 {
     assert_eq!(rt; octets.remaining(), 3);
     assert_eq!(rt; octets.mode(), mode);
