@@ -221,10 +221,10 @@ form_bounded true (Definite n) k h e = (let z : DefiniteValues ≡ UnboundedValu
 take_front : (n : ℕ) (b x y : List ℕ) → n ≡ length b → y ≡ b ++ x → take n y ≡ b
 take_front n b x y e s = ap (take n) s ∙ take_at b x n (sym e)
 
-module _ (c i : Reading) (after : List ℕ) (f : HasHeader any c after) (g : Hands c.mode f.form f.len after i) where
+module _ (c i : Reading) (after : List ℕ) (f : HasHeader any c after) (g : Hands c.mode f.form f.len f.owed after i) where
   handed_definite : (b x : List ℕ) → f.len ≡ Definite (length b) → after ≡ b ++ x → (i.owed ≡ Some (length b)) × (i.stream.rest ≡ b)
   handed_definite b x l y =
-      let o : (i.owed ≡ Some (length b)) × (i.stream.rest ≡ take (length b) after) = subst (λ z. ContentOf z after i.owed i.stream.rest) l g.octets in
+      let o : (i.owed ≡ Some (length b)) × (i.stream.rest ≡ take (length b) after) = subst (λ z. ContentOf z f.owed after i.owed i.stream.rest) l g.octets in
       (o.0, o.1 ∙ take_front (length b) b x after refl y)
 
   broken_shape : (x : List ℕ) → i.kind ≢ Octets → (HasValues i → ⊥) → Shape c.mode f.form f.len x after → ⊥
@@ -240,13 +240,13 @@ module _ (c i : Reading) (after : List ℕ) (f : HasHeader any c after) (g : Han
         closes = subst (λ z. ClosesBefore z i.mode i.owed b []) (sym (form_definite f.form f.len (length b) i.kind a l g.form)) o.0;
       })
   broken_shape x k n (is_indefinite ts b e a l q z y) =
-      let r : i.stream.rest ≡ after = subst (λ z. ContentOf z after i.owed i.stream.rest) l g.octets in
+      let r : (i.owed ≡ f.owed) × (i.stream.rest ≡ after) = subst (λ z. ContentOf z f.owed after i.owed i.stream.rest) l g.octets in
       n (record {
         trees = ts;
         all = b;
         after = e ++ x;
         encode = subst (λ z. AreEncodings z ts b) (sym g.mode) q;
-        rest = r ∙ y;
+        rest = r.1 ∙ y;
         closes = subst (λ z. ClosesBefore z i.mode i.owed b (e ++ x)) (sym (form_indefinite f.form f.len i.kind l g.form)) (x, record { marker = e; is_end = subst (λ m. IsEndOfContents m e) (sym g.mode) z; rest = refl });
       })
 
@@ -285,7 +285,7 @@ not_failed_done j (inr s) e = (let x : Open ≡ Failed = sym s.0 ∙ e in cc)
 grew_between : (a b c d : ℕ) → a ≤ b → Grew b c → c ≡ d → Grew a d
 grew_between a b c d h g e = subst (λ x. Grew a x) e (grew_from a b c h g)
 
-module _ {E : Type 0} (why : E → Cause ContentError) (e : E) (c d i j : Reading) (after : List ℕ) (f : HasHeader any c after) (g : Hands c.mode f.form f.len after i) (b : c.stream.faults ≤ i.stream.faults) (s : j.stream.faults ≡ d.stream.faults) where
+module _ {E : Type 0} (why : E → Cause ContentError) (e : E) (c d i j : Reading) (after : List ℕ) (f : HasHeader any c after) (g : Hands c.mode f.form f.len f.owed after i) (b : c.stream.faults ≤ i.stream.faults) (s : j.stream.faults ≡ d.stream.faults) where
   pub refused_inside : walking.RefusesValues why i e j → ((why e ≡ of_source) × Grew c.stream.faults d.stream.faults) ⊎ (NoValue c × IsOfContent (why e))
   refused_inside (walking.RefusesValues.failed x a) = absurd (open_not_failed i.state g.state x)
   refused_inside (walking.RefusesValues.source k x) = inl (k, grew_between _ _ _ _ b x s)

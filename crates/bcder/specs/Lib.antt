@@ -16,6 +16,9 @@ pub mod Peek
 pub mod Content
 pub mod Views
 pub mod Calls
+pub mod Takes
+pub mod Entering
+pub mod Inside
 pub mod Walking
 pub mod Decoding
 pub mod Begins

@@ -1,11 +1,15 @@
 //! Content: the values inside a value, or at top level, and the octets inside a primitive value.
 ghost use Rattle.std.specs.Prelude.{◌≡◌, ◌≢◌, ℕ, ◌↔◌, true, IsTrue, Some};
 ghost use Rattle.bcder.specs.Cause.{cause_of, position_of, of_content as of_refusal};
-ghost use Rattle.bcder.specs.Content.{Octets, Moves};
-ghost use Rattle.bcder.specs.Views.{of_constructed, of_primitive, of_content, content_start};
+ghost use Rattle.bcder.specs.Content.{Octets};
+ghost use Rattle.bcder.specs.Views.{
+    of_constructed, of_primitive, of_content, content_start, before, after, octets_before,
+    octets_after, Moved, MovedOctets,
+};
 
 mod decode;
 mod forms;
+mod inside;
 mod octets;
 mod remaining;
 mod sequences;
@@ -73,7 +77,11 @@ pub enum Content<'a, S> {
     Constructed(Constructed<'a, S>),
 }
 
-#[tactic(auto, using(crate::proofs::Moving::moves_refl), unfolding(crate::specs::Views::of_constructed))]
+#[tactic(
+    auto,
+    using(crate::proofs::Moving::moves_refl, crate::proofs::Moving::moves_trans),
+    unfolding(crate::specs::Views::of_constructed)
+)]
 impl<'a, S: Source> Constructed<'a, S> {
     /// The rules that the content is read by.
     pub fn mode(&self) -> Mode
@@ -85,13 +93,18 @@ impl<'a, S: Source> Constructed<'a, S> {
     /// Goes on under other rules. A change marks this content, and the content around it once this is
     /// taken, as no longer known to be in its rules.
     pub fn set_mode(&mut self, mode: Mode)
-        ensures moves { Moves (of_constructed S.stream self.old) (of_constructed S.stream self.new) }
-        ensures mode { (of_constructed S.stream self.new).mode ≡ mode }
-        ensures changed { (of_constructed S.stream self.old).mode ≢ mode → (of_constructed S.stream self.new).marked ≡ true }
-        ensures unchanged { (of_constructed S.stream self.old).mode ≡ mode → (of_constructed S.stream self.new).marked ≡ (of_constructed S.stream self.old).marked }
-        ensures stream { (of_constructed S.stream self.new).stream ≡ (of_constructed S.stream self.old).stream }
-        ensures owed { (of_constructed S.stream self.new).owed ≡ (of_constructed S.stream self.old).owed }
-        ensures state { (of_constructed S.stream self.new).state ≡ (of_constructed S.stream self.old).state }
+        ensures moves { Moved S.stream self }
+        ensures mode { (after S.stream self).mode ≡ mode }
+        ensures changed {
+            (before S.stream self).mode ≢ mode → (after S.stream self).marked ≡ true
+        }
+        ensures unchanged {
+            (before S.stream self).mode ≡ mode
+            → (after S.stream self).marked ≡ (before S.stream self).marked
+        }
+        ensures stream { (after S.stream self).stream ≡ (before S.stream self).stream }
+        ensures owed { (after S.stream self).owed ≡ (before S.stream self).owed }
+        ensures state { (after S.stream self).state ≡ (before S.stream self).state }
         ensures start { self.new.start ≡ self.old.start }
     {
         if self.mode != mode {
@@ -109,7 +122,11 @@ impl<'a, S: Source> Constructed<'a, S> {
     }
 }
 
-#[tactic(auto, using(crate::proofs::Moving::moves_refl), unfolding(crate::specs::Views::of_primitive))]
+#[tactic(
+    auto,
+    using(crate::proofs::Moving::moves_refl, crate::proofs::Moving::moves_trans),
+    unfolding(crate::specs::Views::of_primitive)
+)]
 impl<'a, S: Source> Primitive<'a, S> {
     /// The rules that the content is read by.
     pub fn mode(&self) -> Mode
@@ -121,13 +138,18 @@ impl<'a, S: Source> Primitive<'a, S> {
     /// Goes on under other rules. A change marks this content, and the content around it once this is
     /// taken, as no longer known to be in its rules.
     pub fn set_mode(&mut self, mode: Mode)
-        ensures moves { Moves (of_primitive S.stream self.old) (of_primitive S.stream self.new) }
-        ensures mode { (of_primitive S.stream self.new).mode ≡ mode }
-        ensures changed { (of_primitive S.stream self.old).mode ≢ mode → (of_primitive S.stream self.new).marked ≡ true }
-        ensures unchanged { (of_primitive S.stream self.old).mode ≡ mode → (of_primitive S.stream self.new).marked ≡ (of_primitive S.stream self.old).marked }
-        ensures stream { (of_primitive S.stream self.new).stream ≡ (of_primitive S.stream self.old).stream }
-        ensures owed { (of_primitive S.stream self.new).owed ≡ (of_primitive S.stream self.old).owed }
-        ensures state { (of_primitive S.stream self.new).state ≡ (of_primitive S.stream self.old).state }
+        ensures moves { MovedOctets S.stream self }
+        ensures mode { (octets_after S.stream self).mode ≡ mode }
+        ensures changed {
+            (octets_before S.stream self).mode ≢ mode → (octets_after S.stream self).marked ≡ true
+        }
+        ensures unchanged {
+            (octets_before S.stream self).mode ≡ mode
+            → (octets_after S.stream self).marked ≡ (octets_before S.stream self).marked
+        }
+        ensures stream { (octets_after S.stream self).stream ≡ (octets_before S.stream self).stream }
+        ensures owed { (octets_after S.stream self).owed ≡ (octets_before S.stream self).owed }
+        ensures state { (octets_after S.stream self).state ≡ (octets_before S.stream self).state }
         ensures start { self.new.start ≡ self.old.start }
     {
         if self.mode != mode {

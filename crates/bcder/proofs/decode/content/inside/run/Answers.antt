@@ -2,7 +2,7 @@ use Rattle.std.proofs.Common.{refl, ◌∙◌, sym}
 use Rattle.bcder.specs.Calls.{by_closure, unfinished}
 use Rattle.bcder.specs.Views.{of_content}
 use Rattle.bcder.proofs.Names.{mark_of_content}
-use Rattle.bcder.proofs.decode.content.take.run.Goals as goal
+use Rattle.bcder.proofs.decode.content.inside.run.Goals as goal
 
 pub returns-in-Err-clause-refused : goal.returns-in-Err-clause-refused
 returns-in-Err-clause-refused g c = by_closure (record { handed = _; left = _; handed_is = refl; left_is = refl; called = c.in-Err.ensures })
