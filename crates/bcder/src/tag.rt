@@ -1,7 +1,7 @@
 //! Tags and identifier octets (X.690, 8.1.2).
-ghost use Rattle.std.specs.Prelude.{◌≡◌, ℕ, ◌<◌, ◌≤◌, ◌^◌, ◌↔◌, Bool, Some, None, IfSome, MatchOption, IsTrue};
+ghost use Rattle.std.specs.Prelude.{◌≡◌, ℕ, ◌<◌, ◌≤◌, ◌^◌, ◌%◌, ◌↔◌, Bool, Some, None, IfSome, MatchOption, IsTrue};
 ghost use Rattle.bcder.specs.Identifier.{universal as universal_class, application as application_class, context_specific as context_specific_class, private as private_class};
-ghost use Rattle.bcder.specs.Reading.{is_value_tag, read_identifier, read_number, second_digit, third_digit, class_of};
+ghost use Rattle.bcder.specs.Reading.{is_value_tag, read_identifier, read_number, second_digit, third_digit, class_of, is_marked};
 ghost use Rattle.bcder.specs.Classes.{class_meant};
 
 mod display;
@@ -460,8 +460,29 @@ fn third_digit(high: u32, octets: &[u8]) -> Option<(u32, &[u8])>
     }
 }
 
+/// The tag that a leading octet tells alone: its number is below 31 (8.1.2.2).
+#[inline(always)]
+pub(crate) fn tag_of_leading(octet: u8) -> Tag
+    requires { octet % 32 < 31 }
+    ensures { result ≡ record { class = class_of octet; number = octet % 32 } }
+{
+    Tag {
+        class: class_at(octet),
+        number: u32::from(octet % 32),
+    }
+}
+
+/// The constructed mark of a leading octet, its bit 6 (8.1.2.5).
+#[tactic(auto, using(std::proofs::lemmas::Bool::Decides::nat_tests), unfolding(crate::specs::Reading::is_marked),)]
+#[inline(always)]
+pub(crate) fn mark_of_leading(octet: u8) -> bool
+    ensures { result ≡ is_marked octet }
+{
+    octet % 64 >= 32
+}
+
 /// The tag and the constructed mark of the identifier octets at the front, and the octets after them.
-#[tactic(auto, using(std::proofs::lemmas::Bool::Decides::nat_tests), unfolding(crate::specs::Reading::read_identifier, crate::specs::Reading::is_marked))]
+#[tactic(auto, using(std::proofs::lemmas::Bool::Decides::nat_tests), unfolding(crate::specs::Reading::read_identifier))]
 #[inline(always)]
 pub(crate) fn identifier_at(octets: &[u8]) -> Option<(Tag, bool, &[u8])>
     ensures { MatchOption result (read_identifier octets.now ≡ None) (λ r. read_identifier octets.now ≡ Some (r.0, r.1, r.2.now)) }
@@ -469,12 +490,11 @@ pub(crate) fn identifier_at(octets: &[u8]) -> Option<(Tag, bool, &[u8])>
     match octets {
         [] => None,
         [first, rest @ ..] => {
-            let class = class_at(*first);
-            let constructed = *first % 64 >= 32;
-            let low = u32::from(*first % 32);
-            if low < 31 {
-                Some((Tag { class, number: low }, constructed, rest))
+            let constructed = mark_of_leading(*first);
+            if *first % 32 < 31 {
+                Some((tag_of_leading(*first), constructed, rest))
             } else {
+                let class = class_at(*first);
                 let (number, rest) = number_at(rest)?;
                 Some((Tag { class, number }, constructed, rest))
             }
