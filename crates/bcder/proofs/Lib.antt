@@ -1,3 +1,4 @@
+pub use Rattle.std.proofs.lemmas.Bool.Decides.{nat_tests}
 pub mod Carrying
 mod rows
 pub mod Steps

@@ -1,5 +1,6 @@
 //! Identifier octets and length octets at the front of a source (X.690, 8.1.2, 8.1.3).
-ghost use Rattle.std.specs.Prelude.{◌≡◌, ℕ, ◌<◌, ◌≤◌, List, ◌++◌, length, false, IsTrue, Some, None, IfSome, IfOk, OnOk, OnErr};
+ghost use Rattle.std.specs.Prelude.{◌≡◌, ℕ, ◌<◌, ◌≤◌, List, ◌++◌, length, false, IsTrue};
+ghost use Rattle.std.specs.Prelude.{Some, None, IfSome, IfOk, OnOk, OnErr};
 ghost use Rattle.bcder.specs.Stream.{Grew};
 ghost use Rattle.bcder.specs.Reading.{read_identifier, read_length};
 ghost use Rattle.bcder.specs.Peek.{Peeks, PeeksIf, Sees, SeesOf, SeesIf, StandsShort};
@@ -108,7 +109,8 @@ fn look(mode: Mode, octets: &[u8]) -> Seen
     }
 }
 
-/// What the octets at hand tell of the header with this tag at their front. `None` is for another tag.
+/// What the octets at hand tell of the header with this tag at their front. `None` is for another
+/// tag.
 #[inline(always)]
 fn look_for(mode: Mode, tag: Tag, octets: &[u8]) -> Option<Seen>
     ensures { SeesIf mode tag result octets.now }
@@ -131,9 +133,9 @@ fn look_for(mode: Mode, tag: Tag, octets: &[u8]) -> Option<Seen>
     }
 }
 
-/// The header of two octets at the front, if there is one: a tag that the leading octet tells alone,
-/// and a definite length below 128.
-#[tactic(auto, using(std::proofs::lemmas::Bool::Decides::nat_tests))]
+/// The header of two octets at the front, if there is one: a tag that the leading octet tells
+/// alone, and a definite length below 128.
+#[tactic(auto, using(crate::proofs::nat_tests))]
 #[inline(always)]
 fn short_header(octets: &[u8]) -> Option<Header>
     ensures { IfSome result (λ h. StandsShort h octets.now) }
@@ -196,8 +198,8 @@ fn peek_long<S: Source>(source: &mut S, mode: Mode) -> Result<Peeked, S::Error>
     }
 }
 
-/// What stands at the front of a source, where a tag is looked for. It asks for no more octets than the
-/// header has, for two at least, and takes none. An error is the source's own.
+/// What stands at the front of a source, where a tag is looked for. It asks for no more octets than
+/// the header has, for two at least, and takes none. An error is the source's own.
 #[inline(always)]
 pub(crate) fn peek_if<S: Source>(source: &mut S, mode: Mode, tag: Tag) -> Result<PeekedIf, S::Error>
     ensures peeked { IfOk result (λ p. PeeksIf mode tag p (S.stream source.new)) }

@@ -4,7 +4,7 @@ ghost use Rattle.std.specs.Prelude.{length, take, drop, slice_range};
 ghost use Rattle.std.specs.Prelude.{Some, None, IsSome, IfOk, IfErr, OnOk, OnErr};
 ghost use Rattle.bcder.specs.Calls.{popped};
 ghost use Rattle.bcder.specs.Changed.{SameFaults, MoreFaults, SameRest, SamePosition, SameKept};
-ghost use Rattle.bcder.specs.Changed.{inside, EndsEarly, ReachesLimit, HasNoneLeft};
+ghost use Rattle.bcder.specs.Changed.{RefusedWhere, inside, EndsEarly, ReachesLimit, HasNoneLeft};
 ghost use Rattle.bcder.specs.Cause.{cause_of, MatchCause, MatchStop};
 ghost use Rattle.bcder.specs.Content.{FitsOwed};
 ghost use Rattle.bcder.specs.Sources.{wrapped, limit_of, owed};
@@ -91,10 +91,8 @@ impl<S: Source> LimitedSource<S> {
         ensures rest { OnOk result
             ((inside S.stream self.new).rest ≡ drop (owed self.old) (inside S.stream self.old).rest) }
         ensures no_fault { OnOk result (SameFaults (inside S.stream) self) }
-        ensures cause { IfErr result (λ e. MatchCause (cause_of e)
-            (MoreFaults (inside S.stream) self)
-            (SameFaults (inside S.stream) self × EndsEarly S.stream self.old)
-            ⊥) }
+        ensures cause { IfErr result
+            (RefusedWhere (inside S.stream) self (EndsEarly S.stream self.old)) }
         ensures err { OnErr result (SameRest (inside S.stream) self) }
         ensures err_limit { OnErr result (limit_of self.new ≡ limit_of self.old) }
         ensures err_position { OnErr result (SamePosition (inside S.stream) self) }
@@ -184,10 +182,8 @@ impl<S: Source> LimitedSource<S> {
     pub fn exhausted(&mut self) -> Result<(), DecodeError<S::Error>>
         ensures ok { OnOk result (HasNoneLeft S.stream self.old) }
         ensures no_fault { OnOk result (SameFaults (inside S.stream) self) }
-        ensures cause { IfErr result (λ e. MatchCause (cause_of e)
-            (MoreFaults (inside S.stream) self)
-            (SameFaults (inside S.stream) self × (¬ HasNoneLeft S.stream self.old))
-            ⊥) }
+        ensures cause { IfErr result
+            (RefusedWhere (inside S.stream) self (¬ HasNoneLeft S.stream self.old)) }
         ensures limit { limit_of self.new ≡ limit_of self.old }
         ensures rest { SameRest (inside S.stream) self }
         ensures position { SamePosition (inside S.stream) self }
