@@ -22,3 +22,4 @@ pub mod Stepping
 pub mod Passing
 pub mod Decoding
 pub mod Insides
+pub mod Nested

@@ -1,6 +1,6 @@
 //! Reading identifier octets from a source (X.690, 8.1.2).
 ghost use Rattle.std.specs.Prelude.{◌≡◌, ◌⊎◌, ℕ, ◌<◌, ◌≤◌, List, [], ◌++◌, length, false, IsTrue};
-ghost use Rattle.std.specs.Prelude.{None, IsNone, IfNone, IfSome, IfOk, IfErr, OnOk, OnErr, MatchOption};
+ghost use Rattle.std.specs.Prelude.{None, IsNone, IfSome, MatchOption, IfOk, IfErr, OnOk, OnErr};
 ghost use Rattle.bcder.specs.Identifier.{IsTag, identifier};
 ghost use Rattle.bcder.specs.Begins.{BeginsOther, BeginsNoIdentifier, HasNoIdentifier};
 ghost use Rattle.bcder.specs.Changed.{SameFaults, MoreFaults, SameRest, SamePosition, SameKept};

@@ -89,7 +89,8 @@ impl<S: Source> LimitedSource<S> {
         ensures enough { OnOk result (ReachesLimit S.stream self.old) }
         ensures limit { OnOk result (limit_of self.new ≡ Some 0) }
         ensures rest { OnOk result
-            ((inside S.stream self.new).rest ≡ drop (owed self.old) (inside S.stream self.old).rest) }
+            ((inside S.stream self.new).rest
+            ≡ drop (owed self.old) (inside S.stream self.old).rest) }
         ensures no_fault { OnOk result (SameFaults (inside S.stream) self) }
         ensures cause { IfErr result
             (RefusedWhere (inside S.stream) self (EndsEarly S.stream self.old)) }
