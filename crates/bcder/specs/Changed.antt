@@ -4,7 +4,7 @@ use Rattle.std.specs.Borrow.{MutBor}
 use denote.Triple.Both.{Both}
 use Rattle.bcder.specs.declared.decode.source.limited.LimitedSource.{LimitedSource}
 use Rattle.bcder.specs.declared.decode.error.DecodeError.{DecodeError}
-use Rattle.bcder.specs.Cause.{cause_of, MatchCause}
+use Rattle.bcder.specs.Cause.{cause_of, MatchCause, IsRefusal}
 use Rattle.bcder.specs.Sources.{wrapped, owed, limit_of}
 use Rattle.bcder.specs.Stream.{Stream, Grew, IsUsedUp}
 
@@ -29,9 +29,9 @@ module _ {S : Type 0} (stream : S → Stream) (s : Both (MutBor S) (MutBor S)) w
   abbrev pub SameKept : Type 0
   SameKept = (stream s.exit.now).kept ≡ (stream s.entry.now).kept
 
-  -- why content was refused: the source failed, which it counts, or P holds and it counts nothing
+  -- the source failed, which it counts; or content was refused where P holds, by a fixed text, and it counts nothing
   abbrev pub RefusedWhere : {X : Type 0} → Type 0 → DecodeError X → Type 0
-  RefusedWhere P e = MatchCause (cause_of e) MoreFaults (SameFaults × P) ⊥
+  RefusedWhere P e = MatchCause (cause_of e) MoreFaults (SameFaults × P × IsRefusal e) ⊥
 
 -- ---- of a limited source, by the wrapped one
 

@@ -2,7 +2,7 @@
 ghost use Rattle.std.specs.Prelude.{◌≡◌, ℕ, ◌+◌, ◌-◌, ◌<◌, ◌≤◌, [], ◌∷◌};
 ghost use Rattle.std.specs.Prelude.{length, take, drop, min, slice_range};
 ghost use Rattle.std.specs.Prelude.{Some, IfOk, IfErr, OnOk, OnErr, MatchOption, IfNone};
-ghost use Rattle.bcder.specs.Cause.{cause_of, position_of, of_content, MatchCause};
+ghost use Rattle.bcder.specs.Cause.{cause_of, position_of, of_content, MatchCause, IsRefusal};
 ghost use Rattle.bcder.specs.Stream.{Stream, IsSound, Grew, Provides, pos_after, borrowed};
 ghost use Rattle.bcder.specs.laws.Limits.{borrowed_sound};
 
@@ -111,7 +111,9 @@ pub trait Source {
         ensures no_fault { OnOk result ((stream self.new).faults ≡ (stream self.old).faults) }
         ensures cause { IfErr result (λ e. MatchCause (cause_of e)
             (Grew (stream self.old).faults (stream self.new).faults)
-            (((stream self.new).faults ≡ (stream self.old).faults) × ((stream self.old).rest ≡ []))
+            (((stream self.new).faults ≡ (stream self.old).faults)
+            × ((stream self.old).rest ≡ [])
+            × IsRefusal e)
             ⊥) }
         ensures no_fewer { (stream self.old).faults ≤ (stream self.new).faults }
         ensures err { OnErr result ((stream self.new).rest ≡ (stream self.old).rest) }

@@ -5,7 +5,7 @@ ghost use Rattle.bcder.specs.Identifier.{IsTag, identifier};
 ghost use Rattle.bcder.specs.Begins.{BeginsOther, BeginsNoIdentifier, HasNoIdentifier};
 ghost use Rattle.bcder.specs.Changed.{SameFaults, MoreFaults, SameRest, SamePosition, SameKept};
 ghost use Rattle.bcder.specs.Changed.{RefusedWhere};
-ghost use Rattle.bcder.specs.Cause.{cause_of, MatchCause};
+ghost use Rattle.bcder.specs.Cause.{IsRefusal};
 ghost use Rattle.bcder.specs.Reading.{read_identifier};
 ghost use Rattle.bcder.specs.PeekTag.{PeeksTag, SeesTag};
 
@@ -118,7 +118,7 @@ fn peek<S: Source>(source: &mut S) -> Result<PeekedTag, S::Error>
 /// The refusal of octets that begin no identifier octets.
 #[cold]
 fn invalid<S: Source>(source: &S) -> DecodeError<S::Error>
-    ensures { MatchCause (cause_of result) ⊥ (Unit {0}) ⊥ }
+    ensures { IsRefusal result }
 {
     source.content_err(ContentError::from_static("invalid identifier octets"))
 }

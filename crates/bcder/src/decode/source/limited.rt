@@ -5,7 +5,7 @@ ghost use Rattle.std.specs.Prelude.{Some, None, IsSome, IfOk, IfErr, OnOk, OnErr
 ghost use Rattle.bcder.specs.Calls.{popped};
 ghost use Rattle.bcder.specs.Changed.{SameFaults, MoreFaults, SameRest, SamePosition, SameKept};
 ghost use Rattle.bcder.specs.Changed.{RefusedWhere, inside, EndsEarly, ReachesLimit, HasNoneLeft};
-ghost use Rattle.bcder.specs.Cause.{cause_of, MatchCause, MatchStop};
+ghost use Rattle.bcder.specs.Cause.{cause_of, MatchCause, MatchStop, IsRefusal};
 ghost use Rattle.bcder.specs.Content.{FitsOwed};
 ghost use Rattle.bcder.specs.Sources.{wrapped, limit_of, owed};
 ghost use Rattle.bcder.specs.Stream.{limited, IsNoLooser};
@@ -155,7 +155,7 @@ impl<S: Source> LimitedSource<S> {
         ensures no_fault { OnOk result (SameFaults (inside S.stream) self) }
         ensures cause { IfErr result (λ e. MatchCause (cause_of e)
             (MoreFaults (inside S.stream) self)
-            (SameFaults (inside S.stream) self × EndsEarly S.stream self.old)
+            (SameFaults (inside S.stream) self × EndsEarly S.stream self.old × IsRefusal e)
             (SameFaults (inside S.stream) self × ReachesLimit S.stream self.old)) }
         ensures err { OnErr result (SameRest (inside S.stream) self) }
         ensures err_limit { OnErr result (limit_of self.new ≡ limit_of self.old) }
