@@ -1,3 +1,4 @@
+pub use Rattle.std.proofs.lemmas.Bool.Decides.{nat_tests}
 pub mod Carrying
 mod rows
 pub mod Steps
@@ -21,3 +22,4 @@ pub mod Stepping
 pub mod Passing
 pub mod Decoding
 pub mod Insides
+pub mod Nested

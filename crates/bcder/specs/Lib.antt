@@ -24,3 +24,5 @@ pub mod Decoding
 pub mod Begins
 pub mod PeekTag
 pub mod PeekLength
+pub mod Answers
+pub mod Changed
