@@ -12,7 +12,7 @@ use Rattle.bcder.specs.Grammar.{IsOnly}
 use Rattle.bcder.specs.Reading.{Header, read_header, read_end, read_contents, read_value, at_end, read_list, read_tree}
 use Rattle.bcder.specs.laws.Complete.{header_size, tree_complete, one_encoding}
 use Rattle.bcder.specs.laws.Sound.{end_sound, some_inj, none_is}
-use Rattle.bcder.specs.laws.Stands.{header_sound, tree_sound}
+use Rattle.bcder.specs.laws.Stands.{AreOctets-after, header_sound, tree_sound}
 use Rattle.bcder.proofs.Steps.{read_tree_step, read_list_step}
 
 -- what a function of the program gives for a value, and for a list of values
@@ -73,6 +73,32 @@ list_fails mode marked w o e f = read_list_step mode marked w o ∙ rw (e, f) re
 pub list_goes_on : {X : Type 0} (r : Option X) (now : X → List ℕ) (mode : Mode) (marked : Bool) (w y : List ℕ) → AreOctets w → at_end mode marked w ≡ None → TreeRead mode w y → MatchOption r (read_list mode marked y ≡ None) (λ x. ListRead mode marked y (now x)) → MatchOption r (read_list mode marked w ≡ None) (λ x. ListRead mode marked w (now x))
 list_goes_on None now mode marked w y o e t h = read_list_step mode marked w o ∙ rw (e, t.1, h) refl
 list_goes_on (Some x) now mode marked w y o e t h = (t.0 ∷ₜ h.0, read_list_step mode marked w o ∙ rw (e, t.1, h.1) refl)
+
+-- after the first values of a list, what is left gives what all of it gives
+pub record ReadsOn (mode : Mode) (marked : Bool) (w left : List ℕ) : Type 0 where
+  pub octets : AreOctets left
+  pub shorter : length left ≤ length w
+  pub fails : read_list mode marked left ≡ None → read_list mode marked w ≡ None
+  pub ends : (x : List ℕ) → ListRead mode marked left x → ListRead mode marked w x
+
+pub reads_on : (mode : Mode) (marked : Bool) (w : List ℕ) → AreOctets w → ReadsOn mode marked w w
+reads_on mode marked w o = record { octets = o; shorter = omega arith; fails = λ e. e; ends = λ x e. e }
+
+pub reads_more : (mode : Mode) (marked : Bool) (w v y : List ℕ) → ReadsOn mode marked w v → at_end mode marked v ≡ None → TreeRead mode v y → length y + 2 ≤ length v → ReadsOn mode marked w y
+reads_more mode marked w v y k e t l =
+    let s = tree_sound mode v (t.0, y) k.octets t.1 in
+    record {
+      octets = AreOctets-after s.front v y s.is k.octets;
+      shorter = (let h : length v ≤ length w = k.shorter in omega arith);
+      fails = λ n. k.fails (list_goes_on None (λ (x : List ℕ). x) mode marked v y k.octets e t n);
+      ends = λ x n. k.ends x (list_goes_on (Some x) (λ (x : List ℕ). x) mode marked v y k.octets e t n);
+    }
+
+pub reads_end : (mode : Mode) (marked : Bool) (w v x : List ℕ) → ReadsOn mode marked w v → at_end mode marked v ≡ Some x → ListRead mode marked w x
+reads_end mode marked w v x k e = k.ends x (list_ends mode marked v x k.octets e)
+
+pub reads_nothing : (mode : Mode) (marked : Bool) (w v : List ℕ) → ReadsOn mode marked w v → at_end mode marked v ≡ None → read_tree mode v ≡ None → read_list mode marked w ≡ None
+reads_nothing mode marked w v k e t = k.fails (list_fails mode marked v k.octets e t)
 
 pub at_end-marked : (mode : Mode) (w : List ℕ) → at_end mode true w ≡ read_end mode w
 unfolding at_end

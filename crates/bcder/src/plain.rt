@@ -90,12 +90,15 @@ fn list_at(mode: Mode, marked: bool, octets: &[u8]) -> Option<&[u8]>
     ensures less { IfSome result (λ r. length r.now ≤ length octets.now) }
     ensures read { MatchOption result (read_list mode marked octets.now ≡ None) (λ r. (ts : Trees) × (read_list mode marked octets.now ≡ Some (ts, r.now))) }
 {
-    match at_end(mode, marked, octets) {
-        Some(rest) => Some(rest),
-        None => match value_at(mode, octets) {
-            Some(rest) => list_at(mode, marked, rest),
-            None => None,
-        },
+    let mut rest = octets;
+    loop {
+        if let Some(after) = at_end(mode, marked, rest) {
+            return Some(after);
+        }
+        match value_at(mode, rest) {
+            Some(after) => rest = after,
+            None => return None,
+        }
     }
 }
 

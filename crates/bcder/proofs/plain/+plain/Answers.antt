@@ -1,27 +1,19 @@
 use Rattle.std.proofs.Common.{arith}
 use Rattle.bcder.specs.Identifier.{AreOctets}
-use Rattle.bcder.proofs.Skip.{HasHeader, at_end_less, no_header, too_short_at, bad_contents_at, primitive_at, definite_at, indefinite_at, list_ends, list_fails, list_goes_on}
+use Rattle.bcder.proofs.Skip.{HasHeader, at_end_less, no_header, too_short_at, bad_contents_at, primitive_at, definite_at, indefinite_at, reads_more, reads_end, reads_nothing}
 use Rattle.bcder.proofs.plain.+plain.Goals as goal
 
-pub list_at-returns-in-Some-clause-read : goal.list_at-returns-in-Some-clause-read
-list_at-returns-in-Some-clause-read t c =
-    let o : AreOctets c.args.octets.now = λ i. omega (arith, c.type_inv.octets i) in
-    list_ends _ _ _ _ o c.in-Some.ensures
-
-pub list_at-returns-in-Some-value_at-clause-read : goal.list_at-returns-in-Some-value_at-clause-read
-list_at-returns-in-Some-value_at-clause-read t c =
-    let o : AreOctets c.args.octets.now = λ i. omega (arith, c.type_inv.octets i) in
-    list_goes_on c.list_at.result (λ r. r.now) c.args.mode c.args.marked c.args.octets.now c.in-Some-value_at.rest.now o c.in-None.ensures c.in-Some-value_at.ensures.read c.list_at.ensures.read
-
-pub list_at-returns-in-None-value_at-clause-read : goal.list_at-returns-in-None-value_at-clause-read
-list_at-returns-in-None-value_at-clause-read t c =
-    let o : AreOctets c.args.octets.now = λ i. omega (arith, c.type_inv.octets i) in
-    list_fails _ _ _ o c.in-None.ensures c.in-None-value_at.ensures.read
-
 pub list_at-returns-in-Some-clause-less : goal.list_at-returns-in-Some-clause-less
-list_at-returns-in-Some-clause-less t c =
-    let o : AreOctets c.args.octets.now = λ i. omega (arith, c.type_inv.octets i) in
-    at_end_less _ _ _ _ o c.in-Some.ensures
+list_at-returns-in-Some-clause-less t c = omega (arith, at_end_less _ _ _ _ c.loop-after.invariant.octets c.in-Some.ensures)
+
+pub list_at-returns-in-Some-clause-read : goal.list_at-returns-in-Some-clause-read
+list_at-returns-in-Some-clause-read t c = reads_end _ _ _ _ _ c.loop-after.invariant c.in-Some.ensures
+
+pub list_at-loop-after-preserved : goal.list_at-loop-after-preserved
+list_at-loop-after-preserved t c = reads_more _ _ _ _ _ c.loop-after.invariant c.in_default.ensures c.in-Some-value_at.ensures.read c.in-Some-value_at.ensures.less
+
+pub list_at-returns-in-None-clause-read : goal.list_at-returns-in-None-clause-read
+list_at-returns-in-None-clause-read t c = reads_nothing _ _ _ _ c.loop-after.invariant c.in_default.ensures c.in-None.ensures.read
 
 pub value_at-returns-in_default-clause-read : goal.value_at-returns-in_default-clause-read
 value_at-returns-in_default-clause-read t c =
