@@ -1,15 +1,16 @@
 -- What reading a value gives, at each way that it can go.
-use Rattle.std.proofs.Common.{◌≡◌, ℕ, ◌+◌, ◌<◌, ◌≤◌, Bool, true, false, List, [], ◌∷◌, ◌++◌, length, take, drop, Option, Some, None, MatchOption, IfSome, IfNone, refl, sym, ap, subst, ◌∙◌, arith}
-use Rattle.std.proofs.lemmas.Bool.{lt-ltb, le-ltb}
+use Rattle.std.proofs.Common.{◌≡◌, ◌≢◌, ℕ, zero, suc, ◌+◌, ◌-◌, ◌%◌, ◌<◌, ◌≤◌, Bool, true, false, List, [], ◌∷◌, ◌++◌, length, get_or, take, drop, Option, Some, None, MatchOption, IfSome, IfNone, refl, sym, ap, subst, ◌∙◌, arith, inl, inr}
+use Rattle.std.proofs.lemmas.Bool.{cases_lt, lt-ltb, le-ltb, lt-leb}
+use Rattle.std.proofs.lemmas.Grind.{common_steps}
 use Rattle.std.proofs.lemmas.List.{length-append}
 use Rattle.bcder.specs.declared.mode.Mode.{Mode}
 use Rattle.bcder.specs.declared.length.Length.{Length}
 use Rattle.bcder.specs.declared.length.Length.TheVariants.{Definite, Indefinite}
-use Rattle.bcder.specs.Identifier.{AreOctets, Tag}
+use Rattle.bcder.specs.Identifier.{universal, AreOctets, Tag}
 use Rattle.bcder.specs.Tree.{Tree, primitive, constructed, Trees, no_trees, ◌∷ₜ◌}
 use Rattle.bcder.specs.Encoding.{may_have, IsEncoding}
 use Rattle.bcder.specs.Grammar.{IsOnly}
-use Rattle.bcder.specs.Reading.{Header, read_header, read_end, read_contents, read_value, at_end, read_list, read_tree}
+use Rattle.bcder.specs.Reading.{class_of, is_value_tag, is_marked, read_identifier, read_length, Header, read_header, read_end, read_contents, read_value, at_end, read_list, read_tree}
 use Rattle.bcder.specs.laws.Complete.{header_size, tree_complete, one_encoding}
 use Rattle.bcder.specs.laws.Sound.{end_sound, some_inj, none_is}
 use Rattle.bcder.specs.laws.Stands.{AreOctets-after, header_sound, tree_sound}
@@ -61,6 +62,40 @@ at_marked mode t f w z o e =
 pub indefinite_read : {X : Type 0} (r : Option X) (now : X → List ℕ) (mode : Mode) (t : Tag) (f : Bool) (w z : List ℕ) → AreOctets w → read_header mode w ≡ Some (record { tag = t; form = f; len = Indefinite }, z) → MatchOption r (read_list mode true z ≡ None) (λ x. ListRead mode true z (now x)) → MatchOption r (read_tree mode w ≡ None) (λ x. TreeRead mode w (now x))
 indefinite_read None now mode t f w z o e h = at_marked mode t f w z o e ∙ rw h refl
 indefinite_read (Some x) now mode t f w z o e h = (constructed t h.0, at_marked mode t f w z o e ∙ rw h.1 refl)
+
+-- ---- a primitive value with a header of two octets
+
+value_octet : (b : ℕ) → b % 64 < 31 → b ≢ 0 → is_value_tag (record { class = class_of b; number = b % 32 }) ≡ true
+unfolding class_of
+value_octet b l z =
+    elim (cases_lt b 64) [
+      | inl lt ↦ rw (lt-ltb b 64 lt) (numbered (b % 32) (let q : b % 32 ≡ b = omega arith in λ e. z (sym q ∙ e)))
+      | inr le ↦ elim (cases_lt b 128) [
+        | inl lt ↦ rw (le-ltb b 64 le, lt-ltb b 128 lt) refl
+        | inr more ↦ elim (cases_lt b 192) [
+          | inl lt ↦ rw (le-ltb b 64 le, le-ltb b 128 more, lt-ltb b 192 lt) refl
+          | inr most ↦ rw (le-ltb b 64 le, le-ltb b 128 more, le-ltb b 192 most) refl
+        ]
+      ]
+    ]
+  where
+    numbered : (n : ℕ) → n ≢ 0 → is_value_tag (record { class = universal; number = n }) ≡ true
+    numbered zero h = absurd (h refl)
+    numbered (suc n) h = refl
+
+short_header : (mode : Mode) (b n : ℕ) (x : List ℕ) → b % 64 < 31 → b ≢ 0 → n < 128 → read_header mode (b ∷ n ∷ x) ≡ Some (record { tag = record { class = class_of b; number = b % 32 }; form = false; len = Definite n }, x)
+unfolding read_header read_identifier is_marked read_length
+short_header mode b n x l z k =
+    let p : b % 32 < 31 = omega arith in
+    rw (lt-ltb (b % 32) 31 p, lt-leb 32 (b % 64) (omega arith), value_octet b l z, lt-ltb n 128 k) refl
+
+pub short_primitive : (mode : Mode) (w : List ℕ) (n : ℕ) (rest : List ℕ) → AreOctets w → 2 ≤ length w → get_or w 0 0 % 64 < 31 → get_or w 0 0 ≢ 0 → n < 128 → n ≡ get_or w 1 0 → n ≤ length (take (length w - 2) (drop 2 w)) → rest ≡ drop n (take (length w - 2) (drop 2 w)) → TreeRead mode w rest
+short_primitive mode [] n rest o two l z k e h r = absurd (omega arith)
+short_primitive mode (b ∷ []) n rest o two l z k e h r = absurd (omega arith)
+short_primitive mode (b ∷ m ∷ x) n rest o two l z k e h r =
+    let q : take (length (b ∷ m ∷ x) - 2) x ≡ x = grind (arith, common_steps) in
+    let v = primitive_read mode (record { class = class_of b; number = b % 32 }) n (b ∷ m ∷ x) x o (rw (sym e) (short_header mode b n x l z k)) (omega (arith, h, ap length q)) in
+    (v.0, v.1 ∙ ap (λ y. Some (v.0, y)) (sym (r ∙ ap (drop n) q)))
 
 -- ---- lists
 
