@@ -10,7 +10,7 @@ use Rattle.bcder.specs.Identifier.{universal, AreOctets, Tag}
 use Rattle.bcder.specs.Tree.{Tree, primitive, constructed, Trees, no_trees, ◌∷ₜ◌}
 use Rattle.bcder.specs.Encoding.{may_have, IsEncoding}
 use Rattle.bcder.specs.Grammar.{IsOnly}
-use Rattle.bcder.specs.Reading.{class_of, is_value_tag, is_marked, read_identifier, read_length, Header, read_header, read_end, read_contents, read_value, at_end, read_list, read_tree}
+use Rattle.bcder.specs.Reading.{class_of, is_value_tag, is_marked, read_identifier, read_length, Header, BeginPrimitive, read_header, read_end, read_contents, read_value, at_end, read_list, read_tree}
 use Rattle.bcder.specs.laws.Complete.{header_size, tree_complete, one_encoding}
 use Rattle.bcder.specs.laws.Sound.{end_sound, some_inj, none_is}
 use Rattle.bcder.specs.laws.Stands.{AreOctets-after, header_sound, tree_sound}
@@ -83,19 +83,20 @@ value_octet b l z =
     numbered zero h = absurd (h refl)
     numbered (suc n) h = refl
 
-short_header : (mode : Mode) (b n : ℕ) (x : List ℕ) → b % 64 < 31 → b ≢ 0 → n < 128 → read_header mode (b ∷ n ∷ x) ≡ Some (record { tag = record { class = class_of b; number = b % 32 }; form = false; len = Definite n }, x)
+pub short_header : (b n : ℕ) → b % 64 < 31 → b ≢ 0 → n < 128 → BeginPrimitive b n
 unfolding read_header read_identifier is_marked read_length
-short_header mode b n x l z k =
+short_header b n l z k mode x =
     let p : b % 32 < 31 = omega arith in
-    rw (lt-ltb (b % 32) 31 p, lt-leb 32 (b % 64) (omega arith), value_octet b l z, lt-ltb n 128 k) refl
+    (record { class = class_of b; number = b % 32 }, rw (lt-ltb (b % 32) 31 p, lt-leb 32 (b % 64) (omega arith), value_octet b l z, lt-ltb n 128 k) refl)
 
-pub short_primitive : (mode : Mode) (w : List ℕ) (n : ℕ) (rest : List ℕ) → AreOctets w → 2 ≤ length w → get_or w 0 0 % 64 < 31 → get_or w 0 0 ≢ 0 → n < 128 → n ≡ get_or w 1 0 → n ≤ length (take (length w - 2) (drop 2 w)) → rest ≡ drop n (take (length w - 2) (drop 2 w)) → TreeRead mode w rest
-short_primitive mode [] n rest o two l z k e h r = absurd (omega arith)
-short_primitive mode (b ∷ []) n rest o two l z k e h r = absurd (omega arith)
-short_primitive mode (b ∷ m ∷ x) n rest o two l z k e h r =
+pub short_primitive : (w : List ℕ) (n : ℕ) (rest : List ℕ) → AreOctets w → 2 ≤ length w → BeginPrimitive (get_or w 0 0) (get_or w 1 0) → n ≡ get_or w 1 0 → n ≤ length (take (length w - 2) (drop 2 w)) → rest ≡ drop n (take (length w - 2) (drop 2 w)) → (mode : Mode) → TreeRead mode w rest
+short_primitive [] n rest o two k e h r mode = absurd (omega arith)
+short_primitive (b ∷ []) n rest o two k e h r mode = absurd (omega arith)
+short_primitive (b ∷ m ∷ x) n rest o two k e h r mode =
     let q : take (length (b ∷ m ∷ x) - 2) x ≡ x = grind (arith, common_steps) in
-    let v = primitive_read mode (record { class = class_of b; number = b % 32 }) n (b ∷ m ∷ x) x o (rw (sym e) (short_header mode b n x l z k)) (omega (arith, h, ap length q)) in
-    (v.0, v.1 ∙ ap (λ y. Some (v.0, y)) (sym (r ∙ ap (drop n) q)))
+    let d = k mode x in
+    let v = primitive_read mode d.0 m (b ∷ m ∷ x) x o d.1 (omega (arith, h, e, ap length q)) in
+    (v.0, v.1 ∙ ap (λ y. Some (v.0, y)) (sym (r ∙ ap (drop n) q ∙ ap (λ l. drop l x) e)))
 
 -- ---- lists
 

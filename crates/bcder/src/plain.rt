@@ -9,7 +9,7 @@ ghost use Rattle.bcder.specs.Length.{IsEndOfContents};
 ghost use Rattle.bcder.specs.Encoding.{IsEncoding, AreEncodings, IsHeader, may_have};
 ghost use Rattle.bcder.specs.Told.{told};
 ghost use Rattle.bcder.specs.Identifier.{Tag as TagValue};
-ghost use Rattle.bcder.specs.Reading.{is_value_tag, read_header, read_tree, read_list, at_end};
+ghost use Rattle.bcder.specs.Reading.{is_value_tag, BeginPrimitive, read_header, read_tree, read_list, at_end};
 ghost use Rattle.bcder.specs.Grammar.{IsOnly};
 
 use crate::length::{Length, after_end, length_at};
@@ -50,8 +50,18 @@ fn header_at(mode: Mode, octets: &[u8]) -> Option<(Tag, bool, Length, &[u8])>
     }
 }
 
+/// Whether these are the identifier octet and the length octet of a primitive value, which no mode
+/// refuses (8.1.2.2, 8.1.3.4).
+#[tactic(auto, using(crate::proofs::Skip::short_header))]
+#[inline(always)]
+fn is_primitive(first: u8, len: u8) -> bool
+    ensures { IsTrue result → BeginPrimitive first len }
+{
+    first % 64 < 31 && first != 0 && len < 0x80
+}
+
 /// The octets after the value at the front, if it is primitive and has one identifier octet and one
-/// length octet (8.1.2.2, 8.1.3.4). No mode refuses it.
+/// length octet.
 #[inline(always)]
 fn primitive_at(octets: &[u8]) -> Option<&[u8]>
     ensures less { IfSome result (λ r. length r.now + 2 ≤ length octets.now) }
@@ -60,10 +70,11 @@ fn primitive_at(octets: &[u8]) -> Option<&[u8]>
 {
     match octets {
         [first, len, rest @ ..] => {
-            if *first % 64 >= 31 || *first == 0 || *len >= 0x80 || rest.len() < usize::from(*len) {
-                return None;
+            if is_primitive(*first, *len) && usize::from(*len) <= rest.len() {
+                Some(rest.split_at(usize::from(*len)).1)
+            } else {
+                None
             }
-            Some(rest.split_at(usize::from(*len)).1)
         }
         _ => None,
     }

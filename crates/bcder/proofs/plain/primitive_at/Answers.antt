@@ -3,7 +3,7 @@ use Rattle.bcder.specs.Identifier.{AreOctets}
 use Rattle.bcder.proofs.Skip.{short_primitive}
 use Rattle.bcder.proofs.plain.primitive_at.Goals as goal
 
-pub returns-else-rest-from-clause-read : goal.returns-else-rest-from-clause-read
-returns-else-rest-from-clause-read c = λ mode.
+pub returns-then-from-rest-clause-read : goal.returns-then-from-rest-clause-read
+returns-then-from-rest-clause-read c =
     let o : AreOctets c.args.octets.now = λ i. omega (arith, c.type_inv.octets i) in
-    short_primitive mode c.args.octets.now c.from-in-len2-up.result c.split_at.result.1.now o c.in-len2-up.len_at_least c.if-first-ge31.false c.if-first-eq0.false (omega (arith, c.if-len-ge128.false)) c.from-in-len2-up.ensures (omega (arith, c.if-rest-from.false)) c.split_at.ensures.back
+    short_primitive c.args.octets.now c.from-then-from-rest.result c.split_at.result.1.now o c.in-len2-up.len_at_least (c.is_primitive.ensures c.if-is_primitive.true) c.from-then-from-rest.ensures (omega (arith, c.if-from-rest.true)) c.split_at.ensures.back
