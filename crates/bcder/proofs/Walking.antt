@@ -1,6 +1,6 @@
 -- Walking finds the values that are there, and no others.
 use Rattle.std.proofs.Common.{◌≡◌, ◌≢◌, ℕ, ◌+◌, ◌-◌, ◌<◌, ◌≤◌, Bool, true, false, List, [], ◌++◌, length, take, Option, Some, None, refl, ap, sym, ◌∙◌, arith, length-append, append_assoc, append-nil, subst, inl, inr}
-use Rattle.std.specs.Prelude.{◌⊎◌}
+use Rattle.std.specs.Prelude.{◌⊎◌, Result, Ok, Err, IsErrAnd}
 use Rattle.std.proofs.lemmas.List.{take_at}
 use Rattle.bcder.specs.declared.mode.Mode.{Mode}
 use Rattle.bcder.specs.declared.length.Length.{Length}
@@ -15,7 +15,7 @@ use Rattle.bcder.specs.declared.decode.error.ContentError.{ContentError}
 use Rattle.bcder.specs.Cause.{Cause, of_source, IsOfContent}
 use Rattle.bcder.specs.Content.{Reading, Form, octets, values, Octets, DefiniteValues, IndefiniteValues, UnboundedValues, any, HasHeader, HasMarker, Moves, MovesBy, Falls, FitsOwed, IsDone, IsUsedUp, IsAtEnd, of_octets, of_definite, of_indefinite, of_unbounded, EndsBefore, EndsAt, NotAtEnd, NothingThere}
 use Rattle.bcder.specs.Calls.{Hands, IsFormOf, ContentOf, RefusesEnd, left_failed, source_failed, left_open}
-use Rattle.bcder.specs.Walking.{HasValue, NoValue, PassesValue, ClosesBefore, HasValues, IsShort, Walks, broken, short}
+use Rattle.bcder.specs.Walking.{HasValue, NoValue, PassesValue, ClosesBefore, HasValues, IsShort, AllBy, Walks, broken, short}
 use Rattle.bcder.specs.Walking as walking
 use Rattle.bcder.specs.laws.Complete.{one_encoding, two_octets, Same}
 use Rattle.bcder.specs.laws.Lists.{First}
@@ -181,6 +181,11 @@ pub walks_refused : {E : Type 0} (why : E → Cause ContentError) (e : E) (i j k
 walks_refused why e i j k o w (walking.RefusesWalk.failed f a) = walking.RefusesValues.failed (w.failed f) a
 walks_refused why e i j k o w (walking.RefusesWalk.source s f) = walking.RefusesValues.source s (grew_from _ _ _ (moves_faults i j w.moves) f)
 walks_refused why e i j k o w (walking.RefusesWalk.nothing s n f a) = walking.RefusesValues.broken o (λ h. no_values j s n f (w.remain h)) a
+
+-- and answers the error that it met
+pub all_refused : {T E : Type 0} (why : E → Cause ContentError) (c d : Reading) (r : Result T E) (e : E) → IsErrAnd r (λ x. x ≡ e) → walking.RefusesValues why c e d → d.state ≡ Failed → d.mode ≡ c.mode → d.marked ≡ c.marked → AllBy why c r d
+all_refused why c d (Ok x) e h a f m g = absurd h
+all_refused why c d (Err x) e h a f m g = record { all = tt; done = tt; refused = subst (λ y. walking.RefusesValues why c y d) (sym h) a; failed = f; mode = m; marked = g }
 
 -- at the end no values are left
 pub none_left : (c : Reading) (after : List ℕ) → c.kind ≢ Octets → IsAtEnd c after → HasValues c

@@ -1,4 +1,4 @@
-use Rattle.std.proofs.Common.{◌∙◌, refl}
+use Rattle.std.proofs.Common.{◌∙◌, refl, rules}
 use Rattle.bcder.specs.Peek.{header}
 use Rattle.bcder.specs.Views.{of_constructed}
 use Rattle.bcder.proofs.Moving.{moves_trans}
@@ -20,12 +20,19 @@ returns-else-found-all-clause-moves g c =
 
 pub returns-else-found-all-clause-passed : goal.returns-else-found-all-clause-passed
 unfolding of_constructed
-returns-else-found-all-clause-passed g c _ =
+returns-else-found-all-clause-passed g c =
     let i = of_constructed g.S.Source.stream c.args.self.now in
     let j = of_constructed g.S.Source.stream c.ask.new.self in
     let s = c.ask.ensures.same in
-    looked_passes i j _ s
-    (passes_primitive j _ (header c.args.header) c.args.size c.in-Some.all c.in-Some.ensures (looked_read i j _ _ s c.requires.read.1) c.pass.ensures.octets c.pass.ensures.within (advances_to j _ _ _ c.pass.ensures.advances refl refl refl refl refl) (s.state ∙ c.requires.usable) refl)
+    record {
+      passed = λ _. looked_passes i j _ s (passes_primitive j _ (header c.args.header) c.args.size c.in-Some.all c.in-Some.ensures (looked_read i j _ _ s c.requires.read.1) c.pass.ensures.octets c.pass.ensures.within (advances_to j _ _ _ c.pass.ensures.advances refl refl refl refl refl) (s.state ∙ c.requires.usable) refl);
+      same = search rules;
+      no_fault = search rules;
+      fault = search rules;
+      failed = search rules;
+      mode = c.pass.ensures.mode ∙ s.mode;
+      marked = c.pass.ensures.marked ∙ s.marked;
+    }
 
 pub returns-in-Err-clause-moves : goal.returns-in-Err-clause-moves
 unfolding of_constructed
