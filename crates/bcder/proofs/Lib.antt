@@ -21,3 +21,4 @@ pub mod Stepping
 pub mod Passing
 pub mod Decoding
 pub mod Insides
+pub mod Repeating

@@ -21,3 +21,4 @@ pub mod Decoding
 pub mod Begins
 pub mod PeekTag
 pub mod PeekLength
+pub mod Repeating

@@ -8,6 +8,7 @@ mod decode;
 mod forms;
 mod octets;
 mod remaining;
+mod repeat;
 mod sequences;
 mod take;
 mod values;
