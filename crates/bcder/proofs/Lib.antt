@@ -23,3 +23,4 @@ pub mod Passing
 pub mod Decoding
 pub mod Insides
 pub mod Nested
+pub mod Repeating

@@ -26,3 +26,4 @@ pub mod PeekTag
 pub mod PeekLength
 pub mod Answers
 pub mod Changed
+pub mod Repeating

@@ -1,5 +1,5 @@
 -- What listing answers, and what the target then holds.
-use Rattle.std.specs.Prelude.{ℕ, List, Option}
+use Rattle.std.specs.Prelude.{◌≡◌, ℕ, List, Option, MatchOption}
 use Rattle.std.specs.Io.KnownBytes.{Appends, Keeps}
 use Rattle.bcder.specs.declared.mode.Mode.{Mode}
 use Rattle.bcder.specs.Tree.{Trees}
@@ -17,6 +17,10 @@ lines_of ts = lines (preorders ts 0)
 -- the octets are no encodings of a list of values
 abbrev pub IsNoList : Mode → List ℕ → Type 0
 IsNoList mode octets = (ts : Trees) → AreEncodings mode ts octets → ⊥
+
+-- the text, if there is one, is the lines of the values that the octets encode, and if there is none they are no list
+abbrev pub IsListOf : {T : Type 0} → (T → List ℕ) → Mode → List ℕ → Option T → Type 0
+IsListOf bytes mode octets r = MatchOption r (IsNoList mode octets) (λ text. (ts : Trees) × AreEncodings mode ts octets × (bytes text ≡ lines_of ts))
 
 -- the octets are the encodings of a list of values, and its lines were written
 abbrev pub Listed : Mode → List ℕ → Option (List ℕ) → Option (List ℕ) → Type 0

@@ -31,7 +31,8 @@ fn ran(alloc: Global, args: &[&str]) -> Result<Outcome, AllocError> {
     Ok(Outcome { out, err, status })
 }
 
-/// A writer that takes at most seven octets a call, and `room` in all; then it fails, or takes none.
+/// A writer that takes at most seven octets a call, and `room` in all; then it fails, or takes
+/// none.
 #[derive(Drop)]
 struct Pipe {
     got: Vec<u8>,

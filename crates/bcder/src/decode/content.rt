@@ -12,6 +12,7 @@ mod forms;
 mod inside;
 mod octets;
 mod remaining;
+mod repeat;
 mod sequences;
 mod take;
 mod values;
