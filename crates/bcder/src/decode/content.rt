@@ -23,7 +23,7 @@ use crate::decode::source::{LimitedSource, Pos, Source};
 use crate::mode::Mode;
 
 /// How the end of values is known.
-#[derive(Clone, Copy)]
+#[derive(Clone, Copy, Debug)]
 enum Kind {
     /// By the number of their octets.
     Definite,
@@ -36,7 +36,7 @@ enum Kind {
 }
 
 /// How far values were taken.
-#[derive(Clone, Copy)]
+#[derive(Clone, Copy, Debug)]
 enum State {
     /// The next value can be taken.
     Open,
@@ -58,7 +58,7 @@ pub struct Primitive<'a, S> {
 }
 
 /// Values one after another: those inside a constructed value, or those at top level.
-#[derive(Drop)]
+#[derive(Debug, Drop)]
 pub struct Constructed<'a, S> {
     source: &'a mut LimitedSource<S>,
     kind: Kind,
