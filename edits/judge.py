@@ -17,7 +17,7 @@ import time
 from edit import ROOT, BadEdit, Crate, Edit, place
 from functions import functions_of
 
-ERROR = re.compile(r"^(?:\./)?((?:src|specs|proofs)/\S+?):(\d+):\d+: error: (.*)")
+ERROR = re.compile(r"^(?:\./)?((?:src|specs|proofs)/\S+?):(\d+):\d+: error(?:\[[\w-]+\])?: (.*)")
 # Where an answer fails so, the edit took away a step that it names, and nothing is said of the contract.
 NAMES = re.compile(r"has no field|is not in scope|has no `|was not admitted|is no name|cannot continue")
 
