@@ -1,0 +1,189 @@
+"""Judges must-fail edits, many in one check. The head of `run`, beside this file, says what for.
+
+A function's proof rests on the contracts of what it calls, not on their bodies. So wrong bodies of
+different functions can stand in one copy of a crate, and the checker's report names each function that
+isn't proved, with the goals that failed. Where a function has no clause, its contract is taken from its
+body: an edit of it never stands beside one of a function that it calls or that comes to rest on it.
+"""
+import os
+import re
+import resource
+import shutil
+import subprocess
+import sys
+import tempfile
+import time
+
+from edit import ROOT, BadEdit, Crate, Edit, place
+from functions import functions_of
+
+ERROR = re.compile(r"^(?:\./)?((?:src|specs|proofs)/\S+?):(\d+):\d+: error(?:\[[\w-]+\])?: (.*)")
+# Where an answer fails so, the edit took away a step that it names, and nothing is said of the contract.
+NAMES = re.compile(r"has no field|is not in scope|has no `|was not admitted|is no name|cannot continue")
+
+
+class Report:
+    """What a check says of a crate: the state of each function, and each error at a place."""
+
+    def __init__(self, text):
+        lines = [it for it in text.split("\n") if not it.startswith("so far: ")]
+        self.text, self.states = text, dict(re.findall(r"(?m)^fn (\S+): (.*)", "\n".join(lines)))
+        self.errors = [it.groups() for it in map(ERROR.match, lines) if it]
+        self.is_proved = any(it.startswith("logic=proved") for it in lines)
+        self.is_whole = self.is_proved or any(it.startswith("logic=not-proved") for it in lines)
+
+    def answers_of(self, symbol):
+        """The errors in a function's proof: in files of its own, or in those of its cycle of calls, with its name in front."""
+        _, *path = symbol.split("::")
+        own, module = "/".join(["proofs", *path]), "/".join(["proofs", *path[:-1]])
+        for file, _, error in self.errors:
+            above, folder = os.path.split(os.path.dirname(file))
+            in_cycle = above == module and folder.startswith("+") and error.startswith(f"`{path[-1]}-")
+            if in_cycle or f"{above}/{folder}" == own:
+                yield error
+
+    def refusal(self, symbol):
+        """Whether a goal of this function failed, and which; or else what the report says of it."""
+        state = self.states[symbol]
+        goals = re.search(r"`search` did not prove (`[^`]*`(?:, `[^`]*`)*)", state)
+        if goals:
+            return True, f"{symbol}: {goals[1]}"
+        errors = list(self.answers_of(symbol))
+        told = dict.fromkeys(re.sub(r"(`[^`]*`).*", r"\1", it) for it in errors if not NAMES.search(it))
+        if told:
+            return True, f"{symbol}: its answers don't prove {', '.join(told)}"
+        if errors:
+            return False, f"{symbol} fails only for a name in its answers, which says nothing of its contract: {errors[0][:200]}"
+        return False, f"{symbol}: {state[:200]}"
+
+    def verdict(self, crate, edit):
+        """Whether the edit was refused, and by what. Closures in a function are part of it."""
+        symbols = []
+        for path, name in edit.turns:
+            symbol = crate.symbol(path, name, self.states)
+            if not symbol:
+                return False, f"the report doesn't name the function {name}"
+            inner = f"{symbol[: -len(name)]}fn::{symbol[len(symbol) - len(name) :]}::"
+            symbols += [symbol, *[it for it in self.states if it.startswith(inner)]]
+        # An edit of a constant stands alone, so what fails fails by it.
+        told = [self.refusal(it) for it in symbols or self.states if self.states[it] != "proved"]
+        refused = [why for is_refused, why in told if is_refused]
+        if refused:
+            return True, refused[0]
+        names = ", ".join(name for _, name in edit.turns) or "each function"
+        return False, "; ".join(why for _, why in told) or f"{names} is still proved"
+
+    def uncompiled(self, texts, batch):
+        """The edits of functions that don't compile or can't be read, each with the error."""
+        found, functions = {}, {path: functions_of(text) for path, text in texts.items()}
+        for path, line, error in self.errors:
+            for edit in batch:
+                spans = [it.lines for p, name in edit.turns if p == path for it in functions[p][name]]
+                if any(a <= int(line) <= b for a, b in spans) or not edit.turns and path in edit.paths:
+                    found.setdefault(edit, f"it doesn't compile, so nothing was tried: {path}:{line}: {error[:200]}")
+        return found
+
+
+class Judge:
+    def __init__(self, scratch):
+        self.scratch, self.began, self.refused, self.failed = scratch, time.monotonic(), 0, 0
+
+    def say(self, label, is_refused, why):
+        self.refused, self.failed = self.refused + is_refused, self.failed + (not is_refused)
+        print(f"{'refused' if is_refused else 'NOT REFUSED'} {label}: {why}", flush=True)
+
+    def note(self, text):
+        print(f"[{int(time.monotonic() - self.began)} s] {text}", flush=True)
+
+    def crate(self, name, files):
+        """Judges these edits of a crate."""
+        crate, batches = Crate(name), []
+        for file in files:
+            try:
+                place(Edit(crate, file), batches, crate)
+            except (BadEdit, OSError, UnicodeDecodeError) as why:
+                self.say(os.path.relpath(file, ROOT), False, why)
+        self.base = f"{self.scratch}/{name}"
+        copy(ROOT, self.base)
+        self.note(f"{name}: a check without an edit")
+        report = check(f"{self.base}/crates/{name}")
+        if not report.is_proved:
+            print("\n".join(report.text.split("\n")[-30:]))
+        for at, (edits, _) in enumerate(batches):
+            if report.is_proved:
+                self.note(f"{name}: check {at + 1} of {len(batches)}, {len(edits)} edits")
+                self.batch(crate, edits)
+            else:
+                for edit in edits:
+                    self.say(edit.label, False, f"{name} isn't proved without an edit, so nothing was tried")
+        shutil.rmtree(self.base)
+
+    def batch(self, crate, batch):
+        """Judges edits of which no two clash, in one check."""
+        folder, texts = f"{self.scratch}/edited", {}
+        copy(self.base, folder)
+        for edit in batch:
+            texts = edit.applied(texts, crate)
+        for path, text in texts.items():
+            with open(f"{folder}/crates/{crate.name}/{path}", "w", encoding="utf-8") as it:
+                it.write(text)
+        report = check(f"{folder}/crates/{crate.name}")
+        shutil.rmtree(folder)
+        bad = report.uncompiled(texts, batch)
+        if not report.is_whole and len(batch) == 1:
+            bad = bad or {batch[0]: f"the check gave no verdict: {report.text.strip()[-200:]}"}
+        for edit, why in bad.items():
+            self.say(edit.label, False, why)
+        rest = [it for it in batch if it not in bad]
+        if report.is_whole:
+            for edit in rest:
+                self.say(edit.label, *report.verdict(crate, edit))
+        elif rest:
+            # What doesn't compile keeps the others from being judged: go on without it, or look for it.
+            half = len(rest) if bad else len(rest) // 2
+            for part in filter(None, (rest[:half], rest[half:])):
+                self.note(f"{crate.name}: some edit didn't compile; a check of {len(part)} others")
+                self.batch(crate, part)
+
+
+def copy(root, to):
+    """Copies a repository's crates with what earlier checks kept, so that only what an edit turns is checked."""
+    names = [f"{root}/{it}" for it in ("crates", "crates.txt", "HANDLES") if os.path.exists(f"{root}/{it}")]
+    os.mkdir(to)
+    subprocess.run(["cp", "-a", "--reflink=auto", *names, to], check=True)
+    for it in os.listdir(f"{to}/crates"):
+        shutil.rmtree(f"{to}/crates/{it}/must-fail", ignore_errors=True)
+
+
+def check(folder):
+    words = ["rt", "check", "--jobs", str(len(os.sched_getaffinity(0)))]
+    how = {"stdin": subprocess.DEVNULL, "stdout": subprocess.PIPE, "stderr": subprocess.STDOUT}
+    return Report(subprocess.run(words, cwd=folder, **how).stdout.decode(errors="replace"))
+
+
+def edits_in(folder):
+    names = sorted(os.listdir(folder)) if os.path.isdir(folder) else []
+    return [f"{folder}/{it}" for it in names if it.endswith(".edit")]
+
+
+def main(words):
+    names = [it for it in words if it != "--gate"]
+    for it in names:
+        if not os.path.isdir(f"{ROOT}/crates/{it}"):
+            print(f"edits/run: there is no crate {it}")
+            return 2
+    with tempfile.TemporaryDirectory(prefix="edits-") as scratch:
+        judge = Judge(scratch)
+        for name in names or sorted(os.listdir(f"{ROOT}/crates")):
+            files = edits_in(f"{ROOT}/edits/{name}")
+            files += edits_in(f"{ROOT}/crates/{name}/must-fail") if "--gate" in words else []
+            if files:
+                judge.crate(name, files)
+        used = resource.getrusage(resource.RUSAGE_CHILDREN)
+        minutes, work = (time.monotonic() - judge.began) / 60, (used.ru_utime + used.ru_stime) / 60
+        print(f"{judge.refused} refused, {judge.failed} failed, in {minutes:.1f} minutes ({work:.1f} of one processor)")
+        return 1 if judge.failed or not judge.refused else 0
+
+
+if __name__ == "__main__":
+    sys.exit(main(sys.argv[1:]))
