@@ -6,7 +6,7 @@ ghost use Rattle.bcder.specs.Calls.{
     MayBeCalledAt, IsLawfulAt, IsOver, AnswersDone, RefusesContent, RefusesEnd, RanOver,
     TakesContent,
 };
-ghost use Rattle.bcder.specs.Cause.{cause_of, IsRefusal};
+ghost use Rattle.bcder.specs.Cause.{cause_of, stop_cause};
 ghost use Rattle.bcder.specs.Content.{Octets, Moves, FitsOwed, values, EndsAt, IsDone};
 ghost use Rattle.bcder.specs.Encoding.{may_have};
 ghost use Rattle.bcder.specs.Inside.{
@@ -23,6 +23,7 @@ use super::{Constructed, Content, Kind, Primitive, State};
 use crate::decode::error::DecodeError;
 use crate::decode::header::Header;
 use crate::decode::source::{LimitedSource, Source};
+use crate::decode::stop::{Stop, Why};
 use crate::length::Length;
 use crate::mode::Mode;
 use crate::tag::Tag;
@@ -117,26 +118,29 @@ impl<'a, S: Source> Constructed<'a, S> {
                 return Ok(());
             }
         }
-        self.finish_apart()
+        match self.finish_apart() {
+            Ok(()) => Ok(()),
+            Err(stop) => Err(self.stopped(stop)),
+        }
     }
 
-    /// The same in a call of its own.
+    /// The same in a call of its own, with a stop in the place of an error.
     #[tactic(auto, using(crate::proofs::Names::moves_constructed_name))]
     #[inline(never)]
-    fn finish_apart(&mut self) -> Result<(), DecodeError<S::Error>>
+    fn finish_apart(&mut self) -> Result<(), Stop<S::Error>>
         ensures moves { Moves (before S.stream self) (after S.stream self) }
         ensures name { self.new.source.ghost_name ≡ self.old.source.ghost_name }
         ensures marked { self.new.marked ≡ self.old.marked }
         ensures done { OnOk result (IsDone (after S.stream self)) }
         ensures end { OnOk result (EndsAt (before S.stream self) (after S.stream self)) }
         ensures refused {
-            IfErr result (λ e. RefusesEnd cause_of (before S.stream self) e (after S.stream self))
+            IfErr result (λ e. RefusesEnd stop_cause (before S.stream self) e (after S.stream self))
         }
     {
-        match self.take_header() {
+        match self.next_header() {
             Ok(None) => Ok(()),
-            Ok(Some(_)) => Err(self.refusal("values left in a constructed value")),
-            Err(error) => Err(error),
+            Ok(Some(_)) => Err(Stop::Refused(Why::ValuesLeft)),
+            Err(stop) => Err(stop),
         }
     }
 }

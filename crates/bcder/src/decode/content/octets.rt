@@ -20,6 +20,7 @@ impl<'a, S: Source> Constructed<'a, S> {
     /// # Errors
     ///
     /// Those of `take_opt_value`, and where the value is constructed: the content has then failed.
+    #[inline(always)]
     pub fn take_opt_primitive<F, T: Drop>(
         &mut self,
         op: F,
@@ -31,10 +32,10 @@ impl<'a, S: Source> Constructed<'a, S> {
         ensures moves { Moved S.stream self }
         ensures took { TookNextOctets S.stream self any (F.post op) result }
     {
-        match self.take_header() {
+        match self.next_header() {
             Ok(Some(header)) => self.octets_behind(header, op),
             Ok(None) => Ok(None),
-            Err(error) => Err(error),
+            Err(stop) => Err(self.stopped(stop)),
         }
     }
 
@@ -44,6 +45,7 @@ impl<'a, S: Source> Constructed<'a, S> {
     ///
     /// Those of [`take_opt_primitive`](Self::take_opt_primitive), and at the end of the content, which then
     /// stays usable.
+    #[inline(always)]
     pub fn take_primitive<F, T: Drop>(&mut self, op: F) -> Result<T, DecodeError<S::Error>>
     where
         F: FnOnce(Tag, &mut Primitive<'_, S>) -> Result<T, DecodeError<S::Error>>,
@@ -68,6 +70,7 @@ impl<'a, S: Source> Constructed<'a, S> {
     ///
     /// Those of `take_opt_value_if`, and where the value of this tag is constructed: the content has then
     /// failed.
+    #[inline(always)]
     pub fn take_opt_primitive_if<F, T: Drop>(
         &mut self,
         tag: Tag,
@@ -80,7 +83,7 @@ impl<'a, S: Source> Constructed<'a, S> {
         ensures moves { Moved S.stream self }
         ensures took { TookNextOctets S.stream self (tagged tag) (Untagged (F.post op)) result }
     {
-        match self.take_header_if(tag) {
+        match self.next_header_if(tag) {
             Ok(Some(header)) => self.octets_behind(
                 header,
                 |_tag, octets|
@@ -92,7 +95,7 @@ impl<'a, S: Source> Constructed<'a, S> {
                 { op(octets) },
             ),
             Ok(None) => Ok(None),
-            Err(error) => Err(error),
+            Err(stop) => Err(self.stopped(stop)),
         }
     }
 
@@ -102,6 +105,7 @@ impl<'a, S: Source> Constructed<'a, S> {
     ///
     /// Those of [`take_opt_primitive_if`](Self::take_opt_primitive_if), and `ContentError::ExpectedTag`
     /// where that answers `None`: the content then stays usable.
+    #[inline(always)]
     pub fn take_primitive_if<F, T: Drop>(
         &mut self,
         tag: Tag,

@@ -21,6 +21,7 @@ impl<'a, S: Source> Constructed<'a, S> {
     /// # Errors
     ///
     /// Those of `take_opt_value`, and where the value is primitive: the content has then failed.
+    #[inline(always)]
     pub fn take_opt_constructed<F, T: Drop>(
         &mut self,
         op: F,
@@ -32,10 +33,10 @@ impl<'a, S: Source> Constructed<'a, S> {
         ensures moves { Moved S.stream self }
         ensures took { TookNextValues S.stream self any (F.post op) result }
     {
-        match self.take_header() {
+        match self.next_header() {
             Ok(Some(header)) => self.values_behind(header, op),
             Ok(None) => Ok(None),
-            Err(error) => Err(error),
+            Err(stop) => Err(self.stopped(stop)),
         }
     }
 
@@ -45,6 +46,7 @@ impl<'a, S: Source> Constructed<'a, S> {
     ///
     /// Those of [`take_opt_constructed`](Self::take_opt_constructed), and at the end of the content, which then
     /// stays usable.
+    #[inline(always)]
     pub fn take_constructed<F, T: Drop>(&mut self, op: F) -> Result<T, DecodeError<S::Error>>
     where
         F: FnOnce(Tag, &mut Constructed<'_, S>) -> Result<T, DecodeError<S::Error>>,
@@ -69,6 +71,7 @@ impl<'a, S: Source> Constructed<'a, S> {
     ///
     /// Those of `take_opt_value_if`, and where the value of this tag is primitive: the content has then
     /// failed.
+    #[inline(always)]
     pub fn take_opt_constructed_if<F, T: Drop>(
         &mut self,
         tag: Tag,
@@ -81,7 +84,7 @@ impl<'a, S: Source> Constructed<'a, S> {
         ensures moves { Moved S.stream self }
         ensures took { TookNextValues S.stream self (tagged tag) (Untagged (F.post op)) result }
     {
-        match self.take_header_if(tag) {
+        match self.next_header_if(tag) {
             Ok(Some(header)) => self.values_behind(
                 header,
                 |_tag, values|
@@ -93,7 +96,7 @@ impl<'a, S: Source> Constructed<'a, S> {
                 { op(values) },
             ),
             Ok(None) => Ok(None),
-            Err(error) => Err(error),
+            Err(stop) => Err(self.stopped(stop)),
         }
     }
 
@@ -103,6 +106,7 @@ impl<'a, S: Source> Constructed<'a, S> {
     ///
     /// Those of [`take_opt_constructed_if`](Self::take_opt_constructed_if), and `ContentError::ExpectedTag`
     /// where that answers `None`: the content then stays usable.
+    #[inline(always)]
     pub fn take_constructed_if<F, T: Drop>(
         &mut self,
         tag: Tag,
@@ -129,6 +133,7 @@ impl<'a, S: Source> Constructed<'a, S> {
     /// # Errors
     ///
     /// Those of `take_constructed_if`.
+    #[inline(always)]
     pub fn take_sequence<F, T: Drop>(&mut self, op: F) -> Result<T, DecodeError<S::Error>>
     where
         F: FnOnce(&mut Constructed<'_, S>) -> Result<T, DecodeError<S::Error>>,
@@ -153,6 +158,7 @@ impl<'a, S: Source> Constructed<'a, S> {
     /// # Errors
     ///
     /// Those of `take_opt_constructed_if`.
+    #[inline(always)]
     pub fn take_opt_sequence<F, T: Drop>(
         &mut self,
         op: F,
@@ -180,6 +186,7 @@ impl<'a, S: Source> Constructed<'a, S> {
     /// # Errors
     ///
     /// Those of `take_constructed_if`.
+    #[inline(always)]
     pub fn take_set<F, T: Drop>(&mut self, op: F) -> Result<T, DecodeError<S::Error>>
     where
         F: FnOnce(&mut Constructed<'_, S>) -> Result<T, DecodeError<S::Error>>,
@@ -198,6 +205,7 @@ impl<'a, S: Source> Constructed<'a, S> {
     /// # Errors
     ///
     /// Those of `take_opt_constructed_if`.
+    #[inline(always)]
     pub fn take_opt_set<F, T: Drop>(&mut self, op: F) -> Result<Option<T>, DecodeError<S::Error>>
     where
         F: FnOnce(&mut Constructed<'_, S>) -> Result<T, DecodeError<S::Error>>,

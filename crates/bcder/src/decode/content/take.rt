@@ -327,25 +327,6 @@ impl<'a, S: Source> Constructed<'a, S> {
         }
     }
 
-    /// The same, with an error in the place of a stop.
-    #[inline(always)]
-    pub(super) fn take_header(&mut self) -> Result<Option<Header>, DecodeError<S::Error>>
-        ensures moves { Moves (before S.stream self) (after S.stream self) }
-        ensures entered { EntersNext (before S.stream self) (after S.stream self) any result }
-        ensures none { FindsNone (before S.stream self) (after S.stream self) any result }
-        ensures refused {
-            RefusesNext (before S.stream self) (after S.stream self) cause_of any result
-        }
-        ensures failed { OnErr result (self.new.state ≡ State.Failed) }
-        ensures mode { self.new.mode ≡ self.old.mode }
-        ensures marked { self.new.marked ≡ self.old.marked }
-    {
-        match self.next_header() {
-            Ok(next) => Ok(next),
-            Err(stop) => Err(self.stopped(stop)),
-        }
-    }
-
     /// Passes over the next header if it has this tag. The content has then failed until the value is
     /// taken.
     #[tactic(
@@ -354,7 +335,10 @@ impl<'a, S: Source> Constructed<'a, S> {
         unfolding(crate::specs::Views::of_constructed)
     )]
     #[inline(always)]
-    fn next_header_if(&mut self, tag: Tag) -> Result<Option<Header>, Stop<S::Error>>
+    pub(super) fn next_header_if(
+        &mut self,
+        tag: Tag,
+    ) -> Result<Option<Header>, Stop<S::Error>>
         ensures moves { Moves (before S.stream self) (after S.stream self) }
         ensures entered {
             EntersNext (before S.stream self) (after S.stream self) (tagged tag) result
@@ -387,30 +371,6 @@ impl<'a, S: Source> Constructed<'a, S> {
                 self.state = State::Failed;
                 Err(Stop::Source(error))
             }
-        }
-    }
-
-    /// The same, with an error in the place of a stop.
-    #[inline(always)]
-    pub(super) fn take_header_if(
-        &mut self,
-        tag: Tag,
-    ) -> Result<Option<Header>, DecodeError<S::Error>>
-        ensures moves { Moves (before S.stream self) (after S.stream self) }
-        ensures entered {
-            EntersNext (before S.stream self) (after S.stream self) (tagged tag) result
-        }
-        ensures none { FindsNone (before S.stream self) (after S.stream self) (tagged tag) result }
-        ensures refused {
-            RefusesNext (before S.stream self) (after S.stream self) cause_of (tagged tag) result
-        }
-        ensures failed { OnErr result (self.new.state ≡ State.Failed) }
-        ensures mode { self.new.mode ≡ self.old.mode }
-        ensures marked { self.new.marked ≡ self.old.marked }
-    {
-        match self.next_header_if(tag) {
-            Ok(next) => Ok(next),
-            Err(stop) => Err(self.stopped(stop)),
         }
     }
 }

@@ -24,6 +24,7 @@ impl<'a, S: Source> Constructed<'a, S> {
     /// more octets than are owed (8.1.2, 8.1.3); where the closure refuses, or leaves octets, values or
     /// failed content; where an earlier value was refused; where the source fails. The content has then
     /// failed, and every later take refuses.
+    #[inline(always)]
     pub fn take_opt_value<F, T: Drop>(&mut self, op: F) -> Result<Option<T>, DecodeError<S::Error>>
     where
         F: FnOnce(Tag, &mut Content<'_, S>) -> Result<T, DecodeError<S::Error>>,
@@ -32,10 +33,10 @@ impl<'a, S: Source> Constructed<'a, S> {
         ensures moves { Moved S.stream self }
         ensures took { TookNextContent S.stream self any (F.post op) result }
     {
-        match self.take_header() {
+        match self.next_header() {
             Ok(Some(header)) => self.content_behind(header, op),
             Ok(None) => Ok(None),
-            Err(error) => Err(error),
+            Err(stop) => Err(self.stopped(stop)),
         }
     }
 
@@ -46,6 +47,7 @@ impl<'a, S: Source> Constructed<'a, S> {
     /// # Errors
     ///
     /// Those of `take_opt_value`, and at the end of the content, which then stays usable.
+    #[inline(always)]
     pub fn take_value<F, T: Drop>(&mut self, op: F) -> Result<T, DecodeError<S::Error>>
     where
         F: FnOnce(Tag, &mut Content<'_, S>) -> Result<T, DecodeError<S::Error>>,
@@ -74,6 +76,7 @@ impl<'a, S: Source> Constructed<'a, S> {
     /// of a value that the mode allows, with no more octets than are owed (8.1.2, 8.1.3); where the closure refuses, or leaves
     /// octets, values or failed content; where an earlier value was refused; where the source fails. The
     /// content has then failed, and every later take refuses.
+    #[inline(always)]
     pub fn take_opt_value_if<F, T: Drop>(
         &mut self,
         tag: Tag,
@@ -86,7 +89,7 @@ impl<'a, S: Source> Constructed<'a, S> {
         ensures moves { Moved S.stream self }
         ensures took { TookNextContent S.stream self (tagged tag) (Untagged (F.post op)) result }
     {
-        match self.take_header_if(tag) {
+        match self.next_header_if(tag) {
             Ok(Some(header)) => self.content_behind(
                 header,
                 |_tag, content|
@@ -98,7 +101,7 @@ impl<'a, S: Source> Constructed<'a, S> {
                 { op(content) },
             ),
             Ok(None) => Ok(None),
-            Err(error) => Err(error),
+            Err(stop) => Err(self.stopped(stop)),
         }
     }
 
@@ -110,6 +113,7 @@ impl<'a, S: Source> Constructed<'a, S> {
     ///
     /// Those of `take_opt_value_if`, and `ContentError::ExpectedTag` where that answers `None`: the content
     /// then stays usable.
+    #[inline(always)]
     pub fn take_value_if<F, T: Drop>(&mut self, tag: Tag, op: F) -> Result<T, DecodeError<S::Error>>
     where
         F: FnOnce(&mut Content<'_, S>) -> Result<T, DecodeError<S::Error>>,
