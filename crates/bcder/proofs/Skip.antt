@@ -83,11 +83,12 @@ value_octet b l z =
     numbered zero h = absurd (h refl)
     numbered (suc n) h = refl
 
-pub short_header : (b n : ℕ) → b % 64 < 31 → b ≢ 0 → n < 128 → BeginPrimitive b n
+pub short_header : (b n : ℕ) → 1 ≤ b % 64 → b % 64 ≤ 30 → n < 128 → BeginPrimitive b n
 unfolding read_header read_identifier is_marked read_length
-short_header b n l z k mode x =
+short_header b n some l k mode x =
     let p : b % 32 < 31 = omega arith in
-    (record { class = class_of b; number = b % 32 }, rw (lt-ltb (b % 32) 31 p, lt-leb 32 (b % 64) (omega arith), value_octet b l z, lt-ltb n 128 k) refl)
+    let z : b ≢ 0 = λ e. (let m : b % 64 ≡ 0 = rw e refl in omega arith) in
+    (record { class = class_of b; number = b % 32 }, rw (lt-ltb (b % 32) 31 p, lt-leb 32 (b % 64) (omega arith), value_octet b (omega arith) z, lt-ltb n 128 k) refl)
 
 pub short_primitive : (w : List ℕ) (n : ℕ) (rest : List ℕ) → AreOctets w → 2 ≤ length w → BeginPrimitive (get_or w 0 0) (get_or w 1 0) → n ≡ get_or w 1 0 → n ≤ length (take (length w - 2) (drop 2 w)) → rest ≡ drop n (take (length w - 2) (drop 2 w)) → (mode : Mode) → TreeRead mode w rest
 short_primitive [] n rest o two k e h r mode = absurd (omega arith)
@@ -199,3 +200,7 @@ if_found (Some x) now mode octets o h = found mode octets (now x) o h
 pub if_nothing_found : {X : Type 0} (r : Option X) (now : X → List ℕ) (mode : Mode) (octets : List ℕ) → MatchOption r (read_tree mode octets ≡ None) (λ x. TreeRead mode octets (now x)) → IfNone r (NothingFound mode octets)
 if_nothing_found None now mode octets h = nothing_found mode octets h
 if_nothing_found (Some x) now mode octets h = tt
+
+pub if_short_found : {X : Type 0} (r : Option X) (now : X → List ℕ) (mode : Mode) (octets : List ℕ) → AreOctets octets → IfSome r (λ x. (m : Mode) → TreeRead m octets (now x)) → IfSome r (λ x. Found mode octets (now x))
+if_short_found None now mode octets o h = tt
+if_short_found (Some x) now mode octets o h = found mode octets (now x) o (h mode)

@@ -5,7 +5,7 @@ use denote.Triple.Both.{Both}
 use Rattle.bcder.specs.declared.mode.Mode.{Mode}
 use Rattle.bcder.specs.declared.decode.content.Kind.TheVariants as kind
 use Rattle.bcder.specs.declared.decode.content.State.TheVariants.{Open, Ended, Failed}
-use Rattle.bcder.specs.Identifier.{Tag}
+use Rattle.bcder.specs.Identifier.{Tag, AreOctets}
 use Rattle.bcder.specs.Tree.{Tree, Trees}
 use Rattle.bcder.specs.Encoding.{IsEncoding, AreEncodings}
 use Rattle.bcder.specs.Grammar.{IsOnly}
@@ -23,7 +23,7 @@ use Rattle.bcder.specs.declared.decode.content.walk.Next.{Next}
 use Rattle.bcder.specs.declared.decode.content.walk.Next.TheVariants as next
 use Rattle.bcder.specs.Reading.{Header, is_value_tag}
 use Rattle.bcder.specs.Peek.{header}
-use Rattle.bcder.specs.Content.{Reading, Form, octets, values, Octets, Moves, HasMarker, EndsBefore, EndsAt, NotAtEnd, IsDone, Enters, any, Resembles, RefusesHeader}
+use Rattle.bcder.specs.Content.{Reading, Form, octets, values, Octets, Moves, HasMarker, EndsBefore, EndsAt, NotAtEnd, IsDone, Enters, Advances, any, Resembles, RefusesHeader}
 
 -- ---- one value
 
@@ -84,12 +84,21 @@ pub record PassedBy {T E : Type 0} (why : E → Cause ContentError) (c : Reading
   pub mode : d.mode ≡ c.mode
   pub marked : d.marked ≡ c.marked
 
+-- the first n octets were passed, and nothing else changed
+pub record PassesOver (c : Reading) (n : ℕ) (d : Reading) : Type 0 where
+  pub advances : Advances c d (take n c.stream.rest)
+  pub octets : AreOctets c.stream.rest
+  pub within : n ≤ length c.stream.rest
+  pub no_fault : d.stream.faults ≡ c.stream.faults
+  pub state : d.state ≡ c.state
+  pub marked : d.marked ≡ c.marked
+
 -- the next value was passed in one go, or nothing was passed; `why` tells the cause of an error
 pub record AtOnceBy {E : Type 0} (why : E → Cause ContentError) (c : Reading) (r : Result Bool E) (d : Reading) : Type 0 where
   pub passed : IfOk r (λ b. IsTrue b → PassesValue c d)
   pub same : IfOk r (λ b. b ≡ false → Resembles c d)
   -- the source failed exactly where an error is answered, and content has failed
-  pub no_fault : IfOk r (λ b. b ≡ false → d.stream.faults ≡ c.stream.faults)
+  pub no_fault : OnOk r (d.stream.faults ≡ c.stream.faults)
   pub fault : IfErr r (λ e. (why e ≡ of_source) × Grew c.stream.faults d.stream.faults)
   pub failed : OnErr r (d.state ≡ Failed)
   pub mode : d.mode ≡ c.mode
@@ -203,6 +212,9 @@ module _ {S : Type 0} (stream : S → Stream) (c : Both (MutBor (Constructed S))
   -- with a stop in the place of an error
   abbrev pub PassedStep : {T X : Type 0} → Result (Option T) (Stop X) → Type 0
   PassedStep r = PassedBy stop_cause (of_constructed stream c.entry.now) r (of_constructed stream c.exit.now)
+
+  abbrev pub PassedOver : ℕ → Type 0
+  PassedOver n = Between (λ c d. PassesOver c n d)
 
   abbrev pub PassedAtOnce : {X : Type 0} → Result Bool (Stop X) → Type 0
   PassedAtOnce r = AtOnceBy stop_cause (of_constructed stream c.entry.now) r (of_constructed stream c.exit.now)

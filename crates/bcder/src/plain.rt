@@ -9,7 +9,8 @@ ghost use Rattle.bcder.specs.Length.{IsEndOfContents};
 ghost use Rattle.bcder.specs.Encoding.{IsEncoding, AreEncodings, IsHeader, may_have};
 ghost use Rattle.bcder.specs.Told.{told};
 ghost use Rattle.bcder.specs.Identifier.{Tag as TagValue};
-ghost use Rattle.bcder.specs.Reading.{is_value_tag, BeginPrimitive, read_header, read_tree, read_list, at_end};
+ghost use Rattle.bcder.specs.Reading.{is_value_tag, BeginPrimitive};
+ghost use Rattle.bcder.specs.Reading.{read_header, read_tree, read_list, at_end};
 ghost use Rattle.bcder.specs.Grammar.{IsOnly};
 
 use crate::length::{Length, after_end, length_at};
@@ -57,7 +58,8 @@ fn header_at(mode: Mode, octets: &[u8]) -> Option<(Tag, bool, Length, &[u8])>
 fn is_primitive(first: u8, len: u8) -> bool
     ensures { IsTrue result → BeginPrimitive first len }
 {
-    first % 64 < 31 && first != 0 && len < 0x80
+    let low = first % 64;
+    1 <= low && low <= 30 && len < 0x80
 }
 
 /// The octets after the value at the front, if it is primitive and has one identifier octet and one
@@ -221,6 +223,7 @@ pub fn end_at(mode: Mode, octets: &[u8]) -> Option<&[u8]>
 
 /// The octets after the value at the front: none where no front of the octets is an encoding in the
 /// mode.
+#[inline(always)]
 pub fn skip_one(mode: Mode, octets: &[u8]) -> Option<&[u8]>
     ensures found { IfSome result
         (λ rest.
@@ -230,6 +233,17 @@ pub fn skip_one(mode: Mode, octets: &[u8]) -> Option<&[u8]>
         ((t : Tree) (w x : List ℕ) → IsEncoding mode t w → octets.now ≡ w ++ x → ⊥) }
 {
     value_at(mode, octets)
+}
+
+/// The same of some values alone: primitive ones with a header of two octets.
+#[inline(always)]
+pub(crate) fn skip_short(mode: Mode, octets: &[u8]) -> Option<&[u8]>
+    ensures { IfSome result
+        (λ rest.
+        (t : Tree) × (w : List ℕ) × IsEncoding mode t w × (octets.now ≡ w ++ rest.now)
+        × IsOnly mode t w octets.now) }
+{
+    primitive_at(octets)
 }
 
 /// Whether the octets are the encodings of a list of values in the mode, one after the other.

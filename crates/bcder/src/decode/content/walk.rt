@@ -1,5 +1,5 @@
 //! Walking over values, which looks at every header inside them.
-ghost use Rattle.std.specs.Prelude.{◌≡◌, ◌≢◌, ◌≤◌, false, IsTrue, IfOk, IfErr, IfSome, IfNone, OnOk, OnErr};
+ghost use Rattle.std.specs.Prelude.{◌≡◌, ◌≢◌, ◌≤◌, false, IfOk, IfSome, OnOk, OnErr};
 ghost use Rattle.bcder.specs.Cause.{stop_cause};
 ghost use Rattle.bcder.specs.Stream.{Grew, Provides};
 ghost use Rattle.bcder.specs.Identifier.{Tag as TagValue};
@@ -7,7 +7,7 @@ ghost use Rattle.bcder.specs.Peek.{header as header_of, Peeks};
 ghost use Rattle.bcder.specs.Content.{Moves, FitsOwed, values, Resembles};
 ghost use Rattle.bcder.specs.Calls.{RanOver};
 ghost use Rattle.bcder.specs.Walking.{Between, PassedNext, ExactlyNext, NoFault, Fault, PassedStep};
-ghost use Rattle.bcder.specs.Walking.{PassedAtOnce, Stepped, PassedAll, WalkedOver};
+ghost use Rattle.bcder.specs.Walking.{PassedOver, PassedAtOnce, Stepped, PassedAll, WalkedOver};
 ghost use Rattle.bcder.specs.Walking.{IsPrimitive, BeginsWhole, itself, walked};
 ghost use Rattle.bcder.specs.Views.{Moved, of_constructed, limited_stream};
 
@@ -19,7 +19,7 @@ use crate::decode::source::{LimitedSource, Source};
 use crate::decode::stop::Stop;
 use crate::length::Length;
 use crate::mode::Mode;
-use crate::plain::skip_one;
+use crate::plain::{skip_one, skip_short};
 
 /// Passes over the next value, or answers `None` at the end of the content, whose marker it takes.
 ///
@@ -73,21 +73,31 @@ fn primitive_size(header: Header, size: usize) -> Option<usize>
     }
 }
 
-/// How many octets the value at the front has, if all of them are here.
+/// How many octets the value at the front has, if all of them are here. Only some values are looked
+/// for if `short`: primitive ones with a header of two octets.
 #[inline(always)]
-fn whole_size(mode: Mode, octets: &[u8]) -> Option<usize>
+fn whole_size(mode: Mode, octets: &[u8], short: bool) -> Option<usize>
     ensures { IfSome result (λ n. BeginsWhole mode octets.now n) }
 {
-    match skip_one(mode, octets) {
+    let found = if short {
+        skip_short(mode, octets)
+    } else {
+        skip_one(mode, octets)
+    };
+    match found {
         Some(rest) => Some(octets.len() - rest.len()),
         None => None,
     }
 }
 
-/// The same of the value at the front of a source, of which nothing is taken. It asks for two octets, as
-/// the header of a value has at least. An error is the source's own.
+/// The same of the value at the front of a source, of which nothing is taken. It asks for two octets,
+/// as the header of a value has at least. An error is the source's own.
 #[inline(always)]
-fn size_at_hand<S: Source>(source: &mut S, mode: Mode) -> Result<Option<usize>, S::Error>
+fn size_at_hand<S: Source>(
+    source: &mut S,
+    mode: Mode,
+    short: bool,
+) -> Result<Option<usize>, S::Error>
     ensures whole { IfOk result (λ o.
         IfSome o (λ n. BeginsWhole mode (S.stream source.new).rest n)) }
     ensures at_hand { IfOk result (λ o. IfSome o (λ n. n ≤ (S.stream source.new).avail)) }
@@ -99,7 +109,7 @@ fn size_at_hand<S: Source>(source: &mut S, mode: Mode) -> Result<Option<usize>, 
     ensures kept { (S.stream source.new).kept ≡ (S.stream source.old).kept }
 {
     let found = source.request(2)?;
-    Ok(whole_size(mode, &source.slice()[..found]))
+    Ok(whole_size(mode, &source.slice()[..found], short))
 }
 
 impl<'a, S: Source> Constructed<'a, S> {
@@ -116,10 +126,20 @@ impl<'a, S: Source> Constructed<'a, S> {
         self.source.request(size)
     }
 
+    /// Passes over octets that are at hand.
+    #[tactic(auto, unfolding(crate::specs::Views::of_constructed))]
+    #[inline(always)]
+    fn pass_over(&mut self, size: usize)
+        requires { size ≤ (limited_stream S.stream self.old.source.now).avail }
+        ensures { PassedOver S.stream self size }
+    {
+        self.source.advance(size);
+    }
+
     /// How many octets the next value has, if all of them are at hand. Nothing is taken.
     #[tactic(auto, unfolding(crate::specs::Views::of_constructed))]
     #[inline(always)]
-    fn look_at_whole(&mut self) -> Result<Option<usize>, S::Error>
+    fn look_at_whole(&mut self, short: bool) -> Result<Option<usize>, S::Error>
         ensures same { Between S.stream self Resembles }
         ensures whole { IfOk result (λ o. IfSome o (λ n.
             BeginsWhole self.old.mode (limited_stream S.stream self.new.source.now).rest n)) }
@@ -128,14 +148,14 @@ impl<'a, S: Source> Constructed<'a, S> {
         ensures no_fault { OnOk result (NoFault S.stream self) }
         ensures fault { OnErr result (Fault S.stream self) }
     {
-        size_at_hand(self.source, self.mode)
+        size_at_hand(self.source, self.mode, short)
     }
 
     /// Passes over the next value in one go where all of its octets are at hand, and says whether it
     /// did. The source is asked at most once, and not where no octets are owed.
     #[tactic(auto, using(crate::proofs::Moving::moves_refl), unfolding(crate::specs::Views::of_constructed))]
     #[inline(always)]
-    fn pass_at_hand(&mut self) -> Result<bool, Stop<S::Error>>
+    fn pass_at_hand(&mut self, short: bool) -> Result<bool, Stop<S::Error>>
         ensures moves { Between S.stream self Moves }
         ensures passed { PassedAtOnce S.stream self result }
     {
@@ -145,10 +165,9 @@ impl<'a, S: Source> Constructed<'a, S> {
         if let Some(0) = self.source.limit() {
             return Ok(false);
         }
-        match self.look_at_whole() {
+        match self.look_at_whole(short) {
             Ok(Some(size)) => {
-                self.pass(size);
-                self.state = State::Open;
+                self.pass_over(size);
                 Ok(true)
             }
             Ok(None) => Ok(false),
@@ -179,8 +198,7 @@ impl<'a, S: Source> Constructed<'a, S> {
                 if found < all {
                     return Ok(false);
                 }
-                self.pass(all);
-                self.state = State::Open;
+                self.pass_over(all);
                 Ok(true)
             }
             Err(error) => {
@@ -214,14 +232,26 @@ fn go_on<S: Source>(cons: &mut Constructed<'_, S>) -> Result<Next, Stop<S::Error
     }
 }
 
-/// As `walk`, with a stop in the place of an error.
-#[tactic(auto, unfolding(crate::specs::Views::of_constructed))]
+/// As `walk`, with a stop in the place of an error. Values that need few steps are passed here.
 #[inline(always)]
 fn walk_next<S: Source>(cons: &mut Constructed<'_, S>) -> Result<Option<()>, Stop<S::Error>>
     ensures moves { Between S.stream cons Moves }
     ensures passed { PassedStep S.stream cons result }
 {
-    match cons.pass_at_hand() {
+    match cons.pass_at_hand(true) {
+        Ok(true) => Ok(Some(())),
+        Ok(false) => walk_any(cons),
+        Err(stop) => Err(stop),
+    }
+}
+
+/// The same, whatever stands in front.
+#[inline(never)]
+fn walk_any<S: Source>(cons: &mut Constructed<'_, S>) -> Result<Option<()>, Stop<S::Error>>
+    ensures moves { Between S.stream cons Moves }
+    ensures passed { PassedStep S.stream cons result }
+{
+    match cons.pass_at_hand(false) {
         Ok(true) => Ok(Some(())),
         Ok(false) => step(cons),
         Err(stop) => Err(stop),

@@ -2,7 +2,7 @@ use Rattle.std.proofs.Common.{◌∙◌, take, refl, sym, rules, subst}
 use Rattle.bcder.specs.Encoding.{IsEncoding}
 use Rattle.bcder.specs.Views.{of_constructed}
 use Rattle.bcder.proofs.Moving.{moves_trans}
-use Rattle.bcder.proofs.Entering.{looked_moves, looked_failed, advances_to, no_fewer, grew_least}
+use Rattle.bcder.proofs.Entering.{looked_moves, looked_failed, no_fewer, grew_least}
 use Rattle.bcder.proofs.Passing.{passes_encoding, moves_encoding, looked_passes}
 use Rattle.bcder.proofs.decode.content.Constructed.pass_at_hand.Goals as goal
 
@@ -17,7 +17,7 @@ returns-in-Ok-Some-clause-moves g c =
     let s = c.look_at_whole.ensures.same in
     let b = rw c.in-Ok-Some.field-0-is at c.in-Ok-Some.ensures.whole in
     moves_trans _ _ _ (looked_moves i j s (no_fewer _ _ c.in-Ok-Some.ensures.no_fault))
-    (moves_encoding j _ c.in-Ok-Some.size b.tree (subst (λ m. IsEncoding m b.tree (take c.in-Ok-Some.size j.stream.rest)) (sym s.mode) b.encodes) (advances_to j _ _ _ c.pass.ensures.advances refl refl refl refl refl) (s.state ∙ c.in-Open.is) refl c.pass.ensures.marked)
+    (moves_encoding j _ c.in-Ok-Some.size b.tree (subst (λ m. IsEncoding m b.tree (take c.in-Ok-Some.size j.stream.rest)) (sym s.mode) b.encodes) c.pass_over.ensures.advances (s.state ∙ c.in-Open.is) (c.pass_over.ensures.state ∙ s.state ∙ c.in-Open.is) c.pass_over.ensures.marked)
 
 pub returns-in-Ok-Some-clause-passed : goal.returns-in-Ok-Some-clause-passed
 unfolding of_constructed
@@ -27,13 +27,13 @@ returns-in-Ok-Some-clause-passed g c =
     let s = c.look_at_whole.ensures.same in
     let b = rw c.in-Ok-Some.field-0-is at c.in-Ok-Some.ensures.whole in
     record {
-      passed = λ _. looked_passes i j _ s (passes_encoding j _ c.in-Ok-Some.size b.tree (subst (λ m. IsEncoding m b.tree (take c.in-Ok-Some.size j.stream.rest)) (sym s.mode) b.encodes) (advances_to j _ _ _ c.pass.ensures.advances refl refl refl refl refl) (s.state ∙ c.in-Open.is) refl);
+      passed = λ _. looked_passes i j _ s (passes_encoding j _ c.in-Ok-Some.size b.tree (subst (λ m. IsEncoding m b.tree (take c.in-Ok-Some.size j.stream.rest)) (sym s.mode) b.encodes) c.pass_over.ensures.advances (s.state ∙ c.in-Open.is) (c.pass_over.ensures.state ∙ s.state ∙ c.in-Open.is));
       same = search rules;
-      no_fault = search rules;
+      no_fault = c.pass_over.ensures.no_fault ∙ c.in-Ok-Some.ensures.no_fault;
       fault = search rules;
       failed = search rules;
-      mode = c.pass.ensures.mode ∙ s.mode;
-      marked = c.pass.ensures.marked ∙ s.marked;
+      mode = c.pass_over.ensures.advances.mode ∙ s.mode;
+      marked = c.pass_over.ensures.marked ∙ s.marked;
     }
 
 pub returns-in-Err-clause-moves : goal.returns-in-Err-clause-moves

@@ -26,7 +26,7 @@ returns-in-Err-enter-clause-stepped g c =
     let s = rw c.in-Ok-Some.field-0-is at c.in-Ok-Some.ensures.same in
     let u = rw c.in-Ok-Some.field-0-is at c.in-Ok-Some.ensures.usable in
     let p = c.in-Ok-false.ensures.passed.same c.in-Ok-false.field-0-test in
-    let q = c.in-Ok-false.ensures.passed.no_fault c.in-Ok-false.field-0-test in
+    let q = c.in-Ok-false.ensures.passed.no_fault in
     let h = c.in-Err-enter.ensures.refused in
     record {
       goes = tt;
