@@ -19,7 +19,7 @@ use Rattle.bcder.specs.Decoding.{AnsweredOn}
 use Rattle.bcder.specs.Calls.{IsFormOf, ContentOf, Hands, Untagged, Answered, AnswersDone, RefusesContent, by_closure, unfinished, TakesContent, TakesValue, RefusesFront, RefusesValue, IsInside}
 use Rattle.bcder.specs.Calls as calls
 use Rattle.bcder.specs.Inside.{TakesBehind, of_form, refused, taken}
-use Rattle.bcder.specs.Takes.{HasNone, TellsNone, HasRefusedForm, by_header, by_form, by_content, TakesNext, Takes}
+use Rattle.bcder.specs.Takes.{HasNone, TellsNone, HasRefusedForm, RefusesTake, by_header, by_form, by_content, TakesNext, Takes}
 use Rattle.bcder.specs.laws.Complete.{header_size}
 use Rattle.bcder.proofs.Moving.{moves_value, moves_failed, advances_trans, open_not_ended}
 use Rattle.bcder.proofs.Entering.{advances_to, header_entered}
@@ -201,6 +201,12 @@ module _ {C T X : Type 0} (view : C → Reading) (post : Tag → MutBor C → Re
 
     pub needs_refused : (e : DecodeError X) → TakesNext view post form asked c (Err e) d → Takes view post form asked c (Err e) d
     needs_refused e n = record { value = tt; shorter = tt; refused = inr (n.failed, n.refused); mode = n.mode }
+
+-- where no form is refused, why a value wasn't taken
+pub value_not_taken : {C T X : Type 0} (view : C → Reading) (post : Tag → MutBor C → Result T (DecodeError X) → MutBor C → Type 0) (asked : Asked) (c : Reading) (e : DecodeError X) (d : Reading) → RefusesTake view post None asked c e d → RefusesValue cause_of view post asked c e d
+value_not_taken view post asked c e d (by_header h m) = value_refused cause_of view post asked c e d h
+value_not_taken view post asked c e d (by_form f o m) = absurd f
+value_not_taken view post asked c e d (by_content f) = calls.RefusesValue.content f
 
 -- a closure that hands on what it is handed to one of content alone
 module _ {C R : Type 0} (view : C → Reading) (post : MutBor C → R → MutBor C → Type 0) where

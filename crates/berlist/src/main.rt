@@ -7,7 +7,7 @@
 
 ghost use Rattle.std.specs.Prelude.{◌≡◌, ℕ, List, OnOk, IfErr, codes, map, string_bytes};
 ghost use Rattle.bcder.specs.declared.mode.Mode.{Mode as TheMode};
-ghost use Rattle.berlist.specs.Answers.{Listed, IsUnlisted};
+ghost use Rattle.berlist.specs.Answers.{Listed, IsUnlisted, list_text};
 ghost use Rattle.berlist.specs.Front.{AppendsFront};
 ghost use Rattle.berlist.specs.Requests.{Asks, AsksNothing, Tells, Ends};
 
@@ -40,6 +40,8 @@ pub enum ListError {
 }
 
 impl fmt::Display for ListError {
+    ghost output = { list_text ⟦<io::Error as fmt::Display>⟧.output };
+
     fn fmt<W: fmt::Write>(&self, f: &mut fmt::Formatter<W>) -> fmt::Result {
         match self {
             ListError::Refused => write!(f, "refused"),

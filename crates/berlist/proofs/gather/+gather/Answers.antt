@@ -1,10 +1,12 @@
 use Rattle.std.proofs.Common.{rules, ◌≤◌, length, arith, string_bytes}
 use Rattle.bcder.specs.Cause.{cause_of}
+use Rattle.bcder.specs.Content.{any}
 use Rattle.bcder.specs.Views.{of_constructed, of_content}
 use Rattle.bcder.proofs.Carrying.{carries}
 use Rattle.bcder.proofs.Moving.{moves_refl, moves_trans}
 use Rattle.bcder.proofs.Names.{within_constructed, constructed_form}
-use Rattle.bcder.proofs.Refusing.{residual}
+use Rattle.bcder.proofs.Refusing.{residual, if_err}
+use Rattle.bcder.proofs.Taking.{value_not_taken}
 use Rattle.bcder.proofs.Walking.{moves_shorter, value_shorter}
 use Rattle.berlist.specs.Gather.{IsWant, RefusesAll}
 use Rattle.berlist.proofs.Gathering.{lists_next, refuses_next, decides_want, heading_first, begins, goes_on, ends_here, refused_here, some_of, none_of}
@@ -14,10 +16,11 @@ pub next_lines-returns-clause-moves : goal.next_lines-returns-clause-moves
 next_lines-returns-clause-moves g t c = search (rules, carries)
 
 pub next_lines-returns-clause-listed : goal.next_lines-returns-clause-listed
-next_lines-returns-clause-listed g t c = lists_next cause_of IsWant decides_want string_bytes (of_content g.S.Source.stream) c.args.depth _ (λ tag p r q x. search (rules, moves_refl)) _ _ c.take_opt_value.result c.take_opt_value.ensures.value
+next_lines-returns-clause-listed g t c = lists_next cause_of IsWant decides_want string_bytes (of_content g.S.Source.stream) c.args.depth _ (λ tag p r q x. search (rules, moves_refl)) _ _ c.take_opt_value.result c.take_opt_value.ensures.took.value
 
 pub next_lines-returns-clause-refused : goal.next_lines-returns-clause-refused
-next_lines-returns-clause-refused g t c = refuses_next cause_of IsWant decides_want string_bytes (of_content g.S.Source.stream) c.args.depth _ (λ tag p r q x. search (rules, moves_refl)) _ _ c.take_opt_value.result (within_constructed g.S.Source.stream g.met.S.Source.sound c.args.cons.now) c.take_opt_value.ensures.refused
+next_lines-returns-clause-refused g t c = refuses_next cause_of IsWant decides_want string_bytes (of_content g.S.Source.stream) c.args.depth _ (λ tag p r q x. search (rules, moves_refl)) _ _ c.take_opt_value.result (within_constructed g.S.Source.stream g.met.S.Source.sound c.args.cons.now)
+    (if_err c.take_opt_value.result _ _ (λ e h. value_not_taken (of_content g.S.Source.stream) _ any _ e _ h) c.take_opt_value.ensures.took.refused)
 
 pub next_lines-take_opt_value-returns-in-Primitive : goal.next_lines-take_opt_value-returns-in-Primitive
 next_lines-take_opt_value-returns-in-Primitive g t c = let e = c.primitive_line.ensures in rw c.in-Primitive.is (record { moves = e.moves; done = e.done; listed = e.listed; refused = e.refused; marked = e.marked })
