@@ -310,7 +310,7 @@ module _ {C T E : Type 0} (why : E → Cause ContentError) (view : C → Reading
               let t : limited_stream stream l2 ≡ d.stream = ap (λ z. limited l2.limit (stream z)) (sym b3) ∙ ap (λ z. limited z (stream l3.source)) (j ∙ do') ∙ sym ds in
               takes_marked e
               (subst (λ z. RanOver why view post c.stream c.owed IndefiniteValues c.mode h.tag r mark z d.owed) t
-                  (subst (λ z. RanOver why view post c.stream c.owed IndefiniteValues c.mode h.tag r mark (limited_stream stream l2) z) j
-                      (subst (λ z. RanOver why view post z c.owed IndefiniteValues c.mode h.tag r mark (limited_stream stream l2) l2.limit) s
-                          (subst (λ z. RanOver why view post (limited_stream stream l1) z IndefiniteValues c.mode h.tag r mark (limited_stream stream l2) l2.limit) i
-                              (subst (λ z. RanOver why view post (limited_stream stream l1) l1.limit (values (kind_behind z)) c.mode h.tag r mark (limited_stream stream l2) l2.limit) e ran)))))
+              (subst (λ z. RanOver why view post c.stream c.owed IndefiniteValues c.mode h.tag r mark (limited_stream stream l2) z) j
+              (subst (λ z. RanOver why view post z c.owed IndefiniteValues c.mode h.tag r mark (limited_stream stream l2) l2.limit) s
+              (subst (λ z. RanOver why view post (limited_stream stream l1) z IndefiniteValues c.mode h.tag r mark (limited_stream stream l2) l2.limit) i
+              (subst (λ z. RanOver why view post (limited_stream stream l1) l1.limit (values (kind_behind z)) c.mode h.tag r mark (limited_stream stream l2) l2.limit) e ran)))))

@@ -41,6 +41,11 @@ module _ {S : Type 0} (stream : S → Stream) where
   of_content (content.Primitive p) = of_primitive p
   of_content (content.Constructed c) = of_constructed c
 
+-- what a proof names to open both views
+unfoldable pub views : Unit {0}
+unfolding of_constructed of_primitive
+views = tt
+
 -- the borrow that content holds
 abbrev pub content_name : {S : Type 0} → Content S → GName
 content_name (content.Primitive p) = p.source.ghost_name

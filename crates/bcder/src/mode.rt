@@ -1,9 +1,7 @@
 //! The three sets of encoding rules.
 ghost use Rattle.std.specs.Prelude.{◌≡◌, ◌↔◌, ◌≤◌, ◌++◌, ℕ, List, IsTrue};
-ghost use Rattle.bcder.specs.Decoding.{
-    CallableOnAll, LawfulOnAll, CallableOnLent, LawfulOnLent, DecodesAll, RefusesAll, DecodesLent,
-    RefusesLent,
-};
+ghost use Rattle.bcder.specs.Decoding.{CallableOnAll, LawfulOnAll, CallableOnLent, LawfulOnLent};
+ghost use Rattle.bcder.specs.Decoding.{DecodesAll, RefusesAll, DecodesLent, RefusesLent};
 
 use crate::decode::{Constructed, DecodeError, IntoSource, Source};
 
@@ -64,10 +62,8 @@ impl Mode {
         requires lawful { LawfulOnLent S.stream source self (F.post op) }
         ensures ok { DecodesLent S.stream (F.post op) source self result }
         ensures refused { RefusesLent S.stream (F.post op) source self result }
-        ensures passed {
-            (passed : List ℕ)
-            × ((S.stream source.old).rest ≡ passed ++ (S.stream source.new).rest)
-        }
+        ensures passed { (passed : List ℕ)
+            × ((S.stream source.old).rest ≡ passed ++ (S.stream source.new).rest) }
         ensures faults { (S.stream source.old).faults ≤ (S.stream source.new).faults }
         ensures kept { (S.stream source.new).kept ≡ (S.stream source.old).kept }
     {

@@ -2,12 +2,10 @@
 ghost use Rattle.std.specs.Prelude.{◌≡◌, ℕ, ◌<◌, ◌≤◌, ◌^◌, ◌%◌, ◌↔◌, Bool, IsTrue};
 ghost use Rattle.std.specs.Prelude.{Some, None, IfSome, MatchOption};
 ghost use Rattle.bcder.specs.Answers.{Answers};
-ghost use Rattle.bcder.specs.Identifier.{
-  universal as universal_class,
-  application as application_class,
-  context_specific as context_specific_class,
-  private as private_class,
-};
+ghost use Rattle.bcder.specs.Identifier.{universal as universal_class};
+ghost use Rattle.bcder.specs.Identifier.{application as application_class};
+ghost use Rattle.bcder.specs.Identifier.{context_specific as context_specific_class};
+ghost use Rattle.bcder.specs.Identifier.{private as private_class};
 ghost use Rattle.bcder.specs.Reading.{is_value_tag, class_of, is_marked, read_identifier};
 ghost use Rattle.bcder.specs.Reading.{read_number, second_digit, third_digit};
 ghost use Rattle.bcder.specs.Classes.{class_meant};

@@ -1,41 +1,11 @@
 //! The lines of all values, gathered.
-ghost use Rattle.std.specs.Prelude.{
-  ◌≡◌,
-  ℕ,
-  ◌+◌,
-  ◌<◌,
-  ◌^◌,
-  [],
-  length,
-  true,
-  false,
-  IfOk,
-  IfErr,
-  IfSome,
-  IfNone,
-  OnOk,
-  string_bytes,
-};
-ghost use Rattle.bcder.specs.Views.{
-  Moved,
-  MovedContent,
-  MovedOctets,
-  of_constructed,
-  of_content,
-  of_primitive,
-};
+ghost use Rattle.std.specs.Prelude.{◌≡◌, ℕ, ◌+◌, ◌<◌, ◌^◌, [], length, true, false, IfOk, IfErr};
+ghost use Rattle.std.specs.Prelude.{IfSome, IfNone, OnOk, string_bytes};
+ghost use Rattle.bcder.specs.Views.{Moved, MovedContent, MovedOctets, of_constructed, of_content};
+ghost use Rattle.bcder.specs.Views.{of_primitive};
 ghost use Rattle.berlist.specs.Lines.{line};
-ghost use Rattle.berlist.specs.Gather.{
-  Ends,
-  IsLeftDone,
-  KeepsMark,
-  KeepsMode,
-  Lists,
-  ListsAll,
-  ListsNext,
-  Refuses,
-  RefusesOne,
-};
+ghost use Rattle.berlist.specs.Gather.{Ends, IsLeftDone, KeepsMark, KeepsMode, Lists, ListsAll};
+ghost use Rattle.berlist.specs.Gather.{ListsNext, Refuses, RefusesOne};
 ghost use Rattle.berlist.specs.Answers.{IsListOf};
 
 use bcder::decode::{Constructed, Content, DecodeError, Primitive, SliceSource, Source};

@@ -1,19 +1,6 @@
 //! What the arguments ask for.
-ghost use Rattle.std.specs.Prelude.{
-  ◌≡◌,
-  ◌↔◌,
-  ℕ,
-  List,
-  Ok,
-  Some,
-  None,
-  IfOk,
-  IsErr,
-  MatchOption,
-  IsTrue,
-  map,
-  string_bytes,
-};
+ghost use Rattle.std.specs.Prelude.{◌≡◌, ◌↔◌, ℕ, List, Ok, Some, None, IfOk, IsErr, MatchOption};
+ghost use Rattle.std.specs.Prelude.{IsTrue, map, string_bytes};
 ghost use Rattle.bcder.specs.declared.mode.Mode.{Mode as TheMode};
 ghost use Rattle.hex.specs.Hex.{decode_of};
 ghost use Rattle.berlist.specs.Requests.{Asks, AsksNothing, mode_word};

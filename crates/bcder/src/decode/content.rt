@@ -2,10 +2,8 @@
 ghost use Rattle.std.specs.Prelude.{◌≡◌, ◌≢◌, ℕ, ◌↔◌, true, IsTrue, Some};
 ghost use Rattle.bcder.specs.Cause.{cause_of, position_of, of_content as of_refusal};
 ghost use Rattle.bcder.specs.Content.{Octets};
-ghost use Rattle.bcder.specs.Views.{
-    of_constructed, of_primitive, of_content, content_start, before, after, octets_before,
-    octets_after, Moved, MovedOctets,
-};
+ghost use Rattle.bcder.specs.Views.{of_constructed, of_primitive, of_content, content_start};
+ghost use Rattle.bcder.specs.Views.{before, after, octets_before, octets_after, Moved, MovedOctets};
 
 mod decode;
 mod forms;
@@ -78,11 +76,7 @@ pub enum Content<'a, S> {
     Constructed(Constructed<'a, S>),
 }
 
-#[tactic(
-    auto,
-    using(crate::proofs::Moving::moves_refl, crate::proofs::Moving::moves_trans),
-    unfolding(crate::specs::Views::of_constructed)
-)]
+#[tactic(auto, using(crate::proofs::moves), unfolding(crate::specs::Views::of_constructed))]
 impl<'a, S: Source> Constructed<'a, S> {
     /// The rules that the content is read by.
     pub fn mode(&self) -> Mode
@@ -91,18 +85,14 @@ impl<'a, S: Source> Constructed<'a, S> {
         self.mode
     }
 
-    /// Goes on under other rules. A change marks this content, and the content around it once this is
-    /// taken, as no longer known to be in its rules.
+    /// Goes on under other rules. A change marks this content, and the content around it once this
+    /// is taken, as no longer known to be in its rules.
     pub fn set_mode(&mut self, mode: Mode)
         ensures moves { Moved S.stream self }
         ensures mode { (after S.stream self).mode ≡ mode }
-        ensures changed {
-            (before S.stream self).mode ≢ mode → (after S.stream self).marked ≡ true
-        }
-        ensures unchanged {
-            (before S.stream self).mode ≡ mode
-            → (after S.stream self).marked ≡ (before S.stream self).marked
-        }
+        ensures changed { (before S.stream self).mode ≢ mode → (after S.stream self).marked ≡ true }
+        ensures unchanged { (before S.stream self).mode ≡ mode
+            → (after S.stream self).marked ≡ (before S.stream self).marked }
         ensures stream { (after S.stream self).stream ≡ (before S.stream self).stream }
         ensures owed { (after S.stream self).owed ≡ (before S.stream self).owed }
         ensures state { (after S.stream self).state ≡ (before S.stream self).state }
@@ -123,11 +113,7 @@ impl<'a, S: Source> Constructed<'a, S> {
     }
 }
 
-#[tactic(
-    auto,
-    using(crate::proofs::Moving::moves_refl, crate::proofs::Moving::moves_trans),
-    unfolding(crate::specs::Views::of_primitive)
-)]
+#[tactic(auto, using(crate::proofs::moves), unfolding(crate::specs::Views::of_primitive))]
 impl<'a, S: Source> Primitive<'a, S> {
     /// The rules that the content is read by.
     pub fn mode(&self) -> Mode
@@ -136,19 +122,17 @@ impl<'a, S: Source> Primitive<'a, S> {
         self.mode
     }
 
-    /// Goes on under other rules. A change marks this content, and the content around it once this is
-    /// taken, as no longer known to be in its rules.
+    /// Goes on under other rules. A change marks this content, and the content around it once this
+    /// is taken, as no longer known to be in its rules.
     pub fn set_mode(&mut self, mode: Mode)
         ensures moves { MovedOctets S.stream self }
         ensures mode { (octets_after S.stream self).mode ≡ mode }
-        ensures changed {
-            (octets_before S.stream self).mode ≢ mode → (octets_after S.stream self).marked ≡ true
-        }
-        ensures unchanged {
-            (octets_before S.stream self).mode ≡ mode
-            → (octets_after S.stream self).marked ≡ (octets_before S.stream self).marked
-        }
-        ensures stream { (octets_after S.stream self).stream ≡ (octets_before S.stream self).stream }
+        ensures changed { (octets_before S.stream self).mode ≢ mode
+            → (octets_after S.stream self).marked ≡ true }
+        ensures unchanged { (octets_before S.stream self).mode ≡ mode
+            → (octets_after S.stream self).marked ≡ (octets_before S.stream self).marked }
+        ensures stream { (octets_after S.stream self).stream
+            ≡ (octets_before S.stream self).stream }
         ensures owed { (octets_after S.stream self).owed ≡ (octets_before S.stream self).owed }
         ensures state { (octets_after S.stream self).state ≡ (octets_before S.stream self).state }
         ensures start { self.new.start ≡ self.old.start }
@@ -168,7 +152,7 @@ impl<'a, S: Source> Primitive<'a, S> {
     }
 }
 
-#[tactic(auto, unfolding(crate::specs::Views::of_constructed, crate::specs::Views::of_primitive))]
+#[tactic(auto, unfolding(crate::specs::Views::views))]
 impl<'a, S: Source> Content<'a, S> {
     /// The rules that the content is read by.
     pub fn mode(&self) -> Mode

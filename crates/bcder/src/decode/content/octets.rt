@@ -12,7 +12,8 @@ use crate::decode::source::Source;
 use crate::tag::Tag;
 
 impl<'a, S: Source> Constructed<'a, S> {
-    /// Takes the next value, which has to be primitive, or answers `None` at the end of the content.
+    /// Takes the next value, which has to be primitive, or answers `None` at the end of the
+    /// content.
     ///
     /// The closure is handed the value's tag and its contents octets. All else is as
     /// [`take_opt_value`](Self::take_opt_value) has it.
@@ -43,8 +44,8 @@ impl<'a, S: Source> Constructed<'a, S> {
     ///
     /// # Errors
     ///
-    /// Those of [`take_opt_primitive`](Self::take_opt_primitive), and at the end of the content, which then
-    /// stays usable.
+    /// Those of [`take_opt_primitive`](Self::take_opt_primitive), and at the end of the content,
+    /// which then stays usable.
     #[inline(always)]
     pub fn take_primitive<F, T: Drop>(&mut self, op: F) -> Result<T, DecodeError<S::Error>>
     where
@@ -68,8 +69,8 @@ impl<'a, S: Source> Constructed<'a, S> {
     ///
     /// # Errors
     ///
-    /// Those of `take_opt_value_if`, and where the value of this tag is constructed: the content has then
-    /// failed.
+    /// Those of `take_opt_value_if`, and where the value of this tag is constructed: the content
+    /// has then failed.
     #[inline(always)]
     pub fn take_opt_primitive_if<F, T: Drop>(
         &mut self,
@@ -88,10 +89,8 @@ impl<'a, S: Source> Constructed<'a, S> {
                 header,
                 |_tag, octets|
                     requires { (p : _) → p.now ≡ octets.now → F.pre op p }
-                    ensures {
-                        AnsweredOn (of_primitive S.stream) (F.post op)
-                            (octets_before S.stream octets) result (octets_after S.stream octets)
-                    }
+                    ensures { AnsweredOn (of_primitive S.stream) (F.post op)
+                        (octets_before S.stream octets) result (octets_after S.stream octets) }
                 { op(octets) },
             ),
             Ok(None) => Ok(None),
@@ -103,8 +102,8 @@ impl<'a, S: Source> Constructed<'a, S> {
     ///
     /// # Errors
     ///
-    /// Those of [`take_opt_primitive_if`](Self::take_opt_primitive_if), and `ContentError::ExpectedTag`
-    /// where that answers `None`: the content then stays usable.
+    /// Those of [`take_opt_primitive_if`](Self::take_opt_primitive_if), and
+    /// `ContentError::ExpectedTag` where that answers `None`: the content then stays usable.
     #[inline(always)]
     pub fn take_primitive_if<F, T: Drop>(
         &mut self,

@@ -26,40 +26,28 @@ impl<'a, S: Source> Primitive<'a, S> {
     /// # Errors
     ///
     /// Where fewer octets come or where the source fails. Then no octet is passed.
-    #[tactic(
-        auto,
-        using(crate::proofs::Moving::moves_refl, crate::proofs::Moving::moves_trans),
-        unfolding(crate::specs::Views::of_primitive)
-    )]
+    #[tactic(auto, using(crate::proofs::moves), unfolding(crate::specs::Views::of_primitive))]
     #[inline(always)]
     pub fn skip_all(&mut self) -> Result<(), DecodeError<S::Error>>
         ensures moves { MovedOctets S.stream self }
-        ensures all {
-            OnOk result (
-                (octets_before S.stream self).owed
-                ≡ Some (length (octets_before S.stream self).stream.rest))
-        }
+        ensures all { OnOk result (
+            (octets_before S.stream self).owed
+            ≡ Some (length (octets_before S.stream self).stream.rest)) }
         ensures none_owed { OnOk result ((octets_after S.stream self).owed ≡ Some 0) }
         ensures none_left { OnOk result ((octets_after S.stream self).stream.rest ≡ []) }
-        ensures no_fault {
-            OnOk result (
-                (octets_after S.stream self).stream.faults
-                ≡ (octets_before S.stream self).stream.faults)
-        }
-        ensures refused {
-            IfErr result (λ e.
-                RefusesOctets cause_of (octets_before S.stream self) e (octets_after S.stream self))
-        }
-        ensures kept {
-            OnErr result (
-                (octets_after S.stream self).stream.rest
-                ≡ (octets_before S.stream self).stream.rest)
-        }
-        ensures still_owed {
-            OnErr result ((octets_after S.stream self).owed ≡ (octets_before S.stream self).owed)
-        }
+        ensures no_fault { OnOk result (
+            (octets_after S.stream self).stream.faults
+            ≡ (octets_before S.stream self).stream.faults) }
+        ensures refused { IfErr result (λ e.
+            RefusesOctets cause_of (octets_before S.stream self) e (octets_after S.stream self)) }
+        ensures kept { OnErr result (
+            (octets_after S.stream self).stream.rest
+            ≡ (octets_before S.stream self).stream.rest) }
+        ensures still_owed { OnErr result
+            ((octets_after S.stream self).owed ≡ (octets_before S.stream self).owed) }
         ensures mode { (octets_after S.stream self).mode ≡ (octets_before S.stream self).mode }
-        ensures marked { (octets_after S.stream self).marked ≡ (octets_before S.stream self).marked }
+        ensures marked { (octets_after S.stream self).marked
+            ≡ (octets_before S.stream self).marked }
     {
         match self.source.limit() {
             Some(owed) => match self.source.request(owed) {

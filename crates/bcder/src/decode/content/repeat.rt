@@ -1,12 +1,7 @@
 //! Loops over content.
 ghost use Rattle.std.specs.Prelude.{◌≡◌, IsTrue, ◌↔◌};
-ghost use Rattle.bcder.specs.Repeating.{
-  AnswersOnce,
-  MayRepeat,
-  OwesAsBefore,
-  Repeated,
-  RepeatsLawfully,
-};
+ghost use Rattle.bcder.specs.Repeating.{AnswersOnce, MayRepeat, OwesAsBefore, Repeated};
+ghost use Rattle.bcder.specs.Repeating.{RepeatsLawfully};
 ghost use Rattle.bcder.specs.Views.{Moved, of_constructed};
 
 use super::Constructed;
@@ -49,8 +44,8 @@ impl<'a, S: Source> Constructed<'a, S> {
         self.source.limit()
     }
 
-    /// Calls the closure over the content again and again while it answers `Some`, and ends where it
-    /// answers `None`: the loop over a SEQUENCE OF or a SET OF.
+    /// Calls the closure over the content again and again while it answers `Some`, and ends where
+    /// it answers `None`: the loop over a SEQUENCE OF or a SET OF.
     ///
     /// ```text
     /// let mut count = 0u64;

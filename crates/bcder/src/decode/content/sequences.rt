@@ -13,7 +13,8 @@ use crate::decode::source::Source;
 use crate::tag::Tag;
 
 impl<'a, S: Source> Constructed<'a, S> {
-    /// Takes the next value, which has to be constructed, or answers `None` at the end of the content.
+    /// Takes the next value, which has to be constructed, or answers `None` at the end of the
+    /// content.
     ///
     /// The closure is handed the value's tag and the values inside it. All else is as
     /// [`take_opt_value`](Self::take_opt_value) has it.
@@ -44,8 +45,8 @@ impl<'a, S: Source> Constructed<'a, S> {
     ///
     /// # Errors
     ///
-    /// Those of [`take_opt_constructed`](Self::take_opt_constructed), and at the end of the content, which then
-    /// stays usable.
+    /// Those of [`take_opt_constructed`](Self::take_opt_constructed), and at the end of the
+    /// content, which then stays usable.
     #[inline(always)]
     pub fn take_constructed<F, T: Drop>(&mut self, op: F) -> Result<T, DecodeError<S::Error>>
     where
@@ -69,8 +70,8 @@ impl<'a, S: Source> Constructed<'a, S> {
     ///
     /// # Errors
     ///
-    /// Those of `take_opt_value_if`, and where the value of this tag is primitive: the content has then
-    /// failed.
+    /// Those of `take_opt_value_if`, and where the value of this tag is primitive: the content has
+    /// then failed.
     #[inline(always)]
     pub fn take_opt_constructed_if<F, T: Drop>(
         &mut self,
@@ -89,10 +90,8 @@ impl<'a, S: Source> Constructed<'a, S> {
                 header,
                 |_tag, values|
                     requires { (p : _) → p.now ≡ values.now → F.pre op p }
-                    ensures {
-                        AnsweredOn (of_constructed S.stream) (F.post op)
-                            (before S.stream values) result (after S.stream values)
-                    }
+                    ensures { AnsweredOn (of_constructed S.stream) (F.post op)
+                        (before S.stream values) result (after S.stream values) }
                 { op(values) },
             ),
             Ok(None) => Ok(None),
@@ -104,8 +103,8 @@ impl<'a, S: Source> Constructed<'a, S> {
     ///
     /// # Errors
     ///
-    /// Those of [`take_opt_constructed_if`](Self::take_opt_constructed_if), and `ContentError::ExpectedTag`
-    /// where that answers `None`: the content then stays usable.
+    /// Those of [`take_opt_constructed_if`](Self::take_opt_constructed_if), and
+    /// `ContentError::ExpectedTag` where that answers `None`: the content then stays usable.
     #[inline(always)]
     pub fn take_constructed_if<F, T: Drop>(
         &mut self,
@@ -138,15 +137,11 @@ impl<'a, S: Source> Constructed<'a, S> {
     where
         F: FnOnce(&mut Constructed<'_, S>) -> Result<T, DecodeError<S::Error>>,
         requires callable { CallableOnValues S.stream self (tagged sequence_tag) (λ _. F.pre op) }
-        requires lawful {
-            LawfulOnValues S.stream self (tagged sequence_tag) (Untagged
-                (F.post op))
-        }
+        requires lawful { LawfulOnValues S.stream self (tagged sequence_tag) (Untagged
+            (F.post op)) }
         ensures moves { Moved S.stream self }
-        ensures took {
-            TookValues S.stream self (tagged sequence_tag) (Untagged
-                (F.post op)) result
-        }
+        ensures took { TookValues S.stream self (tagged sequence_tag) (Untagged
+            (F.post op)) result }
     {
         self.take_constructed_if(Tag::SEQUENCE, op)
     }
@@ -166,15 +161,11 @@ impl<'a, S: Source> Constructed<'a, S> {
     where
         F: FnOnce(&mut Constructed<'_, S>) -> Result<T, DecodeError<S::Error>>,
         requires callable { CallableOnValues S.stream self (tagged sequence_tag) (λ _. F.pre op) }
-        requires lawful {
-            LawfulOnValues S.stream self (tagged sequence_tag) (Untagged
-                (F.post op))
-        }
+        requires lawful { LawfulOnValues S.stream self (tagged sequence_tag) (Untagged
+            (F.post op)) }
         ensures moves { Moved S.stream self }
-        ensures took {
-            TookNextValues S.stream self (tagged sequence_tag) (Untagged
-                (F.post op)) result
-        }
+        ensures took { TookNextValues S.stream self (tagged sequence_tag) (Untagged
+            (F.post op)) result }
     {
         self.take_opt_constructed_if(Tag::SEQUENCE, op)
     }

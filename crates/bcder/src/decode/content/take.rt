@@ -1,19 +1,14 @@
 //! Passing over the header of the next value.
-ghost use Rattle.std.specs.Prelude.{
-    ◌≡◌, ◌≤◌, false, length, take, IsTrue, Some, IfOk, IfErr, IfSome, IfNone, OnOk, OnErr,
-};
+ghost use Rattle.std.specs.Prelude.{◌≡◌, ◌≤◌, false, length, take, IsTrue, Some, IfOk, IfErr};
+ghost use Rattle.std.specs.Prelude.{IfSome, IfNone, OnOk, OnErr};
 ghost use Rattle.bcder.specs.Calls.{popped};
-ghost use Rattle.bcder.specs.Cause.{
-    cause_of, stop_cause, of_source, IsOfContent, IsRefusal, NamesTag,
-};
-ghost use Rattle.bcder.specs.Content.{
-    Moves, Advances, FitsOwed, Accepts, any, tagged, end_header, Enters, TakesMarker, NoFront,
-    Resembles, EndsAt, IsDone,
-};
+ghost use Rattle.bcder.specs.Cause.{cause_of, stop_cause, of_source, IsOfContent, IsRefusal};
+ghost use Rattle.bcder.specs.Cause.{NamesTag};
+ghost use Rattle.bcder.specs.Content.{Moves, Advances, FitsOwed, Accepts, any, tagged, end_header};
+ghost use Rattle.bcder.specs.Content.{Enters, TakesMarker, NoFront, Resembles, EndsAt, IsDone};
 ghost use Rattle.bcder.specs.Encoding.{may_have};
-ghost use Rattle.bcder.specs.Entering.{
-    EntersNext, FindsNone, RefusesNext, MeetsNoFault, MeetsFault,
-};
+ghost use Rattle.bcder.specs.Entering.{EntersNext, FindsNone, RefusesNext, MeetsNoFault};
+ghost use Rattle.bcder.specs.Entering.{MeetsFault};
 ghost use Rattle.bcder.specs.Identifier.{AreOctets, end_of_contents};
 ghost use Rattle.bcder.specs.Peek.{header as header_of, Peeks, PeeksIf};
 ghost use Rattle.bcder.specs.Reading.{Header as HeaderRead};
@@ -54,14 +49,10 @@ fn allows(mode: Mode, constructed: bool, len: Length) -> bool
 /// Whether this is the header of a value that can be taken.
 #[inline(always)]
 fn accepts(mode: Mode, tag: Tag, constructed: bool, len: Length, owed: Option<usize>) -> bool
-    ensures yes {
-        IsTrue result
-        → Accepts mode (record { tag = tag; form = constructed; len = len }) owed
-    }
-    ensures no {
-        result ≡ false
-        → Accepts mode (record { tag = tag; form = constructed; len = len }) owed → ⊥
-    }
+    ensures yes { IsTrue result
+        → Accepts mode (record { tag = tag; form = constructed; len = len }) owed }
+    ensures no { result ≡ false
+        → Accepts mode (record { tag = tag; form = constructed; len = len }) owed → ⊥ }
 {
     tag.is_value() && allows(mode, constructed, len) && fits(len, owed)
 }
@@ -69,15 +60,11 @@ fn accepts(mode: Mode, tag: Tag, constructed: bool, len: Length, owed: Option<us
 /// Whether these are end-of-contents octets (8.1.5).
 #[inline(always)]
 fn is_end(tag: Tag, constructed: bool, len: Length) -> bool
-    ensures yes {
-        IsTrue result
+    ensures yes { IsTrue result
+        → ◌≡◌ {A = HeaderRead} (record { tag = tag; form = constructed; len = len }) end_header }
+    ensures no { result ≡ false
         → ◌≡◌ {A = HeaderRead} (record { tag = tag; form = constructed; len = len }) end_header
-    }
-    ensures no {
-        result ≡ false
-        → ◌≡◌ {A = HeaderRead} (record { tag = tag; form = constructed; len = len }) end_header
-        → ⊥
-    }
+        → ⊥ }
 {
     tag == Tag::END_OF_VALUE && !constructed && len == Length::Definite(0)
 }
@@ -126,9 +113,8 @@ impl<'a, S: Source> Constructed<'a, S> {
     #[inline(always)]
     fn look(&mut self) -> Result<Peeked, S::Error>
         ensures same { Resembles (before S.stream self) (after S.stream self) }
-        ensures peeked {
-            IfOk result (λ p. Peeks self.old.mode p (limited_stream S.stream self.new.source.now))
-        }
+        ensures peeked { IfOk result (λ p.
+            Peeks self.old.mode p (limited_stream S.stream self.new.source.now)) }
         ensures no_fault { MeetsNoFault (before S.stream self) (after S.stream self) result }
         ensures fault { MeetsFault (before S.stream self) (after S.stream self) result }
     {
@@ -140,10 +126,8 @@ impl<'a, S: Source> Constructed<'a, S> {
     #[inline(always)]
     fn look_for(&mut self, tag: Tag) -> Result<PeekedIf, S::Error>
         ensures same { Resembles (before S.stream self) (after S.stream self) }
-        ensures peeked {
-            IfOk result (λ p.
-                PeeksIf self.old.mode tag p (limited_stream S.stream self.new.source.now))
-        }
+        ensures peeked { IfOk result (λ p.
+            PeeksIf self.old.mode tag p (limited_stream S.stream self.new.source.now)) }
         ensures no_fault { MeetsNoFault (before S.stream self) (after S.stream self) result }
         ensures fault { MeetsFault (before S.stream self) (after S.stream self) result }
     {
@@ -156,15 +140,12 @@ impl<'a, S: Source> Constructed<'a, S> {
     #[inline(always)]
     pub(super) fn pass(&mut self, size: usize)
         requires { size ≤ (limited_stream S.stream self.old.source.now).avail }
-        ensures advances {
-            Advances (before S.stream self) (after S.stream self)
-                (take size (before S.stream self).stream.rest)
-        }
+        ensures advances { Advances (before S.stream self) (after S.stream self)
+            (take size (before S.stream self).stream.rest) }
         ensures octets { AreOctets (before S.stream self).stream.rest }
         ensures within { size ≤ length (before S.stream self).stream.rest }
-        ensures no_fault {
-            (after S.stream self).stream.faults ≡ (before S.stream self).stream.faults
-        }
+        ensures no_fault { (after S.stream self).stream.faults
+            ≡ (before S.stream self).stream.faults }
         ensures state { self.new.state ≡ State.Failed }
         ensures kind { self.new.kind ≡ self.old.kind }
         ensures mode { self.new.mode ≡ self.old.mode }
@@ -182,25 +163,18 @@ impl<'a, S: Source> Constructed<'a, S> {
         header: Header,
         size: usize,
     ) -> Result<Option<Header>, Stop<S::Error>>
-        requires read {
-            Peeks self.old.mode (Peeked.Front header size)
-                (limited_stream S.stream self.old.source.now)
-        }
+        requires read { Peeks self.old.mode (Peeked.Front header size)
+            (limited_stream S.stream self.old.source.now) }
         requires usable { self.old.state ≡ State.Open }
         ensures moves { Moves (before S.stream self) (after S.stream self) }
-        ensures entered {
-            IfOk result (λ o. IfSome o (λ h.
-                (h ≡ header)
-                × Enters (before S.stream self) (header_of header) (after S.stream self)))
-        }
-        ensures ended {
-            IfOk result (λ o. IfNone o (
-                (header.tag ≡ end_of_contents)
-                × TakesMarker (before S.stream self) (after S.stream self)))
-        }
-        ensures refused {
-            IfErr result (λ e. IsOfContent (stop_cause e) × NoFront (before S.stream self))
-        }
+        ensures entered { IfOk result (λ o. IfSome o (λ h.
+            (h ≡ header)
+            × Enters (before S.stream self) (header_of header) (after S.stream self))) }
+        ensures ended { IfOk result (λ o. IfNone o (
+            (header.tag ≡ end_of_contents)
+            × TakesMarker (before S.stream self) (after S.stream self))) }
+        ensures refused { IfErr result (λ e.
+            IsOfContent (stop_cause e) × NoFront (before S.stream self)) }
         ensures no_fault { MeetsNoFault (before S.stream self) (after S.stream self) result }
         ensures failed { OnErr result (self.new.state ≡ State.Failed) }
         ensures mode { self.new.mode ≡ self.old.mode }
@@ -223,14 +197,10 @@ impl<'a, S: Source> Constructed<'a, S> {
     /// Whether the promised octets are used up.
     #[inline(always)]
     pub(super) fn is_used_up(&self) -> bool
-        ensures yes {
-            IsTrue result
-            → (self.now.kind ≡ Kind.Definite) × (self.now.source.now.limit ≡ Some 0)
-        }
-        ensures no {
-            result ≡ false
-            → self.now.kind ≡ Kind.Definite → self.now.source.now.limit ≡ Some 0 → ⊥
-        }
+        ensures yes { IsTrue result
+            → (self.now.kind ≡ Kind.Definite) × (self.now.source.now.limit ≡ Some 0) }
+        ensures no { result ≡ false
+            → self.now.kind ≡ Kind.Definite → self.now.source.now.limit ≡ Some 0 → ⊥ }
     {
         match self.kind {
             Kind::Definite => match self.source.limit() {
@@ -241,34 +211,23 @@ impl<'a, S: Source> Constructed<'a, S> {
         }
     }
 
-    /// Looks at the next header and takes nothing, or answers `None` where the content is at its end and
-    /// has no marker there.
-    #[tactic(
-        auto,
-        using(crate::proofs::Moving::moves_refl),
-        unfolding(crate::specs::Views::of_constructed)
-    )]
+    /// Looks at the next header and takes nothing, or answers `None` where the content is at its
+    /// end and has no marker there.
+    #[tactic(auto, using(crate::proofs::moves_refl), unfolding(crate::specs::Views::views))]
     #[inline(always)]
     pub(super) fn front(&mut self) -> Result<Option<Front>, Stop<S::Error>>
         ensures moves { Moves (before S.stream self) (after S.stream self) }
-        ensures same {
-            IfOk result (λ o. IfSome o (λ _.
-                Resembles (before S.stream self) (after S.stream self)))
-        }
+        ensures same { IfOk result (λ o. IfSome o (λ _.
+            Resembles (before S.stream self) (after S.stream self))) }
         ensures usable { IfOk result (λ o. IfSome o (λ _. self.new.state ≡ State.Open)) }
-        ensures peeked {
-            IfOk result (λ o. IfSome o (λ f.
-                Peeks self.new.mode (Peeked.Front f.header f.size)
-                    (limited_stream S.stream self.new.source.now)))
-        }
+        ensures peeked { IfOk result (λ o. IfSome o (λ f.
+            Peeks self.new.mode (Peeked.Front f.header f.size)
+            (limited_stream S.stream self.new.source.now))) }
         ensures no_fault { MeetsNoFault (before S.stream self) (after S.stream self) result }
-        ensures end {
-            IfOk result (λ o. IfNone o (
-                EndsAt (before S.stream self) (after S.stream self) × IsDone (after S.stream self)))
-        }
-        ensures refused {
-            RefusesNext (before S.stream self) (after S.stream self) stop_cause any result
-        }
+        ensures end { IfOk result (λ o. IfNone o (
+            EndsAt (before S.stream self) (after S.stream self) × IsDone (after S.stream self))) }
+        ensures refused { RefusesNext (before S.stream self) (after S.stream self)
+            stop_cause any result }
         ensures failed { OnErr result (self.new.state ≡ State.Failed) }
         ensures mode { self.new.mode ≡ self.old.mode }
         ensures marked { self.new.marked ≡ self.old.marked }
@@ -301,21 +260,16 @@ impl<'a, S: Source> Constructed<'a, S> {
         }
     }
 
-    /// Passes over the next header, or answers `None` at the end, whose marker it takes. The content
-    /// has failed until the value is taken.
-    #[tactic(
-        auto,
-        using(crate::proofs::Moving::moves_refl),
-        unfolding(crate::specs::Views::of_constructed)
-    )]
+    /// Passes over the next header, or answers `None` at the end, whose marker it takes. The
+    /// content has failed until the value is taken.
+    #[tactic(auto, using(crate::proofs::moves_refl), unfolding(crate::specs::Views::views))]
     #[inline(always)]
     pub(super) fn next_header(&mut self) -> Result<Option<Header>, Stop<S::Error>>
         ensures moves { Moves (before S.stream self) (after S.stream self) }
         ensures entered { EntersNext (before S.stream self) (after S.stream self) any result }
         ensures none { FindsNone (before S.stream self) (after S.stream self) any result }
-        ensures refused {
-            RefusesNext (before S.stream self) (after S.stream self) stop_cause any result
-        }
+        ensures refused { RefusesNext (before S.stream self) (after S.stream self)
+            stop_cause any result }
         ensures failed { OnErr result (self.new.state ≡ State.Failed) }
         ensures mode { self.new.mode ≡ self.old.mode }
         ensures marked { self.new.marked ≡ self.old.marked }
@@ -327,26 +281,17 @@ impl<'a, S: Source> Constructed<'a, S> {
         }
     }
 
-    /// Passes over the next header if it has this tag. The content has then failed until the value is
-    /// taken.
-    #[tactic(
-        auto,
-        using(crate::proofs::Moving::moves_refl),
-        unfolding(crate::specs::Views::of_constructed)
-    )]
+    /// Passes over the next header if it has this tag. The content has then failed until the value
+    /// is taken.
+    #[tactic(auto, using(crate::proofs::moves_refl), unfolding(crate::specs::Views::views))]
     #[inline(always)]
-    pub(super) fn next_header_if(
-        &mut self,
-        tag: Tag,
-    ) -> Result<Option<Header>, Stop<S::Error>>
+    pub(super) fn next_header_if(&mut self, tag: Tag) -> Result<Option<Header>, Stop<S::Error>>
         ensures moves { Moves (before S.stream self) (after S.stream self) }
-        ensures entered {
-            EntersNext (before S.stream self) (after S.stream self) (tagged tag) result
-        }
+        ensures entered { EntersNext (before S.stream self) (after S.stream self)
+            (tagged tag) result }
         ensures none { FindsNone (before S.stream self) (after S.stream self) (tagged tag) result }
-        ensures refused {
-            RefusesNext (before S.stream self) (after S.stream self) stop_cause (tagged tag) result
-        }
+        ensures refused { RefusesNext (before S.stream self) (after S.stream self)
+            stop_cause (tagged tag) result }
         ensures failed { OnErr result (self.new.state ≡ State.Failed) }
         ensures mode { self.new.mode ≡ self.old.mode }
         ensures marked { self.new.marked ≡ self.old.marked }

@@ -3,7 +3,8 @@ ghost use Rattle.std.specs.Prelude.{◌≡◌};
 ghost use Rattle.bcder.specs.Calls.{Untagged};
 ghost use Rattle.bcder.specs.Content.{any, tagged};
 ghost use Rattle.bcder.specs.Decoding.{AnsweredOn};
-ghost use Rattle.bcder.specs.Takes.{CallableOnContent, LawfulOnContent, TookContent, TookNextContent};
+ghost use Rattle.bcder.specs.Takes.{CallableOnContent, LawfulOnContent, TookContent};
+ghost use Rattle.bcder.specs.Takes.{TookNextContent};
 ghost use Rattle.bcder.specs.Views.{of_content, content_before, content_after, Moved};
 
 use super::{Constructed, Content};
@@ -14,16 +15,16 @@ use crate::tag::Tag;
 impl<'a, S: Source> Constructed<'a, S> {
     /// Takes the next value, or answers `None` at the end of the content.
     ///
-    /// The closure is handed the value's tag and its content, open and in this content's mode, and has to
-    /// take all of it. Its answer is answered. At the end the end-of-contents octets, if any, are taken
-    /// (X.690, 8.1.5).
+    /// The closure is handed the value's tag and its content, open and in this content's mode, and
+    /// has to take all of it. Its answer is answered. At the end the end-of-contents octets, if
+    /// any, are taken (X.690, 8.1.5).
     ///
     /// # Errors
     ///
-    /// Where neither the end nor the header of a value stands in front, allowed by the mode and with no
-    /// more octets than are owed (8.1.2, 8.1.3); where the closure refuses, or leaves octets, values or
-    /// failed content; where an earlier value was refused; where the source fails. The content has then
-    /// failed, and every later take refuses.
+    /// Where neither the end nor the header of a value stands in front, allowed by the mode and
+    /// with no more octets than are owed (8.1.2, 8.1.3); where the closure refuses, or leaves
+    /// octets, values or failed content; where an earlier value was refused; where the source
+    /// fails. The content has then failed, and every later take refuses.
     #[inline(always)]
     pub fn take_opt_value<F, T: Drop>(&mut self, op: F) -> Result<Option<T>, DecodeError<S::Error>>
     where
@@ -65,17 +66,19 @@ impl<'a, S: Source> Constructed<'a, S> {
 
     /// Takes the next value if it has this tag, or answers `None`.
     ///
-    /// `None` is for the end of the content, for a source that has no more octets, and for a value of
-    /// another tag. What stands there stays, so that a later call takes it; a call for
-    /// `Tag::END_OF_VALUE` takes end-of-contents octets (X.690, 8.1.5). The closure is handed the value's content, open and in this content's mode, and has to take
-    /// all of it. Its answer is answered.
+    /// `None` is for the end of the content, for a source that has no more octets, and for a value
+    /// of another tag. What stands there stays, so that a later call takes it; a call for
+    /// `Tag::END_OF_VALUE` takes end-of-contents octets (X.690, 8.1.5). The closure is handed the
+    /// value's content, open and in this content's mode, and has to take all of it. Its answer is
+    /// answered.
     ///
     /// # Errors
     ///
-    /// Where octets stand in front that are no identifier octets, or those of this tag without a header
-    /// of a value that the mode allows, with no more octets than are owed (8.1.2, 8.1.3); where the closure refuses, or leaves
-    /// octets, values or failed content; where an earlier value was refused; where the source fails. The
-    /// content has then failed, and every later take refuses.
+    /// Where octets stand in front that are no identifier octets, or those of this tag without a
+    /// header of a value that the mode allows, with no more octets than are owed (8.1.2, 8.1.3);
+    /// where the closure refuses, or leaves octets, values or failed content; where an earlier
+    /// value was refused; where the source fails. The content has then failed, and every later take
+    /// refuses.
     #[inline(always)]
     pub fn take_opt_value_if<F, T: Drop>(
         &mut self,
@@ -94,10 +97,9 @@ impl<'a, S: Source> Constructed<'a, S> {
                 header,
                 |_tag, content|
                     requires { (p : _) → p.now ≡ content.now → F.pre op p }
-                    ensures {
-                        AnsweredOn (of_content S.stream) (F.post op)
-                            (content_before S.stream content) result (content_after S.stream content)
-                    }
+                    ensures { AnsweredOn (of_content S.stream) (F.post op)
+                        (content_before S.stream content) result
+                        (content_after S.stream content) }
                 { op(content) },
             ),
             Ok(None) => Ok(None),
@@ -111,8 +113,8 @@ impl<'a, S: Source> Constructed<'a, S> {
     ///
     /// # Errors
     ///
-    /// Those of `take_opt_value_if`, and `ContentError::ExpectedTag` where that answers `None`: the content
-    /// then stays usable.
+    /// Those of `take_opt_value_if`, and `ContentError::ExpectedTag` where that answers `None`: the
+    /// content then stays usable.
     #[inline(always)]
     pub fn take_value_if<F, T: Drop>(&mut self, tag: Tag, op: F) -> Result<T, DecodeError<S::Error>>
     where

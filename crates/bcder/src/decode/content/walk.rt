@@ -24,15 +24,15 @@ use crate::plain::{skip_one, skip_short};
 /// Passes over the next value, or answers `None` at the end of the content, whose marker it takes.
 ///
 /// A value is passed exactly where an encoding of one stands in front, in the content's mode
-/// (X.690, 8.1.1), unless the source fails. Its identifier octets, length octets and end-of-contents
-/// octets and those of all values inside it are looked at. Contents octets of primitive values are
-/// not. No memory is taken, but each level of values takes a level of calls.
+/// (X.690, 8.1.1), unless the source fails. Its identifier octets, length octets and
+/// end-of-contents octets and those of all values inside it are looked at. Contents octets of
+/// primitive values are not. No memory is taken, but each level of values takes a level of calls.
 ///
 /// # Errors
 ///
 /// Where neither the encoding of a value nor the end stands in front, where an earlier value was
 /// refused or where the source fails. The content has then failed.
-#[tactic(auto, using(crate::proofs::Moving::moves_trans))]
+#[tactic(auto, using(crate::proofs::moves_trans))]
 #[inline(always)]
 pub fn walk<S: Source>(cons: &mut Constructed<'_, S>) -> Result<Option<()>, DecodeError<S::Error>>
     ensures moves { Moved S.stream cons }
@@ -90,8 +90,8 @@ fn whole_size(mode: Mode, octets: &[u8], short: bool) -> Option<usize>
     }
 }
 
-/// The same of the value at the front of a source, of which nothing is taken. It asks for two octets,
-/// as the header of a value has at least. An error is the source's own.
+/// The same of the value at the front of a source, of which nothing is taken. It asks for two
+/// octets, as the header of a value has at least. An error is the source's own.
 #[inline(always)]
 fn size_at_hand<S: Source>(
     source: &mut S,
@@ -151,9 +151,9 @@ impl<'a, S: Source> Constructed<'a, S> {
         size_at_hand(self.source, self.mode, short)
     }
 
-    /// Passes over the next value in one go where all of its octets are at hand, and says whether it
-    /// did. The source is asked at most once, and not where no octets are owed.
-    #[tactic(auto, using(crate::proofs::Moving::moves_refl), unfolding(crate::specs::Views::of_constructed))]
+    /// Passes over the next value in one go where all of its octets are at hand, and says whether
+    /// it did. The source is asked at most once, and not where no octets are owed.
+    #[tactic(auto, using(crate::proofs::moves_refl), unfolding(crate::specs::Views::views))]
     #[inline(always)]
     fn pass_at_hand(&mut self, short: bool) -> Result<bool, Stop<S::Error>>
         ensures moves { Between S.stream self Moves }
@@ -178,8 +178,9 @@ impl<'a, S: Source> Constructed<'a, S> {
         }
     }
 
-    /// Passes over a primitive value in one step where all of its octets come, and says whether it did.
-    #[tactic(auto, using(crate::proofs::Moving::moves_refl), unfolding(crate::specs::Views::of_constructed))]
+    /// Passes over a primitive value in one step where all of its octets come, and says whether it
+    /// did.
+    #[tactic(auto, using(crate::proofs::moves_refl), unfolding(crate::specs::Views::views))]
     #[inline(always)]
     fn pass_primitive(&mut self, header: Header, size: usize) -> Result<bool, Stop<S::Error>>
         requires read { Peeks self.old.mode (Peeked.Front header size)
@@ -211,7 +212,7 @@ impl<'a, S: Source> Constructed<'a, S> {
 
 /// Passes over all of the next value if it is primitive and its octets come, and else over its
 /// header.
-#[tactic(auto, using(crate::proofs::Moving::moves_refl), unfolding(crate::specs::Views::of_constructed))]
+#[tactic(auto, using(crate::proofs::moves_refl), unfolding(crate::specs::Views::of_constructed))]
 #[inline(always)]
 fn go_on<S: Source>(cons: &mut Constructed<'_, S>) -> Result<Next, Stop<S::Error>>
     ensures moves { Between S.stream cons Moves }
@@ -282,7 +283,7 @@ fn step<S: Source>(cons: &mut Constructed<'_, S>) -> Result<Option<()>, Stop<S::
 
 /// Passes over the content of a value whose header was passed over.
 #[cycle(walk)]
-#[tactic(auto, using(crate::proofs::Moving::moves_refl, crate::proofs::Moving::moves_trans), unfolding(crate::specs::Views::of_constructed))]
+#[tactic(auto, using(crate::proofs::moves), unfolding(crate::specs::Views::of_constructed))]
 #[inline(always)]
 fn pass_content<S: Source>(
     cons: &mut Constructed<'_, S>,
@@ -311,7 +312,7 @@ fn pass_content<S: Source>(
 
 /// Passes over the values inside a value.
 #[cycle(walk)]
-#[tactic(auto, using(crate::proofs::Moving::moves_refl, crate::proofs::Moving::moves_trans), unfolding(crate::specs::Views::of_constructed))]
+#[tactic(auto, using(crate::proofs::moves), unfolding(crate::specs::Views::of_constructed))]
 #[inline(never)]
 fn walk_over<S: Source>(
     source: &mut LimitedSource<S>,
