@@ -112,12 +112,6 @@ pub record StepsBy {E : Type 0} (why : E → Cause ContentError) (c : Reading) (
   pub mode : d.mode ≡ c.mode
   pub marked : d.marked ≡ c.marked
 
--- the first n octets are the encoding of a value
-pub record BeginsWhole (mode : Mode) (octets : List ℕ) (n : ℕ) : Type 0 where
-  pub tree : Tree
-  pub encodes : IsEncoding mode tree (take n octets)
-  pub fits : n ≤ length octets
-
 -- ---- all values
 
 -- content of this form ends after the octets w and before the octets `after`

@@ -8,7 +8,8 @@ ghost use Rattle.bcder.specs.Content.{Moves, FitsOwed, values, Resembles};
 ghost use Rattle.bcder.specs.Calls.{RanOver};
 ghost use Rattle.bcder.specs.Walking.{Between, PassedNext, ExactlyNext, NoFault, Fault, PassedStep};
 ghost use Rattle.bcder.specs.Walking.{PassedOver, PassedAtOnce, Stepped, PassedAll, WalkedOver};
-ghost use Rattle.bcder.specs.Walking.{IsPrimitive, BeginsWhole, itself, walked};
+ghost use Rattle.bcder.specs.Grammar.{BeginsWhole};
+ghost use Rattle.bcder.specs.Walking.{IsPrimitive, itself, walked};
 ghost use Rattle.bcder.specs.Views.{Moved, of_constructed, limited_stream};
 
 use super::take::{pop, push};
@@ -19,7 +20,7 @@ use crate::decode::source::{LimitedSource, Source};
 use crate::decode::stop::Stop;
 use crate::length::Length;
 use crate::mode::Mode;
-use crate::plain::{skip_one, skip_short};
+use crate::plain::{short_size, skip_one};
 
 /// Passes over the next value, or answers `None` at the end of the content, whose marker it takes.
 ///
@@ -79,12 +80,10 @@ fn primitive_size(header: Header, size: usize) -> Option<usize>
 fn whole_size(mode: Mode, octets: &[u8], short: bool) -> Option<usize>
     ensures { IfSome result (λ n. BeginsWhole mode octets.now n) }
 {
-    let found = if short {
-        skip_short(mode, octets)
-    } else {
-        skip_one(mode, octets)
-    };
-    match found {
+    if short {
+        return short_size(octets);
+    }
+    match skip_one(mode, octets) {
         Some(rest) => Some(octets.len() - rest.len()),
         None => None,
     }
@@ -162,8 +161,10 @@ impl<'a, S: Source> Constructed<'a, S> {
         let State::Open = self.state else {
             return Ok(false);
         };
-        if let Some(0) = self.source.limit() {
-            return Ok(false);
+        if let Kind::Definite = self.kind {
+            if let Some(0) = self.source.limit() {
+                return Ok(false);
+            }
         }
         match self.look_at_whole(short) {
             Ok(Some(size)) => {
