@@ -17,8 +17,10 @@ use crate::length::{Length, after_end, length_at};
 use crate::mode::Mode;
 use crate::tag::{Tag, identifier_at};
 
+/// Whether a mode allows a length (X.690, 9.1, 10.1) in an encoding of a form (8.1.3.2).
 #[tactic(auto, using(std::proofs::lemmas::Bool::Decides::nat_tests))]
-fn may_have(mode: Mode, constructed: bool, len: Length) -> bool
+#[inline(always)]
+pub(crate) fn may_have(mode: Mode, constructed: bool, len: Length) -> bool
     ensures { result ≡ may_have mode constructed len }
 {
     match len {
