@@ -237,8 +237,14 @@ fn no_status_depends_on_messages(rt: HostRuntime) -> Result<(), Fail> {
 fn errors_have_texts(rt: HostRuntime) -> Result<(), Fail> {
     let alloc = rt.alloc();
     let target = ListError::Target(io::Error::from(ErrorKind::BrokenPipe));
-    assert_eq!(rt; format!(in alloc; "{}", ListError::Refused)?.as_str(), "refused");
-    assert_eq!(rt; format!(in alloc; "{}", ListError::NoMemory)?.as_str(), "out of memory");
+    assert_eq!(rt;
+        format!(in alloc; "{}", ListError::Refused)?.as_str(),
+        "refused"
+    );
+    assert_eq!(rt;
+        format!(in alloc; "{}", ListError::NoMemory)?.as_str(),
+        "out of memory"
+    );
     assert_eq!(rt; format!(in alloc; "{target}")?.as_str(), "broken pipe");
     Ok(())
 }
