@@ -7,7 +7,8 @@ ghost use Rattle.bcder.specs.Peek.{header as header_of, Peeks};
 ghost use Rattle.bcder.specs.Content.{Moves, FitsOwed, Accepts, end_header, values, Resembles};
 ghost use Rattle.bcder.specs.Calls.{RanOver};
 ghost use Rattle.bcder.specs.Walking.{Between, PassedNext, ExactlyNext, NoFault, Fault, PassedStep};
-ghost use Rattle.bcder.specs.Walking.{PassedOver, PassedAtOnce, Entered, Stepped, PassedAll, WalkedOver};
+ghost use Rattle.bcder.specs.Walking.{PassedOver, PassedAtOnce, Entered, Stepped, PassedAll};
+ghost use Rattle.bcder.specs.Walking.{WalkedOver};
 ghost use Rattle.bcder.specs.Grammar.{BeginsWhole};
 ghost use Rattle.bcder.specs.Walking.{IsPrimitive, itself, walked, header};
 ghost use Rattle.bcder.specs.Views.{Moved, of_constructed, limited_stream};
@@ -212,8 +213,8 @@ impl<'a, S: Source> Constructed<'a, S> {
     }
 }
 
-/// Whether this is the header of a value that content in the mode may hold, where so many octets are
-/// owed behind it.
+/// Whether this is the header of a value that content in the mode may hold, where so many octets
+/// are owed behind it.
 #[inline(always)]
 fn may_enter(mode: Mode, tag: Tag, constructed: bool, len: Length, owed: Option<usize>) -> bool
     ensures yes { IsTrue result → Accepts mode (header tag constructed len) owed }
@@ -378,7 +379,8 @@ fn walk_over<S: Source>(
         (limited_stream S.stream source.old) source.old.limit (values kind) mode t result false
         (limited_stream S.stream source.new) source.new.limit }
     ensures no_fault { OnOk result
-        ((limited_stream S.stream source.new).faults ≡ (limited_stream S.stream source.old).faults) }
+        ((limited_stream S.stream source.new).faults
+            ≡ (limited_stream S.stream source.old).faults) }
 {
     let start = source.pos();
     let mut cons = Constructed {
