@@ -49,8 +49,8 @@ impl<'a, S: Source> Constructed<'a, S> {
         self.source.limit()
     }
 
-    /// Calls the closure over the content again and again while it answers `Some`, and ends where it
-    /// answers `None`: the loop over a SEQUENCE OF or a SET OF.
+    /// Calls the closure over the content again and again while it answers `Some`, and ends where
+    /// it answers `None`: the loop over a SEQUENCE OF or a SET OF.
     ///
     /// ```text
     /// let mut count = 0u64;
