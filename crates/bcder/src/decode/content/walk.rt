@@ -7,7 +7,8 @@ ghost use Rattle.bcder.specs.Peek.{header as header_of, Peeks};
 ghost use Rattle.bcder.specs.Content.{Moves, FitsOwed, Accepts, end_header, values, Resembles};
 ghost use Rattle.bcder.specs.Calls.{RanOver};
 ghost use Rattle.bcder.specs.Walking.{Between, PassedNext, ExactlyNext, NoFault, Fault, PassedStep};
-ghost use Rattle.bcder.specs.Walking.{PassedOver, PassedAtOnce, Entered, Stepped, PassedAll, WalkedOver};
+ghost use Rattle.bcder.specs.Walking.{PassedOver, PassedAtOnce, Entered, Stepped};
+ghost use Rattle.bcder.specs.Walking.{PassedAll, WalkedOver};
 ghost use Rattle.bcder.specs.Grammar.{BeginsWhole};
 ghost use Rattle.bcder.specs.Walking.{IsPrimitive, itself, walked, header};
 ghost use Rattle.bcder.specs.Views.{Moved, of_constructed, limited_stream};
@@ -26,9 +27,9 @@ use crate::tag::Tag;
 /// Passes over the next value, or answers `None` at the end of the content, whose marker it takes.
 ///
 /// A value is passed exactly where an encoding of one stands in front, in the content's mode
-/// (X.690, 8.1.1), unless the source fails. Its identifier octets, length octets and end-of-contents
-/// octets and those of all values inside it are looked at. Contents octets of primitive values are
-/// not. No memory is taken, but each level of values takes a level of calls.
+/// (X.690, 8.1.1), unless the source fails. Its identifier octets, length octets and
+/// end-of-contents octets and those of all values inside it are looked at. Contents octets of
+/// primitive values are not. No memory is taken, but each level of values takes a level of calls.
 ///
 /// # Errors
 ///
@@ -90,8 +91,8 @@ fn whole_size(mode: Mode, octets: &[u8], short: bool) -> Option<usize>
     }
 }
 
-/// The same of the value at the front of a source, of which nothing is taken. It asks for two octets,
-/// as the header of a value has at least. An error is the source's own.
+/// The same of the value at the front of a source, of which nothing is taken. It asks for two
+/// octets, as the header of a value has at least. An error is the source's own.
 #[inline(always)]
 fn size_at_hand<S: Source>(
     source: &mut S,
@@ -151,9 +152,9 @@ impl<'a, S: Source> Constructed<'a, S> {
         size_at_hand(self.source, self.mode, short)
     }
 
-    /// Passes over the next value in one go where all of its octets are at hand, and says whether it
-    /// did. The source is asked at most once, and not where no octets are owed.
-    #[tactic(auto, using(crate::proofs::Moving::moves_refl), unfolding(crate::specs::Views::of_constructed))]
+    /// Passes over the next value in one go where all of its octets are at hand, and says whether
+    /// it did. The source is asked once at most, and not where no octets are owed.
+    #[tactic(auto, unfolding(crate::specs::Views::of_constructed))]
     #[inline(always)]
     fn pass_at_hand(&mut self, short: bool) -> Result<bool, Stop<S::Error>>
         ensures moves { Between S.stream self Moves }
@@ -180,8 +181,9 @@ impl<'a, S: Source> Constructed<'a, S> {
         }
     }
 
-    /// Passes over a primitive value in one step where all of its octets come, and says whether it did.
-    #[tactic(auto, using(crate::proofs::Moving::moves_refl), unfolding(crate::specs::Views::of_constructed))]
+    /// Passes over a primitive value in one step where all of its octets come, and says whether it
+    /// did.
+    #[tactic(auto, unfolding(crate::specs::Views::of_constructed))]
     #[inline(always)]
     fn pass_primitive(&mut self, header: Header, size: usize) -> Result<bool, Stop<S::Error>>
         requires read { Peeks self.old.mode (Peeked.Front header size)
@@ -211,8 +213,8 @@ impl<'a, S: Source> Constructed<'a, S> {
     }
 }
 
-/// Whether this is the header of a value that content in the mode may hold, where so many octets are
-/// owed behind it.
+/// Whether this is the header of a value that content in the mode may hold, where so many octets
+/// are owed behind it.
 #[inline(always)]
 fn may_enter(mode: Mode, tag: Tag, constructed: bool, len: Length, owed: Option<usize>) -> bool
     ensures yes { IsTrue result → Accepts mode (header tag constructed len) owed }
@@ -264,7 +266,7 @@ impl<'a, S: Source> Constructed<'a, S> {
 
 /// Passes over all of the next value if it is primitive and its octets come, and else over its
 /// header.
-#[tactic(auto, using(crate::proofs::Moving::moves_refl), unfolding(crate::specs::Views::of_constructed))]
+#[tactic(auto, unfolding(crate::specs::Views::of_constructed))]
 #[inline(always)]
 fn go_on<S: Source>(cons: &mut Constructed<'_, S>) -> Result<Next, Stop<S::Error>>
     ensures moves { Between S.stream cons Moves }
@@ -335,7 +337,7 @@ fn step<S: Source>(cons: &mut Constructed<'_, S>) -> Result<Option<()>, Stop<S::
 
 /// Passes over the content of a value whose header was passed over.
 #[cycle(walk)]
-#[tactic(auto, using(crate::proofs::Moving::moves_refl, crate::proofs::Moving::moves_trans), unfolding(crate::specs::Views::of_constructed))]
+#[tactic(auto, unfolding(crate::specs::Views::of_constructed))]
 #[inline(always)]
 fn pass_content<S: Source>(
     cons: &mut Constructed<'_, S>,
@@ -365,7 +367,7 @@ fn pass_content<S: Source>(
 
 /// Passes over the values inside a value.
 #[cycle(walk)]
-#[tactic(auto, using(crate::proofs::Moving::moves_refl, crate::proofs::Moving::moves_trans), unfolding(crate::specs::Views::of_constructed))]
+#[tactic(auto, unfolding(crate::specs::Views::of_constructed))]
 #[inline(never)]
 fn walk_over<S: Source>(
     source: &mut LimitedSource<S>,
@@ -377,7 +379,8 @@ fn walk_over<S: Source>(
         (limited_stream S.stream source.old) source.old.limit (values kind) mode t result false
         (limited_stream S.stream source.new) source.new.limit }
     ensures no_fault { OnOk result
-        ((limited_stream S.stream source.new).faults ≡ (limited_stream S.stream source.old).faults) }
+        ((limited_stream S.stream source.new).faults
+        ≡ (limited_stream S.stream source.old).faults) }
 {
     let start = source.pos();
     let mut cons = Constructed {
