@@ -7,8 +7,8 @@ ghost use Rattle.bcder.specs.Peek.{header as header_of, Peeks};
 ghost use Rattle.bcder.specs.Content.{Moves, FitsOwed, Accepts, end_header, values, Resembles};
 ghost use Rattle.bcder.specs.Calls.{RanOver};
 ghost use Rattle.bcder.specs.Walking.{Between, PassedNext, ExactlyNext, NoFault, Fault, PassedStep};
-ghost use Rattle.bcder.specs.Walking.{PassedOver, PassedAtOnce, Entered, Stepped, PassedAll};
-ghost use Rattle.bcder.specs.Walking.{WalkedOver};
+ghost use Rattle.bcder.specs.Walking.{PassedOver, PassedAtOnce, Entered, Stepped};
+ghost use Rattle.bcder.specs.Walking.{PassedAll, WalkedOver};
 ghost use Rattle.bcder.specs.Grammar.{BeginsWhole};
 ghost use Rattle.bcder.specs.Walking.{IsPrimitive, itself, walked, header};
 ghost use Rattle.bcder.specs.Views.{Moved, of_constructed, limited_stream};
@@ -35,7 +35,7 @@ use crate::tag::Tag;
 ///
 /// Where neither the encoding of a value nor the end stands in front, where an earlier value was
 /// refused or where the source fails. The content has then failed.
-#[tactic(auto, using(crate::proofs::moves_trans))]
+#[tactic(auto, using(crate::proofs::Moving::moves_trans))]
 #[inline(always)]
 pub fn walk<S: Source>(cons: &mut Constructed<'_, S>) -> Result<Option<()>, DecodeError<S::Error>>
     ensures moves { Moved S.stream cons }
@@ -153,8 +153,8 @@ impl<'a, S: Source> Constructed<'a, S> {
     }
 
     /// Passes over the next value in one go where all of its octets are at hand, and says whether
-    /// it did. The source is asked at most once, and not where no octets are owed.
-    #[tactic(auto, using(crate::proofs::moves_refl), unfolding(crate::specs::Views::views))]
+    /// it did. The source is asked once at most, and not where no octets are owed.
+    #[tactic(auto, unfolding(crate::specs::Views::of_constructed))]
     #[inline(always)]
     fn pass_at_hand(&mut self, short: bool) -> Result<bool, Stop<S::Error>>
         ensures moves { Between S.stream self Moves }
@@ -183,7 +183,7 @@ impl<'a, S: Source> Constructed<'a, S> {
 
     /// Passes over a primitive value in one step where all of its octets come, and says whether it
     /// did.
-    #[tactic(auto, using(crate::proofs::moves_refl), unfolding(crate::specs::Views::views))]
+    #[tactic(auto, unfolding(crate::specs::Views::of_constructed))]
     #[inline(always)]
     fn pass_primitive(&mut self, header: Header, size: usize) -> Result<bool, Stop<S::Error>>
         requires read { Peeks self.old.mode (Peeked.Front header size)
@@ -266,7 +266,7 @@ impl<'a, S: Source> Constructed<'a, S> {
 
 /// Passes over all of the next value if it is primitive and its octets come, and else over its
 /// header.
-#[tactic(auto, using(crate::proofs::moves_refl), unfolding(crate::specs::Views::of_constructed))]
+#[tactic(auto, unfolding(crate::specs::Views::of_constructed))]
 #[inline(always)]
 fn go_on<S: Source>(cons: &mut Constructed<'_, S>) -> Result<Next, Stop<S::Error>>
     ensures moves { Between S.stream cons Moves }
@@ -337,7 +337,7 @@ fn step<S: Source>(cons: &mut Constructed<'_, S>) -> Result<Option<()>, Stop<S::
 
 /// Passes over the content of a value whose header was passed over.
 #[cycle(walk)]
-#[tactic(auto, using(crate::proofs::moves), unfolding(crate::specs::Views::of_constructed))]
+#[tactic(auto, unfolding(crate::specs::Views::of_constructed))]
 #[inline(always)]
 fn pass_content<S: Source>(
     cons: &mut Constructed<'_, S>,
@@ -367,7 +367,7 @@ fn pass_content<S: Source>(
 
 /// Passes over the values inside a value.
 #[cycle(walk)]
-#[tactic(auto, using(crate::proofs::moves), unfolding(crate::specs::Views::of_constructed))]
+#[tactic(auto, unfolding(crate::specs::Views::of_constructed))]
 #[inline(never)]
 fn walk_over<S: Source>(
     source: &mut LimitedSource<S>,
@@ -380,7 +380,7 @@ fn walk_over<S: Source>(
         (limited_stream S.stream source.new) source.new.limit }
     ensures no_fault { OnOk result
         ((limited_stream S.stream source.new).faults
-            ≡ (limited_stream S.stream source.old).faults) }
+        ≡ (limited_stream S.stream source.old).faults) }
 {
     let start = source.pos();
     let mut cons = Constructed {
