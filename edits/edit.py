@@ -100,7 +100,7 @@ def pairs_of(text):
         elif line.startswith("new:"):
             if not path or not old:
                 raise BadEdit("a 'new:' line stands before any 'file:' or 'old:' line")
-            yield path, old, line[4:].removeprefix(" ")
+            yield path, old, line[5:] if line.startswith("new: ") else line[4:]
             old = None
         elif line.strip():
             raise BadEdit(f"a line is no 'file:', 'old:' or 'new:' line: {line[:60]}")
