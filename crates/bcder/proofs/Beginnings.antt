@@ -4,9 +4,10 @@ use Rattle.std.proofs.lemmas.Bool.{cases_lt, lt-ltb, le-ltb, lt-leb, le-leb}
 use Rattle.std.proofs.lemmas.List.{length-append, take-append-le, drop_at}
 use Rattle.bcder.specs.declared.mode.Mode.{Mode}
 use Rattle.bcder.specs.declared.length.Length.{Length}
+use Rattle.bcder.specs.declared.length.Length.TheVariants.{Definite}
 use Rattle.bcder.specs.Identifier.{AreOctets, Tag, IsTag, base128, identifier}
 use Rattle.bcder.specs.Length.{big_endian, AreLengthOctets}
-use Rattle.bcder.specs.Reading.{may_tell, read_long, read_length, third_digit, second_digit, read_number, read_identifier, read_front}
+use Rattle.bcder.specs.Reading.{may_tell, read_long, read_length, third_digit, second_digit, read_number, class_of, is_marked, read_identifier, read_front}
 use Rattle.bcder.specs.Begins.{BeginsNoIdentifier, BeginsLength, BeginsNoLength}
 use Rattle.bcder.specs.laws.Identifiers.{read_identifier-identifier, identifier_some}
 use Rattle.bcder.specs.laws.Lengths.{read_length-tells}
@@ -77,6 +78,9 @@ fourth_decides [] x l e = absurd (omega arith)
 fourth_decides (b ∷ []) x l e = absurd (omega arith)
 fourth_decides (b ∷ a ∷ w) x l e = identifier_none b a w x (λ above. omega arith) e
 
+-- what octets tell of identifier octets that may begin with them
+pub ruleset identifier_decides = (second_decides, fourth_decides)
+
 -- ---- octets that begin no length octets
 
 untold : {A : Type 0} (b : Bool) (y z : A) → cond b (Some y) None ≡ None → cond b (Some z) None ≡ None
@@ -115,6 +119,9 @@ count_decides mode (b ∷ w) x l h e = length_none mode b w x (λ k. omega arith
 pub first_decides : (mode : Mode) (w x : List ℕ) → 0x84 < get_or w 0 0 → read_length mode w ≡ None → read_length mode (w ++ x) ≡ None
 first_decides mode [] x h e = absurd (omega arith)
 first_decides mode (b ∷ w) x h e = length_none mode b w x (λ k. absurd (omega arith)) e
+
+-- what octets tell of length octets that may begin with them
+pub ruleset length_decides = (count_decides, first_decides)
 
 -- ---- what is read at the front
 
@@ -207,6 +214,13 @@ no_identifier mode w e = rw e refl
 pub no_length : (mode : Mode) (w : List ℕ) (t : Tag) (f : Bool) (y : List ℕ) → read_identifier w ≡ Some (t, f, y) → read_length mode y ≡ None → read_front mode w ≡ None
 unfolding read_front
 no_length mode w t f y e d = rw (e, d) refl
+
+-- two octets are both where the first tells the tag alone and the second a length below 128
+pub short_stands : (mode : Mode) (w x : List ℕ) (t : Tag) (f : Bool) (n : ℕ) → 2 ≤ length w → get_or w 0 0 % 32 < 31 → get_or w 1 0 < 128 → t ≡ record { class = class_of (get_or w 0 0); number = get_or w 0 0 % 32 } → f ≡ is_marked (get_or w 0 0) → n ≡ get_or w 1 0 → read_front mode (w ++ x) ≡ Some (record { tag = t; form = f; len = Definite n }, drop 2 (w ++ x))
+unfolding read_front read_identifier read_length
+short_stands mode [] x t f n two low short tag mark len = absurd (omega arith)
+short_stands mode (b ∷ []) x t f n two low short tag mark len = absurd (omega arith)
+short_stands mode (b ∷ l ∷ w) x t f n two low short tag mark len = rw (lt-ltb (b % 32) 31 low, lt-ltb l 128 short, tag, mark, len) refl
 
 -- ---- in the words of the standard
 

@@ -259,7 +259,7 @@ header_not_at_end c after w o h = record { none = λ b e. elim e [ inl y ↦ ope
     at_end b (of_indefinite q m) = header_no_marker any c after b h m
     at_end b (of_unbounded q z) = no_header_empty any c after z h
 
-pub header_entered : (c : Reading) (h : Header) (d : Reading) (asked : Asked) → IsAsked asked h.tag → Enters c h d → HasHeader asked c d.stream.rest
+abbrev pub header_entered : (c : Reading) (h : Header) (d : Reading) (asked : Asked) → IsAsked asked h.tag → Enters c h d → HasHeader asked c d.stream.rest
 header_entered c h d asked t x = record { tag = h.tag; form = h.form; len = h.len; octets = x.octets; is_header = x.is_header; is_asked = t; rest = x.advances.rest; owed = d.owed; falls = x.advances.owed; fits = x.fits }
 
 -- ---- a value of one tag

@@ -63,6 +63,10 @@ parts mode w h x e =
     let p = pair_is _ h b.0.1 x b.2 in
     parts_at mode w h x a.0.2 a.0.0 a.0.1 b.0.0 b.0.1 a.1 b.1 p.0 p.1
 
+-- a header with another tag is the identifier octets of that one
+pub other_of_front : (mode : Mode) (t : Tag) (w : List ℕ) (h : Header) (x : List ℕ) → read_front mode w ≡ Some (h, x) → (h.tag ≡ t → ⊥) → HasOtherTag t w
+other_of_front mode t w h x e d = let p = parts mode w h x e in (h.tag, h.form, p.after, p.identified, d)
+
 header_read : (mode : Mode) (w : List ℕ) (h : Header) (x : List ℕ) → Parts mode w h x → is_value_tag h.tag ≡ true → may_have mode h.form h.len ≡ true → read_header mode w ≡ Some (h, x)
 unfolding read_header
 header_read mode w h x p v a = rw (p.identified, v, p.told, a) refl

@@ -18,8 +18,9 @@ use Rattle.bcder.specs.Reading.{Header}
 use Rattle.bcder.specs.Stream.{Layer, Stream, IsSound, cut, past, limited}
 use Rattle.bcder.specs.declared.decode.error.ContentError.{ContentError}
 use Rattle.bcder.specs.Cause.{Cause}
-use Rattle.bcder.specs.Content.{Reading, Form, Octets, DefiniteValues, IndefiniteValues, label, Moves, MovesBy, Whole, Falls, Closes, IsDone, IsUsedUp, Advances, FitsOwed}
+use Rattle.bcder.specs.Content.{Reading, Form, values, Octets, DefiniteValues, IndefiniteValues, label, Moves, MovesBy, Whole, Falls, Closes, IsDone, IsUsedUp, Advances, FitsOwed}
 use Rattle.bcder.specs.Calls.{IsFormOf, ContentOf, AnswersDone, RanOver, TakesContent, popped}
+use Rattle.bcder.specs.Inside.{kind_behind, limit_inside, limit_outside}
 use Rattle.bcder.specs.Views.{limited_stream}
 use Rattle.bcder.specs.laws.Limits.{rest_told_behind, limited_sound}
 use Rattle.bcder.specs.laws.Sound.{AreOctets-take}
@@ -216,7 +217,7 @@ module _ {C T E : Type 0} (why : E → Cause ContentError) (view : C → Reading
         mode = ran.runs.mode;
         marked = ran.runs.marked;
         form = subst (λ z. IsFormOf h.form z ran.handed.kind) (sym hn) (subst (λ z. IsFormOf h.form (Definite n) z) (sym ran.runs.kind) form);
-        octets = subst (λ z. ContentOf z c.stream.rest ran.handed.owed ran.handed.stream.rest) (sym hn) (ran.runs.owed, ap (λ x. x.rest) ran.runs.stream ∙ take_cut o n s.rest fits ∙ ap (λ x. take n x.rest) (sym cs));
+        octets = subst (λ z. ContentOf z c.owed c.stream.rest ran.handed.owed ran.handed.stream.rest) (sym hn) (ran.runs.owed, ap (λ x. x.rest) ran.runs.stream ∙ take_cut o n s.rest fits ∙ ap (λ x. take n x.rest) (sym cs));
       };
       moves = ran.runs.moves;
       faults_handed = ap (λ x. x.faults) ran.runs.stream ∙ ap (λ x. x.faults) (sym cs);
@@ -244,7 +245,7 @@ module _ {C T E : Type 0} (why : E → Cause ContentError) (view : C → Reading
         mode = ran.runs.mode;
         marked = ran.runs.marked;
         form = subst (λ z. IsFormOf h.form z ran.handed.kind) (sym hn) ran.runs.kind;
-        octets = subst (λ z. ContentOf z c.stream.rest ran.handed.owed ran.handed.stream.rest) (sym hn) (ap (λ x. x.rest) ran.runs.stream);
+        octets = subst (λ z. ContentOf z c.owed c.stream.rest ran.handed.owed ran.handed.stream.rest) (sym hn) (ran.runs.owed, ap (λ x. x.rest) ran.runs.stream);
       };
       moves = ran.runs.moves;
       faults_handed = ap (λ x. x.faults) ran.runs.stream;
@@ -282,3 +283,34 @@ module _ {C T E : Type 0} (why : E → Cause ContentError) (view : C → Reading
 
     pub takes_marked : h.len ≡ Indefinite → RanOver why view post c.stream c.owed IndefiniteValues c.mode h.tag r mark d.stream d.owed → TakesContent why view post c h r d
     takes_marked hn ran = takes_indefinite hn ran (λ octets e mv w. encodes_indefinite c.mode h.tag h.form h.len octets ran.handed ran.left e ran.runs.state ran.runs.mode mv w hn ran.runs.kind)
+
+    -- the same of content behind a length of either kind
+    module _ {S : Type 0} (stream : S → Stream) (l0 l1 l2 l3 : LimitedSource S) (o : Option ℕ)
+        (cs : c.stream ≡ limited_stream stream l0) (co : c.owed ≡ l0.limit) (oo : o ≡ l0.limit) (a1 : l1.limit ≡ limit_inside h.len l0.limit) (b1 : l1.source ≡ l0.source)
+        (a3 : l3.limit ≡ limit_outside h.len o l2.limit) (b3 : l3.source ≡ l2.source) (ds : d.stream ≡ limited_stream stream l3) (do' : d.owed ≡ l3.limit) (fits : FitsOwed h.len l0.limit) where
+      pub octets_taken : h.form ≡ false → may_have c.mode h.form h.len ≡ true → IsSound (stream l0.source) → RanOver why view post (limited_stream stream l1) l1.limit Octets c.mode h.tag r mark (limited_stream stream l2) l2.limit → TakesContent why view post c h r d
+      octets_taken g a so ran = by_len h.len refl
+        where
+          by_len : (len : Length) → h.len ≡ len → TakesContent why view post c h r d
+          by_len (Definite n) e =
+              takes_octets stream n l0 l1 l2 l3 o e cs co oo (a1 ∙ ap (λ z. limit_inside z l0.limit) e) b1 (a3 ∙ ap (λ z. limit_outside z o l2.limit) e) b3 ds do' fits g so ran
+          by_len Indefinite e = absurd (let x : false ≡ true = subst (λ z. may_have c.mode z Indefinite ≡ true) g (subst (λ z. may_have c.mode h.form z ≡ true) e a) in cc)
+
+      pub values_taken : h.form ≡ true → RanOver why view post (limited_stream stream l1) l1.limit (values (kind_behind h.len)) c.mode h.tag r mark (limited_stream stream l2) l2.limit → TakesContent why view post c h r d
+      values_taken g ran = by_len h.len refl
+        where
+          by_len : (len : Length) → h.len ≡ len → TakesContent why view post c h r d
+          by_len (Definite n) e =
+              takes_values stream n l0 l1 l2 l3 o e cs co oo (a1 ∙ ap (λ z. limit_inside z l0.limit) e) b1 (a3 ∙ ap (λ z. limit_outside z o l2.limit) e) b3 ds do' fits g
+              (subst (λ z. RanOver why view post (limited_stream stream l1) l1.limit (values (kind_behind z)) c.mode h.tag r mark (limited_stream stream l2) l2.limit) e ran)
+          by_len Indefinite e =
+              let i : l1.limit ≡ c.owed = a1 ∙ ap (λ z. limit_inside z l0.limit) e ∙ sym co in
+              let j : l2.limit ≡ d.owed = sym (do' ∙ a3 ∙ ap (λ z. limit_outside z o l2.limit) e) in
+              let s : limited_stream stream l1 ≡ c.stream = ap (λ z. limited l1.limit (stream z)) b1 ∙ ap (λ z. limited z (stream l0.source)) (i ∙ co) ∙ sym cs in
+              let t : limited_stream stream l2 ≡ d.stream = ap (λ z. limited l2.limit (stream z)) (sym b3) ∙ ap (λ z. limited z (stream l3.source)) (j ∙ do') ∙ sym ds in
+              takes_marked e
+              (subst (λ z. RanOver why view post c.stream c.owed IndefiniteValues c.mode h.tag r mark z d.owed) t
+              (subst (λ z. RanOver why view post c.stream c.owed IndefiniteValues c.mode h.tag r mark (limited_stream stream l2) z) j
+              (subst (λ z. RanOver why view post z c.owed IndefiniteValues c.mode h.tag r mark (limited_stream stream l2) l2.limit) s
+              (subst (λ z. RanOver why view post (limited_stream stream l1) z IndefiniteValues c.mode h.tag r mark (limited_stream stream l2) l2.limit) i
+              (subst (λ z. RanOver why view post (limited_stream stream l1) l1.limit (values (kind_behind z)) c.mode h.tag r mark (limited_stream stream l2) l2.limit) e ran)))))

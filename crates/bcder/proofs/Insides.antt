@@ -47,19 +47,19 @@ definite_stands mode tag n head w all more ts h a e t l = record {
 front_length : (n : ℕ) (w : List ℕ) → length (take n w) ≤ n
 front_length n w = omega (arith, length-take n w)
 
-constructed_stands : (mode : Mode) (tag : Tag) (f : Bool) (len : Length) (head after : List ℕ) (k : Form) (o : Option ℕ) (rest all more : List ℕ) (ts : Trees) → IsHeader mode tag f len head → IsFormOf f len k → ContentOf len after o rest → k ≢ Octets → AreEncodings mode ts all → rest ≡ all ++ more → ClosesBefore k mode o all more → Stands mode tag ts (head ++ after)
-constructed_stands mode tag false (Definite n) head after k o rest all more ts h form c v a r z = absurd (v form)
-constructed_stands mode tag true (Definite n) head after k o rest all more ts h form c v a r z =
+constructed_stands : (mode : Mode) (tag : Tag) (f : Bool) (len : Length) (head after : List ℕ) (k : Form) (owed o : Option ℕ) (rest all more : List ℕ) (ts : Trees) → IsHeader mode tag f len head → IsFormOf f len k → ContentOf len owed after o rest → k ≢ Octets → AreEncodings mode ts all → rest ≡ all ++ more → ClosesBefore k mode o all more → Stands mode tag ts (head ++ after)
+constructed_stands mode tag false (Definite n) head after k owed o rest all more ts h form c v a r z = absurd (v form)
+constructed_stands mode tag true (Definite n) head after k owed o rest all more ts h form c v a r z =
     let e : o ≡ Some (length all) = subst (λ x. ClosesBefore x mode o all more) form z in
     definite_stands mode tag n head after all more ts h a (some_inj n (length all) (sym c.0 ∙ e)) (sym c.1 ∙ r) (front_length n after)
-constructed_stands mode tag false Indefinite head after k o rest all more ts h form c v a r z = absurd (let y : false ≡ true = h.allowed in cc)
-constructed_stands mode tag true Indefinite head after k o rest all more ts h form c v a r z =
+constructed_stands mode tag false Indefinite head after k owed o rest all more ts h form c v a r z = absurd (let y : false ≡ true = h.allowed in cc)
+constructed_stands mode tag true Indefinite head after k owed o rest all more ts h form c v a r z =
     let m = subst (λ x. ClosesBefore x mode o all more) form z in
     record {
       value = head ++ (all ++ m.1.marker);
       after = m.0;
       encodes = (all, a, inr (record { header = head; is_header = h; end = m.1.marker; is_end = m.1.is_end; is = refl }));
-      is = ap (λ x. head ++ x) (sym c ∙ r ∙ ap (λ x. all ++ x) m.1.rest ∙ sym (append_assoc all m.1.marker m.0)) ∙ sym (append_assoc head (all ++ m.1.marker) m.0);
+      is = ap (λ x. head ++ x) (sym c.1 ∙ r ∙ ap (λ x. all ++ x) m.1.rest ∙ sym (append_assoc all m.1.marker m.0)) ∙ sym (append_assoc head (all ++ m.1.marker) m.0);
     }
 
 -- the heading of the value behind the header of a primitive one
@@ -82,7 +82,7 @@ form_of_octets f Indefinite k h e = absurd (let z : IndefiniteValues ≡ Octets 
 form_of_octets false (Definite n) k h e = refl
 form_of_octets true (Definite n) k h e = absurd (let z : DefiniteValues ≡ Octets = sym h ∙ e in cc)
 
-module _ (c d i : Reading) (after : List ℕ) (f : HasHeader any c after) (g : Hands c.mode f.form f.len after i) (p : PassesValue c d) where
+module _ (c d i : Reading) (after : List ℕ) (f : HasHeader any c after) (g : Hands c.mode f.form f.len f.owed after i) (p : PassesValue c d) where
   -- a value whose content is octets has one heading
   pub heading_of_octets : (depth : ℕ) → i.kind ≡ Octets → preorder p.tree depth ≡ record { tag = f.tag; constructed = false; depth = depth } ∷ []
   heading_of_octets depth k = heading_of c.mode f.tag f.form f.len f.octets after p.tree p.value d.stream.rest depth f.is_header (form_of_octets f.form f.len i.kind g.form k) p.has.encodes (sym p.has.rest ∙ f.rest)
@@ -90,5 +90,5 @@ module _ (c d i : Reading) (after : List ℕ) (f : HasHeader any c after) (g : H
   -- one whose content is values is made of these
   pub value_of_values : i.kind ≢ Octets → (h : HasValues i) → constructed f.tag h.trees ≡ p.tree
   value_of_values k h =
-      let s = constructed_stands c.mode f.tag f.form f.len f.octets after i.kind i.owed i.stream.rest h.all h.after h.trees f.is_header g.form g.octets k (subst (λ m. AreEncodings m h.trees h.all) g.mode h.encode) h.rest (subst (λ m. ClosesBefore i.kind m i.owed h.all h.after) g.mode h.closes) in
+      let s = constructed_stands c.mode f.tag f.form f.len f.octets after i.kind f.owed i.owed i.stream.rest h.all h.after h.trees f.is_header g.form g.octets k (subst (λ m. AreEncodings m h.trees h.all) g.mode h.encode) h.rest (subst (λ m. ClosesBefore i.kind m i.owed h.all h.after) g.mode h.closes) in
       (p.only (constructed f.tag h.trees) s.value s.after s.encodes (f.rest ∙ s.is)).0

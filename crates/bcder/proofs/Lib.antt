@@ -1,3 +1,6 @@
+pub use Rattle.std.proofs.lemmas.Bool.Decides.{nat_tests}
+pub use Rattle.bcder.proofs.Moving.{moves_refl, moves_trans, moves}
+pub use Rattle.bcder.proofs.Names.{moves_constructed_name, moves_octets_name, moves_content_name}
 pub mod Carrying
 mod rows
 pub mod Steps
@@ -21,3 +24,5 @@ pub mod Stepping
 pub mod Passing
 pub mod Decoding
 pub mod Insides
+pub mod Nested
+pub mod Repeating

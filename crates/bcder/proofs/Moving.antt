@@ -147,6 +147,8 @@ moves_trans c d e a b = record {
   whole = λ n o. whole_both c d e a.passed b.passed a.kind a.mode b.marked (λ t. (b.ended t).1) (a.whole (not_failed d e b.failed n) o) (b.whole n (λ k. o (sym a.kind ∙ k)));
 }
 
+pub ruleset moves = (moves_refl, moves_trans)
+
 -- ---- single steps
 
 -- no octet passed, and the same state

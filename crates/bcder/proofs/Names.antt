@@ -34,6 +34,10 @@ pub moves_constructed_name : {S : Type 0} (stream : S → Stream) (a b : Constru
 unfolding of_constructed Moves
 moves_constructed_name stream a b m = m.name
 
+pub moves_octets_name : {S : Type 0} (stream : S → Stream) (a b : Primitive S) → Moves (of_primitive stream a) (of_primitive stream b) → b.source.ghost_name ≡ a.source.ghost_name
+unfolding of_primitive Moves
+moves_octets_name stream a b m = m.name
+
 pub mark_of_content : {S : Type 0} (stream : S → Stream) (a : Content S) → (of_content stream a).marked ≡ content_mark a
 unfolding of_primitive of_constructed
 mark_of_content stream (content.Primitive p) = refl

@@ -1,16 +1,17 @@
 -- What is told of a header by the octets at hand, and what stands at the front of the source.
-use Rattle.std.proofs.Common.{◌≡◌, ℕ, ◌≤◌, true, false, eqb, eq-eqb, ◌&&◌, List, ◌++◌, length, take, drop, None, ap, subst, ◌∙◌, arith, inl, inr}
+use Rattle.std.proofs.Common.{◌≡◌, ℕ, ◌≤◌, true, false, eqb, eq-eqb, ◌&&◌, List, ◌++◌, length, take, drop, Some, None, ap, subst, ◌∙◌, arith, inl, inr}
 use denote.Enum.Bare.{sameb, true_same}
 use Rattle.std.proofs.lemmas.Grind.{common_steps}
 use Rattle.std.proofs.lemmas.List.{take-append-drop}
 use Rattle.bcder.specs.declared.mode.Mode.{Mode}
+use Rattle.bcder.specs.declared.decode.header.Header.{Header as Kept}
 use Rattle.bcder.specs.declared.decode.header.Seen.{Seen}
 use Rattle.bcder.specs.declared.decode.header.Seen.TheVariants.{Front, More, Refused}
 use Rattle.bcder.specs.Identifier.{Tag}
 use Rattle.bcder.specs.Reading.{read_front}
 use Rattle.bcder.specs.Classes.{class_kept}
 use Rattle.bcder.specs.contracts.tag.Class.{the_type}
-use Rattle.bcder.specs.Peek.{HasNoLength, Sees, SeesOf}
+use Rattle.bcder.specs.Peek.{header, HasNoLength, Sees, SeesOf, StandsShort}
 use Rattle.bcder.proofs.Beginnings.{no_identifier, no_length}
 
 no_front : (mode : Mode) (t : Tag) (w : List ℕ) → HasNoLength mode t w → read_front mode w ≡ None
@@ -44,3 +45,10 @@ size_at_hand slice size found avail h e = grind (arith, common_steps)
 -- and of the octets to come
 pub some_at_hand : (rest slice : List ℕ) (n : ℕ) → take (length slice) rest ≡ slice → 1 ≤ length (take n slice) → 1 ≤ length rest
 some_at_hand rest slice n front h = grind (arith, common_steps)
+
+-- a header of two octets at hand stands at the front of the octets to come
+pub short_at_hand : (mode : Mode) (h : Kept) (rest slice : List ℕ) (found avail : ℕ) → take (length slice) rest ≡ slice → found ≤ length slice → avail ≡ found → StandsShort h (take found slice) → (2 ≤ avail) × (read_front mode rest ≡ Some (header h, drop 2 rest))
+short_at_hand mode h rest slice found avail front enough e s = (
+  size_at_hand slice 2 found avail s.0 e,
+  of_rest (λ w. read_front mode w ≡ Some (header h, drop 2 w)) rest slice found front enough (s.1 mode),
+)

@@ -1,18 +1,19 @@
 -- What reading a value gives, at each way that it can go.
-use Rattle.std.proofs.Common.{◌≡◌, ℕ, ◌+◌, ◌<◌, ◌≤◌, Bool, true, false, List, [], ◌∷◌, ◌++◌, length, take, drop, Option, Some, None, MatchOption, IfSome, IfNone, refl, sym, ap, subst, ◌∙◌, arith}
-use Rattle.std.proofs.lemmas.Bool.{lt-ltb, le-ltb}
+use Rattle.std.proofs.Common.{◌≡◌, ◌≢◌, ℕ, zero, suc, ◌+◌, ◌-◌, ◌%◌, ◌<◌, ◌≤◌, Bool, true, false, List, [], ◌∷◌, ◌++◌, length, get_or, take, drop, Option, Some, None, MatchOption, IfSome, IfNone, refl, sym, ap, subst, ◌∙◌, arith, inl, inr}
+use Rattle.std.proofs.lemmas.Bool.{cases_lt, lt-ltb, le-ltb, lt-leb}
+use Rattle.std.proofs.lemmas.Grind.{common_steps}
 use Rattle.std.proofs.lemmas.List.{length-append}
 use Rattle.bcder.specs.declared.mode.Mode.{Mode}
 use Rattle.bcder.specs.declared.length.Length.{Length}
 use Rattle.bcder.specs.declared.length.Length.TheVariants.{Definite, Indefinite}
-use Rattle.bcder.specs.Identifier.{AreOctets, Tag}
+use Rattle.bcder.specs.Identifier.{universal, AreOctets, Tag}
 use Rattle.bcder.specs.Tree.{Tree, primitive, constructed, Trees, no_trees, ◌∷ₜ◌}
 use Rattle.bcder.specs.Encoding.{may_have, IsEncoding}
 use Rattle.bcder.specs.Grammar.{IsOnly}
-use Rattle.bcder.specs.Reading.{Header, read_header, read_end, read_contents, read_value, at_end, read_list, read_tree}
+use Rattle.bcder.specs.Reading.{class_of, is_value_tag, is_marked, read_identifier, read_length, Header, BeginPrimitive, read_header, read_end, read_contents, read_value, at_end, read_list, read_tree}
 use Rattle.bcder.specs.laws.Complete.{header_size, tree_complete, one_encoding}
 use Rattle.bcder.specs.laws.Sound.{end_sound, some_inj, none_is}
-use Rattle.bcder.specs.laws.Stands.{header_sound, tree_sound}
+use Rattle.bcder.specs.laws.Stands.{AreOctets-after, header_sound, tree_sound}
 use Rattle.bcder.proofs.Steps.{read_tree_step, read_list_step}
 
 -- what a function of the program gives for a value, and for a list of values
@@ -62,6 +63,42 @@ pub indefinite_read : {X : Type 0} (r : Option X) (now : X → List ℕ) (mode :
 indefinite_read None now mode t f w z o e h = at_marked mode t f w z o e ∙ rw h refl
 indefinite_read (Some x) now mode t f w z o e h = (constructed t h.0, at_marked mode t f w z o e ∙ rw h.1 refl)
 
+-- ---- a primitive value with a header of two octets
+
+value_octet : (b : ℕ) → b % 64 < 31 → b ≢ 0 → is_value_tag (record { class = class_of b; number = b % 32 }) ≡ true
+unfolding class_of
+value_octet b l z =
+    elim (cases_lt b 64) [
+      | inl lt ↦ rw (lt-ltb b 64 lt) (numbered (b % 32) (let q : b % 32 ≡ b = omega arith in λ e. z (sym q ∙ e)))
+      | inr le ↦ elim (cases_lt b 128) [
+        | inl lt ↦ rw (le-ltb b 64 le, lt-ltb b 128 lt) refl
+        | inr more ↦ elim (cases_lt b 192) [
+          | inl lt ↦ rw (le-ltb b 64 le, le-ltb b 128 more, lt-ltb b 192 lt) refl
+          | inr most ↦ rw (le-ltb b 64 le, le-ltb b 128 more, le-ltb b 192 most) refl
+        ]
+      ]
+    ]
+  where
+    numbered : (n : ℕ) → n ≢ 0 → is_value_tag (record { class = universal; number = n }) ≡ true
+    numbered zero h = absurd (h refl)
+    numbered (suc n) h = refl
+
+pub short_header : (b n : ℕ) → 1 ≤ b % 64 → b % 64 ≤ 30 → n < 128 → BeginPrimitive b n
+unfolding read_header read_identifier is_marked read_length
+short_header b n some l k mode x =
+    let p : b % 32 < 31 = omega arith in
+    let z : b ≢ 0 = λ e. (let m : b % 64 ≡ 0 = rw e refl in omega arith) in
+    (record { class = class_of b; number = b % 32 }, rw (lt-ltb (b % 32) 31 p, lt-leb 32 (b % 64) (omega arith), value_octet b (omega arith) z, lt-ltb n 128 k) refl)
+
+pub short_primitive : (w : List ℕ) (n : ℕ) (rest : List ℕ) → AreOctets w → 2 ≤ length w → BeginPrimitive (get_or w 0 0) (get_or w 1 0) → n ≡ get_or w 1 0 → n ≤ length (take (length w - 2) (drop 2 w)) → rest ≡ drop n (take (length w - 2) (drop 2 w)) → (mode : Mode) → TreeRead mode w rest
+short_primitive [] n rest o two k e h r mode = absurd (omega arith)
+short_primitive (b ∷ []) n rest o two k e h r mode = absurd (omega arith)
+short_primitive (b ∷ m ∷ x) n rest o two k e h r mode =
+    let q : take (length (b ∷ m ∷ x) - 2) x ≡ x = grind (arith, common_steps) in
+    let d = k mode x in
+    let v = primitive_read mode d.0 m (b ∷ m ∷ x) x o d.1 (omega (arith, h, e, ap length q)) in
+    (v.0, v.1 ∙ ap (λ y. Some (v.0, y)) (sym (r ∙ ap (drop n) q ∙ ap (λ l. drop l x) e)))
+
 -- ---- lists
 
 pub list_ends : (mode : Mode) (marked : Bool) (w x : List ℕ) → AreOctets w → at_end mode marked w ≡ Some x → ListRead mode marked w x
@@ -73,6 +110,32 @@ list_fails mode marked w o e f = read_list_step mode marked w o ∙ rw (e, f) re
 pub list_goes_on : {X : Type 0} (r : Option X) (now : X → List ℕ) (mode : Mode) (marked : Bool) (w y : List ℕ) → AreOctets w → at_end mode marked w ≡ None → TreeRead mode w y → MatchOption r (read_list mode marked y ≡ None) (λ x. ListRead mode marked y (now x)) → MatchOption r (read_list mode marked w ≡ None) (λ x. ListRead mode marked w (now x))
 list_goes_on None now mode marked w y o e t h = read_list_step mode marked w o ∙ rw (e, t.1, h) refl
 list_goes_on (Some x) now mode marked w y o e t h = (t.0 ∷ₜ h.0, read_list_step mode marked w o ∙ rw (e, t.1, h.1) refl)
+
+-- after the first values of a list, what is left gives what all of it gives
+pub record ReadsOn (mode : Mode) (marked : Bool) (w left : List ℕ) : Type 0 where
+  pub octets : AreOctets left
+  pub shorter : length left ≤ length w
+  pub fails : read_list mode marked left ≡ None → read_list mode marked w ≡ None
+  pub ends : (x : List ℕ) → ListRead mode marked left x → ListRead mode marked w x
+
+pub reads_on : (mode : Mode) (marked : Bool) (w : List ℕ) → AreOctets w → ReadsOn mode marked w w
+reads_on mode marked w o = record { octets = o; shorter = omega arith; fails = λ e. e; ends = λ x e. e }
+
+pub reads_more : (mode : Mode) (marked : Bool) (w v y : List ℕ) → ReadsOn mode marked w v → at_end mode marked v ≡ None → TreeRead mode v y → length y + 2 ≤ length v → ReadsOn mode marked w y
+reads_more mode marked w v y k e t l =
+    let s = tree_sound mode v (t.0, y) k.octets t.1 in
+    record {
+      octets = AreOctets-after s.front v y s.is k.octets;
+      shorter = (let h : length v ≤ length w = k.shorter in omega arith);
+      fails = λ n. k.fails (list_goes_on None (λ (x : List ℕ). x) mode marked v y k.octets e t n);
+      ends = λ x n. k.ends x (list_goes_on (Some x) (λ (x : List ℕ). x) mode marked v y k.octets e t n);
+    }
+
+pub reads_end : (mode : Mode) (marked : Bool) (w v x : List ℕ) → ReadsOn mode marked w v → at_end mode marked v ≡ Some x → ListRead mode marked w x
+reads_end mode marked w v x k e = k.ends x (list_ends mode marked v x k.octets e)
+
+pub reads_nothing : (mode : Mode) (marked : Bool) (w v : List ℕ) → ReadsOn mode marked w v → at_end mode marked v ≡ None → read_tree mode v ≡ None → read_list mode marked w ≡ None
+reads_nothing mode marked w v k e t = k.fails (list_fails mode marked v k.octets e t)
 
 pub at_end-marked : (mode : Mode) (w : List ℕ) → at_end mode true w ≡ read_end mode w
 unfolding at_end
@@ -137,3 +200,7 @@ if_found (Some x) now mode octets o h = found mode octets (now x) o h
 pub if_nothing_found : {X : Type 0} (r : Option X) (now : X → List ℕ) (mode : Mode) (octets : List ℕ) → MatchOption r (read_tree mode octets ≡ None) (λ x. TreeRead mode octets (now x)) → IfNone r (NothingFound mode octets)
 if_nothing_found None now mode octets h = nothing_found mode octets h
 if_nothing_found (Some x) now mode octets h = tt
+
+pub if_short_found : {X : Type 0} (r : Option X) (now : X → List ℕ) (mode : Mode) (octets : List ℕ) → AreOctets octets → IfSome r (λ x. (m : Mode) → TreeRead m octets (now x)) → IfSome r (λ x. Found mode octets (now x))
+if_short_found None now mode octets o h = tt
+if_short_found (Some x) now mode octets o h = found mode octets (now x) o (h mode)

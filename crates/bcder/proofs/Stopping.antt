@@ -4,6 +4,7 @@ use Rattle.bcder.specs.declared.decode.error.ContentError.{ContentError}
 use Rattle.bcder.specs.Cause.{Cause, of_source, IsOfContent}
 use Rattle.bcder.specs.Content.{Reading, Asked}
 use Rattle.bcder.specs.Content as content
+use Rattle.bcder.specs.Calls as calls
 use Rattle.bcder.specs.Walking as walking
 
 module _ {E F : Type 0} (stopped : E → Cause ContentError) (why : F → Cause ContentError) (s : E) (e : F) (own : IsOfContent (stopped s) → IsOfContent (why e)) (source : stopped s ≡ of_source → why e ≡ of_source) (c d : Reading) where
@@ -11,6 +12,11 @@ module _ {E F : Type 0} (stopped : E → Cause ContentError) (why : F → Cause 
   header_stopped asked (content.RefusesHeader.failed x o) = content.RefusesHeader.failed x (own o)
   header_stopped asked (content.RefusesHeader.source k x) = content.RefusesHeader.source (source k) x
   header_stopped asked (content.RefusesHeader.nothing x o) = content.RefusesHeader.nothing x (own o)
+
+  pub end_stopped : calls.RefusesEnd stopped c s d → calls.RefusesEnd why c e d
+  end_stopped (calls.RefusesEnd.left_failed x o) = calls.RefusesEnd.left_failed x (own o)
+  end_stopped (calls.RefusesEnd.source_failed k x) = calls.RefusesEnd.source_failed (source k) x
+  end_stopped (calls.RefusesEnd.left_open x o) = calls.RefusesEnd.left_open x (own o)
 
   pub walk_stopped : walking.RefusesWalk stopped c s d → walking.RefusesWalk why c e d
   walk_stopped (walking.RefusesWalk.failed x o) = walking.RefusesWalk.failed x (own o)

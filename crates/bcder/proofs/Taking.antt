@@ -1,21 +1,28 @@
 -- A value is its header, and then its content.
-use Rattle.std.proofs.Common.{◌≡◌, ℕ, ◌+◌, ◌≤◌, Bool, true, false, List, ◌++◌, length, refl, ap, sym, ◌∙◌, arith, length-append, subst}
+use Rattle.std.proofs.Common.{◌≡◌, ◌≢◌, ℕ, ◌+◌, ◌≤◌, Bool, true, false, List, ◌++◌, length, take, refl, ap, sym, ◌∙◌, arith, length-append, subst, inl, inr}
+use Rattle.std.proofs.lemmas.Grind.{common_steps}
 use Rattle.std.specs.Borrow.{MutBor}
-use Rattle.std.specs.Prelude.{Result, Ok, Err, ◌||◌}
-use Rattle.bcder.specs.declared.decode.content.State.TheVariants.{Open}
+use Rattle.std.specs.Prelude.{Option, Some, None, Result, Ok, Err, ◌||◌, IfOk, IfErr}
+use Rattle.bcder.specs.declared.length.Length.{Length}
+use Rattle.bcder.specs.declared.length.Length.TheVariants.{Definite, Indefinite}
+use Rattle.bcder.specs.declared.decode.content.State.TheVariants.{Open, Failed}
+use Rattle.bcder.specs.declared.decode.error.DecodeError.{DecodeError}
 use Rattle.bcder.specs.Identifier.{Tag, IsValueTag}
 use Rattle.bcder.specs.declared.decode.error.ContentError.{ContentError}
-use Rattle.bcder.specs.Cause.{Cause}
+use Rattle.bcder.specs.Cause.{Cause, cause_of}
 use Rattle.bcder.specs.Tree.{Tree}
-use Rattle.bcder.specs.Encoding.{IsHeader, IsEncoding}
+use Rattle.bcder.specs.Encoding.{may_have, IsHeader, IsEncoding}
 use Rattle.bcder.specs.Reading.{Header}
-use Rattle.bcder.specs.Content.{Reading, Form, label, Moves, Advances, Asked, any, tagged, IsAsked, HasHeader, Enters, RefusesHeader}
+use Rattle.bcder.specs.Content.{Reading, Form, Octets, DefiniteValues, IndefiniteValues, UnboundedValues, label, Moves, Advances, Asked, any, tagged, IsAsked, HasHeader, Enters, RefusesHeader}
 use Rattle.bcder.specs.Content as content
-use Rattle.bcder.specs.Calls.{Hands, TakesContent, TakesValue, RefusesFront, RefusesValue, IsInside}
+use Rattle.bcder.specs.Decoding.{AnsweredOn}
+use Rattle.bcder.specs.Calls.{IsFormOf, ContentOf, Hands, Untagged, Answered, AnswersDone, RefusesContent, by_closure, unfinished, TakesContent, TakesValue, RefusesFront, RefusesValue, IsInside}
 use Rattle.bcder.specs.Calls as calls
+use Rattle.bcder.specs.Inside.{TakesBehind, of_form, refused, taken}
+use Rattle.bcder.specs.Takes.{HasNone, TellsNone, HasRefusedForm, RefusesTake, by_header, by_form, by_content, TakesNext, Takes}
 use Rattle.bcder.specs.laws.Complete.{header_size}
 use Rattle.bcder.proofs.Moving.{moves_value, moves_failed, advances_trans, open_not_ended}
-use Rattle.bcder.proofs.Entering.{advances_to}
+use Rattle.bcder.proofs.Entering.{advances_to, header_entered}
 
 or_left : (a b : Bool) → a ≡ true → (a || b) ≡ true
 or_left true b e = refl
@@ -55,11 +62,13 @@ module _ (c c1 c2 : Reading) (h : Header) (asked : Asked) (t : IsAsked asked h.t
             front = header_there k.passed d k.advances s;
             handed = k.handed;
             left = k.left;
-            hands = subst (λ z. Hands c.mode h.form h.len z k.handed) r (subst (λ z. Hands z h.form h.len c1.stream.rest k.handed) mode_is k.hands);
+            hands = subst (λ z. Hands c.mode h.form h.len c1.owed z k.handed) r (subst (λ z. Hands z h.form h.len c1.owed c1.stream.rest k.handed) mode_is k.hands);
             answers = k.answers;
             tree = e.0;
             encodes = e.1;
             follows = λ z. ap (λ x. x.rest) s ∙ k.follows z;
+            faults_handed = (let f : c.stream.faults ≤ c1.stream.faults = x.advances.faults in omega (arith, f, k.faults_handed));
+            faults_left = k.faults_left ∙ ap (λ z. z.faults) (sym s);
             stays = o;
             marked = m ∙ mark_is (Ok v) k;
           }
@@ -84,10 +93,11 @@ module _ (c c1 c2 : Reading) (h : Header) (asked : Asked) (t : IsAsked asked h.t
         front = record { tag = h.tag; form = h.form; len = h.len; octets = x.octets; is_header = x.is_header; is_asked = t; rest = x.advances.rest; owed = c1.owed; falls = x.advances.owed; fits = x.fits };
         handed = k.handed;
         left = k.left;
-        hands = subst (λ z. Hands z h.form h.len c1.stream.rest k.handed) mode_is k.hands;
+        hands = subst (λ z. Hands z h.form h.len c1.owed c1.stream.rest k.handed) mode_is k.hands;
         moves = k.moves;
         faults_handed = (let f : c.stream.faults ≤ c1.stream.faults = x.advances.faults in omega (arith, f, k.faults_handed));
         faults_left = k.faults_left;
+        marked = mark_is (Err e) k;
         refuses = k.refuses;
       }
 
@@ -100,17 +110,155 @@ value_refused why view post asked c e d (content.RefusesHeader.failed s o) = cal
 value_refused why view post asked c e d (content.RefusesHeader.source k g) = calls.RefusesValue.source k g
 value_refused why view post asked c e d (content.RefusesHeader.nothing n o) = calls.RefusesValue.nothing n o
 
--- what is handed after a header is inside the content before it
-pub inside_entered : (c : Reading) (h : Header) (d i : Reading) → Enters c h d → IsInside d 0 i → IsInside c 2 i
-inside_entered c h d i x n = record {
+-- the form of what is handed is not that at top level
+not_unbounded : (f : Bool) (len : Length) (k : Form) → IsFormOf f len k → k ≢ UnboundedValues
+not_unbounded f Indefinite k h e = (let x : IndefiniteValues ≡ UnboundedValues = sym h ∙ e in cc)
+not_unbounded false (Definite n) k h e = (let x : Octets ≡ UnboundedValues = sym h ∙ e in cc)
+not_unbounded true (Definite n) k h e = (let x : DefiniteValues ≡ UnboundedValues = sym h ∙ e in cc)
+
+-- content has no more octets than come behind its header
+no_more : (len : Length) (owed o : Option ℕ) (after rest : List ℕ) → ContentOf len owed after o rest → length rest ≤ length after
+no_more Indefinite owed o after rest e = omega (arith, ap length e.1)
+no_more (Definite n) owed o after rest e = (let l : length (take n after) ≤ length after = grind (arith, common_steps) in omega (arith, l, ap length e.1))
+
+-- what is handed behind a header is inside the content before it
+pub inside_entered : (c : Reading) (h : Header) (d i : Reading) (asked : Asked) → IsAsked asked h.tag → Enters c h d → Hands d.mode h.form h.len d.owed d.stream.rest i → IsInside asked c h.tag i
+inside_entered c h d i asked t x n = record {
+  after = d.stream.rest;
+  front = header_entered c h d asked t x;
+  is = refl;
+  hands = subst (λ z. Hands z h.form h.len d.owed d.stream.rest i) x.advances.mode n;
+  is_value_tag = x.is_header.is_value_tag;
   state = n.state;
   mode = n.mode ∙ x.advances.mode;
   marked = n.marked;
-  bounded = n.bounded;
+  bounded = not_unbounded h.form h.len i.kind n.form;
   shorter = (let z : 2 ≤ length x.octets = header_size c.mode h.tag h.form h.len x.octets x.is_header in
-      let s : length i.stream.rest + 0 ≤ length d.stream.rest = n.shorter in
+      let s : length i.stream.rest ≤ length d.stream.rest = no_more h.len d.owed i.owed d.stream.rest i.stream.rest n.octets in
       omega (arith, z, s, ap length x.advances.rest, length-append x.octets d.stream.rest));
 }
 
-pub tag_entered : (c : Reading) (h : Header) (d : Reading) → Enters c h d → IsValueTag h.tag
-tag_entered c h d x = x.is_header.is_value_tag
+-- the mode allows the header that was passed
+pub allowed_entered : (c : Reading) (h : Header) (d : Reading) → Enters c h d → may_have d.mode h.form h.len ≡ true
+allowed_entered c h d x = subst (λ m. may_have m h.form h.len ≡ true) (sym x.advances.mode) x.is_header.allowed
+
+-- ---- what the calls say
+
+module _ {C T X : Type 0} (view : C → Reading) (post : Tag → MutBor C → Result T (DecodeError X) → MutBor C → Type 0) (form : Option Bool) (asked : Asked) where
+  module _ (c c1 d : Reading) (h : Header) (t : IsAsked asked h.tag) (x : Enters c h c1) (r : Result (Option T) (DecodeError X)) where
+    has_form : form ≡ Some h.form → HasRefusedForm form asked c
+    has_form e = subst (λ z. HasRefusedForm z asked c) (sym e) (record { usable = x.usable; after = c1.stream.rest; front = header_entered c h c1 asked t x; is = refl })
+
+    -- a value behind a header that was passed
+    pub takes_next : TakesBehind view post form c1 h r d → TakesNext view post form asked c r d
+    takes_next (of_form e q f o s) = subst (λ z. TakesNext view post form asked c z d) (sym q) (record {
+      value = tt;
+      shorter = tt;
+      none = tt;
+      refused = by_form (has_form f) o (ap (λ z. z.marked) s ∙ x.unmarked);
+      failed = ap (λ z. z.state) s ∙ x.opened;
+      mode = ap (λ z. z.mode) s ∙ x.advances.mode;
+    })
+    takes_next (refused e q k) = subst (λ z. TakesNext view post form asked c z d) (sym q) (record {
+      value = tt;
+      shorter = tt;
+      none = tt;
+      refused = by_content (refused_front c c1 d h asked t x cause_of view post e k);
+      failed = k.state ∙ x.opened;
+      mode = k.advances.mode ∙ x.advances.mode;
+    })
+    takes_next (taken v m q k s) = subst (λ z. TakesNext view post form asked c z d) (sym q) (record {
+      value = taken_value c c1 m h asked t x cause_of view post d (ap (λ z. z.stream) s) (ap (λ z. z.state) s) (ap (λ z. z.marked) s) v k;
+      shorter = (let l : length m.stream.rest + 2 ≤ length c.stream.rest = taken_shorter c c1 m h asked t x cause_of view post v k in omega (arith, l, ap (λ z. length z.stream.rest) s));
+      none = tt;
+      refused = tt;
+      failed = tt;
+      mode = ap (λ z. z.mode) s ∙ k.advances.mode ∙ x.advances.mode;
+    })
+
+    pub moves_next : TakesBehind view post form c1 h r d → Moves c d
+    moves_next (of_form e q f o s) =
+        moves_failed c d x.octets (subst (λ z. Advances c z x.octets) (sym s) x.advances) (λ z. ap (λ z. z.marked) s ∙ x.unmarked ∙ z) (open_not_ended c.state x.usable) (ap (λ z. z.state) s ∙ x.opened)
+    moves_next (refused e q k) = refused_moves c c1 d h asked t x cause_of view post e k
+    moves_next (taken v m q k s) =
+        taken_moves c c1 m h asked t x cause_of view post d (ap (λ z. z.stream) s) (ap (λ z. z.state) s) (ap (λ z. z.marked) s) v k (ap (λ z. z.owed) s) (ap (λ z. z.kind) s) (ap (λ z. z.mode) s) (ap (λ z. z.name) s)
+
+  module _ (c d : Reading) (mo : d.mode ≡ c.mode) where
+    -- there is no value, or no header of one was passed
+    pub next_none : HasNone asked c d → TakesNext view post form asked c (Ok None) d
+    next_none n = record { value = tt; shorter = tt; none = n; refused = tt; failed = tt; mode = mo }
+
+    pub next_refused : (e : DecodeError X) → RefusesHeader cause_of asked c e d → d.marked ≡ c.marked → d.state ≡ Failed → TakesNext view post form asked c (Err e) d
+    next_refused e h m f = record { value = tt; shorter = tt; none = tt; refused = by_header h m; failed = f; mode = mo }
+
+  module _ (c d : Reading) where
+    -- a call that needs a value
+    pub needs_value : (v : T) → TakesNext view post form asked c (Ok (Some v)) d → Takes view post form asked c (Ok v) d
+    needs_value v n = record { value = n.value; shorter = n.shorter; refused = tt; mode = n.mode }
+
+    pub needs_none : (e : DecodeError X) → TellsNone asked e → TakesNext view post form asked c (Ok None) d → Takes view post form asked c (Err e) d
+    needs_none e q n = record { value = tt; shorter = tt; refused = inl (n.none, q); mode = n.mode }
+
+    pub needs_refused : (e : DecodeError X) → TakesNext view post form asked c (Err e) d → Takes view post form asked c (Err e) d
+    needs_refused e n = record { value = tt; shorter = tt; refused = inr (n.failed, n.refused); mode = n.mode }
+
+-- where no form is refused, why a value wasn't taken
+pub value_not_taken : {C T X : Type 0} (view : C → Reading) (post : Tag → MutBor C → Result T (DecodeError X) → MutBor C → Type 0) (asked : Asked) (c : Reading) (e : DecodeError X) (d : Reading) → RefusesTake view post None asked c e d → RefusesValue cause_of view post asked c e d
+value_not_taken view post asked c e d (by_header h m) = value_refused cause_of view post asked c e d h
+value_not_taken view post asked c e d (by_form f o m) = absurd f
+value_not_taken view post asked c e d (by_content f) = calls.RefusesValue.content f
+
+-- a closure that hands on what it is handed to one of content alone
+module _ {C R : Type 0} (view : C → Reading) (post : MutBor C → R → MutBor C → Type 0) where
+  pub moves_on : (P : Reading → Type 0) → ((p : MutBor C) (r : R) (q : MutBor C) → P (view p.now) → post p r q → Moves (view p.now) (view q.now)) → (i : Reading) (r : R) (j : Reading) → P i → AnsweredOn view post i r j → Moves i j
+  moves_on P k i r j h a =
+      let m : Moves (view a.handed.now) (view a.left.now) = k a.handed r a.left (subst P (sym a.handed_is) h) a.called in
+      subst (λ z. Moves z j) a.handed_is (subst (λ z. Moves (view a.handed.now) z) a.left_is m)
+
+module _ {C T X : Type 0} (view : C → Reading) (post : Tag → MutBor C → Result T (DecodeError X) → MutBor C → Type 0) (last : MutBor C → Result T (DecodeError X) → MutBor C → Type 0)
+    (k : (t : Tag) (p : MutBor C) (r : Result T (DecodeError X)) (q : MutBor C) → post t p r q → AnsweredOn view last (view p.now) r (view q.now)) where
+  abbrev post' : Tag → MutBor C → Result T (DecodeError X) → MutBor C → Type 0
+  post' = Untagged last
+
+  said_of : (t : Tag) (i : Reading) (r : Result T (DecodeError X)) (j : Reading) → Answered view post t i r j → Answered view post' t i r j
+  said_of t i r j a =
+      let m = k t a.handed r a.left a.called in
+      record { handed = m.handed; left = m.left; handed_is = m.handed_is ∙ a.handed_is; left_is = m.left_is ∙ a.left_is; called = m.called }
+
+  said_done : (t : Tag) (i : Reading) (r : Result T (DecodeError X)) (j : Reading) → AnswersDone view post t i r j → AnswersDone view post' t i r j
+  said_done t i r j a = record { left = a.left; answered = said_of t i r a.left a.answered; finishes = a.finishes; marked = a.marked; ends = a.ends; done = a.done }
+
+  said_refused : (t : Tag) (i : Reading) (e : DecodeError X) (j : Reading) → RefusesContent cause_of view post t i e j → RefusesContent cause_of view post' t i e j
+  said_refused t i e j (by_closure a) = by_closure (said_of t i (Err e) j a)
+  said_refused t i e j (unfinished v l a m z) = unfinished v l (said_of t i (Ok v) l a) m z
+
+  said_ok : (t : Tag) (i j : Reading) (r : Result T (DecodeError X)) → IfOk r (λ v. AnswersDone {R = Result T (DecodeError X)} view post t i (Ok v) j) → IfOk r (λ v. AnswersDone {R = Result T (DecodeError X)} view post' t i (Ok v) j)
+  said_ok t i j (Ok v) a = said_done t i (Ok v) j a
+  said_ok t i j (Err e) a = tt
+
+  said_err : (t : Tag) (i j : Reading) (r : Result T (DecodeError X)) → IfErr r (λ e. RefusesContent cause_of view post t i e j) → IfErr r (λ e. RefusesContent cause_of view post' t i e j)
+  said_err t i j (Ok v) a = tt
+  said_err t i j (Err e) a = said_refused t i e j a
+
+  said_content : (c : Reading) (h : Header) (r : Result T (DecodeError X)) (d : Reading) → TakesContent cause_of view post c h r d → TakesContent cause_of view post' c h r d
+  said_content c h r d a = record {
+    passed = a.passed;
+    advances = a.advances;
+    state = a.state;
+    handed = a.handed;
+    left = a.left;
+    marked = a.marked;
+    encodes = a.encodes;
+    hands = a.hands;
+    moves = a.moves;
+    follows = a.follows;
+    faults_handed = a.faults_handed;
+    faults_left = a.faults_left;
+    answers = said_ok h.tag a.handed a.left r a.answers;
+    refuses = said_err h.tag a.handed a.left r a.refuses;
+  }
+
+  pub said_behind : (form : Option Bool) (c : Reading) (h : Header) (r : Result (Option T) (DecodeError X)) (d : Reading) → TakesBehind view post form c h r d → TakesBehind view post' form c h r d
+  said_behind form c h r d (of_form e q f o s) = of_form e q f o s
+  said_behind form c h r d (refused e q a) = refused e q (said_content c h (Err e) d a)
+  said_behind form c h r d (taken v m q a s) = taken v m q (said_content c h (Ok v) m a) s

@@ -1,6 +1,6 @@
 -- Walking finds the values that are there, and no others.
 use Rattle.std.proofs.Common.{◌≡◌, ◌≢◌, ℕ, ◌+◌, ◌-◌, ◌<◌, ◌≤◌, Bool, true, false, List, [], ◌++◌, length, take, Option, Some, None, refl, ap, sym, ◌∙◌, arith, length-append, append_assoc, append-nil, subst, inl, inr}
-use Rattle.std.specs.Prelude.{◌⊎◌}
+use Rattle.std.specs.Prelude.{◌⊎◌, Result, Ok, Err, IsErrAnd}
 use Rattle.std.proofs.lemmas.List.{take_at}
 use Rattle.bcder.specs.declared.mode.Mode.{Mode}
 use Rattle.bcder.specs.declared.length.Length.{Length}
@@ -15,7 +15,7 @@ use Rattle.bcder.specs.declared.decode.error.ContentError.{ContentError}
 use Rattle.bcder.specs.Cause.{Cause, of_source, IsOfContent}
 use Rattle.bcder.specs.Content.{Reading, Form, octets, values, Octets, DefiniteValues, IndefiniteValues, UnboundedValues, any, HasHeader, HasMarker, Moves, MovesBy, Falls, FitsOwed, IsDone, IsUsedUp, IsAtEnd, of_octets, of_definite, of_indefinite, of_unbounded, EndsBefore, EndsAt, NotAtEnd, NothingThere}
 use Rattle.bcder.specs.Calls.{Hands, IsFormOf, ContentOf, RefusesEnd, left_failed, source_failed, left_open}
-use Rattle.bcder.specs.Walking.{HasValue, NoValue, PassesValue, ClosesBefore, HasValues, IsShort, Walks, broken, short}
+use Rattle.bcder.specs.Walking.{HasValue, NoValue, PassesValue, ClosesBefore, HasValues, IsShort, AllBy, Walks, broken, short}
 use Rattle.bcder.specs.Walking as walking
 use Rattle.bcder.specs.laws.Complete.{one_encoding, two_octets, Same}
 use Rattle.bcder.specs.laws.Lists.{First}
@@ -182,6 +182,11 @@ walks_refused why e i j k o w (walking.RefusesWalk.failed f a) = walking.Refuses
 walks_refused why e i j k o w (walking.RefusesWalk.source s f) = walking.RefusesValues.source s (grew_from _ _ _ (moves_faults i j w.moves) f)
 walks_refused why e i j k o w (walking.RefusesWalk.nothing s n f a) = walking.RefusesValues.broken o (λ h. no_values j s n f (w.remain h)) a
 
+-- and answers the error that it met
+pub all_refused : {T E : Type 0} (why : E → Cause ContentError) (c d : Reading) (r : Result T E) (e : E) → IsErrAnd r (λ x. x ≡ e) → walking.RefusesValues why c e d → d.state ≡ Failed → d.mode ≡ c.mode → d.marked ≡ c.marked → AllBy why c r d
+all_refused why c d (Ok x) e h a f m g = absurd h
+all_refused why c d (Err x) e h a f m g = record { all = tt; done = tt; refused = subst (λ y. walking.RefusesValues why c y d) (sym h) a; failed = f; mode = m; marked = g }
+
 -- at the end no values are left
 pub none_left : (c : Reading) (after : List ℕ) → c.kind ≢ Octets → IsAtEnd c after → HasValues c
 none_left c after o (of_octets q e) = absurd (o q)
@@ -221,10 +226,10 @@ form_bounded true (Definite n) k h e = (let z : DefiniteValues ≡ UnboundedValu
 take_front : (n : ℕ) (b x y : List ℕ) → n ≡ length b → y ≡ b ++ x → take n y ≡ b
 take_front n b x y e s = ap (take n) s ∙ take_at b x n (sym e)
 
-module _ (c i : Reading) (after : List ℕ) (f : HasHeader any c after) (g : Hands c.mode f.form f.len after i) where
+module _ (c i : Reading) (after : List ℕ) (f : HasHeader any c after) (g : Hands c.mode f.form f.len f.owed after i) where
   handed_definite : (b x : List ℕ) → f.len ≡ Definite (length b) → after ≡ b ++ x → (i.owed ≡ Some (length b)) × (i.stream.rest ≡ b)
   handed_definite b x l y =
-      let o : (i.owed ≡ Some (length b)) × (i.stream.rest ≡ take (length b) after) = subst (λ z. ContentOf z after i.owed i.stream.rest) l g.octets in
+      let o : (i.owed ≡ Some (length b)) × (i.stream.rest ≡ take (length b) after) = subst (λ z. ContentOf z f.owed after i.owed i.stream.rest) l g.octets in
       (o.0, o.1 ∙ take_front (length b) b x after refl y)
 
   broken_shape : (x : List ℕ) → i.kind ≢ Octets → (HasValues i → ⊥) → Shape c.mode f.form f.len x after → ⊥
@@ -240,13 +245,13 @@ module _ (c i : Reading) (after : List ℕ) (f : HasHeader any c after) (g : Han
         closes = subst (λ z. ClosesBefore z i.mode i.owed b []) (sym (form_definite f.form f.len (length b) i.kind a l g.form)) o.0;
       })
   broken_shape x k n (is_indefinite ts b e a l q z y) =
-      let r : i.stream.rest ≡ after = subst (λ z. ContentOf z after i.owed i.stream.rest) l g.octets in
+      let r : (i.owed ≡ f.owed) × (i.stream.rest ≡ after) = subst (λ z. ContentOf z f.owed after i.owed i.stream.rest) l g.octets in
       n (record {
         trees = ts;
         all = b;
         after = e ++ x;
         encode = subst (λ z. AreEncodings z ts b) (sym g.mode) q;
-        rest = r ∙ y;
+        rest = r.1 ∙ y;
         closes = subst (λ z. ClosesBefore z i.mode i.owed b (e ++ x)) (sym (form_indefinite f.form f.len i.kind l g.form)) (x, record { marker = e; is_end = subst (λ m. IsEndOfContents m e) (sym g.mode) z; rest = refl });
       })
 
@@ -285,7 +290,7 @@ not_failed_done j (inr s) e = (let x : Open ≡ Failed = sym s.0 ∙ e in cc)
 grew_between : (a b c d : ℕ) → a ≤ b → Grew b c → c ≡ d → Grew a d
 grew_between a b c d h g e = subst (λ x. Grew a x) e (grew_from a b c h g)
 
-module _ {E : Type 0} (why : E → Cause ContentError) (e : E) (c d i j : Reading) (after : List ℕ) (f : HasHeader any c after) (g : Hands c.mode f.form f.len after i) (b : c.stream.faults ≤ i.stream.faults) (s : j.stream.faults ≡ d.stream.faults) where
+module _ {E : Type 0} (why : E → Cause ContentError) (e : E) (c d i j : Reading) (after : List ℕ) (f : HasHeader any c after) (g : Hands c.mode f.form f.len f.owed after i) (b : c.stream.faults ≤ i.stream.faults) (s : j.stream.faults ≡ d.stream.faults) where
   pub refused_inside : walking.RefusesValues why i e j → ((why e ≡ of_source) × Grew c.stream.faults d.stream.faults) ⊎ (NoValue c × IsOfContent (why e))
   refused_inside (walking.RefusesValues.failed x a) = absurd (open_not_failed i.state g.state x)
   refused_inside (walking.RefusesValues.source k x) = inl (k, grew_between _ _ _ _ b x s)

@@ -1,5 +1,5 @@
 -- What octets begin with.
-use Rattle.std.specs.Prelude.{◌≡◌, ◌≢◌, Bool, List, ℕ, ◌++◌}
+use Rattle.std.specs.Prelude.{◌≡◌, ◌≢◌, ◌≤◌, Bool, List, ℕ, ◌++◌, length}
 use Rattle.bcder.specs.declared.mode.Mode.{Mode}
 use Rattle.bcder.specs.declared.length.Length.{Length}
 use Rattle.bcder.specs.Identifier.{Tag, IsTag, identifier}
@@ -12,6 +12,10 @@ BeginsOther t w = (u : Tag) × (f : Bool) × (x : List ℕ) × IsTag u × (u ≢
 -- w begins with no tag's identifier octets
 abbrev pub BeginsNoIdentifier : List ℕ → Type 0
 BeginsNoIdentifier w = (t : Tag) (f : Bool) (x : List ℕ) → IsTag t → w ≡ identifier t f ++ x → ⊥
+
+-- there are octets, and they begin with no tag's identifier octets
+abbrev pub HasNoIdentifier : List ℕ → Type 0
+HasNoIdentifier w = (1 ≤ length w) × BeginsNoIdentifier w
 
 -- w is length octets, and x behind them
 abbrev pub BeginsLength : Mode → Length → List ℕ → List ℕ → Type 0

@@ -22,18 +22,18 @@ IsFormOf form Indefinite k = k ≡ IndefiniteValues
 IsFormOf false (Definite n) k = k ≡ Octets
 IsFormOf true (Definite n) k = k ≡ DefiniteValues
 
--- the content's octets: those that its length promises, or all that come
-abbrev pub ContentOf : Length → List ℕ → Option ℕ → List ℕ → Type 0
-ContentOf Indefinite after o rest = rest ≡ after
-ContentOf (Definite n) after o rest = (o ≡ Some n) × (rest ≡ take n after)
+-- what the content owes, and its octets: those that its length promises, or all that come
+abbrev pub ContentOf : Length → Option ℕ → List ℕ → Option ℕ → List ℕ → Type 0
+ContentOf Indefinite owed after o rest = (o ≡ owed) × (rest ≡ after)
+ContentOf (Definite n) owed after o rest = (o ≡ Some n) × (rest ≡ take n after)
 
--- the content of a header, which stands in front of these octets
-pub record Hands (m : Mode) (f : Bool) (len : Length) (after : List ℕ) (i : Reading) : Type 0 where
+-- the content of a header, which stands in front of these octets, of which so many are owed
+pub record Hands (m : Mode) (f : Bool) (len : Length) (owed : Option ℕ) (after : List ℕ) (i : Reading) : Type 0 where
   pub state : i.state ≡ Open
   pub mode : i.mode ≡ m
   pub marked : i.marked ≡ false
   pub form : IsFormOf f len i.kind
-  pub octets : ContentOf len after i.owed i.stream.rest
+  pub octets : ContentOf len owed after i.owed i.stream.rest
 
 -- content over a stream, as it is handed to a closure
 pub record IsOver (s : Stream) (o : Option ℕ) (k : Form) (m : Mode) (i : Reading) : Type 0 where
@@ -44,21 +44,28 @@ pub record IsOver (s : Stream) (o : Option ℕ) (k : Form) (m : Mode) (i : Readi
   pub mode : i.mode ≡ m
   pub marked : i.marked ≡ false
 
--- content that can be handed inside the content c: open, unmarked, in its mode, not at top level, and shorter by what the header takes
-pub record IsInside (c : Reading) (taken : ℕ) (i : Reading) : Type 0 where
+-- content that can be handed, at the tag t, inside content c: that of a header which stands in front
+pub record IsInside (asked : Asked) (c : Reading) (t : Tag) (i : Reading) : Type 0 where
+  pub after : List ℕ
+  pub front : HasHeader asked c after
+  pub is : t ≡ front.tag
+  pub hands : Hands c.mode front.form front.len front.owed after i
+  -- it follows that the tag is one of a value, and that the content is open, unmarked, in the mode of c, not at top level and shorter
+  pub is_value_tag : IsValueTag t
   pub state : i.state ≡ Open
   pub mode : i.mode ≡ c.mode
   pub marked : i.marked ≡ false
   pub bounded : i.kind ≢ UnboundedValues
-  pub shorter : length i.stream.rest + taken ≤ length c.stream.rest
+  pub shorter : length i.stream.rest + 2 ≤ length c.stream.rest
 
 -- ---- what is asked of a closure of a tag and content, and of one of content alone
 
-module _ {C : Type 0} (view : C → Reading) (Handed : Reading → Type 0) where
-  -- the closure may be called at any tag of a value and any content that it can be handed
+module _ {C : Type 0} (view : C → Reading) (Handed : Tag → Reading → Type 0) where
+  -- the closure may be called at any tag and content that it can be handed
   abbrev pub MayBeCalled : (Tag → MutBor C → Type 0) → Type 0
-  MayBeCalled pre = (t : Tag) (p : MutBor C) → IsValueTag t → Handed (view p.now) → pre t p
+  MayBeCalled pre = (t : Tag) (p : MutBor C) → Handed t (view p.now) → pre t p
 
+module _ {C : Type 0} (view : C → Reading) (Handed : Reading → Type 0) where
   -- the same at one tag
   abbrev pub MayBeCalledAt : Tag → (Tag → MutBor C → Type 0) → Type 0
   MayBeCalledAt t pre = (p : MutBor C) → Handed (view p.now) → pre t p
@@ -67,11 +74,12 @@ module _ {C : Type 0} (view : C → Reading) (Handed : Reading → Type 0) where
   abbrev pub MayBeCalledOn : (MutBor C → Type 0) → Type 0
   MayBeCalledOn pre = (p : MutBor C) → Handed (view p.now) → pre p
 
-module _ {C R : Type 0} (view : C → Reading) (Handed : Reading → Type 0) where
+module _ {C R : Type 0} (view : C → Reading) (Handed : Tag → Reading → Type 0) where
   -- and what it leaves is where it moved that content to
   abbrev pub IsLawful : (Tag → MutBor C → R → MutBor C → Type 0) → Type 0
-  IsLawful post = (t : Tag) (p : MutBor C) (r : R) (q : MutBor C) → IsValueTag t → Handed (view p.now) → post t p r q → Moves (view p.now) (view q.now)
+  IsLawful post = (t : Tag) (p : MutBor C) (r : R) (q : MutBor C) → Handed t (view p.now) → post t p r q → Moves (view p.now) (view q.now)
 
+module _ {C R : Type 0} (view : C → Reading) (Handed : Reading → Type 0) where
   abbrev pub IsLawfulAt : Tag → (Tag → MutBor C → R → MutBor C → Type 0) → Type 0
   IsLawfulAt t post = (p : MutBor C) (r : R) (q : MutBor C) → Handed (view p.now) → post t p r q → Moves (view p.now) (view q.now)
 
@@ -123,11 +131,13 @@ module _ {C T E : Type 0} (view : C → Reading) (post : Tag → MutBor C → Re
     pub front : HasHeader asked c (passed ++ d.stream.rest)
     pub handed : Reading
     pub left : Reading
-    pub hands : Hands c.mode front.form front.len (passed ++ d.stream.rest) handed
+    pub hands : Hands c.mode front.form front.len front.owed (passed ++ d.stream.rest) handed
     pub answers : AnswersDone {R = Result T E} view post front.tag handed (Ok x) left
     pub tree : Tree
     pub encodes : IsEncoding (label c.mode left.marked) tree (front.octets ++ passed)
     pub follows : front.len ≡ Indefinite → d.stream.rest ≡ left.stream.rest
+    pub faults_handed : c.stream.faults ≤ handed.stream.faults
+    pub faults_left : left.stream.faults ≡ d.stream.faults
     pub stays : d.state ≡ Open
     pub marked : d.marked ≡ (c.marked || left.marked)
 
@@ -138,10 +148,11 @@ pub record RefusesFront {C T E : Type 0} (why : E → Cause ContentError) (view 
   pub front : HasHeader asked c after
   pub handed : Reading
   pub left : Reading
-  pub hands : Hands c.mode front.form front.len after handed
+  pub hands : Hands c.mode front.form front.len front.owed after handed
   pub moves : Moves handed left
   pub faults_handed : c.stream.faults ≤ handed.stream.faults
   pub faults_left : left.stream.faults ≡ d.stream.faults
+  pub marked : d.marked ≡ (c.marked || left.marked)
   pub refuses : RefusesContent why view post front.tag handed e left
 
 -- why no value was taken from c, and e was answered; `why` tells its cause
@@ -191,7 +202,7 @@ module _ {C T E : Type 0} (why : E → Cause ContentError) (view : C → Reading
     pub left : Reading
     pub marked : d.marked ≡ (c.marked || left.marked)
     pub encodes : OnOk r ((octets : List ℕ) → IsHeader c.mode h.tag h.form h.len octets → (tree : Tree) × IsEncoding (label c.mode left.marked) tree (octets ++ passed))
-    pub hands : Hands c.mode h.form h.len c.stream.rest handed
+    pub hands : Hands c.mode h.form h.len c.owed c.stream.rest handed
     pub moves : Moves handed left
     pub follows : h.len ≡ Indefinite → d.stream.rest ≡ left.stream.rest
     pub faults_handed : handed.stream.faults ≡ c.stream.faults

@@ -72,9 +72,19 @@ decode_text source_text error_text (Source e) = source_text e
 decode_text source_text error_text (Content error pos) = error_text error ++? Some (codes " (at position " ++ decimal pos ++ codes ")")
 decode_text source_text error_text NoMemory = Some (codes "out of memory")
 
--- content was refused: neither the source failed nor memory was wanted
-abbrev pub IsOfContent : {E : Type 0} → Cause E → Type 0
-IsOfContent c = MatchCause c ⊥ (Unit {0}) ⊥
+-- a content error with a fixed text
+abbrev pub IsStatic : ContentError → Type 0
+IsStatic (Static text) = Unit {0}
+IsStatic (Owned text) = ⊥
+IsStatic (ExpectedTag tag) = ⊥
+IsStatic (ExpectedInteger value) = ⊥
+IsStatic (Boxed text) = ⊥
+
+-- content was refused, for a reason that a fixed text tells: neither the source failed nor memory was wanted
+abbrev pub IsOfContent : Cause ContentError → Type 0
+IsOfContent of_source = ⊥
+IsOfContent (of_content e) = IsStatic e
+IsOfContent of_memory = ⊥
 
 abbrev pub IsRefusal : {S : Type 0} → DecodeError S → Type 0
 IsRefusal e = IsOfContent (cause_of e)

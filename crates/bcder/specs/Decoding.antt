@@ -5,9 +5,13 @@ use Rattle.bcder.specs.declared.mode.Mode.{Mode}
 use Rattle.bcder.specs.declared.decode.content.State.TheVariants.{Failed}
 use Rattle.bcder.specs.Stream.{Stream, limited, borrowed}
 use Rattle.bcder.specs.declared.decode.error.ContentError.{ContentError}
-use Rattle.bcder.specs.Cause.{Cause, IsOfContent}
+use Rattle.bcder.specs.declared.decode.content.Constructed.{Constructed}
+use Rattle.bcder.specs.declared.decode.error.DecodeError.{DecodeError}
+use Rattle.bcder.specs.Cause.{Cause, cause_of, IsOfContent}
+use denote.Triple.Both.{Both}
 use Rattle.bcder.specs.Content.{Reading, UnboundedValues, Moves}
-use Rattle.bcder.specs.Calls.{IsOver, RunsOver}
+use Rattle.bcder.specs.Calls.{IsOver, RunsOver, MayBeCalledOn, IsLawfulOn}
+use Rattle.bcder.specs.Views.{of_constructed, lent}
 
 -- all values of a source, as a closure is handed them: open, unmarked, unbounded content over it
 abbrev pub IsAllOf : Stream → Mode → Reading → Type 0
@@ -59,3 +63,36 @@ pub record RefusesDecode {C T E : Type 0} (why : E → Cause ContentError) (view
   pub left : Reading
   pub hands : HandsAll s m handed left s'
   pub refuses : RefusesOn why view post handed e left
+
+-- ---- the same of a source as a whole
+
+module _ {S : Type 0} (stream : S → Stream) where
+  -- the closure may be called on all values of a source, and moves them
+  abbrev pub CallableOnAll : Stream → Mode → (MutBor (Constructed S) → Type 0) → Type 0
+  CallableOnAll s m pre = MayBeCalledOn (of_constructed stream) (IsAllOf s m) pre
+
+  abbrev pub LawfulOnAll : {R : Type 0} → Stream → Mode → (MutBor (Constructed S) → R → MutBor (Constructed S) → Type 0) → Type 0
+  LawfulOnAll s m post = IsLawfulOn (of_constructed stream) (IsAllOf s m) post
+
+  -- the same of a source behind a borrow
+  abbrev pub CallableOnLent : MutBor S → Mode → (MutBor (Constructed (MutBor S)) → Type 0) → Type 0
+  CallableOnLent s m pre = MayBeCalledOn (of_constructed (lent stream)) (IsAllBehind (stream s.now) m) pre
+
+  abbrev pub LawfulOnLent : {R : Type 0} → MutBor S → Mode → (MutBor (Constructed (MutBor S)) → R → MutBor (Constructed (MutBor S)) → Type 0) → Type 0
+  LawfulOnLent s m post = IsLawfulOn (of_constructed (lent stream)) (IsAllBehind (stream s.now) m) post
+
+  module _ {T X : Type 0} (post : MutBor (Constructed S) → Result T (DecodeError X) → MutBor (Constructed S) → Type 0) (s : Stream) (m : Mode) (r : Result T (DecodeError X)) where
+    -- what was decoded from a source that is gone, or why nothing was
+    abbrev pub DecodesAll : Type 0
+    DecodesAll = IfOk r (λ x. (left : Stream) × Decodes (of_constructed stream) post s m x left)
+
+    abbrev pub RefusesAll : Type 0
+    RefusesAll = IfErr r (λ e. (left : Stream) × RefusesDecode cause_of (of_constructed stream) post s m e left)
+
+  module _ {T X : Type 0} (post : MutBor (Constructed (MutBor S)) → Result T (DecodeError X) → MutBor (Constructed (MutBor S)) → Type 0) (s : Both (MutBor S) (MutBor S)) (m : Mode) (r : Result T (DecodeError X)) where
+    -- the same of a source that its owner goes on with
+    abbrev pub DecodesLent : Type 0
+    DecodesLent = IfOk r (λ x. (name : ℕ) × Decodes (of_constructed (lent stream)) post (borrowed name (stream s.entry.now)) m x (borrowed name (stream s.exit.now)))
+
+    abbrev pub RefusesLent : Type 0
+    RefusesLent = IfErr r (λ e. (name : ℕ) × RefusesDecode cause_of (of_constructed (lent stream)) post (borrowed name (stream s.entry.now)) m e (borrowed name (stream s.exit.now)))

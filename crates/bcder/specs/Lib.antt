@@ -16,8 +16,14 @@ pub mod Peek
 pub mod Content
 pub mod Views
 pub mod Calls
+pub mod Takes
+pub mod Entering
+pub mod Inside
 pub mod Walking
 pub mod Decoding
 pub mod Begins
 pub mod PeekTag
 pub mod PeekLength
+pub mod Answers
+pub mod Changed
+pub mod Repeating

@@ -53,3 +53,7 @@ SeesOf mode t seen.Refused w = (1 ≤ length w) × ((x : List ℕ) → HasNoLeng
 abbrev pub SeesIf : Mode → Tag → Option Seen → List ℕ → Type 0
 SeesIf mode t None w = (x : List ℕ) → HasOtherTag t (w ++ x)
 SeesIf mode t (Some s) w = SeesOf mode t s w
+
+-- a header of two octets, in every mode and whatever follows them
+abbrev pub StandsShort : Kept → List ℕ → Type 0
+StandsShort h w = (2 ≤ length w) × ((mode : Mode) (x : List ℕ) → read_front mode (w ++ x) ≡ Some (header h, drop 2 (w ++ x)))

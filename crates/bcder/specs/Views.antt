@@ -41,6 +41,11 @@ module _ {S : Type 0} (stream : S → Stream) where
   of_content (content.Primitive p) = of_primitive p
   of_content (content.Constructed c) = of_constructed c
 
+-- what a proof names to open both views
+unfoldable pub views : Unit {0}
+unfolding of_constructed of_primitive
+views = tt
+
 -- the borrow that content holds
 abbrev pub content_name : {S : Type 0} → Content S → GName
 content_name (content.Primitive p) = p.source.ghost_name
@@ -62,6 +67,27 @@ content_start (content.Constructed c) = c.start
 -- the stream of a source behind a borrow
 abbrev pub lent : {S : Type 0} → (S → Stream) → MutBor S → Stream
 lent stream s = borrowed s.ghost_name (stream s.now)
+
+-- a parameter of constructed content at the entry and at the exit
+abbrev pub before : {S : Type 0} → (S → Stream) → Both (MutBor (Constructed S)) (MutBor (Constructed S)) → Reading
+before stream c = of_constructed stream c.entry.now
+
+abbrev pub after : {S : Type 0} → (S → Stream) → Both (MutBor (Constructed S)) (MutBor (Constructed S)) → Reading
+after stream c = of_constructed stream c.exit.now
+
+-- the same of octets
+abbrev pub octets_before : {S : Type 0} → (S → Stream) → Both (MutBor (Primitive S)) (MutBor (Primitive S)) → Reading
+octets_before stream c = of_primitive stream c.entry.now
+
+abbrev pub octets_after : {S : Type 0} → (S → Stream) → Both (MutBor (Primitive S)) (MutBor (Primitive S)) → Reading
+octets_after stream c = of_primitive stream c.exit.now
+
+-- the same of either
+abbrev pub content_before : {S : Type 0} → (S → Stream) → Both (MutBor (Content S)) (MutBor (Content S)) → Reading
+content_before stream c = of_content stream c.entry.now
+
+abbrev pub content_after : {S : Type 0} → (S → Stream) → Both (MutBor (Content S)) (MutBor (Content S)) → Reading
+content_after stream c = of_content stream c.exit.now
 
 -- what a parameter of constructed content, of octets or of either is at the exit, it was carried to from what it was at the entry
 abbrev pub Moved : {S : Type 0} → (S → Stream) → Both (MutBor (Constructed S)) (MutBor (Constructed S)) → Type 0

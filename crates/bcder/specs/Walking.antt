@@ -1,22 +1,29 @@
 -- When the next value, and all values up to the end of content, are there.
 use Rattle.std.specs.Borrow.{MutBor}
-use Rattle.std.specs.Prelude.{◌≡◌, ◌≢◌, ℕ, ◌+◌, ◌<◌, true, false, List, [], ◌++◌, length, Option, Some, Result, IsOkAnd, IfErr, OnOk, IsTrue, is_some, is_none}
+use Rattle.std.specs.Prelude.{◌≡◌, ◌≢◌, ℕ, ◌+◌, ◌<◌, ◌≤◌, Bool, true, false, List, [], ◌++◌, length, take, Option, Some, Result, IsOkAnd, IfOk, IfErr, OnOk, OnErr, IfSome, IfNone, IsTrue, is_some, is_none}
+use denote.Triple.Both.{Both}
 use Rattle.bcder.specs.declared.mode.Mode.{Mode}
 use Rattle.bcder.specs.declared.decode.content.Kind.TheVariants as kind
 use Rattle.bcder.specs.declared.decode.content.State.TheVariants.{Open, Ended, Failed}
-use Rattle.bcder.specs.Identifier.{Tag}
+use Rattle.bcder.specs.Identifier.{Tag, AreOctets}
 use Rattle.bcder.specs.Tree.{Tree, Trees}
 use Rattle.bcder.specs.Encoding.{IsEncoding, AreEncodings}
 use Rattle.bcder.specs.Grammar.{IsOnly}
-use Rattle.bcder.specs.Stream.{Grew}
+use Rattle.bcder.specs.Stream.{Stream, Grew}
 use Rattle.bcder.specs.declared.decode.error.ContentError.{ContentError}
-use Rattle.bcder.specs.Cause.{Cause, of_source, IsOfContent}
+use Rattle.bcder.specs.Cause.{Cause, cause_of, stop_cause, of_source, IsOfContent}
+use Rattle.bcder.specs.declared.decode.error.DecodeError.{DecodeError}
+use Rattle.bcder.specs.declared.decode.stop.Stop.{Stop}
+use Rattle.bcder.specs.declared.decode.header.Header.{Header as Kept}
+use Rattle.bcder.specs.declared.decode.content.Constructed.{Constructed}
+use Rattle.bcder.specs.Views.{of_constructed}
+use Rattle.bcder.specs.Calls.{TakesContent}
 use Rattle.bcder.specs.declared.length.Length.TheVariants.{Definite}
 use Rattle.bcder.specs.declared.decode.content.walk.Next.{Next}
 use Rattle.bcder.specs.declared.decode.content.walk.Next.TheVariants as next
 use Rattle.bcder.specs.Reading.{Header, is_value_tag}
 use Rattle.bcder.specs.Peek.{header}
-use Rattle.bcder.specs.Content.{Reading, Form, octets, values, Octets, Moves, HasMarker, EndsBefore, EndsAt, NotAtEnd, IsDone, Enters}
+use Rattle.bcder.specs.Content.{Reading, Form, octets, values, Octets, Moves, HasMarker, EndsBefore, EndsAt, NotAtEnd, IsDone, Enters, Advances, any, Resembles, RefusesHeader}
 
 -- ---- one value
 
@@ -63,6 +70,54 @@ Goes c (next.Entered h) d = Enters c (header h) d
 Goes c next.Passed d = PassesValue c d
 Goes c next.Ended d = EndsAt c d × IsDone d
 
+-- a call passed over the next value, or found the end, or refused; `why` tells the cause of its error
+pub record PassedBy {T E : Type 0} (why : E → Cause ContentError) (c : Reading) (r : Result (Option T) E) (d : Reading) : Type 0 where
+  -- Some: the one value that stands in front was passed
+  pub value : IfOk r (λ o. IfSome o (λ _. PassesValue c d))
+  -- None: content was at its end, whose marker, if any, was taken
+  pub end : IfOk r (λ o. IfNone o (EndsAt c d))
+  pub done : IfOk r (λ o. IfNone o (IsDone d))
+  -- an error tells why no value was passed, and content has failed
+  pub refused : IfErr r (λ e. RefusesWalk why c e d)
+  pub failed : OnErr r (d.state ≡ Failed)
+  -- the mode stays, and the mark
+  pub mode : d.mode ≡ c.mode
+  pub marked : d.marked ≡ c.marked
+
+-- the first n octets were passed, and nothing else changed
+pub record PassesOver (c : Reading) (n : ℕ) (d : Reading) : Type 0 where
+  pub advances : Advances c d (take n c.stream.rest)
+  pub octets : AreOctets c.stream.rest
+  pub within : n ≤ length c.stream.rest
+  pub no_fault : d.stream.faults ≡ c.stream.faults
+  pub state : d.state ≡ c.state
+  pub marked : d.marked ≡ c.marked
+
+-- the next value was passed in one go, or nothing was passed; `why` tells the cause of an error
+pub record AtOnceBy {E : Type 0} (why : E → Cause ContentError) (c : Reading) (r : Result Bool E) (d : Reading) : Type 0 where
+  pub passed : IfOk r (λ b. IsTrue b → PassesValue c d)
+  pub same : IfOk r (λ b. b ≡ false → Resembles c d)
+  -- the source failed exactly where an error is answered, and content has failed
+  pub no_fault : OnOk r (d.stream.faults ≡ c.stream.faults)
+  pub fault : IfErr r (λ e. (why e ≡ of_source) × Grew c.stream.faults d.stream.faults)
+  pub failed : OnErr r (d.state ≡ Failed)
+  pub mode : d.mode ≡ c.mode
+  pub marked : d.marked ≡ c.marked
+
+-- a step went over the next value, over its header or to the end, or was refused; `why` tells the cause of its error
+pub record StepsBy {E : Type 0} (why : E → Cause ContentError) (c : Reading) (r : Result Next E) (d : Reading) : Type 0 where
+  pub goes : IfOk r (λ n. Goes c n d)
+  pub refused : IfErr r (λ e. RefusesHeader why any c e d)
+  pub failed : OnErr r (d.state ≡ Failed)
+  pub mode : d.mode ≡ c.mode
+  pub marked : d.marked ≡ c.marked
+
+-- the first n octets are the encoding of a value
+pub record BeginsWhole (mode : Mode) (octets : List ℕ) (n : ℕ) : Type 0 where
+  pub tree : Tree
+  pub encodes : IsEncoding mode tree (take n octets)
+  pub fits : n ≤ length octets
+
 -- ---- all values
 
 -- content of this form ends after the octets w and before the octets `after`
@@ -97,6 +152,18 @@ pub data RefusesValues {E : Type 0} (why : E → Cause ContentError) (c : Readin
   broken : c.kind ≢ Octets → (HasValues c → ⊥) → IsOfContent (why e) → RefusesValues why c e d
   short : c.kind ≡ Octets → IsShort c → IsOfContent (why e) → RefusesValues why c e d
 
+-- content was passed to its end, or refused; `why` tells the cause of the error
+pub record AllBy {T E : Type 0} (why : E → Cause ContentError) (c : Reading) (r : Result T E) (d : Reading) : Type 0 where
+  -- there were values up to the end, and content is at it
+  pub all : OnOk r (c.state ≡ Open → HasValues c)
+  pub done : OnOk r (IsDone d)
+  -- an error tells why not, and content has failed
+  pub refused : IfErr r (λ e. RefusesValues why c e d)
+  pub failed : OnErr r (d.state ≡ Failed)
+  -- the mode stays, and the mark
+  pub mode : d.mode ≡ c.mode
+  pub marked : d.marked ≡ c.marked
+
 -- what a loop over values keeps: each that was passed was a whole one, so values up to the end remain exactly where they were there at first
 pub record Walks (c d : Reading) : Type 0 where
   pub moves : Moves c d
@@ -120,3 +187,44 @@ itself c = c
 -- the same as a closure's step over content
 abbrev pub walked : {T E : Type 0} → (E → Cause ContentError) → Tag → MutBor Reading → Result T E → MutBor Reading → Type 0
 walked why t p r q = WalksBy why p.now r q.now
+
+-- ---- the same of a parameter
+
+-- a parameter of constructed content as it was at the entry, and as it is at the exit
+module _ {S : Type 0} (stream : S → Stream) (c : Both (MutBor (Constructed S)) (MutBor (Constructed S))) where
+  abbrev pub Between : (Reading → Reading → Type 0) → Type 0
+  Between R = R (of_constructed stream c.entry.now) (of_constructed stream c.exit.now)
+
+  -- what a call that passes over the next value promises of content and of its answer
+  abbrev pub PassedNext : {T X : Type 0} → Result (Option T) (DecodeError X) → Type 0
+  PassedNext r = PassedBy cause_of (of_constructed stream c.entry.now) r (of_constructed stream c.exit.now)
+
+  -- unless the source failed, Some is answered exactly where a value stands in front, and None exactly at the end
+  abbrev pub ExactlyNext : {T E : Type 0} → Result (Option T) E → Type 0
+  ExactlyNext r = (Between (λ c d. Grew c.stream.faults d.stream.faults) → ⊥) → AnswersNext (of_constructed stream c.entry.now) r (of_constructed stream c.exit.now)
+
+  abbrev pub NoFault : Type 0
+  NoFault = Between (λ c d. d.stream.faults ≡ c.stream.faults)
+
+  abbrev pub Fault : Type 0
+  Fault = Between (λ c d. Grew c.stream.faults d.stream.faults)
+
+  -- with a stop in the place of an error
+  abbrev pub PassedStep : {T X : Type 0} → Result (Option T) (Stop X) → Type 0
+  PassedStep r = PassedBy stop_cause (of_constructed stream c.entry.now) r (of_constructed stream c.exit.now)
+
+  abbrev pub PassedOver : ℕ → Type 0
+  PassedOver n = Between (λ c d. PassesOver c n d)
+
+  abbrev pub PassedAtOnce : {X : Type 0} → Result Bool (Stop X) → Type 0
+  PassedAtOnce r = AtOnceBy stop_cause (of_constructed stream c.entry.now) r (of_constructed stream c.exit.now)
+
+  abbrev pub Stepped : {X : Type 0} → Result Next (Stop X) → Type 0
+  Stepped r = StepsBy stop_cause (of_constructed stream c.entry.now) r (of_constructed stream c.exit.now)
+
+  abbrev pub PassedAll : {T X : Type 0} → Result T (Stop X) → Type 0
+  PassedAll r = AllBy stop_cause (of_constructed stream c.entry.now) r (of_constructed stream c.exit.now)
+
+  -- the content of a header was walked over
+  abbrev pub WalkedOver : {T X : Type 0} → Kept → Result T (Stop X) → Type 0
+  WalkedOver h r = TakesContent stop_cause itself (walked stop_cause) (of_constructed stream c.entry.now) (header h) r (of_constructed stream c.exit.now)

@@ -3,7 +3,9 @@
 ghost use Rattle.std.specs.Prelude.{◌≡◌, ◌++◌, map};
 ghost use Rattle.std.specs.List.{range_with_len};
 ghost use Rattle.bcder.specs.Identifier.{universal, context_specific};
-ghost use Rattle.bcder.specs.Grammar.{OneIdentifier, OneLength, OneEnd, OneFront, OneList, OneEncoding, ValueInBer, ListInBer, ValueHasTwo, ListHasTwo, ValueIsOctets, ListIsOctets};
+ghost use Rattle.bcder.specs.Grammar.{OneIdentifier, OneLength, OneEnd, OneFront, OneList};
+ghost use Rattle.bcder.specs.Grammar.{OneEncoding, ValueInBer, ListInBer};
+ghost use Rattle.bcder.specs.Grammar.{ValueHasTwo, ListHasTwo, ValueIsOctets, ListIsOctets};
 
 pub mod sources;
 
@@ -53,7 +55,8 @@ pub fn encodings_are_octets()
 
 /// Each universal constant, beside its number (X.680, 8.4): 0 to 14 and 16 to 36.
 pub fn universal_constants() -> [(Tag, u32); 36]
-    ensures { result ≡ map (λ n. (record { class = universal; number = n }, n)) (range_with_len 0 15 ++ range_with_len 16 21) }
+    ensures { result ≡ map (λ n. (record { class = universal; number = n }, n))
+        (range_with_len 0 15 ++ range_with_len 16 21) }
 {
     [
         (Tag::END_OF_VALUE, 0),
@@ -97,7 +100,8 @@ pub fn universal_constants() -> [(Tag, u32); 36]
 
 /// Each context-specific constant, beside its number: 0 to 6.
 pub fn context_constants() -> [(Tag, u32); 7]
-    ensures { result ≡ map (λ n. (record { class = context_specific; number = n }, n)) (range_with_len 0 7) }
+    ensures { result ≡ map (λ n. (record { class = context_specific; number = n }, n))
+        (range_with_len 0 7) }
 {
     [
         (Tag::CTX_0, 0),

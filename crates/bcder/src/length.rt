@@ -1,5 +1,7 @@
 //! Length octets and end-of-contents octets (X.690, 8.1.3, 8.1.5, 9.1, 10.1).
-ghost use Rattle.std.specs.Prelude.{◌≡◌, ℕ, ◌<◌, ◌≤◌, ◌^◌, ◌↔◌, Bool, List, length, IsTrue, Some, None, IfSome, IfNone, MatchOption};
+ghost use Rattle.std.specs.Prelude.{◌≡◌, ℕ, ◌<◌, ◌≤◌, ◌^◌, ◌↔◌, Bool, List, length, IsTrue};
+ghost use Rattle.std.specs.Prelude.{Some, None, IfSome, IfNone, MatchOption};
+ghost use Rattle.bcder.specs.Answers.{Answers};
 ghost use Rattle.bcder.specs.Length.{big_endian};
 ghost use Rattle.bcder.specs.Reading.{least, may_tell, read_length, read_long, read_end};
 
@@ -35,7 +37,7 @@ fn number_of(octets: &[u8]) -> usize
 }
 
 /// Whether that many octets may tell the number: in CER and DER no fewer can (9.1, 10.1).
-#[tactic(auto, using(std::proofs::lemmas::Bool::Decides::nat_tests), unfolding(crate::specs::Reading::may_tell))]
+#[tactic(auto, using(crate::proofs::nat_tests), unfolding(crate::specs::Reading::may_tell))]
 fn may_be_told(mode: Mode, count: usize, len: usize) -> bool
     requires some { 1 ≤ count }
     requires limit { count ≤ 4 }
@@ -53,10 +55,10 @@ fn may_be_told(mode: Mode, count: usize, len: usize) -> bool
 }
 
 /// The length that the first `count` octets are, and the octets after them (8.1.3.5).
-#[tactic(auto, using(std::proofs::lemmas::Bool::Decides::nat_tests), unfolding(crate::specs::Reading::read_long))]
+#[tactic(auto, using(crate::proofs::nat_tests), unfolding(crate::specs::Reading::read_long))]
 fn long_at(mode: Mode, count: usize, octets: &[u8]) -> Option<(Length, &[u8])>
     requires { 1 ≤ count }
-    ensures { MatchOption result (read_long mode count octets.now ≡ None) (λ r. read_long mode count octets.now ≡ Some (r.0, r.1.now)) }
+    ensures { Answers result (read_long mode count octets.now) }
 {
     if count > 4 {
         return None;
@@ -74,10 +76,10 @@ fn long_at(mode: Mode, count: usize, octets: &[u8]) -> Option<(Length, &[u8])>
 }
 
 /// The length at the front, and the octets after it.
-#[tactic(auto, using(std::proofs::lemmas::Bool::Decides::nat_tests), unfolding(crate::specs::Reading::read_length))]
+#[tactic(auto, using(crate::proofs::nat_tests), unfolding(crate::specs::Reading::read_length))]
 #[inline(always)]
 pub(crate) fn length_at(mode: Mode, octets: &[u8]) -> Option<(Length, &[u8])>
-    ensures { MatchOption result (read_length mode octets.now ≡ None) (λ r. read_length mode octets.now ≡ Some (r.0, r.1.now)) }
+    ensures { Answers result (read_length mode octets.now) }
 {
     match octets {
         [] => None,
@@ -96,7 +98,9 @@ pub(crate) fn length_at(mode: Mode, octets: &[u8]) -> Option<(Length, &[u8])>
 /// The octets after the end marker at the front.
 #[tactic(auto, unfolding(crate::specs::Reading::read_end))]
 pub(crate) fn after_end(mode: Mode, octets: &[u8]) -> Option<&[u8]>
-    ensures { MatchOption result (read_end mode octets.now ≡ None) (λ r. read_end mode octets.now ≡ Some r.now) }
+    ensures { MatchOption result
+        (read_end mode octets.now ≡ None)
+        (λ r. read_end mode octets.now ≡ Some r.now) }
 {
     match octets {
         [0, rest @ ..] => match length_at(mode, rest) {

@@ -1,10 +1,7 @@
 //! The three sets of encoding rules.
-ghost use Rattle.std.specs.Prelude.{◌≡◌, ◌↔◌, ◌≤◌, ◌++◌, ℕ, List, IsTrue, IfOk, IfErr};
-ghost use Rattle.bcder.specs.Calls.{MayBeCalledOn, IsLawfulOn};
-ghost use Rattle.bcder.specs.Cause.{cause_of};
-ghost use Rattle.bcder.specs.Decoding.{IsAllOf, IsAllBehind, Decodes, RefusesDecode};
-ghost use Rattle.bcder.specs.Stream.{Stream, borrowed};
-ghost use Rattle.bcder.specs.Views.{of_constructed, lent};
+ghost use Rattle.std.specs.Prelude.{◌≡◌, ◌↔◌, ◌≤◌, ◌++◌, ℕ, List, IsTrue};
+ghost use Rattle.bcder.specs.Decoding.{CallableOnAll, LawfulOnAll, CallableOnLent, LawfulOnLent};
+ghost use Rattle.bcder.specs.Decoding.{DecodesAll, RefusesAll, DecodesLent, RefusesLent};
 
 use crate::decode::{Constructed, DecodeError, IntoSource, Source};
 
@@ -40,10 +37,10 @@ impl Mode {
         F: FnOnce(
             &mut Constructed<'_, I::Source>,
         ) -> Result<T, DecodeError<<I::Source as Source>::Error>>,
-        requires callable { MayBeCalledOn (of_constructed I.Source.stream) (IsAllOf (I.gives source) self) (F.pre op) }
-        requires lawful { IsLawfulOn (of_constructed I.Source.stream) (IsAllOf (I.gives source) self) (F.post op) }
-        ensures ok { IfOk result (λ x. (left : Stream) × Decodes (of_constructed I.Source.stream) (F.post op) (I.gives source) self x left) }
-        ensures refused { IfErr result (λ e. (left : Stream) × RefusesDecode cause_of (of_constructed I.Source.stream) (F.post op) (I.gives source) self e left) }
+        requires callable { CallableOnAll I.Source.stream (I.gives source) self (F.pre op) }
+        requires lawful { LawfulOnAll I.Source.stream (I.gives source) self (F.post op) }
+        ensures ok { DecodesAll I.Source.stream (F.post op) (I.gives source) self result }
+        ensures refused { RefusesAll I.Source.stream (F.post op) (I.gives source) self result }
     {
         Constructed::decode(source, self, op)
     }
@@ -61,11 +58,12 @@ impl Mode {
     ) -> Result<T, DecodeError<S::Error>>
     where
         F: FnOnce(&mut Constructed<'_, &mut S>) -> Result<T, DecodeError<S::Error>>,
-        requires callable { MayBeCalledOn (of_constructed (lent S.stream)) (IsAllBehind (S.stream source.old) self) (F.pre op) }
-        requires lawful { IsLawfulOn (of_constructed (lent S.stream)) (IsAllBehind (S.stream source.old) self) (F.post op) }
-        ensures ok { IfOk result (λ x. (name : ℕ) × Decodes (of_constructed (lent S.stream)) (F.post op) (borrowed name (S.stream source.old)) self x (borrowed name (S.stream source.new))) }
-        ensures refused { IfErr result (λ e. (name : ℕ) × RefusesDecode cause_of (of_constructed (lent S.stream)) (F.post op) (borrowed name (S.stream source.old)) self e (borrowed name (S.stream source.new))) }
-        ensures passed { (passed : List ℕ) × ((S.stream source.old).rest ≡ passed ++ (S.stream source.new).rest) }
+        requires callable { CallableOnLent S.stream source self (F.pre op) }
+        requires lawful { LawfulOnLent S.stream source self (F.post op) }
+        ensures ok { DecodesLent S.stream (F.post op) source self result }
+        ensures refused { RefusesLent S.stream (F.post op) source self result }
+        ensures passed { (passed : List ℕ)
+            × ((S.stream source.old).rest ≡ passed ++ (S.stream source.new).rest) }
         ensures faults { (S.stream source.old).faults ≤ (S.stream source.new).faults }
         ensures kept { (S.stream source.new).kept ≡ (S.stream source.old).kept }
     {

@@ -1,12 +1,16 @@
-//! The plain reader: values at the front of a slice of octets, by recursion and without memory
-//! (X.690, 8.1.1). What the rest of the crate reads from sources is compared with it.
-ghost use Rattle.std.specs.Prelude.{◌≡◌, ℕ, ◌+◌, ◌<◌, ◌≤◌, ◌↔◌, Bool, List, [], ◌∷◌, ◌++◌, length, Some, None, IfSome, IfNone, MatchOption, IsTrue, Option};
+//! The plain reader: values at the front of a slice of octets, without memory (X.690, 8.1.1). It
+//! loops over values side by side, and calls itself for values inside values. What the rest of the
+//! crate reads from sources is compared with it.
+ghost use Rattle.std.specs.Prelude.{◌≡◌, ℕ, ◌+◌, ◌<◌, ◌≤◌, ◌↔◌, Bool, List, [], ◌∷◌, ◌++◌, length};
+ghost use Rattle.std.specs.Prelude.{Option, Some, None, IfSome, IfNone, MatchOption, IsTrue};
+ghost use Rattle.bcder.specs.declared.mode.Mode.{Mode as ModeValue};
 ghost use Rattle.bcder.specs.Tree.{Tree, Trees};
 ghost use Rattle.bcder.specs.Length.{IsEndOfContents};
 ghost use Rattle.bcder.specs.Encoding.{IsEncoding, AreEncodings, IsHeader, may_have};
 ghost use Rattle.bcder.specs.Told.{told};
 ghost use Rattle.bcder.specs.Identifier.{Tag as TagValue};
-ghost use Rattle.bcder.specs.Reading.{is_value_tag, read_header, read_tree, read_list, at_end};
+ghost use Rattle.bcder.specs.Reading.{is_value_tag, BeginPrimitive};
+ghost use Rattle.bcder.specs.Reading.{read_header, read_tree, read_list, at_end};
 ghost use Rattle.bcder.specs.Grammar.{IsOnly};
 
 use crate::length::{Length, after_end, length_at};
@@ -25,9 +29,13 @@ fn may_have(mode: Mode, constructed: bool, len: Length) -> bool
 
 /// The identifier and length octets at the front, and the octets after them.
 #[tactic(auto, unfolding(crate::specs::Reading::read_header))]
+#[inline(always)]
 fn header_at(mode: Mode, octets: &[u8]) -> Option<(Tag, bool, Length, &[u8])>
     ensures less { IfSome result (λ r. length r.3.now + 2 ≤ length octets.now) }
-    ensures read { MatchOption result (read_header mode octets.now ≡ None) (λ r. read_header mode octets.now ≡ Some (record { tag = r.0; form = r.1; len = r.2 }, r.3.now)) }
+    ensures read { MatchOption result
+        (read_header mode octets.now ≡ None)
+        (λ r. read_header mode octets.now
+        ≡ Some (record { tag = r.0; form = r.1; len = r.2 }, r.3.now)) }
 {
     let Some((tag, constructed, rest)) = identifier_at(octets) else {
         return None;
@@ -43,10 +51,59 @@ fn header_at(mode: Mode, octets: &[u8]) -> Option<(Tag, bool, Length, &[u8])>
     }
 }
 
+/// Whether these are the identifier octet and the length octet of a primitive value, which no mode
+/// refuses (8.1.2.2, 8.1.3.4).
+#[tactic(auto, using(crate::proofs::Skip::short_header))]
+#[inline(always)]
+fn is_primitive(first: u8, len: u8) -> bool
+    ensures { IsTrue result → BeginPrimitive first len }
+{
+    let low = first % 64;
+    1 <= low && low <= 30 && len < 0x80
+}
+
+/// The octets after the value at the front, if it is primitive and has one identifier octet and one
+/// length octet.
+#[inline(always)]
+fn primitive_at(octets: &[u8]) -> Option<&[u8]>
+    ensures less { IfSome result (λ r. length r.now + 2 ≤ length octets.now) }
+    ensures read { IfSome result
+        (λ r. (mode : ModeValue) → (t : Tree) × (read_tree mode octets.now ≡ Some (t, r.now))) }
+{
+    match octets {
+        [first, len, rest @ ..] => {
+            if is_primitive(*first, *len) && usize::from(*len) <= rest.len() {
+                Some(rest.split_at(usize::from(*len)).1)
+            } else {
+                None
+            }
+        }
+        _ => None,
+    }
+}
+
 /// The octets after the value at the front.
 #[cycle(plain)]
+#[inline(always)]
 fn value_at(mode: Mode, octets: &[u8]) -> Option<&[u8]>
-    ensures read { MatchOption result (read_tree mode octets.now ≡ None) (λ r. (t : Tree) × (read_tree mode octets.now ≡ Some (t, r.now))) }
+    ensures read { MatchOption result
+        (read_tree mode octets.now ≡ None)
+        (λ r. (t : Tree) × (read_tree mode octets.now ≡ Some (t, r.now))) }
+    ensures less { IfSome result (λ r. length r.now + 2 ≤ length octets.now) }
+{
+    match primitive_at(octets) {
+        Some(rest) => Some(rest),
+        None => any_at(mode, octets),
+    }
+}
+
+/// The same, whatever value it is.
+#[cycle(plain)]
+#[inline(never)]
+fn any_at(mode: Mode, octets: &[u8]) -> Option<&[u8]>
+    ensures read { MatchOption result
+        (read_tree mode octets.now ≡ None)
+        (λ r. (t : Tree) × (read_tree mode octets.now ≡ Some (t, r.now))) }
     ensures less { IfSome result (λ r. length r.now + 2 ≤ length octets.now) }
 {
     let Some((_, constructed, len, rest)) = header_at(mode, octets) else {
@@ -73,7 +130,9 @@ fn value_at(mode: Mode, octets: &[u8]) -> Option<&[u8]>
 /// The octets after the end of a list, if it is here.
 #[tactic(auto, unfolding(crate::specs::Reading::at_end))]
 fn at_end(mode: Mode, marked: bool, octets: &[u8]) -> Option<&[u8]>
-    ensures { MatchOption result (at_end mode marked octets.now ≡ None) (λ r. at_end mode marked octets.now ≡ Some r.now) }
+    ensures { MatchOption result
+        (at_end mode marked octets.now ≡ None)
+        (λ r. at_end mode marked octets.now ≡ Some r.now) }
 {
     if marked {
         return after_end(mode, octets);
@@ -88,14 +147,19 @@ fn at_end(mode: Mode, marked: bool, octets: &[u8]) -> Option<&[u8]>
 #[cycle(plain)]
 fn list_at(mode: Mode, marked: bool, octets: &[u8]) -> Option<&[u8]>
     ensures less { IfSome result (λ r. length r.now ≤ length octets.now) }
-    ensures read { MatchOption result (read_list mode marked octets.now ≡ None) (λ r. (ts : Trees) × (read_list mode marked octets.now ≡ Some (ts, r.now))) }
+    ensures read { MatchOption result
+        (read_list mode marked octets.now ≡ None)
+        (λ r. (ts : Trees) × (read_list mode marked octets.now ≡ Some (ts, r.now))) }
 {
-    match at_end(mode, marked, octets) {
-        Some(rest) => Some(rest),
-        None => match value_at(mode, octets) {
-            Some(rest) => list_at(mode, marked, rest),
-            None => None,
-        },
+    let mut rest = octets;
+    loop {
+        if let Some(after) = at_end(mode, marked, rest) {
+            return Some(after);
+        }
+        match value_at(mode, rest) {
+            Some(after) => rest = after,
+            None => return None,
+        }
     }
 }
 
@@ -124,11 +188,16 @@ fn number_told(len: Length) -> Option<usize>
     }
 }
 
-/// The header at the front (X.690, 8.1.2, 8.1.3): none where no front of the octets is the header of
-/// a value in the mode. Whether the contents are complete isn't looked at.
+/// The header at the front (X.690, 8.1.2, 8.1.3): none where no front of the octets is the header
+/// of a value in the mode. Whether the contents are complete isn't looked at.
 pub fn front_at<'a>(mode: Mode, octets: &'a [u8]) -> Option<Front<'a>>
-    ensures found { IfSome result (λ f. (w : List ℕ) × IsHeader mode f.tag f.constructed (told f.len) w × (octets.now ≡ w ++ f.rest.now)) }
-    ensures none { IfNone result ((t : TagValue) (form : Bool) (n : Option ℕ) (w x : List ℕ) → IsHeader mode t form (told n) w → octets.now ≡ w ++ x → ⊥) }
+    ensures found { IfSome result
+        (λ f.
+        (w : List ℕ) × IsHeader mode f.tag f.constructed (told f.len) w
+        × (octets.now ≡ w ++ f.rest.now)) }
+    ensures none { IfNone result
+        ((t : TagValue) (form : Bool) (n : Option ℕ) (w x : List ℕ)
+        → IsHeader mode t form (told n) w → octets.now ≡ w ++ x → ⊥) }
 {
     let Some(header) = header_at(mode, octets) else {
         return None;
@@ -144,19 +213,37 @@ pub fn front_at<'a>(mode: Mode, octets: &'a [u8]) -> Option<Front<'a>>
 /// The octets after the end-of-contents octets at the front (X.690, 8.1.5): none where no front of
 /// the octets is an end in the mode.
 pub fn end_at(mode: Mode, octets: &[u8]) -> Option<&[u8]>
-    ensures found { IfSome result (λ rest. (w : List ℕ) × IsEndOfContents mode w × (octets.now ≡ w ++ rest.now)) }
-    ensures none { IfNone result ((w x : List ℕ) → IsEndOfContents mode w → octets.now ≡ w ++ x → ⊥) }
+    ensures found { IfSome result
+        (λ rest. (w : List ℕ) × IsEndOfContents mode w × (octets.now ≡ w ++ rest.now)) }
+    ensures none { IfNone result
+        ((w x : List ℕ) → IsEndOfContents mode w → octets.now ≡ w ++ x → ⊥) }
 {
     after_end(mode, octets)
 }
 
 /// The octets after the value at the front: none where no front of the octets is an encoding in the
 /// mode.
+#[inline(always)]
 pub fn skip_one(mode: Mode, octets: &[u8]) -> Option<&[u8]>
-    ensures found { IfSome result (λ rest. (t : Tree) × (w : List ℕ) × IsEncoding mode t w × (octets.now ≡ w ++ rest.now) × IsOnly mode t w octets.now) }
-    ensures none { IfNone result ((t : Tree) (w x : List ℕ) → IsEncoding mode t w → octets.now ≡ w ++ x → ⊥) }
+    ensures found { IfSome result
+        (λ rest.
+        (t : Tree) × (w : List ℕ) × IsEncoding mode t w × (octets.now ≡ w ++ rest.now)
+        × IsOnly mode t w octets.now) }
+    ensures none { IfNone result
+        ((t : Tree) (w x : List ℕ) → IsEncoding mode t w → octets.now ≡ w ++ x → ⊥) }
 {
     value_at(mode, octets)
+}
+
+/// The same of some values alone: primitive ones with a header of two octets.
+#[inline(always)]
+pub(crate) fn skip_short(mode: Mode, octets: &[u8]) -> Option<&[u8]>
+    ensures { IfSome result
+        (λ rest.
+        (t : Tree) × (w : List ℕ) × IsEncoding mode t w × (octets.now ≡ w ++ rest.now)
+        × IsOnly mode t w octets.now) }
+{
+    primitive_at(octets)
 }
 
 /// Whether the octets are the encodings of a list of values in the mode, one after the other.

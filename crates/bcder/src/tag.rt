@@ -1,7 +1,13 @@
 //! Tags and identifier octets (X.690, 8.1.2).
-ghost use Rattle.std.specs.Prelude.{◌≡◌, ℕ, ◌<◌, ◌≤◌, ◌^◌, ◌↔◌, Bool, Some, None, IfSome, MatchOption, IsTrue};
-ghost use Rattle.bcder.specs.Identifier.{universal as universal_class, application as application_class, context_specific as context_specific_class, private as private_class};
-ghost use Rattle.bcder.specs.Reading.{is_value_tag, read_identifier, read_number, second_digit, third_digit, class_of};
+ghost use Rattle.std.specs.Prelude.{◌≡◌, ℕ, ◌<◌, ◌≤◌, ◌^◌, ◌%◌, ◌↔◌, Bool, IsTrue};
+ghost use Rattle.std.specs.Prelude.{Some, None, IfSome, MatchOption};
+ghost use Rattle.bcder.specs.Answers.{Answers};
+ghost use Rattle.bcder.specs.Identifier.{universal as universal_class};
+ghost use Rattle.bcder.specs.Identifier.{application as application_class};
+ghost use Rattle.bcder.specs.Identifier.{context_specific as context_specific_class};
+ghost use Rattle.bcder.specs.Identifier.{private as private_class};
+ghost use Rattle.bcder.specs.Reading.{is_value_tag, class_of, is_marked, read_identifier};
+ghost use Rattle.bcder.specs.Reading.{read_number, second_digit, third_digit};
 ghost use Rattle.bcder.specs.Classes.{class_meant};
 
 mod display;
@@ -19,8 +25,8 @@ enum Class {
     Private,
 }
 
-/// A tag: a class, and a number of at most 2097151, so that it is spelled in at most four identifier
-/// octets (8.1.2).
+/// A tag: a class, and a number of at most 2097151, so that it is spelled in at most four
+/// identifier octets (8.1.2).
 #[derive(Clone, Copy, Debug, PartialEq, Eq)]
 pub struct Tag {
     class: Class,
@@ -391,7 +397,7 @@ impl Tag {
 }
 
 /// The class that bits 8 and 7 of the leading octet tell (8.1.2.2, table 1).
-#[tactic(auto, using(std::proofs::lemmas::Bool::Decides::nat_tests), unfolding(crate::specs::Reading::class_of))]
+#[tactic(auto, using(crate::proofs::nat_tests), unfolding(crate::specs::Reading::class_of))]
 #[inline(always)]
 fn class_at(octet: u8) -> Class
     ensures { class_meant result ≡ class_of octet }
@@ -407,12 +413,12 @@ fn class_at(octet: u8) -> Class
     }
 }
 
-/// A number from 31 on in base 128 at the front, most significant digit first and not 0 (8.1.2.4), and
-/// the octets after it.
-#[tactic(auto, using(std::proofs::lemmas::Bool::Decides::nat_tests), unfolding(crate::specs::Reading::read_number))]
+/// A number from 31 on in base 128 at the front, most significant digit first and not 0 (8.1.2.4),
+/// and the octets after it.
+#[tactic(auto, using(crate::proofs::nat_tests), unfolding(crate::specs::Reading::read_number))]
 fn number_at(octets: &[u8]) -> Option<(u32, &[u8])>
     ensures limit { IfSome result (λ r. r.0 ≤ 2097151) }
-    ensures read { MatchOption result (read_number octets.now ≡ None) (λ r. read_number octets.now ≡ Some (r.0, r.1.now)) }
+    ensures read { Answers result (read_number octets.now) }
 {
     match octets {
         [] => None,
@@ -429,11 +435,11 @@ fn number_at(octets: &[u8]) -> Option<(u32, &[u8])>
 }
 
 /// The number whose digits before the octets are `high`, and the octets after it.
-#[tactic(auto, using(std::proofs::lemmas::Bool::Decides::nat_tests), unfolding(crate::specs::Reading::second_digit))]
+#[tactic(auto, using(crate::proofs::nat_tests), unfolding(crate::specs::Reading::second_digit))]
 fn second_digit(high: u32, octets: &[u8]) -> Option<(u32, &[u8])>
     requires { high < 128 }
     ensures limit { IfSome result (λ r. r.0 ≤ 2097151) }
-    ensures read { MatchOption result (second_digit high octets.now ≡ None) (λ r. second_digit high octets.now ≡ Some (r.0, r.1.now)) }
+    ensures read { Answers result (second_digit high octets.now) }
 {
     match octets {
         [] => None,
@@ -448,11 +454,11 @@ fn second_digit(high: u32, octets: &[u8]) -> Option<(u32, &[u8])>
 }
 
 /// The number whose digits before the octets are `high`, if one more ends it.
-#[tactic(auto, using(std::proofs::lemmas::Bool::Decides::nat_tests), unfolding(crate::specs::Reading::third_digit))]
+#[tactic(auto, using(crate::proofs::nat_tests), unfolding(crate::specs::Reading::third_digit))]
 fn third_digit(high: u32, octets: &[u8]) -> Option<(u32, &[u8])>
     requires { high < 16384 }
     ensures limit { IfSome result (λ r. r.0 ≤ 2097151) }
-    ensures read { MatchOption result (third_digit high octets.now ≡ None) (λ r. third_digit high octets.now ≡ Some (r.0, r.1.now)) }
+    ensures read { Answers result (third_digit high octets.now) }
 {
     match octets {
         [digit, rest @ ..] if *digit < 0x80 => Some((0x80 * high + u32::from(*digit), rest)),
@@ -460,21 +466,44 @@ fn third_digit(high: u32, octets: &[u8]) -> Option<(u32, &[u8])>
     }
 }
 
-/// The tag and the constructed mark of the identifier octets at the front, and the octets after them.
-#[tactic(auto, using(std::proofs::lemmas::Bool::Decides::nat_tests), unfolding(crate::specs::Reading::read_identifier, crate::specs::Reading::is_marked))]
+/// The tag that a leading octet tells alone: its number is below 31 (8.1.2.2).
+#[inline(always)]
+pub(crate) fn tag_of_leading(octet: u8) -> Tag
+    requires { octet % 32 < 31 }
+    ensures { result ≡ record { class = class_of octet; number = octet % 32 } }
+{
+    Tag {
+        class: class_at(octet),
+        number: u32::from(octet % 32),
+    }
+}
+
+/// The constructed mark of a leading octet, its bit 6 (8.1.2.5).
+#[tactic(auto, using(crate::proofs::nat_tests), unfolding(crate::specs::Reading::is_marked),)]
+#[inline(always)]
+pub(crate) fn mark_of_leading(octet: u8) -> bool
+    ensures { result ≡ is_marked octet }
+{
+    octet % 64 >= 32
+}
+
+/// The tag and the constructed mark of the identifier octets at the front, and the octets after
+/// them.
+#[tactic(auto, using(crate::proofs::nat_tests), unfolding(crate::specs::Reading::read_identifier))]
 #[inline(always)]
 pub(crate) fn identifier_at(octets: &[u8]) -> Option<(Tag, bool, &[u8])>
-    ensures { MatchOption result (read_identifier octets.now ≡ None) (λ r. read_identifier octets.now ≡ Some (r.0, r.1, r.2.now)) }
+    ensures { MatchOption result
+        (read_identifier octets.now ≡ None)
+        (λ r. read_identifier octets.now ≡ Some (r.0, r.1, r.2.now)) }
 {
     match octets {
         [] => None,
         [first, rest @ ..] => {
-            let class = class_at(*first);
-            let constructed = *first % 64 >= 32;
-            let low = u32::from(*first % 32);
-            if low < 31 {
-                Some((Tag { class, number: low }, constructed, rest))
+            let constructed = mark_of_leading(*first);
+            if *first % 32 < 31 {
+                Some((tag_of_leading(*first), constructed, rest))
             } else {
+                let class = class_at(*first);
                 let (number, rest) = number_at(rest)?;
                 Some((Tag { class, number }, constructed, rest))
             }

@@ -37,7 +37,7 @@ use Rattle.berlist.proofs.Listing.{lines-list}
 -- ---- a value that was taken
 
 -- the lines of a value's content are those of the value
-value_lines : (c d i : Reading) (after text : List ℕ) (depth : ℕ) (f : HasHeader any c after) → Hands c.mode f.form f.len after i → (p : PassesValue c d) → ListsContent i f.tag depth text → text ≡ lines (preorder p.tree depth)
+value_lines : (c d i : Reading) (after text : List ℕ) (depth : ℕ) (f : HasHeader any c after) → Hands c.mode f.form f.len f.owed after i → (p : PassesValue c d) → ListsContent i f.tag depth text → text ≡ lines (preorder p.tree depth)
 value_lines c d i after text depth f g p (of_octets k e) =
     e ∙ sym (append-nil (line (record { tag = f.tag; constructed = false; depth = depth })))
     ∙ ap lines (sym (heading_of_octets c d i after f g p depth k))
@@ -86,6 +86,8 @@ module _ {C T E : Type 0} (why : E → Cause ContentError) (Want : E → Type 0)
     tree = v.tree;
     encodes = v.encodes;
     follows = v.follows;
+    faults_handed = v.faults_handed;
+    faults_left = v.faults_left;
     stays = v.stays;
     marked = v.marked;
   }
@@ -124,6 +126,7 @@ module _ {C T E : Type 0} (why : E → Cause ContentError) (Want : E → Type 0)
     moves = f.moves;
     faults_handed = f.faults_handed;
     faults_left = f.faults_left;
+    marked = f.marked;
     refuses = refuses_content f.front.tag f.handed f.left e n f.refuses;
   })
 

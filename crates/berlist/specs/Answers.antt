@@ -1,5 +1,6 @@
 -- What listing answers, and what the target then holds.
-use Rattle.std.specs.Prelude.{ℕ, List, Option}
+use Rattle.std.specs.Prelude.{◌≡◌, ℕ, List, Option, Some, MatchOption, codes}
+use Rattle.std_io.specs.declared.io.error.Error.{Error}
 use Rattle.std.specs.Io.KnownBytes.{Appends, Keeps}
 use Rattle.bcder.specs.declared.mode.Mode.{Mode}
 use Rattle.bcder.specs.Tree.{Trees}
@@ -18,6 +19,10 @@ lines_of ts = lines (preorders ts 0)
 abbrev pub IsNoList : Mode → List ℕ → Type 0
 IsNoList mode octets = (ts : Trees) → AreEncodings mode ts octets → ⊥
 
+-- the text, if there is one, is the lines of the values that the octets encode, and if there is none they are no list
+abbrev pub IsListOf : {T : Type 0} → (T → List ℕ) → Mode → List ℕ → Option T → Type 0
+IsListOf bytes mode octets r = MatchOption r (IsNoList mode octets) (λ text. (ts : Trees) × AreEncodings mode ts octets × (bytes text ≡ lines_of ts))
+
 -- the octets are the encodings of a list of values, and its lines were written
 abbrev pub Listed : Mode → List ℕ → Option (List ℕ) → Option (List ℕ) → Type 0
 Listed mode octets old new = (ts : Trees) × AreEncodings mode ts octets × Appends old new (lines_of ts)
@@ -31,3 +36,9 @@ abbrev pub IsUnlisted : Mode → List ℕ → Option (List ℕ) → Option (List
 IsUnlisted mode octets old new Refused = IsNoList mode octets × Keeps old new
 IsUnlisted mode octets old new NoMemory = Keeps old new
 IsUnlisted mode octets old new (Target e) = ListedInPart mode octets old new
+
+-- what is shown of an error, where it is known what is shown of a target's
+abbrev pub list_text : (Error → Option (List ℕ)) → ListError → Option (List ℕ)
+list_text error_text Refused = Some (codes "refused")
+list_text error_text NoMemory = Some (codes "out of memory")
+list_text error_text (Target e) = error_text e

@@ -1,13 +1,12 @@
 //! The lines of all values, gathered.
-ghost use Rattle.std.specs.Prelude.{◌≡◌, ℕ, ◌+◌, ◌<◌, ◌≤◌, ◌^◌, List, [], ◌++◌, length, true, false, IfOk, IfErr, IfSome, IfNone, OnOk, MatchOption, string_bytes};
-ghost use Rattle.bcder.specs.declared.decode.content.State.TheVariants.{Open};
-ghost use Rattle.bcder.specs.Tree.{Trees};
-ghost use Rattle.bcder.specs.Encoding.{AreEncodings};
-ghost use Rattle.bcder.specs.Content.{Moves, EndsAt, IsDone};
-ghost use Rattle.bcder.specs.Views.{of_constructed, of_primitive, of_content};
+ghost use Rattle.std.specs.Prelude.{◌≡◌, ℕ, ◌+◌, ◌<◌, ◌^◌, [], length, true, false, IfOk, IfErr};
+ghost use Rattle.std.specs.Prelude.{IfSome, IfNone, OnOk, string_bytes};
+ghost use Rattle.bcder.specs.Views.{Moved, MovedContent, MovedOctets, of_constructed, of_content};
+ghost use Rattle.bcder.specs.Views.{of_primitive};
 ghost use Rattle.berlist.specs.Lines.{line};
-ghost use Rattle.berlist.specs.Gather.{IsWant, ListsContent, ListsValue, ListsValues, RefusesNext, RefusesAll};
-ghost use Rattle.berlist.specs.Answers.{lines_of, IsNoList};
+ghost use Rattle.berlist.specs.Gather.{Ends, IsLeftDone, KeepsMark, KeepsMode, Lists, ListsAll};
+ghost use Rattle.berlist.specs.Gather.{ListsNext, Refuses, RefusesOne};
+ghost use Rattle.berlist.specs.Answers.{IsListOf};
 
 use bcder::decode::{Constructed, Content, DecodeError, Primitive, SliceSource, Source};
 use bcder::{Mode, NoMemory, Tag};
@@ -26,7 +25,8 @@ impl fmt::Display for Heading {
     ghost use Rattle.std.specs.Prelude.{Some};
     ghost use Rattle.berlist.specs.Lines.{line};
 
-    ghost output = { λ h. Some (line (record { tag = h.tag; constructed = h.constructed; depth = h.depth })) };
+    ghost output = { λ h.
+        Some (line (record { tag = h.tag; constructed = h.constructed; depth = h.depth })) };
 
     fn fmt<W: fmt::Write>(&self, f: &mut fmt::Formatter<W>) -> fmt::Result {
         let form = if self.constructed {
@@ -45,14 +45,15 @@ fn heading_line(
     constructed: bool,
     depth: usize,
 ) -> Result<String, NoMemory>
-    ensures { IfOk result (λ text. string_bytes text ≡ line (record { tag = tag; constructed = constructed; depth = depth })) }
+    ensures { IfOk result (λ text. string_bytes text
+        ≡ line (record { tag = tag; constructed = constructed; depth = depth })) }
 {
     let heading = Heading {
         tag,
         constructed,
         depth,
     };
-    let mut text = String::new(alloc);
+    let mut text = String::with_capacity(alloc, 48)?;
     write!(text, "{heading}")?;
     Ok(text)
 }
@@ -65,11 +66,12 @@ fn primitive_line<S: Source>(
     primitive: &mut Primitive<'_, S>,
     depth: usize,
 ) -> Result<String, DecodeError<S::Error>>
-    ensures moves { Moves (of_primitive S.stream primitive.old) (of_primitive S.stream primitive.new) }
-    ensures done { OnOk result (IsDone (of_primitive S.stream primitive.new)) }
-    ensures listed { IfOk result (λ text. (of_primitive S.stream primitive.old).state ≡ Open → ListsContent (of_primitive S.stream primitive.old) tag depth (string_bytes text)) }
-    ensures refused { IfErr result (λ e. RefusesAll (of_primitive S.stream primitive.old) e (of_primitive S.stream primitive.new)) }
-    ensures marked { OnOk result ((of_primitive S.stream primitive.new).marked ≡ (of_primitive S.stream primitive.old).marked) }
+    ensures moves { MovedOctets S.stream primitive }
+    ensures done { OnOk result (IsLeftDone (of_primitive S.stream) primitive) }
+    ensures listed { IfOk result (λ text.
+        Lists (of_primitive S.stream) primitive tag depth (string_bytes text)) }
+    ensures refused { IfErr result (λ e. Refuses (of_primitive S.stream) primitive e) }
+    ensures marked { OnOk result (KeepsMark (of_primitive S.stream) primitive) }
 {
     primitive.skip_all()?;
     match heading_line(alloc, tag, false, depth) {
@@ -80,28 +82,31 @@ fn primitive_line<S: Source>(
 
 /// The lines of the next value, or `None` at the end of the content.
 #[cycle(gather)]
+#[tactic(auto, using(bcder::proofs::Moving::moves_refl))]
 fn next_lines<S: Source>(
     alloc: Global,
     cons: &mut Constructed<'_, S>,
     depth: usize,
 ) -> Result<Option<String>, DecodeError<S::Error>>
     requires { depth + length (of_constructed S.stream cons.old).stream.rest < 2 ^ 64 }
-    ensures moves { Moves (of_constructed S.stream cons.old) (of_constructed S.stream cons.new) }
-    ensures listed { IfOk result (λ o. IfSome o (λ text. ListsValue (of_constructed S.stream cons.old) depth (string_bytes text) (of_constructed S.stream cons.new))) }
-    ensures end { IfOk result (λ o. IfNone o (EndsAt (of_constructed S.stream cons.old) (of_constructed S.stream cons.new))) }
-    ensures done { IfOk result (λ o. IfNone o (IsDone (of_constructed S.stream cons.new))) }
-    ensures refused { IfErr result (λ e. RefusesNext (of_constructed S.stream cons.old) e (of_constructed S.stream cons.new)) }
-    ensures mode { (of_constructed S.stream cons.new).mode ≡ (of_constructed S.stream cons.old).mode }
-    ensures marked { OnOk result ((of_constructed S.stream cons.new).marked ≡ (of_constructed S.stream cons.old).marked) }
+    ensures moves { Moved S.stream cons }
+    ensures listed { IfOk result (λ o. IfSome o (λ text.
+        ListsNext (of_constructed S.stream) cons depth (string_bytes text))) }
+    ensures end { IfOk result (λ o. IfNone o (Ends (of_constructed S.stream) cons)) }
+    ensures done { IfOk result (λ o. IfNone o (IsLeftDone (of_constructed S.stream) cons)) }
+    ensures refused { IfErr result (λ e. RefusesOne (of_constructed S.stream) cons e) }
+    ensures mode { KeepsMode (of_constructed S.stream) cons }
+    ensures marked { OnOk result (KeepsMark (of_constructed S.stream) cons) }
 {
     cons.take_opt_value(
         |tag, content|
             requires { depth + 1 + length (of_content S.stream content.old).stream.rest < 2 ^ 64 }
-            ensures moves { Moves (of_content S.stream content.old) (of_content S.stream content.new) }
-            ensures done { OnOk result (IsDone (of_content S.stream content.new)) }
-            ensures listed { IfOk result (λ text. (of_content S.stream content.old).state ≡ Open → ListsContent (of_content S.stream content.old) tag depth (string_bytes text)) }
-            ensures refused { IfErr result (λ e. RefusesAll (of_content S.stream content.old) e (of_content S.stream content.new)) }
-            ensures marked { OnOk result ((of_content S.stream content.new).marked ≡ (of_content S.stream content.old).marked) }
+            ensures moves { MovedContent S.stream content }
+            ensures done { OnOk result (IsLeftDone (of_content S.stream) content) }
+            ensures listed { IfOk result (λ text.
+                Lists (of_content S.stream) content tag depth (string_bytes text)) }
+            ensures refused { IfErr result (λ e. Refuses (of_content S.stream) content e) }
+            ensures marked { OnOk result (KeepsMark (of_content S.stream) content) }
         {
             match content {
                 Content::Primitive(primitive) => primitive_line(alloc, tag, primitive, depth),
@@ -122,11 +127,12 @@ fn constructed_lines<S: Source>(
     depth: usize,
 ) -> Result<String, DecodeError<S::Error>>
     requires { depth + 1 + length (of_constructed S.stream constructed.old).stream.rest < 2 ^ 64 }
-    ensures moves { Moves (of_constructed S.stream constructed.old) (of_constructed S.stream constructed.new) }
-    ensures done { OnOk result (IsDone (of_constructed S.stream constructed.new)) }
-    ensures listed { IfOk result (λ text. (of_constructed S.stream constructed.old).state ≡ Open → ListsContent (of_constructed S.stream constructed.old) tag depth (string_bytes text)) }
-    ensures refused { IfErr result (λ e. RefusesAll (of_constructed S.stream constructed.old) e (of_constructed S.stream constructed.new)) }
-    ensures marked { OnOk result ((of_constructed S.stream constructed.new).marked ≡ (of_constructed S.stream constructed.old).marked) }
+    ensures moves { Moved S.stream constructed }
+    ensures done { OnOk result (IsLeftDone (of_constructed S.stream) constructed) }
+    ensures listed { IfOk result (λ text.
+        Lists (of_constructed S.stream) constructed tag depth (string_bytes text)) }
+    ensures refused { IfErr result (λ e. Refuses (of_constructed S.stream) constructed e) }
+    ensures marked { OnOk result (KeepsMark (of_constructed S.stream) constructed) }
 {
     match heading_line(alloc, tag, true, depth) {
         Ok(text) => values_lines(alloc, constructed, depth + 1, text),
@@ -143,11 +149,12 @@ fn values_lines<S: Source>(
     text: String,
 ) -> Result<String, DecodeError<S::Error>>
     requires { depth + length (of_constructed S.stream cons.old).stream.rest < 2 ^ 64 }
-    ensures moves { Moves (of_constructed S.stream cons.old) (of_constructed S.stream cons.new) }
-    ensures done { OnOk result (IsDone (of_constructed S.stream cons.new)) }
-    ensures listed { IfOk result (λ all. (of_constructed S.stream cons.old).state ≡ Open → ListsValues (of_constructed S.stream cons.old) depth (string_bytes text) (string_bytes all)) }
-    ensures refused { IfErr result (λ e. RefusesAll (of_constructed S.stream cons.old) e (of_constructed S.stream cons.new)) }
-    ensures marked { OnOk result ((of_constructed S.stream cons.new).marked ≡ (of_constructed S.stream cons.old).marked) }
+    ensures moves { Moved S.stream cons }
+    ensures done { OnOk result (IsLeftDone (of_constructed S.stream) cons) }
+    ensures listed { IfOk result (λ all.
+        ListsAll (of_constructed S.stream) cons depth (string_bytes text) (string_bytes all)) }
+    ensures refused { IfErr result (λ e. Refuses (of_constructed S.stream) cons e) }
+    ensures marked { OnOk result (KeepsMark (of_constructed S.stream) cons) }
 {
     let mut all = text;
     loop {
@@ -166,17 +173,19 @@ fn all_lines<S: Source>(
     alloc: Global,
     cons: &mut Constructed<'_, S>,
 ) -> Result<String, DecodeError<S::Error>>
-    ensures moves { Moves (of_constructed S.stream cons.old) (of_constructed S.stream cons.new) }
-    ensures done { OnOk result (IsDone (of_constructed S.stream cons.new)) }
-    ensures listed { IfOk result (λ text. (of_constructed S.stream cons.old).state ≡ Open → ListsValues (of_constructed S.stream cons.old) 0 [] (string_bytes text)) }
-    ensures refused { IfErr result (λ e. RefusesAll (of_constructed S.stream cons.old) e (of_constructed S.stream cons.new)) }
+    ensures moves { Moved S.stream cons }
+    ensures done { OnOk result (IsLeftDone (of_constructed S.stream) cons) }
+    ensures listed { IfOk result (λ text.
+        ListsAll (of_constructed S.stream) cons 0 [] (string_bytes text)) }
+    ensures refused { IfErr result (λ e. Refuses (of_constructed S.stream) cons e) }
 {
     values_lines(alloc, cons, 0, String::new(alloc))
 }
 
 /// The lines of all values, if the octets are the encodings of values in the mode.
+#[tactic(auto, using(bcder::proofs::Moving::moves_refl))]
 pub(crate) fn lines(alloc: Global, mode: Mode, octets: &[u8]) -> Result<Option<String>, NoMemory>
-    ensures { IfOk result (λ r. MatchOption r (IsNoList mode octets.now) (λ text. (ts : Trees) × AreEncodings mode ts octets.now × (string_bytes text ≡ lines_of ts))) }
+    ensures { IfOk result (IsListOf string_bytes mode octets.now) }
 {
     match mode.decode(SliceSource::new(octets), |cons| all_lines(alloc, cons)) {
         Ok(text) => Ok(Some(text)),

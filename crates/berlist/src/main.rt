@@ -1,13 +1,13 @@
 //! Lists the headings of BER, CER or DER data.
 //!
-//! `berlist MODE HEX` reads the octets that HEX spells as values in the rules that MODE names, `ber`,
-//! `cer` or `der`, and prints a line for each value, before those of the values inside it: its depth,
-//! its tag, and whether it is primitive or constructed.
+//! `berlist MODE HEX` reads the octets that HEX spells as values in the rules that MODE names,
+//! `ber`, `cer` or `der`, and prints a line for each value, before those of the values inside it:
+//! its depth, its tag, and whether it is primitive or constructed.
 #![tactic(auto)]
 
 ghost use Rattle.std.specs.Prelude.{◌≡◌, ℕ, List, OnOk, IfErr, codes, map, string_bytes};
 ghost use Rattle.bcder.specs.declared.mode.Mode.{Mode as TheMode};
-ghost use Rattle.berlist.specs.Answers.{Listed, IsUnlisted};
+ghost use Rattle.berlist.specs.Answers.{Listed, IsUnlisted, list_text};
 ghost use Rattle.berlist.specs.Front.{AppendsFront};
 ghost use Rattle.berlist.specs.Requests.{Asks, AsksNothing, Tells, Ends};
 
@@ -19,8 +19,9 @@ mod tests;
 
 use bcder::{Mode, NoMemory};
 use std::alloc::Global;
+use std::error::Error;
 use std::process::ExitCode;
-use std::{env, io};
+use std::{env, fmt, io};
 
 /// What is said where the arguments ask for nothing.
 const USAGE: &str = "usage: berlist ber|cer|der HEX\n";
@@ -37,6 +38,20 @@ pub enum ListError {
     /// The target failed. A beginning of the lines was written, and not all of them.
     Target(io::Error),
 }
+
+impl fmt::Display for ListError {
+    ghost output = { list_text ⟦<io::Error as fmt::Display>⟧.output };
+
+    fn fmt<W: fmt::Write>(&self, f: &mut fmt::Formatter<W>) -> fmt::Result {
+        match self {
+            ListError::Refused => write!(f, "refused"),
+            ListError::NoMemory => write!(f, "out of memory"),
+            ListError::Target(error) => write!(f, "{error}"),
+        }
+    }
+}
+
+impl Error for ListError {}
 
 impl From<NoMemory> for ListError {
     ghost use Rattle.berlist.specs.declared.ListError.TheVariants.{NoMemory};
@@ -58,8 +73,10 @@ pub fn list<W: io::Write>(
     octets: &[u8],
     target: &mut W,
 ) -> Result<(), ListError>
-    ensures listed { OnOk result (Listed mode octets.now (W.contents target.old) (W.contents target.new)) }
-    ensures unlisted { IfErr result (λ e. IsUnlisted mode octets.now (W.contents target.old) (W.contents target.new) e) }
+    ensures listed { OnOk result
+        (Listed mode octets.now (W.contents target.old) (W.contents target.new)) }
+    ensures unlisted { IfErr result
+        (IsUnlisted mode octets.now (W.contents target.old) (W.contents target.new)) }
 {
     let Some(lines) = gather::lines(alloc, mode, octets)? else {
         return Err(ListError::Refused);
@@ -77,18 +94,24 @@ fn tell<E: io::Write>(err: &mut E, message: &str)
     let _ = target::write_octets(err, message.as_bytes());
 }
 
-/// Lists what the arguments (without the name of the program) ask for on `out`, and answers the exit
-/// status: 0, 1 where it was refused, where there was no memory or where `out` failed, and 2 with a
-/// usage line on `err` where the arguments are no mode and an even number of hexadecimal digits. A
-/// failure of `err` changes nothing.
+/// Lists what the arguments (without the name of the program) ask for on `out`, and answers the
+/// exit status: 0, 1 where it was refused, where there was no memory or where `out` failed, and 2
+/// with a usage line on `err` where the arguments are no mode and an even number of hexadecimal
+/// digits. A failure of `err` changes nothing.
 pub fn run<W: io::Write, E: io::Write>(
     alloc: Global,
     args: &[String],
     out: &mut W,
     err: &mut E,
 ) -> u8
-    ensures usage { AsksNothing (map string_bytes args.now) → (result ≡ 2) × Tells (codes "usage: berlist ber|cer|der HEX\n") (W.contents out.old) (W.contents out.new) (E.contents err.old) (E.contents err.new) }
-    ensures asked { (mode : TheMode) (octets : List ℕ) → Asks (map string_bytes args.now) mode octets → Ends mode octets (W.contents out.old) (W.contents out.new) (E.contents err.old) (E.contents err.new) result }
+    ensures usage { AsksNothing (map string_bytes args.now) → (result ≡ 2)
+        × Tells (codes "usage: berlist ber|cer|der HEX\n")
+        (W.contents out.old) (W.contents out.new) (E.contents err.old) (E.contents err.new) }
+    ensures asked { (mode : TheMode) (octets : List ℕ) →
+        Asks (map string_bytes args.now) mode octets →
+        Ends mode octets
+        (W.contents out.old) (W.contents out.new) (E.contents err.old) (E.contents err.new)
+        result }
 {
     let request = match request::read(alloc, args) {
         Ok(Some(request)) => request,

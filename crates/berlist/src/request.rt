@@ -1,5 +1,6 @@
 //! What the arguments ask for.
-ghost use Rattle.std.specs.Prelude.{◌≡◌, ◌↔◌, ℕ, List, Ok, Some, None, IfOk, IsErr, MatchOption, IsTrue, map, string_bytes};
+ghost use Rattle.std.specs.Prelude.{◌≡◌, ◌↔◌, ℕ, List, Ok, Some, None, IfOk, IsErr, MatchOption};
+ghost use Rattle.std.specs.Prelude.{IsTrue, map, string_bytes};
 ghost use Rattle.bcder.specs.declared.mode.Mode.{Mode as TheMode};
 ghost use Rattle.hex.specs.Hex.{decode_of};
 ghost use Rattle.berlist.specs.Requests.{Asks, AsksNothing, mode_word};
@@ -15,7 +16,9 @@ pub(crate) struct Request {
 }
 
 fn mode_named(word: &str) -> Option<Mode>
-    ensures { MatchOption result ((mode : TheMode) → word.now ≡ mode_word mode → ⊥) (λ mode. word.now ≡ mode_word mode) }
+    ensures { MatchOption result
+        ((mode : TheMode) → word.now ≡ mode_word mode → ⊥)
+        (λ mode. word.now ≡ mode_word mode) }
 {
     match word {
         "ber" => Some(Mode::Ber),
@@ -39,8 +42,11 @@ fn is_hex(text: &str) -> bool
 /// The mode and the octets that the arguments name, if they are `ber`, `cer` or `der` and an even
 /// number of hexadecimal digits.
 pub(crate) fn read(alloc: Global, args: &[String]) -> Result<Option<Request>, NoMemory>
-    ensures asked { IfOk result (λ r. MatchOption r (AsksNothing (map string_bytes args.now)) (λ q. Asks (map string_bytes args.now) q.mode q.octets.items)) }
-    ensures no_memory { IsErr result → (mode : TheMode) × (octets : List ℕ) × Asks (map string_bytes args.now) mode octets }
+    ensures asked { IfOk result (λ r. MatchOption r
+        (AsksNothing (map string_bytes args.now))
+        (λ q. Asks (map string_bytes args.now) q.mode q.octets.items)) }
+    ensures no_memory { IsErr result →
+        (mode : TheMode) × (octets : List ℕ) × Asks (map string_bytes args.now) mode octets }
 {
     let [word, text] = args else {
         return Ok(None);

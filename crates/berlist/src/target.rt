@@ -9,7 +9,8 @@ use std::io::{Error, ErrorKind, Write};
 /// Writes all octets. A target that takes none of some octets has failed, and any error ends it.
 pub(crate) fn write_octets<W: Write>(target: &mut W, octets: &[u8]) -> Result<(), io::Error>
     ensures ok { OnOk result (Appends (W.contents target.old) (W.contents target.new) octets.now) }
-    ensures err { OnErr result (AppendsShorter (W.contents target.old) (W.contents target.new) octets.now) }
+    ensures err { OnErr result
+        (AppendsShorter (W.contents target.old) (W.contents target.new) octets.now) }
 {
     let mut rest = octets;
     while !rest.is_empty() {

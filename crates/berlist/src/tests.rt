@@ -1,5 +1,5 @@
 //! Runs of the program.
-use super::run;
+use super::{ListError, run};
 use std::alloc::{AllocError, Global};
 use std::io;
 use std::io::{ErrorKind, Write};
@@ -31,7 +31,8 @@ fn ran(alloc: Global, args: &[&str]) -> Result<Outcome, AllocError> {
     Ok(Outcome { out, err, status })
 }
 
-/// A writer that takes at most seven octets a call, and `room` in all; then it fails, or takes none.
+/// A writer that takes at most seven octets a call, and `room` in all; then it fails, or takes
+/// none.
 #[derive(Drop)]
 struct Pipe {
     got: Vec<u8>,
@@ -229,5 +230,21 @@ fn no_status_depends_on_messages(rt: HostRuntime) -> Result<(), Fail> {
             "{mode} {hex}"
         );
     }
+    Ok(())
+}
+
+#[test]
+fn errors_have_texts(rt: HostRuntime) -> Result<(), Fail> {
+    let alloc = rt.alloc();
+    let target = ListError::Target(io::Error::from(ErrorKind::BrokenPipe));
+    assert_eq!(rt;
+        format!(in alloc; "{}", ListError::Refused)?.as_str(),
+        "refused"
+    );
+    assert_eq!(rt;
+        format!(in alloc; "{}", ListError::NoMemory)?.as_str(),
+        "out of memory"
+    );
+    assert_eq!(rt; format!(in alloc; "{target}")?.as_str(), "broken pipe");
     Ok(())
 }

@@ -1,5 +1,6 @@
 //! Sources over borrowed ones: what the owner of the borrowed one knows afterwards.
-ghost use Rattle.std.specs.Prelude.{◌≡◌, ◌<◌, ◌≤◌, ◌++◌, length, take, drop, Some, IfOk, IfErr, IfSome, OnOk, OnErr, if◌then◌else◌};
+ghost use Rattle.std.specs.Prelude.{◌≡◌, ◌<◌, ◌≤◌, ◌++◌, length, take, drop, Some};
+ghost use Rattle.std.specs.Prelude.{IfOk, IfErr, IfSome, OnOk, OnErr, if◌then◌else◌};
 ghost use Rattle.std.specs.Bool.{OnTrue};
 ghost use Rattle.bcder.specs.Stream.{Grew};
 ghost use Rattle.rows.specs.Taken.{MatchTakeError};
@@ -27,7 +28,8 @@ pub fn take_exactly<S: Source>(
     alloc: Global,
     len: usize,
 ) -> Result<Bytes, TakeError<S::Error>>
-    ensures value { IfOk result (λ b. b ++ (S.stream source.new).rest ≡ (S.stream source.old).rest) }
+    ensures value { IfOk result
+        (λ b. b ++ (S.stream source.new).rest ≡ (S.stream source.old).rest) }
     ensures count { IfOk result (λ b. length b ≡ len) }
     ensures err { OnErr result ((S.stream source.new).rest ≡ (S.stream source.old).rest) }
     ensures cause { IfErr result (λ e. MatchTakeError e
@@ -76,7 +78,8 @@ pub fn pass_two_within<S: Source>(source: &mut S, limit: usize) -> Result<bool, 
 /// Captures two octets, where there are two, else none.
 pub fn capture_two<S: Source>(source: &mut S, alloc: Global) -> Result<Bytes, TakeError<S::Error>>
     ensures count { IfOk result (λ b. 2 ≤ length (S.stream source.old).rest → length b ≡ 2) }
-    ensures value { IfOk result (λ b. b ++ (S.stream source.new).rest ≡ (S.stream source.old).rest) }
+    ensures value { IfOk result
+        (λ b. b ++ (S.stream source.new).rest ≡ (S.stream source.old).rest) }
     ensures err { OnErr result ((S.stream source.new).rest ≡ (S.stream source.old).rest) }
     ensures kept { (S.stream source.new).kept ≡ (S.stream source.old).kept }
 {
@@ -131,7 +134,8 @@ pub fn capture_passed<S: Source>(
     source: &mut S,
     alloc: Global,
 ) -> Result<Bytes, TakeError<S::Error>>
-    ensures value { IfOk result (λ b. b ++ (S.stream source.new).rest ≡ (S.stream source.old).rest) }
+    ensures value { IfOk result
+        (λ b. b ++ (S.stream source.new).rest ≡ (S.stream source.old).rest) }
     ensures err { OnErr result ((S.stream source.new).rest ≡ (S.stream source.old).rest) }
     ensures kept { (S.stream source.new).kept ≡ (S.stream source.old).kept }
 {

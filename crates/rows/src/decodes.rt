@@ -1,4 +1,5 @@
 //! Decoding over an owned and over a borrowed source, with values from outside.
+use crate::asserts::{holds, same};
 use crate::decoding::{drop_refusal, octet_behind, take_empty, two_empty, two_empty_of};
 use crate::sip::Sip;
 use bcder::Mode;
@@ -20,8 +21,8 @@ fn sip(alloc: Global, octets: &[u8], failing: usize) -> Result<Sip, Fail> {
 const TWO: &[u8] = &[0x05, 0x00, 0x30, 0x00, 0x2A];
 
 fn check_behind<S: Source>(rt: &impl Abort, source: &mut S, mode: Mode) -> Result<(), Fail> {
-    assert_eq!(rt; octet_behind(source, mode)?, 0x2A);
-    assert_eq!(rt; source.take_opt_u8()?, None);
+    same(rt, octet_behind(source, mode)?, 0x2A);
+    same(rt, source.take_opt_u8()?, None);
     Ok(())
 }
 
@@ -42,8 +43,16 @@ fn check_mode<S: Source + Drop>(
     mut indefinite: S,
     mode: Mode,
 ) -> Result<(), Fail> {
-    assert_eq!(rt; two_empty(&mut definite, mode).is_ok(), mode != Mode::Cer);
-    assert_eq!(rt; two_empty(&mut indefinite, mode).is_ok(), mode != Mode::Der);
+    same(
+        rt,
+        two_empty(&mut definite, mode).is_ok(),
+        mode != Mode::Cer,
+    );
+    same(
+        rt,
+        two_empty(&mut indefinite, mode).is_ok(),
+        mode != Mode::Der,
+    );
     Ok(())
 }
 
@@ -77,10 +86,11 @@ fn the_mode_is_handed_on(rt: HostRuntime) -> Result<(), Fail> {
 
 // The INTEGER 5 isn't empty: its header is passed over, and the refusal dropped.
 fn check_dropped<S: Source>(rt: &impl Abort, source: &mut S) -> Result<(), Fail> {
-    assert!(rt;
-        drop_refusal(source, Mode::Der).is_err_and(|error| error.content_error().is_some())
+    holds(
+        rt,
+        drop_refusal(source, Mode::Der).is_err_and(|error| error.content_error().is_some()),
     );
-    assert_eq!(rt; source.take_u8()?, 0x05);
+    same(rt, source.take_u8()?, 0x05);
     Ok(())
 }
 
@@ -94,29 +104,32 @@ fn a_dropped_refusal_is_refused(rt: HostRuntime) -> Result<(), Fail> {
 
 #[test]
 fn no_octets(rt: HostRuntime) -> Result<(), Fail> {
-    assert!(rt; !two_empty_of(SliceSource::new(&[]), Mode::Der)?);
-    assert!(rt; !two_empty_of(shared(rt.alloc(), &[])?, Mode::Cer)?);
-    assert!(rt; !two_empty_of(sip(rt.alloc(), &[], 0)?, Mode::Ber)?);
+    holds(&rt, !two_empty_of(SliceSource::new(&[]), Mode::Der)?);
+    holds(&rt, !two_empty_of(shared(rt.alloc(), &[])?, Mode::Cer)?);
+    holds(&rt, !two_empty_of(sip(rt.alloc(), &[], 0)?, Mode::Ber)?);
     Ok(())
 }
 
 #[test]
 fn owned_sources(rt: HostRuntime) -> Result<(), Fail> {
-    assert!(rt; two_empty_of(SliceSource::new(TWO), Mode::Der)?);
-    assert!(rt; two_empty_of(shared(rt.alloc(), TWO)?, Mode::Der)?);
-    assert!(rt; two_empty_of(sip(rt.alloc(), TWO, 0)?, Mode::Der)?);
+    holds(&rt, two_empty_of(SliceSource::new(TWO), Mode::Der)?);
+    holds(&rt, two_empty_of(shared(rt.alloc(), TWO)?, Mode::Der)?);
+    holds(&rt, two_empty_of(sip(rt.alloc(), TWO, 0)?, Mode::Der)?);
     let octets = Bytes::copy_from_slice(rt.alloc(), TWO)?;
-    assert!(rt; Mode::Der.decode(octets, |cons| take_empty(cons))?);
-    assert!(rt; Mode::Der.decode(TWO, |cons| take_empty(cons))?);
+    holds(&rt, Mode::Der.decode(octets, |cons| take_empty(cons))?);
+    holds(&rt, Mode::Der.decode(TWO, |cons| take_empty(cons))?);
     Ok(())
 }
 
 #[test]
 fn a_failed_source(rt: HostRuntime) -> Result<(), Fail> {
     let mut source = sip(rt.alloc(), TWO, 1)?;
-    assert!(rt; two_empty(&mut source, Mode::Der).is_err_and(|error| error.is_source()));
-    assert_eq!(rt; source.faults(), 1);
-    assert!(rt; two_empty(&mut source, Mode::Der)?);
+    holds(
+        &rt,
+        two_empty(&mut source, Mode::Der).is_err_and(|error| error.is_source()),
+    );
+    same(&rt, source.faults(), 1);
+    holds(&rt, two_empty(&mut source, Mode::Der)?);
     Ok(())
 }
 
@@ -128,7 +141,7 @@ fn the_closure_refuses(rt: HostRuntime) -> Result<(), Fail> {
         Err(DecodeError::no_memory())
     });
     let answer: Result<(), _> = answer;
-    assert!(rt; answer.is_err_and(|error| error.is_memory()));
-    assert_eq!(rt; source.len(), 3);
+    holds(&rt, answer.is_err_and(|error| error.is_memory()));
+    same(&rt, source.len(), 3);
     Ok(())
 }

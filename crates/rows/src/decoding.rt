@@ -1,23 +1,23 @@
 //! Decoding: what the owner of a borrowed source knows afterwards.
 ghost use Rattle.std.specs.Prelude.{◌≡◌, ℕ, ◌+◌, ◌≤◌, List, ◌++◌, ◌∷◌, length, IfOk, OnOk};
-ghost use Rattle.bcder.specs.Content.{Moves};
-ghost use Rattle.bcder.specs.Views.{of_constructed};
+ghost use Rattle.bcder.specs.Views.{Moved};
 
 use bcder::Mode;
 use bcder::decode::{Constructed, DecodeError, Source};
 
 /// Takes the next value, which has to be empty, and says whether there was one.
-#[tactic(auto, using(bcder::proofs::Moving::moves_refl, bcder::proofs::Moving::moves_trans))]
+#[tactic(auto, using(bcder::proofs::Moving::moves_refl, bcder::proofs::Carrying::carries))]
 pub fn take_empty<S: Source>(cons: &mut Constructed<'_, S>) -> Result<bool, DecodeError<S::Error>>
-    ensures moves { Moves (of_constructed S.stream cons.old) (of_constructed S.stream cons.new) }
+    ensures moves { Moved S.stream cons }
 {
     Ok(cons.take_opt_value(|_tag, _content| Ok(()))?.is_some())
 }
 
 /// Takes two empty values, where there are two, and goes on with the source that they stood in.
-#[tactic(auto, using(bcder::proofs::Moving::moves_refl, bcder::proofs::Moving::moves_trans))]
+#[tactic(auto, using(bcder::proofs::Moving::moves_refl))]
 pub fn two_empty<S: Source>(source: &mut S, mode: Mode) -> Result<bool, DecodeError<S::Error>>
-    ensures passed { (passed : List ℕ) × ((S.stream source.old).rest ≡ passed ++ (S.stream source.new).rest) }
+    ensures passed { (passed : List ℕ)
+        × ((S.stream source.old).rest ≡ passed ++ (S.stream source.new).rest) }
     ensures faults { (S.stream source.old).faults ≤ (S.stream source.new).faults }
     ensures kept { (S.stream source.new).kept ≡ (S.stream source.old).kept }
 {
@@ -25,7 +25,7 @@ pub fn two_empty<S: Source>(source: &mut S, mode: Mode) -> Result<bool, DecodeEr
 }
 
 /// The same of a source that is handed over.
-#[tactic(auto, using(bcder::proofs::Moving::moves_refl, bcder::proofs::Moving::moves_trans))]
+#[tactic(auto, using(bcder::proofs::Moving::moves_refl))]
 pub fn two_empty_of<S: Source + Drop>(
     source: S,
     mode: Mode,
@@ -34,9 +34,10 @@ pub fn two_empty_of<S: Source + Drop>(
 }
 
 /// Takes the next value, which has to be empty, and drops the refusal of one that isn't.
-#[tactic(auto, using(bcder::proofs::Moving::moves_refl, bcder::proofs::Moving::moves_trans))]
+#[tactic(auto, using(bcder::proofs::Moving::moves_refl))]
 pub fn drop_refusal<S: Source>(source: &mut S, mode: Mode) -> Result<(), DecodeError<S::Error>>
-    ensures passed { (passed : List ℕ) × ((S.stream source.old).rest ≡ passed ++ (S.stream source.new).rest) }
+    ensures passed { (passed : List ℕ)
+        × ((S.stream source.old).rest ≡ passed ++ (S.stream source.new).rest) }
 {
     mode.decode_lent(source, |cons| {
         let _ = take_empty(cons);
@@ -46,7 +47,8 @@ pub fn drop_refusal<S: Source>(source: &mut S, mode: Mode) -> Result<(), DecodeE
 
 /// Takes two empty values and then the octet behind them.
 pub fn octet_behind<S: Source>(source: &mut S, mode: Mode) -> Result<u8, DecodeError<S::Error>>
-    ensures behind { IfOk result (λ octet. (passed : List ℕ) × ((S.stream source.old).rest ≡ passed ++ octet ∷ (S.stream source.new).rest)) }
+    ensures behind { IfOk result (λ octet. (passed : List ℕ)
+        × ((S.stream source.old).rest ≡ passed ++ octet ∷ (S.stream source.new).rest)) }
 {
     two_empty(source, mode)?;
     source.take_u8()

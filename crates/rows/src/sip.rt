@@ -42,8 +42,8 @@ pub struct Sip {
 }
 
 impl Sip {
-    /// A source over `octets`, of which none is available. The request of the number `failing` fails,
-    /// counted from 1, or none where that is 0.
+    /// A source over `octets`, of which none is available. The request of the number `failing`
+    /// fails, counted from 1, or none where that is 0.
     pub fn new(octets: Vec<u8>, failing: usize) -> Sip
         ensures { ⟦<Sip as Source>⟧.stream result ≡ sipped octets.items 0 0 0 }
     {
@@ -79,7 +79,8 @@ impl Source for Sip {
 
     ghost stream = { λ s. sipped s.octets.items s.start s.avail s.faults };
 
-    ghost sound = { λ s. sipped_sound s.octets.items s.start s.avail s.faults s.are_octets s.fit s.within };
+    ghost sound = { λ s. sipped_sound s.octets.items s.start s.avail s.faults
+        s.are_octets s.fit s.within };
 
     fn pos(&self) -> Pos {
         Pos::from(self.start)

@@ -1,4 +1,5 @@
 //! Sources and errors, with values from outside. The digits are ASCII octets.
+use crate::asserts::{debugs, holds, same, shows};
 use crate::borrows::{
     TakeError, capture_passed, capture_two, has_two, pass_two, pass_two_within, skip_two,
     take_exactly, without_two,
@@ -12,7 +13,6 @@ use bcder::{NoMemory, Tag};
 use bytes::Bytes;
 use std::alloc::Global;
 use std::convert::Infallible;
-use std::fmt::Display;
 use std::process::Abort;
 use std::test::Fail;
 
@@ -30,9 +30,9 @@ fn failing_sip(alloc: Global, octets: &[u8], failing: usize) -> Result<Sip, Fail
 
 // What is left of a source.
 fn assert_rest<S: Source>(rt: &impl Abort, source: &mut S, rest: &[u8]) -> Result<(), Fail> {
-    assert_eq!(rt; source.request(rest.len())?, rest.len());
-    assert_eq!(rt; source.slice(), rest);
-    assert!(rt; source.take_opt_u8()?.is_some() || rest.is_empty());
+    same(rt, source.request(rest.len())?, rest.len());
+    same(rt, source.slice(), rest);
+    holds(rt, source.take_opt_u8()?.is_some() || rest.is_empty());
     Ok(())
 }
 
@@ -42,20 +42,24 @@ fn check_nested<S: Source + Drop>(rt: &impl Abort, alloc: Global, source: S) -> 
     inner.set_limit(Some(4));
     let mut view = LimitedSource::new(CaptureSource::new(&mut inner));
     view.set_limit(Some(5));
-    assert_eq!(rt; view.request(9)?, 4);
-    assert!(rt; view.take_all(alloc).is_err());
-    assert_eq!(rt; view.limit(), Some(5));
-    assert_eq!(rt; view.request(9)?, 4);
+    same(rt, view.request(9)?, 4);
+    holds(rt, view.take_all(alloc).is_err());
+    same(rt, view.limit(), Some(5));
+    same(rt, view.request(9)?, 4);
     view.set_limit(Some(4));
-    assert_eq!(rt; view.take_all(alloc)?.as_slice(), b"1234".as_slice());
-    assert_eq!(rt; view.limit(), Some(0));
+    same(rt, view.take_all(alloc)?.as_slice(), b"1234".as_slice());
+    same(rt, view.limit(), Some(0));
     let mut capture = view.unwrap();
     capture.request(0)?;
-    assert_eq!(rt; capture.into_bytes(alloc)?.as_slice(), b"1234".as_slice());
-    assert_eq!(rt; inner.limit(), Some(0));
+    same(
+        rt,
+        capture.into_bytes(alloc)?.as_slice(),
+        b"1234".as_slice(),
+    );
+    same(rt, inner.limit(), Some(0));
     let mut source = inner.unwrap();
-    assert_eq!(rt; source.request(4)?, 4);
-    assert_eq!(rt; source.slice(), b"5678".as_slice());
+    same(rt, source.request(4)?, 4);
+    same(rt, source.slice(), b"5678".as_slice());
     Ok(())
 }
 
@@ -70,12 +74,12 @@ fn nested(rt: HostRuntime) -> Result<(), Fail> {
 #[test]
 fn sips(rt: HostRuntime) -> Result<(), Fail> {
     let mut source = sip(rt.alloc(), b"12345678")?;
-    assert_eq!(rt; source.request(3)?, 3);
-    assert_eq!(rt; source.slice(), b"123".as_slice());
-    assert_eq!(rt; source.request(1)?, 1);
-    assert_eq!(rt; source.slice(), b"1".as_slice());
-    assert_eq!(rt; source.request(9)?, 8);
-    assert_eq!(rt; source.faults(), 0);
+    same(&rt, source.request(3)?, 3);
+    same(&rt, source.slice(), b"123".as_slice());
+    same(&rt, source.request(1)?, 1);
+    same(&rt, source.slice(), b"1".as_slice());
+    same(&rt, source.request(9)?, 8);
+    same(&rt, source.faults(), 0);
     Ok(())
 }
 
@@ -83,10 +87,10 @@ fn sips(rt: HostRuntime) -> Result<(), Fail> {
 #[test]
 fn failed_skip(rt: HostRuntime) -> Result<(), Fail> {
     let mut source = failing_sip(rt.alloc(), b"1234", 2)?;
-    assert_eq!(rt; source.skip(1)?, 1);
-    assert_eq!(rt; source.skip(2), Err(SipError));
-    assert_eq!(rt; source.faults(), 1);
-    assert_eq!(rt; source.take_u8()?, b'2');
+    same(&rt, source.skip(1)?, 1);
+    same(&rt, source.skip(2), Err(SipError));
+    same(&rt, source.faults(), 1);
+    same(&rt, source.take_u8()?, b'2');
     Ok(())
 }
 
@@ -94,56 +98,66 @@ fn failed_skip(rt: HostRuntime) -> Result<(), Fail> {
 fn failed_limited(rt: HostRuntime) -> Result<(), Fail> {
     let mut limited = LimitedSource::new(failing_sip(rt.alloc(), b"1234", 1)?);
     limited.set_limit(Some(2));
-    assert!(rt; limited.skip_all().is_err_and(|error| error.is_source()));
-    assert_eq!(rt; limited.limit(), Some(2));
-    assert_eq!(rt; limited.take_all(rt.alloc())?.as_slice(), b"12".as_slice());
+    holds(
+        &rt,
+        limited.skip_all().is_err_and(|error| error.is_source()),
+    );
+    same(&rt, limited.limit(), Some(2));
+    same(
+        &rt,
+        limited.take_all(rt.alloc())?.as_slice(),
+        b"12".as_slice(),
+    );
     Ok(())
 }
 
 #[test]
 fn failed_octet(rt: HostRuntime) -> Result<(), Fail> {
     let mut source = failing_sip(rt.alloc(), b"1234", 1)?;
-    assert!(rt; source.take_u8().is_err_and(|error| error.is_source()));
-    assert_eq!(rt; source.take_opt_u8()?, Some(b'1'));
+    holds(&rt, source.take_u8().is_err_and(|error| error.is_source()));
+    same(&rt, source.take_opt_u8()?, Some(b'1'));
     Ok(())
 }
 
 #[test]
 fn failed_capture(rt: HostRuntime) -> Result<(), Fail> {
     let mut source = failing_sip(rt.alloc(), b"1234", 1)?;
-    assert!(rt;
+    holds(
+        &rt,
         matches!(
             capture_two(&mut source, rt.alloc()),
             Err(TakeError::Source(SipError))
-        )
+        ),
     );
-    assert_eq!(rt;
+    same(
+        &rt,
         capture_two(&mut source, rt.alloc())?.as_slice(),
-        b"12".as_slice()
+        b"12".as_slice(),
     );
     Ok(())
 }
 
 fn check_limit<S: Source + Drop>(rt: &impl Abort, source: S) -> Result<(), Fail> {
     let mut source = LimitedSource::new(source);
-    assert_eq!(rt; source.limit_further(Some(4)), None);
-    assert!(rt;
+    same(rt, source.limit_further(Some(4)), None);
+    holds(
+        rt,
         source
             .exhausted()
-            .is_err_and(|error| error.content_error().is_some())
+            .is_err_and(|error| error.content_error().is_some()),
     );
-    assert_eq!(rt; source.request(6)?, 4);
+    same(rt, source.request(6)?, 4);
     source.advance(2);
-    assert!(rt; source.exhausted().is_err());
-    assert_eq!(rt; source.request(6)?, 2);
+    holds(rt, source.exhausted().is_err());
+    same(rt, source.request(6)?, 2);
     source.advance(2);
-    assert!(rt; source.exhausted().is_ok());
-    assert_eq!(rt; source.request(6)?, 0);
-    assert_eq!(rt; source.limit(), Some(0));
+    holds(rt, source.exhausted().is_ok());
+    same(rt, source.request(6)?, 0);
+    same(rt, source.limit(), Some(0));
     source.set_limit(Some(4));
     source.skip_all()?;
     source.set_limit(None);
-    assert!(rt; source.exhausted().is_ok());
+    holds(rt, source.exhausted().is_ok());
     Ok(())
 }
 
@@ -155,10 +169,41 @@ fn limits(rt: HostRuntime) -> Result<(), Fail> {
     check_limit(&rt, sip(rt.alloc(), octets)?)
 }
 
+/// Whether a call refused by a fixed text.
+fn is_static<T: Drop, E: Drop>(outcome: Result<T, DecodeError<E>>) -> bool {
+    match outcome {
+        Ok(_) => false,
+        Err(error) => matches!(error.content_error(), Some(ContentError::Static(_))),
+    }
+}
+
+// Refusals of a source's own calls, over two octets.
+fn check_static<S: Source + Drop>(rt: &impl Abort, alloc: Global, source: S) -> Result<(), Fail> {
+    let mut source = LimitedSource::new(source);
+    source.set_limit(Some(3));
+    holds(rt, is_static(source.skip_all()));
+    holds(rt, is_static(source.take_all(alloc)));
+    holds(rt, is_static(source.exhausted()));
+    source.set_limit(None);
+    holds(rt, is_static(source.exhausted()));
+    let mut source = source.unwrap();
+    source.skip(2)?;
+    holds(rt, is_static(source.take_u8()));
+    Ok(())
+}
+
+#[test]
+fn refusals_have_fixed_texts(rt: HostRuntime) -> Result<(), Fail> {
+    let octets = b"12";
+    check_static(&rt, rt.alloc(), SliceSource::new(octets))?;
+    check_static(&rt, rt.alloc(), shared(rt.alloc(), octets)?)?;
+    check_static(&rt, rt.alloc(), sip(rt.alloc(), octets)?)
+}
+
 fn check_take_all<S: Source + Drop>(rt: &impl Abort, alloc: Global, source: S) -> Result<(), Fail> {
     let mut source = LimitedSource::new(source);
     source.set_limit(Some(4));
-    assert_eq!(rt; source.take_all(alloc)?.as_slice(), b"1234".as_slice());
+    same(rt, source.take_all(alloc)?.as_slice(), b"1234".as_slice());
     assert_rest(rt, &mut source.unwrap(), b"5678")
 }
 
@@ -175,18 +220,19 @@ fn check_octets<S: Source + Drop>(
     mut source: S,
     mut again: S,
 ) -> Result<(), Fail> {
-    assert_eq!(rt; source.take_u8()?, b'1');
-    assert_eq!(rt; source.take_u8()?, b'2');
-    assert_eq!(rt; source.take_u8()?, b'3');
-    assert!(rt;
+    same(rt, source.take_u8()?, b'1');
+    same(rt, source.take_u8()?, b'2');
+    same(rt, source.take_u8()?, b'3');
+    holds(
+        rt,
         source
             .take_u8()
-            .is_err_and(|error| error.content_error().is_some())
+            .is_err_and(|error| error.content_error().is_some()),
     );
-    assert_eq!(rt; again.take_opt_u8()?, Some(b'1'));
-    assert_eq!(rt; again.take_opt_u8()?, Some(b'2'));
-    assert_eq!(rt; again.take_opt_u8()?, Some(b'3'));
-    assert_eq!(rt; again.take_opt_u8()?, None);
+    same(rt, again.take_opt_u8()?, Some(b'1'));
+    same(rt, again.take_opt_u8()?, Some(b'2'));
+    same(rt, again.take_opt_u8()?, Some(b'3'));
+    same(rt, again.take_opt_u8()?, None);
     Ok(())
 }
 
@@ -211,12 +257,16 @@ fn check_capture<S: Source + Drop>(
     let found = capture.request(4)?;
     assert!(rt; found >= 4);
     capture.advance(4);
-    assert_eq!(rt; capture.into_bytes(alloc)?.as_slice(), b"1234".as_slice());
+    same(
+        rt,
+        capture.into_bytes(alloc)?.as_slice(),
+        b"1234".as_slice(),
+    );
     let mut capture = CaptureSource::new(&mut source);
     assert!(rt; capture.request(5)? >= 5);
     capture.advance(5);
-    assert_eq!(rt; capture.request(usize::MAX)?, 1);
-    assert_eq!(rt; capture.bytes(alloc, 0, 1)?.as_slice(), b"0".as_slice());
+    same(rt, capture.request(usize::MAX)?, 1);
+    same(rt, capture.bytes(alloc, 0, 1)?.as_slice(), b"0".as_slice());
     assert_rest(rt, &mut source, b"567890")
 }
 
@@ -233,24 +283,32 @@ fn check_taken<S: Source + Drop>(
     alloc: Global,
     source: &mut S,
 ) -> Result<(), Fail> {
-    assert_eq!(rt;
+    same(
+        rt,
         take_exactly(source, alloc, 3)?.as_slice(),
-        b"123".as_slice()
+        b"123".as_slice(),
     );
-    assert!(rt; matches!(take_exactly(source, alloc, 12), Err(TakeError::Short)));
-    assert_eq!(rt; capture_two(source, alloc)?.as_slice(), b"45".as_slice());
-    assert_eq!(rt; capture_passed(source, alloc)?.as_slice(), b"67".as_slice());
+    holds(
+        rt,
+        matches!(take_exactly(source, alloc, 12), Err(TakeError::Short)),
+    );
+    same(rt, capture_two(source, alloc)?.as_slice(), b"45".as_slice());
+    same(
+        rt,
+        capture_passed(source, alloc)?.as_slice(),
+        b"67".as_slice(),
+    );
     Ok(())
 }
 
 fn check_passed<S: Source + Drop>(rt: &impl Abort, mut source: S) -> Result<(), Fail> {
-    assert!(rt; pass_two(&mut source)?);
-    assert!(rt; !pass_two_within(&mut source, 1)?);
-    assert!(rt; pass_two_within(&mut source, 3)?);
-    assert!(rt; has_two(&mut source)?);
-    assert!(rt; skip_two(&mut source)?);
+    holds(rt, pass_two(&mut source)?);
+    holds(rt, !pass_two_within(&mut source, 1)?);
+    holds(rt, pass_two_within(&mut source, 3)?);
+    holds(rt, has_two(&mut source)?);
+    holds(rt, skip_two(&mut source)?);
     let mut left = without_two(source)?.ok_or("two octets")?;
-    assert_eq!(rt; left.take_opt_u8()?, None);
+    same(rt, left.take_opt_u8()?, None);
     Ok(())
 }
 
@@ -270,31 +328,20 @@ fn passed(rt: HostRuntime) -> Result<(), Fail> {
     check_passed(&rt, sip(rt.alloc(), octets)?)
 }
 
-fn assert_text<T: Display>(
-    rt: &impl Abort,
-    alloc: Global,
-    value: &T,
-    text: &str,
-) -> Result<(), Fail> {
-    let shown = format!(in alloc; "{value}")?;
-    assert_eq!(rt; shown.as_str(), text);
-    Ok(())
-}
-
 fn assert_at<S: Source>(
     rt: &impl Abort,
     alloc: Global,
     source: &S,
     text: &str,
 ) -> Result<(), Fail> {
-    assert_text(rt, alloc, &source.pos(), text)
+    shows(rt, alloc, &source.pos(), text)
 }
 
 #[test]
 fn positions(rt: HostRuntime) -> Result<(), Fail> {
     let last = Pos::from(usize::MAX) + Pos::from(1);
-    assert_text(&rt, rt.alloc(), &last, "18446744073709551615")?;
-    assert_text(&rt, rt.alloc(), &(Pos::default() + Pos::from(7)), "7")
+    shows(&rt, rt.alloc(), &last, "18446744073709551615")?;
+    shows(&rt, rt.alloc(), &(Pos::default() + Pos::from(7)), "7")
 }
 
 #[test]
@@ -303,26 +350,26 @@ fn slices(rt: HostRuntime) -> Result<(), Fail> {
     assert_at(&rt, rt.alloc(), &slice, "0")?;
     slice.advance(3);
     assert_at(&rt, rt.alloc(), &slice, "3")?;
-    assert_eq!(rt; slice.split_to(2), b"45".as_slice());
+    same(&rt, slice.split_to(2), b"45".as_slice());
     assert_at(&rt, rt.alloc(), &slice, "5")?;
-    assert_eq!(rt; slice.len(), 3);
-    assert!(rt; !slice.is_empty());
+    same(&rt, slice.len(), 3);
+    holds(&rt, !slice.is_empty());
     Ok(())
 }
 
 #[test]
 fn shared_octets(rt: HostRuntime) -> Result<(), Fail> {
     let octets = Bytes::copy_from_slice(rt.alloc(), b"12345678")?;
-    assert_eq!(rt; octets.len(), 8);
+    same(&rt, octets.len(), 8);
     let mut bytes = BytesSource::with_offset(octets, Pos::from(100));
     assert_at(&rt, rt.alloc(), &bytes, "100")?;
     bytes.advance(1);
     assert_at(&rt, rt.alloc(), &bytes, "101")?;
-    assert_eq!(rt; bytes.split_to(2)?.as_slice(), b"23".as_slice());
+    same(&rt, bytes.split_to(2)?.as_slice(), b"23".as_slice());
     assert_at(&rt, rt.alloc(), &bytes, "103")?;
-    assert_eq!(rt; bytes.len(), 5);
-    assert!(rt; !bytes.is_empty());
-    assert_eq!(rt; bytes.into_bytes().as_slice(), b"45678".as_slice());
+    same(&rt, bytes.len(), 5);
+    holds(&rt, !bytes.is_empty());
+    same(&rt, bytes.into_bytes().as_slice(), b"45678".as_slice());
     Ok(())
 }
 
@@ -331,12 +378,12 @@ fn wrappers(rt: HostRuntime) -> Result<(), Fail> {
     let octets = Bytes::copy_from_slice(rt.alloc(), b"12345678")?;
     let mut bytes = BytesSource::with_offset(octets, Pos::from(100));
     let mut limited = LimitedSource::new(CaptureSource::new(&mut bytes));
-    assert_eq!(rt; limited.skip(2)?, 2);
+    same(&rt, limited.skip(2)?, 2);
     assert_at(&rt, rt.alloc(), &limited, "102")?;
     assert_at(&rt, rt.alloc(), &bytes, "100")?;
-    assert_eq!(rt; bytes.take_u8()?, b'1');
+    same(&rt, bytes.take_u8()?, b'1');
     let error = bytes.content_err(ContentError::from_static("no"));
-    assert_text(&rt, rt.alloc(), &error, "no (at position 101)")
+    shows(&rt, rt.alloc(), &error, "no (at position 101)")
 }
 
 #[test]
@@ -354,11 +401,11 @@ fn made_of(rt: HostRuntime) -> Result<(), Fail> {
 #[test]
 fn clones(rt: HostRuntime) -> Result<(), Fail> {
     let mut source = shared(rt.alloc(), b"12345678")?;
-    assert_eq!(rt; source.skip(2)?, 2);
+    same(&rt, source.skip(2)?, 2);
     let mut limited = LimitedSource::new(source);
     limited.set_limit(Some(4));
     let mut twin = limited.clone()?;
-    assert_eq!(rt; twin.limit(), Some(4));
+    same(&rt, twin.limit(), Some(4));
     assert_rest(&rt, &mut twin, b"3456")?;
     assert_at(&rt, rt.alloc(), &twin, "3")?;
     assert_rest(&rt, &mut limited, b"3456")
@@ -368,9 +415,9 @@ fn clones(rt: HostRuntime) -> Result<(), Fail> {
 fn copies(rt: HostRuntime) -> Result<(), Fail> {
     let slice = SliceSource::new(b"12");
     let copied = slice;
-    assert_eq!(rt; copied.len(), 2);
+    same(&rt, copied.len(), 2);
     let shown = format!(in rt.alloc(); "{copied:?}")?;
-    assert!(rt; shown.contains("SliceSource"));
+    holds(&rt, shown.contains("SliceSource"));
     Ok(())
 }
 
@@ -390,28 +437,28 @@ impl Message for Note {
 #[test]
 fn texts_of_content_errors(rt: HostRuntime) -> Result<(), Fail> {
     let alloc = rt.alloc();
-    assert_text(
+    shows(
         &rt,
         alloc,
         &ContentError::from_static("out of place"),
         "out of place",
     )?;
-    assert_text(&rt, alloc, &ContentError::from("in the way"), "in the way")?;
+    shows(&rt, alloc, &ContentError::from("in the way"), "in the way")?;
     let owned = format!(in alloc; "{} of {}", 2, 3)?;
-    assert_text(&rt, alloc, &ContentError::from(owned), "2 of 3")?;
-    assert_text(
+    shows(&rt, alloc, &ContentError::from(owned), "2 of 3")?;
+    shows(
         &rt,
         alloc,
         &ContentError::ExpectedTag(Tag::CTX_1),
         "expected tag [1]",
     )?;
-    assert_text(
+    shows(
         &rt,
         alloc,
         &ContentError::ExpectedInteger(200),
         "expected integer value 200",
     )?;
-    assert_text(
+    shows(
         &rt,
         alloc,
         &ContentError::from_boxed(alloc, Box::new(alloc, Note)?)?,
@@ -423,42 +470,45 @@ fn texts_of_content_errors(rt: HostRuntime) -> Result<(), Fail> {
 fn texts_of_errors(rt: HostRuntime) -> Result<(), Fail> {
     let alloc = rt.alloc();
     let error = DecodeError::<SipError>::content(ContentError::from("bad"), Pos::from(12));
-    assert_text(&rt, alloc, &error, "bad (at position 12)")?;
-    assert_text(&rt, alloc, &DecodeError::from(SipError), "the sip failed")?;
-    assert_text(
+    shows(&rt, alloc, &error, "bad (at position 12)")?;
+    shows(&rt, alloc, &DecodeError::from(SipError), "the sip failed")?;
+    shows(
         &rt,
         alloc,
         &DecodeError::<SipError>::no_memory(),
         "out of memory",
     )?;
     let shown = format!(in alloc; "{error:?}")?;
-    assert!(rt; shown.contains("bad"));
+    holds(&rt, shown.contains("bad"));
     Ok(())
 }
 
 #[test]
 fn want_of_memory_stays(rt: HostRuntime) {
     let converted = DecodeError::<Infallible>::no_memory().convert::<SipError>();
-    assert!(rt; converted.is_memory());
-    assert!(rt; !converted.is_source());
-    assert!(rt; converted.content_error().is_none());
-    assert!(rt; matches!(DecodeError::no_memory().into_content(), Err(NoMemory)));
+    holds(&rt, converted.is_memory());
+    holds(&rt, !converted.is_source());
+    holds(&rt, converted.content_error().is_none());
+    holds(
+        &rt,
+        matches!(DecodeError::no_memory().into_content(), Err(NoMemory)),
+    );
 }
 
 #[test]
 fn content_stays(rt: HostRuntime) -> Result<(), Fail> {
     let error = DecodeError::<Infallible>::content(ContentError::from("bad"), Pos::from(3));
     let converted = error.convert::<SipError>();
-    assert!(rt; !converted.is_memory());
-    assert!(rt; !converted.is_source());
-    assert_text(&rt, rt.alloc(), &converted, "bad (at position 3)")
+    holds(&rt, !converted.is_memory());
+    holds(&rt, !converted.is_source());
+    shows(&rt, rt.alloc(), &converted, "bad (at position 3)")
 }
 
 #[test]
 fn content_is_handed_out(rt: HostRuntime) -> Result<(), Fail> {
     let error = DecodeError::<Infallible>::content(ContentError::from("bad"), Pos::from(3));
     match error.into_content() {
-        Ok(ContentError::Static(text)) => assert_eq!(rt; text.as_str(), "bad"),
+        Ok(ContentError::Static(text)) => same(&rt, text.as_str(), "bad"),
         _ => panic!(rt; "another error"),
     }
     Ok(())
@@ -467,6 +517,6 @@ fn content_is_handed_out(rt: HostRuntime) -> Result<(), Fail> {
 #[test]
 fn source_errors(rt: HostRuntime) {
     let error = DecodeError::from(SipError);
-    assert!(rt; error.is_source());
-    assert!(rt; !error.is_memory());
+    holds(&rt, error.is_source());
+    holds(&rt, !error.is_memory());
 }

@@ -1,111 +1,87 @@
-//! The universal tags of X.680, 8.4, table 1, how tags are shown, and the sets of rules.
+//! The constants of tags and of the sets of rules. How tags are shown and read is in `vectors`.
+use crate::asserts::{holds, same};
 use bcder::{Mode, Tag};
+use std::process::Abort;
 use std::test::Fail;
 
+/// The universal tags of X.680, 8.4, table 1.
+const UNIVERSAL: [(u32, Tag); 36] = [
+    (0, Tag::END_OF_VALUE),
+    (1, Tag::BOOLEAN),
+    (2, Tag::INTEGER),
+    (3, Tag::BIT_STRING),
+    (4, Tag::OCTET_STRING),
+    (5, Tag::NULL),
+    (6, Tag::OID),
+    (7, Tag::OBJECT_DESCRIPTOR),
+    (8, Tag::EXTERNAL),
+    (9, Tag::REAL),
+    (10, Tag::ENUMERATED),
+    (11, Tag::EMBEDDED_PDV),
+    (12, Tag::UTF8_STRING),
+    (13, Tag::RELATIVE_OID),
+    (14, Tag::TIME),
+    (16, Tag::SEQUENCE),
+    (17, Tag::SET),
+    (18, Tag::NUMERIC_STRING),
+    (19, Tag::PRINTABLE_STRING),
+    (20, Tag::TELETEX_STRING),
+    (21, Tag::VIDEOTEX_STRING),
+    (22, Tag::IA5_STRING),
+    (23, Tag::UTC_TIME),
+    (24, Tag::GENERALIZED_TIME),
+    (25, Tag::GRAPHIC_STRING),
+    (26, Tag::VISIBLE_STRING),
+    (27, Tag::GENERAL_STRING),
+    (28, Tag::UNIVERSAL_STRING),
+    (29, Tag::CHARACTER_STRING),
+    (30, Tag::BMP_STRING),
+    (31, Tag::DATE),
+    (32, Tag::TIME_OF_DAY),
+    (33, Tag::DATE_TIME),
+    (34, Tag::DURATION),
+    (35, Tag::OID_IRI),
+    (36, Tag::RELATIVE_OID_IRI),
+];
+
+/// The context-specific ones.
+const CONTEXT: [(u32, Tag); 7] = [
+    (0, Tag::CTX_0),
+    (1, Tag::CTX_1),
+    (2, Tag::CTX_2),
+    (3, Tag::CTX_3),
+    (4, Tag::CTX_4),
+    (5, Tag::CTX_5),
+    (6, Tag::CTX_6),
+];
+
 #[test]
-fn universal_constants_have_their_numbers_and_names(rt: HostRuntime) -> Result<(), Fail> {
-    let table = [
-        (0, Tag::END_OF_VALUE, "[UNIVERSAL 0]"),
-        (1, Tag::BOOLEAN, "BOOLEAN"),
-        (2, Tag::INTEGER, "INTEGER"),
-        (3, Tag::BIT_STRING, "BIT STRING"),
-        (4, Tag::OCTET_STRING, "OCTET STRING"),
-        (5, Tag::NULL, "NULL"),
-        (6, Tag::OID, "OBJECT IDENTIFIER"),
-        (7, Tag::OBJECT_DESCRIPTOR, "ObjectDescriptor"),
-        (8, Tag::EXTERNAL, "EXTERNAL"),
-        (9, Tag::REAL, "REAL"),
-        (10, Tag::ENUMERATED, "ENUMERATED"),
-        (11, Tag::EMBEDDED_PDV, "EMBEDDED PDV"),
-        (12, Tag::UTF8_STRING, "UTF8String"),
-        (13, Tag::RELATIVE_OID, "RELATIVE-OID"),
-        (14, Tag::TIME, "TIME"),
-        (16, Tag::SEQUENCE, "SEQUENCE"),
-        (17, Tag::SET, "SET"),
-        (18, Tag::NUMERIC_STRING, "NumericString"),
-        (19, Tag::PRINTABLE_STRING, "PrintableString"),
-        (20, Tag::TELETEX_STRING, "TeletexString"),
-        (21, Tag::VIDEOTEX_STRING, "VideotexString"),
-        (22, Tag::IA5_STRING, "IA5String"),
-        (23, Tag::UTC_TIME, "UTCTime"),
-        (24, Tag::GENERALIZED_TIME, "GeneralizedTime"),
-        (25, Tag::GRAPHIC_STRING, "GraphicString"),
-        (26, Tag::VISIBLE_STRING, "VisibleString"),
-        (27, Tag::GENERAL_STRING, "GeneralString"),
-        (28, Tag::UNIVERSAL_STRING, "UniversalString"),
-        (29, Tag::CHARACTER_STRING, "CHARACTER STRING"),
-        (30, Tag::BMP_STRING, "BMPString"),
-        (31, Tag::DATE, "DATE"),
-        (32, Tag::TIME_OF_DAY, "TIME-OF-DAY"),
-        (33, Tag::DATE_TIME, "DATE-TIME"),
-        (34, Tag::DURATION, "DURATION"),
-        (35, Tag::OID_IRI, "OID-IRI"),
-        (36, Tag::RELATIVE_OID_IRI, "RELATIVE-OID-IRI"),
-    ];
-    for (number, tag, name) in table {
-        assert!(rt; number <= 36);
-        assert_eq!(rt; tag, Tag::universal(number));
-        assert_eq!(rt; format!(in rt.alloc(); "{tag}")?.as_str(), name);
-        assert!(rt; tag.is_universal());
+fn universal_constants_have_their_numbers(rt: HostRuntime) {
+    for (number, tag) in &UNIVERSAL {
+        assert!(rt; *number <= 36 && *tag == Tag::universal(*number), "{tag}");
+        assert!(rt; tag.is_universal() && tag.number() == *number, "{tag}");
     }
-    Ok(())
 }
 
 #[test]
-fn context_constants_have_their_numbers(rt: HostRuntime) -> Result<(), Fail> {
-    let table = [
-        (0, Tag::CTX_0, "[0]"),
-        (1, Tag::CTX_1, "[1]"),
-        (2, Tag::CTX_2, "[2]"),
-        (3, Tag::CTX_3, "[3]"),
-        (4, Tag::CTX_4, "[4]"),
-        (5, Tag::CTX_5, "[5]"),
-        (6, Tag::CTX_6, "[6]"),
-    ];
-    for (number, tag, name) in table {
-        assert!(rt; number <= 6);
-        assert_eq!(rt; tag, Tag::ctx(number));
-        assert_eq!(rt; format!(in rt.alloc(); "{tag}")?.as_str(), name);
-        assert!(rt; tag.is_context_specific());
+fn context_constants_have_their_numbers(rt: HostRuntime) {
+    for (number, tag) in &CONTEXT {
+        assert!(rt; *number <= 6 && *tag == Tag::ctx(*number), "{tag}");
+        assert!(rt;
+            tag.is_context_specific() && tag.number() == *number,
+            "{tag}"
+        );
     }
-    Ok(())
-}
-
-#[test]
-fn tags_without_a_name_show_class_and_number(rt: HostRuntime) -> Result<(), Fail> {
-    let table = [
-        (Tag::universal(15), "[UNIVERSAL 15]"),
-        (Tag::universal(37), "[UNIVERSAL 37]"),
-        (Tag::universal(2097151), "[UNIVERSAL 2097151]"),
-        (Tag::application(0), "[APPLICATION 0]"),
-        (Tag::application(5), "[APPLICATION 5]"),
-        (Tag::ctx(16), "[16]"),
-        (Tag::ctx(2097151), "[2097151]"),
-        (Tag::private(5), "[PRIVATE 5]"),
-        (Tag::private(2097151), "[PRIVATE 2097151]"),
-    ];
-    for (tag, shown) in table {
-        assert_eq!(rt; format!(in rt.alloc(); "{tag}")?.as_str(), shown);
-    }
-    Ok(())
 }
 
 #[test]
 fn tags_are_a_class_and_a_number(rt: HostRuntime) {
-    let application = Tag::application(2097151);
-    assert!(rt; application.is_application());
-    assert!(rt; !application.is_universal());
-    assert!(rt; !application.is_context_specific());
-    assert!(rt; !application.is_private());
-    assert_eq!(rt; application.number(), 2097151);
-
-    let private = Tag::private(5);
-    assert!(rt; private.is_private());
-    assert!(rt; !private.is_application());
-    assert!(rt; private != Tag::application(5));
-    assert!(rt; private != Tag::private(4));
-    assert!(rt; Tag::universal(0) == Tag::END_OF_VALUE);
-    assert!(rt; Tag::ctx(0) != Tag::END_OF_VALUE);
+    holds(&rt, Tag::private(5) != Tag::application(5));
+    holds(&rt, Tag::private(5) != Tag::private(4));
+    holds(&rt, Tag::universal(0) == Tag::END_OF_VALUE);
+    holds(&rt, Tag::ctx(0) != Tag::END_OF_VALUE);
+    holds(&rt, Tag::universal(2) == Tag::INTEGER);
+    holds(&rt, Tag::ctx(1) == Tag::CTX_1);
 }
 
 #[test]
@@ -115,18 +91,28 @@ fn tags_are_debugged_by_their_fields(rt: HostRuntime) -> Result<(), Fail> {
     Ok(())
 }
 
+/// The tests of a set of rules answer so: for the basic, canonical and distinguished ones.
+fn check_mode(rt: &impl Abort, mode: Mode, answers: [bool; 3]) {
+    same(rt, [mode.is_ber(), mode.is_cer(), mode.is_der()], answers);
+    same(
+        rt,
+        [mode == Mode::Ber, mode == Mode::Cer, mode == Mode::Der],
+        answers,
+    );
+}
+
 #[test]
 fn modes_are_told_apart(rt: HostRuntime) -> Result<(), Fail> {
-    assert_eq!(rt; Mode::default(), Mode::Ber);
-    for (mode, is_ber, is_cer, is_der, name) in [
-        (Mode::Ber, true, false, false, "Ber"),
-        (Mode::Cer, false, true, false, "Cer"),
-        (Mode::Der, false, false, true, "Der"),
-    ] {
-        assert_eq!(rt; mode.is_ber(), is_ber);
-        assert_eq!(rt; mode.is_cer(), is_cer);
-        assert_eq!(rt; mode.is_der(), is_der);
-        assert_eq!(rt; mode == Mode::Der, is_der);
+    same(&rt, Mode::default(), Mode::Ber);
+    check_mode(&rt, Mode::Ber, [true, false, false]);
+    check_mode(&rt, Mode::Cer, [false, true, false]);
+    check_mode(&rt, Mode::Der, [false, false, true]);
+    Ok(())
+}
+
+#[test]
+fn modes_are_debugged_by_their_names(rt: HostRuntime) -> Result<(), Fail> {
+    for (mode, name) in [(Mode::Ber, "Ber"), (Mode::Cer, "Cer"), (Mode::Der, "Der")] {
         assert_eq!(rt; format!(in rt.alloc(); "{mode:?}")?.as_str(), name);
     }
     Ok(())

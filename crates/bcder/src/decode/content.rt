@@ -1,13 +1,16 @@
 //! Content: the values inside a value, or at top level, and the octets inside a primitive value.
 ghost use Rattle.std.specs.Prelude.{◌≡◌, ◌≢◌, ℕ, ◌↔◌, true, IsTrue, Some};
 ghost use Rattle.bcder.specs.Cause.{cause_of, position_of, of_content as of_refusal};
-ghost use Rattle.bcder.specs.Content.{Octets, Moves};
+ghost use Rattle.bcder.specs.Content.{Octets};
 ghost use Rattle.bcder.specs.Views.{of_constructed, of_primitive, of_content, content_start};
+ghost use Rattle.bcder.specs.Views.{before, after, octets_before, octets_after, Moved, MovedOctets};
 
 mod decode;
 mod forms;
+mod inside;
 mod octets;
 mod remaining;
+mod repeat;
 mod sequences;
 mod take;
 mod values;
@@ -18,7 +21,7 @@ use crate::decode::source::{LimitedSource, Pos, Source};
 use crate::mode::Mode;
 
 /// How the end of values is known.
-#[derive(Clone, Copy)]
+#[derive(Clone, Copy, Debug)]
 enum Kind {
     /// By the number of their octets.
     Definite,
@@ -31,7 +34,7 @@ enum Kind {
 }
 
 /// How far values were taken.
-#[derive(Clone, Copy)]
+#[derive(Clone, Copy, Debug)]
 enum State {
     /// The next value can be taken.
     Open,
@@ -53,7 +56,7 @@ pub struct Primitive<'a, S> {
 }
 
 /// Values one after another: those inside a constructed value, or those at top level.
-#[derive(Drop)]
+#[derive(Debug, Drop)]
 pub struct Constructed<'a, S> {
     source: &'a mut LimitedSource<S>,
     kind: Kind,
@@ -73,7 +76,7 @@ pub enum Content<'a, S> {
     Constructed(Constructed<'a, S>),
 }
 
-#[tactic(auto, using(crate::proofs::Moving::moves_refl), unfolding(crate::specs::Views::of_constructed))]
+#[tactic(auto, using(crate::proofs::moves), unfolding(crate::specs::Views::of_constructed))]
 impl<'a, S: Source> Constructed<'a, S> {
     /// The rules that the content is read by.
     pub fn mode(&self) -> Mode
@@ -82,16 +85,17 @@ impl<'a, S: Source> Constructed<'a, S> {
         self.mode
     }
 
-    /// Goes on under other rules. A change marks this content, and the content around it once this is
-    /// taken, as no longer known to be in its rules.
+    /// Goes on under other rules. A change marks this content, and the content around it once this
+    /// is taken, as no longer known to be in its rules.
     pub fn set_mode(&mut self, mode: Mode)
-        ensures moves { Moves (of_constructed S.stream self.old) (of_constructed S.stream self.new) }
-        ensures mode { (of_constructed S.stream self.new).mode ≡ mode }
-        ensures changed { (of_constructed S.stream self.old).mode ≢ mode → (of_constructed S.stream self.new).marked ≡ true }
-        ensures unchanged { (of_constructed S.stream self.old).mode ≡ mode → (of_constructed S.stream self.new).marked ≡ (of_constructed S.stream self.old).marked }
-        ensures stream { (of_constructed S.stream self.new).stream ≡ (of_constructed S.stream self.old).stream }
-        ensures owed { (of_constructed S.stream self.new).owed ≡ (of_constructed S.stream self.old).owed }
-        ensures state { (of_constructed S.stream self.new).state ≡ (of_constructed S.stream self.old).state }
+        ensures moves { Moved S.stream self }
+        ensures mode { (after S.stream self).mode ≡ mode }
+        ensures changed { (before S.stream self).mode ≢ mode → (after S.stream self).marked ≡ true }
+        ensures unchanged { (before S.stream self).mode ≡ mode
+            → (after S.stream self).marked ≡ (before S.stream self).marked }
+        ensures stream { (after S.stream self).stream ≡ (before S.stream self).stream }
+        ensures owed { (after S.stream self).owed ≡ (before S.stream self).owed }
+        ensures state { (after S.stream self).state ≡ (before S.stream self).state }
         ensures start { self.new.start ≡ self.old.start }
     {
         if self.mode != mode {
@@ -109,7 +113,7 @@ impl<'a, S: Source> Constructed<'a, S> {
     }
 }
 
-#[tactic(auto, using(crate::proofs::Moving::moves_refl), unfolding(crate::specs::Views::of_primitive))]
+#[tactic(auto, using(crate::proofs::moves), unfolding(crate::specs::Views::of_primitive))]
 impl<'a, S: Source> Primitive<'a, S> {
     /// The rules that the content is read by.
     pub fn mode(&self) -> Mode
@@ -118,16 +122,19 @@ impl<'a, S: Source> Primitive<'a, S> {
         self.mode
     }
 
-    /// Goes on under other rules. A change marks this content, and the content around it once this is
-    /// taken, as no longer known to be in its rules.
+    /// Goes on under other rules. A change marks this content, and the content around it once this
+    /// is taken, as no longer known to be in its rules.
     pub fn set_mode(&mut self, mode: Mode)
-        ensures moves { Moves (of_primitive S.stream self.old) (of_primitive S.stream self.new) }
-        ensures mode { (of_primitive S.stream self.new).mode ≡ mode }
-        ensures changed { (of_primitive S.stream self.old).mode ≢ mode → (of_primitive S.stream self.new).marked ≡ true }
-        ensures unchanged { (of_primitive S.stream self.old).mode ≡ mode → (of_primitive S.stream self.new).marked ≡ (of_primitive S.stream self.old).marked }
-        ensures stream { (of_primitive S.stream self.new).stream ≡ (of_primitive S.stream self.old).stream }
-        ensures owed { (of_primitive S.stream self.new).owed ≡ (of_primitive S.stream self.old).owed }
-        ensures state { (of_primitive S.stream self.new).state ≡ (of_primitive S.stream self.old).state }
+        ensures moves { MovedOctets S.stream self }
+        ensures mode { (octets_after S.stream self).mode ≡ mode }
+        ensures changed { (octets_before S.stream self).mode ≢ mode
+            → (octets_after S.stream self).marked ≡ true }
+        ensures unchanged { (octets_before S.stream self).mode ≡ mode
+            → (octets_after S.stream self).marked ≡ (octets_before S.stream self).marked }
+        ensures stream { (octets_after S.stream self).stream
+            ≡ (octets_before S.stream self).stream }
+        ensures owed { (octets_after S.stream self).owed ≡ (octets_before S.stream self).owed }
+        ensures state { (octets_after S.stream self).state ≡ (octets_before S.stream self).state }
         ensures start { self.new.start ≡ self.old.start }
     {
         if self.mode != mode {
@@ -145,7 +152,7 @@ impl<'a, S: Source> Primitive<'a, S> {
     }
 }
 
-#[tactic(auto, unfolding(crate::specs::Views::of_constructed, crate::specs::Views::of_primitive))]
+#[tactic(auto, unfolding(crate::specs::Views::views))]
 impl<'a, S: Source> Content<'a, S> {
     /// The rules that the content is read by.
     pub fn mode(&self) -> Mode

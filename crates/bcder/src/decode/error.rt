@@ -1,6 +1,8 @@
 //! Errors: why decoding failed.
 ghost use Rattle.std.specs.Prelude.{◌≡◌, ℕ, List, Some, IfSome, IsNone, IfOk, IfErr};
-ghost use Rattle.bcder.specs.Cause.{Cause, of_source, of_content, of_memory, cause_of, is_source_cause, is_memory_cause, IsContentless, position_of, IsBoxed, content_text, decode_text};
+ghost use Rattle.bcder.specs.Cause.{Cause, of_source, of_content, of_memory, cause_of, position_of};
+ghost use Rattle.bcder.specs.Cause.{is_source_cause, is_memory_cause, IsContentless, IsBoxed};
+ghost use Rattle.bcder.specs.Cause.{content_text, decode_text};
 
 use crate::NoMemory;
 use crate::decode::source::Pos;

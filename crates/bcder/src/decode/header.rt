@@ -1,15 +1,16 @@
 //! Identifier octets and length octets at the front of a source (X.690, 8.1.2, 8.1.3).
-ghost use Rattle.std.specs.Prelude.{◌≡◌, ℕ, ◌<◌, ◌≤◌, List, ◌++◌, length, false, IsTrue, Some, None, IfOk, OnOk, OnErr};
+ghost use Rattle.std.specs.Prelude.{◌≡◌, ℕ, ◌<◌, ◌≤◌, List, ◌++◌, length, false, IsTrue};
+ghost use Rattle.std.specs.Prelude.{Some, None, IfSome, IfOk, OnOk, OnErr};
 ghost use Rattle.bcder.specs.Stream.{Grew};
 ghost use Rattle.bcder.specs.Reading.{read_identifier, read_length};
-ghost use Rattle.bcder.specs.Peek.{Peeks, PeeksIf, Sees, SeesOf, SeesIf};
+ghost use Rattle.bcder.specs.Peek.{Peeks, PeeksIf, Sees, SeesOf, SeesIf, StandsShort};
 
 use crate::decode::source::Source;
 use crate::length::take::length_goes_on;
 use crate::length::{Length, length_at};
 use crate::mode::Mode;
 use crate::tag::take::identifier_goes_on;
-use crate::tag::{Tag, identifier_at};
+use crate::tag::{Tag, identifier_at, mark_of_leading, tag_of_leading};
 
 /// Identifier octets and length octets, whatever they stand before.
 #[derive(Clone, Copy)]
@@ -108,7 +109,9 @@ fn look(mode: Mode, octets: &[u8]) -> Seen
     }
 }
 
-/// What the octets at hand tell of the header with this tag at their front. `None` is for another tag.
+/// What the octets at hand tell of the header with this tag at their front. `None` is for another
+/// tag.
+#[inline(always)]
 fn look_for(mode: Mode, tag: Tag, octets: &[u8]) -> Option<Seen>
     ensures { SeesIf mode tag result octets.now }
 {
@@ -130,13 +133,48 @@ fn look_for(mode: Mode, tag: Tag, octets: &[u8]) -> Option<Seen>
     }
 }
 
+/// The header of two octets at the front, if there is one: a tag that the leading octet tells
+/// alone, and a definite length below 128.
+#[tactic(auto, using(crate::proofs::nat_tests))]
+#[inline(always)]
+fn short_header(octets: &[u8]) -> Option<Header>
+    ensures { IfSome result (λ h. StandsShort h octets.now) }
+{
+    match octets {
+        [leading, len, ..] if *leading % 32 < 31 && *len < 0x80 => Some(Header {
+            tag: tag_of_leading(*leading),
+            constructed: mark_of_leading(*leading),
+            len: Length::Definite(usize::from(*len)),
+        }),
+        _ => None,
+    }
+}
+
 /// What stands at the front of a source. It asks for no more octets than the header has, for two at
 /// least, and takes none. An error is the source's own.
 #[inline(always)]
 pub(crate) fn peek<S: Source>(source: &mut S, mode: Mode) -> Result<Peeked, S::Error>
     ensures peeked { IfOk result (λ p. Peeks mode p (S.stream source.new)) }
     ensures no_fault { OnOk result ((S.stream source.new).faults ≡ (S.stream source.old).faults) }
-    ensures fault { OnErr result (Grew ((S.stream source.old).faults) ((S.stream source.new).faults)) }
+    ensures fault { OnErr result (Grew (S.stream source.old).faults (S.stream source.new).faults) }
+    ensures rest { (S.stream source.new).rest ≡ (S.stream source.old).rest }
+    ensures position { (S.stream source.new).position ≡ (S.stream source.old).position }
+    ensures kept { (S.stream source.new).kept ≡ (S.stream source.old).kept }
+{
+    let found = source.request(2)?;
+    if let Some(header) = short_header(&source.slice()[..found]) {
+        return Ok(Peeked::Front { header, size: 2 });
+    }
+    peek_long(source, mode)
+}
+
+/// The same, whatever size the header has.
+#[cold]
+#[inline(never)]
+fn peek_long<S: Source>(source: &mut S, mode: Mode) -> Result<Peeked, S::Error>
+    ensures peeked { IfOk result (λ p. Peeks mode p (S.stream source.new)) }
+    ensures no_fault { OnOk result ((S.stream source.new).faults ≡ (S.stream source.old).faults) }
+    ensures fault { OnErr result (Grew (S.stream source.old).faults (S.stream source.new).faults) }
     ensures rest { (S.stream source.new).rest ≡ (S.stream source.old).rest }
     ensures position { (S.stream source.new).position ≡ (S.stream source.old).position }
     ensures kept { (S.stream source.new).kept ≡ (S.stream source.old).kept }
@@ -160,12 +198,34 @@ pub(crate) fn peek<S: Source>(source: &mut S, mode: Mode) -> Result<Peeked, S::E
     }
 }
 
-/// What stands at the front of a source, where a tag is looked for. It asks for no more octets than the
-/// header has, for two at least, and takes none. An error is the source's own.
+/// What stands at the front of a source, where a tag is looked for. It asks for no more octets than
+/// the header has, for two at least, and takes none. An error is the source's own.
+#[inline(always)]
 pub(crate) fn peek_if<S: Source>(source: &mut S, mode: Mode, tag: Tag) -> Result<PeekedIf, S::Error>
     ensures peeked { IfOk result (λ p. PeeksIf mode tag p (S.stream source.new)) }
     ensures no_fault { OnOk result ((S.stream source.new).faults ≡ (S.stream source.old).faults) }
-    ensures fault { OnErr result (Grew ((S.stream source.old).faults) ((S.stream source.new).faults)) }
+    ensures fault { OnErr result (Grew (S.stream source.old).faults (S.stream source.new).faults) }
+    ensures rest { (S.stream source.new).rest ≡ (S.stream source.old).rest }
+    ensures position { (S.stream source.new).position ≡ (S.stream source.old).position }
+    ensures kept { (S.stream source.new).kept ≡ (S.stream source.old).kept }
+{
+    let found = source.request(2)?;
+    if let Some(header) = short_header(&source.slice()[..found]) {
+        if header.tag == tag {
+            return Ok(PeekedIf::Front { header, size: 2 });
+        }
+        return Ok(PeekedIf::Other);
+    }
+    peek_if_long(source, mode, tag)
+}
+
+/// The same, whatever size the header has.
+#[cold]
+#[inline(never)]
+fn peek_if_long<S: Source>(source: &mut S, mode: Mode, tag: Tag) -> Result<PeekedIf, S::Error>
+    ensures peeked { IfOk result (λ p. PeeksIf mode tag p (S.stream source.new)) }
+    ensures no_fault { OnOk result ((S.stream source.new).faults ≡ (S.stream source.old).faults) }
+    ensures fault { OnErr result (Grew (S.stream source.old).faults (S.stream source.new).faults) }
     ensures rest { (S.stream source.new).rest ≡ (S.stream source.old).rest }
     ensures position { (S.stream source.new).position ≡ (S.stream source.old).position }
     ensures kept { (S.stream source.new).kept ≡ (S.stream source.old).kept }

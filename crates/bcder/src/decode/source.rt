@@ -1,6 +1,8 @@
 //! Sources: where the octets that are decoded come from.
-ghost use Rattle.std.specs.Prelude.{◌≡◌, ℕ, ◌+◌, ◌-◌, ◌<◌, ◌≤◌, [], ◌∷◌, length, take, drop, min, slice_range, Some, IfOk, IfErr, OnOk, OnErr, MatchOption, IfNone};
-ghost use Rattle.bcder.specs.Cause.{cause_of, position_of, of_content, MatchCause};
+ghost use Rattle.std.specs.Prelude.{◌≡◌, ℕ, ◌+◌, ◌-◌, ◌<◌, ◌≤◌, [], ◌∷◌};
+ghost use Rattle.std.specs.Prelude.{length, take, drop, min, slice_range};
+ghost use Rattle.std.specs.Prelude.{Some, IfOk, IfErr, OnOk, OnErr, MatchOption, IfNone};
+ghost use Rattle.bcder.specs.Cause.{cause_of, position_of, of_content, MatchCause, IsRefusal};
 ghost use Rattle.bcder.specs.Stream.{Stream, IsSound, Grew, Provides, pos_after, borrowed};
 ghost use Rattle.bcder.specs.laws.Limits.{borrowed_sound};
 
@@ -92,7 +94,8 @@ pub trait Source {
         ensures no_fault { OnOk result ((stream self.new).faults ≡ (stream self.old).faults) }
         ensures fault { OnErr result (Grew (stream self.old).faults (stream self.new).faults) }
         ensures err { OnErr result ((stream self.new).rest ≡ (stream self.old).rest) }
-        ensures err_position { OnErr result ((stream self.new).position ≡ (stream self.old).position) }
+        ensures err_position { OnErr result
+            ((stream self.new).position ≡ (stream self.old).position) }
         ensures kept { (stream self.new).kept ≡ (stream self.old).kept }
     {
         let found = self.request(len)?.min(len);
@@ -108,11 +111,14 @@ pub trait Source {
         ensures no_fault { OnOk result ((stream self.new).faults ≡ (stream self.old).faults) }
         ensures cause { IfErr result (λ e. MatchCause (cause_of e)
             (Grew (stream self.old).faults (stream self.new).faults)
-            ((stream self.old).rest ≡ [])
+            (((stream self.new).faults ≡ (stream self.old).faults)
+            × ((stream self.old).rest ≡ [])
+            × IsRefusal e)
             ⊥) }
         ensures no_fewer { (stream self.old).faults ≤ (stream self.new).faults }
         ensures err { OnErr result ((stream self.new).rest ≡ (stream self.old).rest) }
-        ensures err_position { OnErr result ((stream self.new).position ≡ (stream self.old).position) }
+        ensures err_position { OnErr result
+            ((stream self.new).position ≡ (stream self.old).position) }
         ensures kept { (stream self.new).kept ≡ (stream self.old).kept }
     {
         match self.take_opt_u8()? {
@@ -133,7 +139,8 @@ pub trait Source {
         ensures no_fault { OnOk result ((stream self.new).faults ≡ (stream self.old).faults) }
         ensures fault { OnErr result (Grew (stream self.old).faults (stream self.new).faults) }
         ensures err { OnErr result ((stream self.new).rest ≡ (stream self.old).rest) }
-        ensures err_position { OnErr result ((stream self.new).position ≡ (stream self.old).position) }
+        ensures err_position { OnErr result
+            ((stream self.new).position ≡ (stream self.old).position) }
         ensures kept { (stream self.new).kept ≡ (stream self.old).kept }
     {
         if self.request(1)? < 1 {

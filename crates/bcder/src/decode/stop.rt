@@ -14,6 +14,9 @@ pub(crate) enum Why {
 
     /// Fewer octets came than are owed.
     Short,
+
+    /// Values that a closure left in a constructed value.
+    ValuesLeft,
 }
 
 impl Why {
@@ -24,6 +27,7 @@ impl Why {
             Why::Header => "malformed header",
             Why::ValueHeader => "malformed value header",
             Why::Short => "unexpected end of data",
+            Why::ValuesLeft => "values left in a constructed value",
         }
     }
 }

@@ -1,9 +1,10 @@
 //! Reading length octets from a source (X.690, 8.1.3, 9.1, 10.1).
-ghost use Rattle.std.specs.Prelude.{◌≡◌, ◌↔◌, ℕ, ◌<◌, List, ◌++◌, length, false, IsTrue, None, IfOk, IfErr, OnOk, OnErr};
+ghost use Rattle.std.specs.Prelude.{◌≡◌, ◌↔◌, ℕ, ◌<◌, List, ◌++◌, length, false, IsTrue};
+ghost use Rattle.std.specs.Prelude.{None, IfOk, IfErr, OnOk, OnErr};
 ghost use Rattle.bcder.specs.declared.mode.Mode.{Mode as ModeValue};
 ghost use Rattle.bcder.specs.Begins.{BeginsLength, BeginsNoLength};
-ghost use Rattle.bcder.specs.Cause.{cause_of, MatchCause};
-ghost use Rattle.bcder.specs.Stream.{Grew};
+ghost use Rattle.bcder.specs.Changed.{SameFaults, MoreFaults, SameRest, SamePosition, SameKept};
+ghost use Rattle.bcder.specs.Changed.{RefusedWhere};
 ghost use Rattle.bcder.specs.Reading.{read_length};
 ghost use Rattle.bcder.specs.PeekLength.{PeeksLength, SeesLength};
 
@@ -31,10 +32,11 @@ enum SeenLength {
 }
 
 /// Whether octets that hold no length octets may begin some.
-#[tactic(auto, using(crate::proofs::Beginnings::count_decides, crate::proofs::Beginnings::first_decides))]
+#[tactic(auto, using(crate::proofs::Beginnings::length_decides))]
 pub(crate) fn length_goes_on(octets: &[u8]) -> bool
     ensures short { IsTrue result → length octets.now < 5 }
-    ensures refused { result ≡ false → (mode : ModeValue) (x : List ℕ) → read_length mode octets.now ≡ None → read_length mode (octets.now ++ x) ≡ None }
+    ensures refused { result ≡ false → (mode : ModeValue) (x : List ℕ)
+        → read_length mode octets.now ≡ None → read_length mode (octets.now ++ x) ≡ None }
 {
     match octets {
         [] => true,
@@ -61,15 +63,15 @@ fn look(mode: Mode, octets: &[u8]) -> SeenLength
     }
 }
 
-/// What length octets stand at the front of a source. It asks for no more octets than these are, and
-/// takes none. An error is the source's own.
+/// What length octets stand at the front of a source. It asks for no more octets than these are,
+/// and takes none. An error is the source's own.
 fn peek<S: Source>(source: &mut S, mode: Mode) -> Result<PeekedLength, S::Error>
     ensures peeked { IfOk result (λ p. PeeksLength mode p (S.stream source.new)) }
-    ensures no_fault { OnOk result ((S.stream source.new).faults ≡ (S.stream source.old).faults) }
-    ensures fault { OnErr result (Grew ((S.stream source.old).faults) ((S.stream source.new).faults)) }
-    ensures rest { (S.stream source.new).rest ≡ (S.stream source.old).rest }
-    ensures position { (S.stream source.new).position ≡ (S.stream source.old).position }
-    ensures kept { (S.stream source.new).kept ≡ (S.stream source.old).kept }
+    ensures no_fault { OnOk result (SameFaults S.stream source) }
+    ensures fault { OnErr result (MoreFaults S.stream source) }
+    ensures rest { SameRest S.stream source }
+    ensures position { SamePosition S.stream source }
+    ensures kept { SameKept S.stream source }
 {
     let mut wanted = 1;
     loop {
@@ -88,21 +90,20 @@ fn peek<S: Source>(source: &mut S, mode: Mode) -> Result<PeekedLength, S::Error>
 }
 
 impl Length {
-    /// Takes the length octets that `mode` allows, and answers the length that they tell. Other octets
-    /// are refused, and so is the end of the source. A refusal takes nothing.
+    /// Takes the length octets that `mode` allows, and answers the length that they tell. Other
+    /// octets are refused, and so is the end of the source. A refusal takes nothing.
     pub(crate) fn take_from<S: Source>(
         source: &mut S,
         mode: Mode,
     ) -> Result<Length, DecodeError<S::Error>>
-        ensures ok { IfOk result (λ len. BeginsLength mode len ((S.stream source.old).rest) ((S.stream source.new).rest)) }
-        ensures no_fault { OnOk result ((S.stream source.new).faults ≡ (S.stream source.old).faults) }
-        ensures cause { IfErr result (λ e. MatchCause (cause_of e)
-            (Grew ((S.stream source.old).faults) ((S.stream source.new).faults))
-            (((S.stream source.new).faults ≡ (S.stream source.old).faults) × BeginsNoLength mode ((S.stream source.old).rest))
-            ⊥) }
-        ensures err { OnErr result ((S.stream source.new).rest ≡ (S.stream source.old).rest) }
-        ensures err_position { OnErr result ((S.stream source.new).position ≡ (S.stream source.old).position) }
-        ensures kept { (S.stream source.new).kept ≡ (S.stream source.old).kept }
+        ensures ok { IfOk result
+            (λ len. BeginsLength mode len (S.stream source.old).rest (S.stream source.new).rest) }
+        ensures no_fault { OnOk result (SameFaults S.stream source) }
+        ensures cause { IfErr result
+            (RefusedWhere S.stream source (BeginsNoLength mode (S.stream source.old).rest)) }
+        ensures err { OnErr result (SameRest S.stream source) }
+        ensures err_position { OnErr result (SamePosition S.stream source) }
+        ensures kept { SameKept S.stream source }
     {
         match peek(source, mode)? {
             PeekedLength::Front { len, size } => {

@@ -6,7 +6,7 @@ use super::{Class, Tag};
 use std::fmt;
 
 /// The name of the type that a universal number stands for (X.680, 8.4).
-#[tactic(auto, using(std::proofs::lemmas::Bool::Decides::nat_tests), unfolding(crate::specs::TagText::universal_name))]
+#[tactic(auto, using(crate::proofs::nat_tests), unfolding(crate::specs::TagText::universal_name))]
 fn universal_name(number: u32) -> Option<&'static str>
     ensures { option_map (λ name. name.now) result ≡ universal_name number }
 {

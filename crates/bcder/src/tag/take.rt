@@ -1,9 +1,11 @@
 //! Reading identifier octets from a source (X.690, 8.1.2).
-ghost use Rattle.std.specs.Prelude.{◌≡◌, ◌⊎◌, ℕ, ◌<◌, ◌≤◌, List, [], ◌++◌, length, false, IsTrue, None, IsNone, IfSome, IfOk, IfErr, OnOk, OnErr, MatchOption};
+ghost use Rattle.std.specs.Prelude.{◌≡◌, ◌⊎◌, ℕ, ◌<◌, ◌≤◌, List, [], ◌++◌, length, false, IsTrue};
+ghost use Rattle.std.specs.Prelude.{None, IsNone, IfSome, MatchOption, IfOk, IfErr, OnOk, OnErr};
 ghost use Rattle.bcder.specs.Identifier.{IsTag, identifier};
-ghost use Rattle.bcder.specs.Begins.{BeginsOther, BeginsNoIdentifier};
-ghost use Rattle.bcder.specs.Cause.{cause_of, MatchCause};
-ghost use Rattle.bcder.specs.Stream.{Grew};
+ghost use Rattle.bcder.specs.Begins.{BeginsOther, BeginsNoIdentifier, HasNoIdentifier};
+ghost use Rattle.bcder.specs.Changed.{SameFaults, MoreFaults, SameRest, SamePosition, SameKept};
+ghost use Rattle.bcder.specs.Changed.{RefusedWhere};
+ghost use Rattle.bcder.specs.Cause.{IsRefusal};
 ghost use Rattle.bcder.specs.Reading.{read_identifier};
 ghost use Rattle.bcder.specs.PeekTag.{PeeksTag, SeesTag};
 
@@ -41,11 +43,12 @@ enum SeenTag {
 }
 
 /// Whether octets that hold no identifier octets may begin some.
-#[tactic(auto, using(crate::proofs::Beginnings::second_decides, crate::proofs::Beginnings::fourth_decides))]
+#[tactic(auto, using(crate::proofs::Beginnings::identifier_decides))]
 pub(crate) fn identifier_goes_on(octets: &[u8]) -> bool
     ensures short { IsTrue result → length octets.now < 4 }
     ensures some { result ≡ false → 1 ≤ length octets.now }
-    ensures refused { result ≡ false → (x : List ℕ) → read_identifier octets.now ≡ None → read_identifier (octets.now ++ x) ≡ None }
+    ensures refused { result ≡ false → (x : List ℕ)
+        → read_identifier octets.now ≡ None → read_identifier (octets.now ++ x) ≡ None }
 {
     match octets {
         [] | [_] => true,
@@ -73,15 +76,15 @@ fn look(octets: &[u8]) -> SeenTag
     }
 }
 
-/// What identifier octets stand at the front of a source. It asks for no more octets than these are,
-/// and takes none. An error is the source's own.
+/// What identifier octets stand at the front of a source. It asks for no more octets than these
+/// are, and takes none. An error is the source's own.
 fn peek<S: Source>(source: &mut S) -> Result<PeekedTag, S::Error>
     ensures peeked { IfOk result (λ p. PeeksTag p (S.stream source.new)) }
-    ensures no_fault { OnOk result ((S.stream source.new).faults ≡ (S.stream source.old).faults) }
-    ensures fault { OnErr result (Grew ((S.stream source.old).faults) ((S.stream source.new).faults)) }
-    ensures rest { (S.stream source.new).rest ≡ (S.stream source.old).rest }
-    ensures position { (S.stream source.new).position ≡ (S.stream source.old).position }
-    ensures kept { (S.stream source.new).kept ≡ (S.stream source.old).kept }
+    ensures no_fault { OnOk result (SameFaults S.stream source) }
+    ensures fault { OnErr result (MoreFaults S.stream source) }
+    ensures rest { SameRest S.stream source }
+    ensures position { SamePosition S.stream source }
+    ensures kept { SameKept S.stream source }
 {
     let mut wanted = 1;
     loop {
@@ -115,36 +118,33 @@ fn peek<S: Source>(source: &mut S) -> Result<PeekedTag, S::Error>
 /// The refusal of octets that begin no identifier octets.
 #[cold]
 fn invalid<S: Source>(source: &S) -> DecodeError<S::Error>
-    ensures { MatchCause (cause_of result) ⊥ (Unit {0}) ⊥ }
+    ensures { IsRefusal result }
 {
     source.content_err(ContentError::from_static("invalid identifier octets"))
 }
 
 impl Tag {
-    /// Takes identifier octets (X.690, 8.1.2): the tag, and whether the encoding is constructed. `None` is
-    /// for a source at its end.
+    /// Takes identifier octets (X.690, 8.1.2): the tag, and whether the encoding is constructed.
+    /// `None` is for a source at its end.
     ///
     /// # Errors
     ///
-    /// Where the octets in front are no identifier octets, and where the source fails. Then nothing is
-    /// taken.
+    /// Where the octets in front are no identifier octets, and where the source fails. Then nothing
+    /// is taken.
     pub fn take_opt_from<S: Source>(
         source: &mut S,
     ) -> Result<Option<(Tag, bool)>, DecodeError<S::Error>>
         ensures ok { IfOk result (λ o. MatchOption o
             (((S.stream source.old).rest ≡ []) × ((S.stream source.new).rest ≡ []))
-            (λ r. IsTag r.0 × ((S.stream source.old).rest ≡ identifier r.0 r.1 ++ (S.stream source.new).rest))) }
-        ensures none_position { IfOk result (λ o. IsNone o → (S.stream source.new).position ≡ (S.stream source.old).position) }
-        ensures no_fault { OnOk result ((S.stream source.new).faults ≡ (S.stream source.old).faults) }
-        ensures cause { IfErr result (λ e. MatchCause (cause_of e)
-            (Grew ((S.stream source.old).faults) ((S.stream source.new).faults))
-            (((S.stream source.new).faults ≡ (S.stream source.old).faults)
-            × (1 ≤ length ((S.stream source.old).rest))
-            × BeginsNoIdentifier ((S.stream source.old).rest))
-            ⊥) }
-        ensures err { OnErr result ((S.stream source.new).rest ≡ (S.stream source.old).rest) }
-        ensures err_position { OnErr result ((S.stream source.new).position ≡ (S.stream source.old).position) }
-        ensures kept { (S.stream source.new).kept ≡ (S.stream source.old).kept }
+            (λ r. IsTag r.0
+            × ((S.stream source.old).rest ≡ identifier r.0 r.1 ++ (S.stream source.new).rest))) }
+        ensures none_position { IfOk result (λ o. IsNone o → SamePosition S.stream source) }
+        ensures no_fault { OnOk result (SameFaults S.stream source) }
+        ensures cause { IfErr result
+            (RefusedWhere S.stream source (HasNoIdentifier (S.stream source.old).rest)) }
+        ensures err { OnErr result (SameRest S.stream source) }
+        ensures err_position { OnErr result (SamePosition S.stream source) }
+        ensures kept { SameKept S.stream source }
     {
         match peek(source)? {
             PeekedTag::Nothing => Ok(None),
@@ -164,19 +164,18 @@ impl Tag {
     ///
     /// # Errors
     ///
-    /// Where the octets in front are no identifier octets, where there are none, and where the source
-    /// fails. Then nothing is taken.
+    /// Where the octets in front are no identifier octets, where there are none, and where the
+    /// source fails. Then nothing is taken.
     #[tactic(auto, using(crate::proofs::Beginnings::end_begins_no_identifier))]
     pub fn take_from<S: Source>(source: &mut S) -> Result<(Tag, bool), DecodeError<S::Error>>
-        ensures ok { IfOk result (λ r. IsTag r.0 × ((S.stream source.old).rest ≡ identifier r.0 r.1 ++ (S.stream source.new).rest)) }
-        ensures no_fault { OnOk result ((S.stream source.new).faults ≡ (S.stream source.old).faults) }
-        ensures cause { IfErr result (λ e. MatchCause (cause_of e)
-            (Grew ((S.stream source.old).faults) ((S.stream source.new).faults))
-            (((S.stream source.new).faults ≡ (S.stream source.old).faults) × BeginsNoIdentifier ((S.stream source.old).rest))
-            ⊥) }
-        ensures err { OnErr result ((S.stream source.new).rest ≡ (S.stream source.old).rest) }
-        ensures err_position { OnErr result ((S.stream source.new).position ≡ (S.stream source.old).position) }
-        ensures kept { (S.stream source.new).kept ≡ (S.stream source.old).kept }
+        ensures ok { IfOk result (λ r. IsTag r.0
+            × ((S.stream source.old).rest ≡ identifier r.0 r.1 ++ (S.stream source.new).rest)) }
+        ensures no_fault { OnOk result (SameFaults S.stream source) }
+        ensures cause { IfErr result
+            (RefusedWhere S.stream source (BeginsNoIdentifier (S.stream source.old).rest)) }
+        ensures err { OnErr result (SameRest S.stream source) }
+        ensures err_position { OnErr result (SamePosition S.stream source) }
+        ensures kept { SameKept S.stream source }
     {
         match peek(source)? {
             PeekedTag::Nothing => {
@@ -195,30 +194,29 @@ impl Tag {
     }
 
     /// Takes the identifier octets (X.690, 8.1.2) of this tag, and answers whether the encoding is
-    /// constructed. `None` is for those of another tag and for a source at its end, and takes nothing.
+    /// constructed. `None` is for those of another tag and for a source at its end, and takes
+    /// nothing.
     ///
     /// # Errors
     ///
-    /// Where the octets in front are no identifier octets, and where the source fails. Then nothing is
-    /// taken.
+    /// Where the octets in front are no identifier octets, and where the source fails. Then nothing
+    /// is taken.
     pub fn take_from_if<S: Source>(
         self,
         source: &mut S,
     ) -> Result<Option<bool>, DecodeError<S::Error>>
-        ensures some { IfOk result (λ o. IfSome o (λ f. (S.stream source.old).rest ≡ identifier self f ++ (S.stream source.new).rest)) }
-        ensures none { IfOk result (λ o. IsNone o → ((S.stream source.old).rest ≡ []) ⊎ BeginsOther self ((S.stream source.old).rest)) }
-        ensures none_rest { IfOk result (λ o. IsNone o → (S.stream source.new).rest ≡ (S.stream source.old).rest) }
-        ensures none_position { IfOk result (λ o. IsNone o → (S.stream source.new).position ≡ (S.stream source.old).position) }
-        ensures no_fault { OnOk result ((S.stream source.new).faults ≡ (S.stream source.old).faults) }
-        ensures cause { IfErr result (λ e. MatchCause (cause_of e)
-            (Grew ((S.stream source.old).faults) ((S.stream source.new).faults))
-            (((S.stream source.new).faults ≡ (S.stream source.old).faults)
-            × (1 ≤ length ((S.stream source.old).rest))
-            × BeginsNoIdentifier ((S.stream source.old).rest))
-            ⊥) }
-        ensures err { OnErr result ((S.stream source.new).rest ≡ (S.stream source.old).rest) }
-        ensures err_position { OnErr result ((S.stream source.new).position ≡ (S.stream source.old).position) }
-        ensures kept { (S.stream source.new).kept ≡ (S.stream source.old).kept }
+        ensures some { IfOk result (λ o. IfSome o
+            (λ f. (S.stream source.old).rest ≡ identifier self f ++ (S.stream source.new).rest)) }
+        ensures none { IfOk result (λ o. IsNone o
+            → ((S.stream source.old).rest ≡ []) ⊎ BeginsOther self (S.stream source.old).rest) }
+        ensures none_rest { IfOk result (λ o. IsNone o → SameRest S.stream source) }
+        ensures none_position { IfOk result (λ o. IsNone o → SamePosition S.stream source) }
+        ensures no_fault { OnOk result (SameFaults S.stream source) }
+        ensures cause { IfErr result
+            (RefusedWhere S.stream source (HasNoIdentifier (S.stream source.old).rest)) }
+        ensures err { OnErr result (SameRest S.stream source) }
+        ensures err_position { OnErr result (SamePosition S.stream source) }
+        ensures kept { SameKept S.stream source }
     {
         match peek(source)? {
             PeekedTag::Nothing => Ok(None),

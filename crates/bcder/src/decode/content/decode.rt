@@ -1,11 +1,14 @@
 //! Decoding the values of a source.
-ghost use Rattle.std.specs.Prelude.{◌≡◌, ◌≢◌, ◌↔◌, ◌≤◌, ◌++◌, ℕ, List, None, IsTrue, IfOk, IfErr, OnOk};
-ghost use Rattle.bcder.specs.Cause.{cause_of, IsRefusal};
-ghost use Rattle.bcder.specs.Stream.{Stream, borrowed};
-ghost use Rattle.bcder.specs.Content.{Moves, UnboundedValues};
+ghost use Rattle.std.specs.Prelude.{◌≡◌, ◌≢◌, ◌↔◌, ◌≤◌, ◌++◌, ℕ, List, Ok, None, IsTrue, IfOk};
+ghost use Rattle.std.specs.Prelude.{IfErr, OnOk};
 ghost use Rattle.bcder.specs.Calls.{MayBeCalledOn, IsLawfulOn, IsOver};
-ghost use Rattle.bcder.specs.Decoding.{IsAllOf, IsAllBehind, AnsweredOn, RefusesOn, RanOn, Decodes, RefusesDecode};
-ghost use Rattle.bcder.specs.Views.{of_constructed, limited_stream, lent};
+ghost use Rattle.bcder.specs.Cause.{cause_of, IsRefusal};
+ghost use Rattle.bcder.specs.Content.{Moves, UnboundedValues};
+ghost use Rattle.bcder.specs.Decoding.{IsAllOf, AnsweredOn, RefusesOn, RanOn, Decodes};
+ghost use Rattle.bcder.specs.Decoding.{RefusesDecode, CallableOnAll, LawfulOnAll, CallableOnLent};
+ghost use Rattle.bcder.specs.Decoding.{LawfulOnLent, DecodesAll, RefusesAll, DecodesLent};
+ghost use Rattle.bcder.specs.Decoding.{RefusesLent};
+ghost use Rattle.bcder.specs.Views.{of_constructed, limited_stream, lent, before, after};
 
 use super::{Constructed, Kind, State};
 use crate::decode::error::{ContentError, DecodeError};
@@ -35,20 +38,26 @@ impl<'a, S: Source> Constructed<'a, S> {
 }
 
 /// Calls the closure on content, which then has not failed.
-#[tactic(auto, using(crate::proofs::Names::moves_constructed_name), unfolding(crate::specs::Views::of_constructed))]
+#[tactic(auto, using(crate::proofs::moves_constructed_name), unfolding(crate::specs::Views::views))]
 fn run<S: Source, F, T: Drop>(
     cons: &mut Constructed<'_, S>,
     op: F,
 ) -> Result<T, DecodeError<S::Error>>
 where
     F: FnOnce(&mut Constructed<'_, S>) -> Result<T, DecodeError<S::Error>>,
-    requires callable { MayBeCalledOn (of_constructed S.stream) (λ i. i ≡ of_constructed S.stream cons.old) (F.pre op) }
-    requires lawful { IsLawfulOn (of_constructed S.stream) (λ i. i ≡ of_constructed S.stream cons.old) (F.post op) }
-    ensures moves { Moves (of_constructed S.stream cons.old) (of_constructed S.stream cons.new) }
+    requires callable { MayBeCalledOn (of_constructed S.stream)
+        (λ i. i ≡ of_constructed S.stream cons.old) (F.pre op) }
+    requires lawful { IsLawfulOn (of_constructed S.stream)
+        (λ i. i ≡ of_constructed S.stream cons.old) (F.post op) }
+    ensures moves { Moves (before S.stream cons) (after S.stream cons) }
     ensures name { cons.new.source.ghost_name ≡ cons.old.source.ghost_name }
     ensures usable { OnOk result (cons.new.state ≢ State.Failed) }
-    ensures ok { IfOk result (λ x. AnsweredOn (of_constructed S.stream) (F.post op) (of_constructed S.stream cons.old) (Ok x) (of_constructed S.stream cons.new)) }
-    ensures refused { IfErr result (λ e. RefusesOn cause_of (of_constructed S.stream) (F.post op) (of_constructed S.stream cons.old) e (of_constructed S.stream cons.new)) }
+    ensures ok { IfOk result (λ x.
+        AnsweredOn (of_constructed S.stream) (F.post op)
+        (before S.stream cons) (Ok x) (after S.stream cons)) }
+    ensures refused { IfErr result (λ e.
+        RefusesOn cause_of (of_constructed S.stream) (F.post op)
+        (before S.stream cons) e (after S.stream cons)) }
 {
     match op(cons) {
         Ok(value) => {
@@ -70,9 +79,15 @@ fn run_over<S: Source, F, T: Drop>(
 ) -> Result<T, DecodeError<S::Error>>
 where
     F: FnOnce(&mut Constructed<'_, S>) -> Result<T, DecodeError<S::Error>>,
-    requires callable { MayBeCalledOn (of_constructed S.stream) (IsOver (limited_stream S.stream source.old) source.old.limit UnboundedValues mode) (F.pre op) }
-    requires lawful { IsLawfulOn (of_constructed S.stream) (IsOver (limited_stream S.stream source.old) source.old.limit UnboundedValues mode) (F.post op) }
-    ensures { RanOn cause_of (of_constructed S.stream) (F.post op) (limited_stream S.stream source.old) source.old.limit mode result (limited_stream S.stream source.new) source.new.limit }
+    requires callable { MayBeCalledOn (of_constructed S.stream)
+        (IsOver (limited_stream S.stream source.old) source.old.limit UnboundedValues mode)
+        (F.pre op) }
+    requires lawful { IsLawfulOn (of_constructed S.stream)
+        (IsOver (limited_stream S.stream source.old) source.old.limit UnboundedValues mode)
+        (F.post op) }
+    ensures { RanOn cause_of (of_constructed S.stream) (F.post op)
+        (limited_stream S.stream source.old) source.old.limit mode result
+        (limited_stream S.stream source.new) source.new.limit }
 {
     let start = source.pos();
     let mut cons = Constructed {
@@ -95,14 +110,23 @@ fn run_lent<S: Source, F, T: Drop>(
 where
     F: FnOnce(&mut Constructed<'_, &mut S>) -> Result<T, DecodeError<S::Error>>,
     requires unlimited { limited.old.limit ≡ None }
-    requires callable { MayBeCalledOn (of_constructed (lent S.stream)) (IsAllOf (lent S.stream limited.old.source) mode) (F.pre op) }
-    requires lawful { IsLawfulOn (of_constructed (lent S.stream)) (IsAllOf (lent S.stream limited.old.source) mode) (F.post op) }
+    requires callable { CallableOnAll (lent S.stream)
+        (lent S.stream limited.old.source) mode (F.pre op) }
+    requires lawful { LawfulOnAll (lent S.stream)
+        (lent S.stream limited.old.source) mode (F.post op) }
     ensures name { limited.new.source.ghost_name ≡ limited.old.source.ghost_name }
-    ensures passed { (passed : List ℕ) × ((S.stream limited.old.source.now).rest ≡ passed ++ (S.stream limited.new.source.now).rest) }
-    ensures faults { (S.stream limited.old.source.now).faults ≤ (S.stream limited.new.source.now).faults }
+    ensures passed { (passed : List ℕ)
+        × ((S.stream limited.old.source.now).rest
+        ≡ passed ++ (S.stream limited.new.source.now).rest) }
+    ensures faults { (S.stream limited.old.source.now).faults
+        ≤ (S.stream limited.new.source.now).faults }
     ensures kept { (S.stream limited.new.source.now).kept ≡ (S.stream limited.old.source.now).kept }
-    ensures ok { IfOk result (λ x. Decodes (of_constructed (lent S.stream)) (F.post op) (lent S.stream limited.old.source) mode x (lent S.stream limited.new.source)) }
-    ensures refused { IfErr result (λ e. RefusesDecode cause_of (of_constructed (lent S.stream)) (F.post op) (lent S.stream limited.old.source) mode e (lent S.stream limited.new.source)) }
+    ensures ok { IfOk result (λ x.
+        Decodes (of_constructed (lent S.stream)) (F.post op)
+        (lent S.stream limited.old.source) mode x (lent S.stream limited.new.source)) }
+    ensures refused { IfErr result (λ e.
+        RefusesDecode cause_of (of_constructed (lent S.stream)) (F.post op)
+        (lent S.stream limited.old.source) mode e (lent S.stream limited.new.source)) }
 {
     run_over(limited, mode, op)
 }
@@ -118,16 +142,16 @@ impl<'a, S: Source + Drop> Constructed<'a, S> {
     ///
     /// # Errors
     ///
-    /// The closure's refusal as it is; and a refusal where the closure leaves failed content, that is,
-    /// where it dropped the refusal of a value.
+    /// The closure's refusal as it is; and a refusal where the closure leaves failed content, that
+    /// is, where it dropped the refusal of a value.
     pub fn decode<I, F, T: Drop>(source: I, mode: Mode, op: F) -> Result<T, DecodeError<S::Error>>
     where
         I: IntoSource<Source = S>,
         F: FnOnce(&mut Constructed<'_, S>) -> Result<T, DecodeError<S::Error>>,
-        requires callable { MayBeCalledOn (of_constructed S.stream) (IsAllOf (I.gives source) mode) (F.pre op) }
-        requires lawful { IsLawfulOn (of_constructed S.stream) (IsAllOf (I.gives source) mode) (F.post op) }
-        ensures ok { IfOk result (λ x. (left : Stream) × Decodes (of_constructed S.stream) (F.post op) (I.gives source) mode x left) }
-        ensures refused { IfErr result (λ e. (left : Stream) × RefusesDecode cause_of (of_constructed S.stream) (F.post op) (I.gives source) mode e left) }
+        requires callable { CallableOnAll S.stream (I.gives source) mode (F.pre op) }
+        requires lawful { LawfulOnAll S.stream (I.gives source) mode (F.post op) }
+        ensures ok { DecodesAll S.stream (F.post op) (I.gives source) mode result }
+        ensures refused { RefusesAll S.stream (F.post op) (I.gives source) mode result }
     {
         let mut limited = LimitedSource::new(source.into_source());
         run_over(&mut limited, mode, op)
@@ -150,11 +174,12 @@ impl<'a, S: Source> Constructed<'a, S> {
     ) -> Result<T, DecodeError<S::Error>>
     where
         F: FnOnce(&mut Constructed<'_, &mut S>) -> Result<T, DecodeError<S::Error>>,
-        requires callable { MayBeCalledOn (of_constructed (lent S.stream)) (IsAllBehind (S.stream source.old) mode) (F.pre op) }
-        requires lawful { IsLawfulOn (of_constructed (lent S.stream)) (IsAllBehind (S.stream source.old) mode) (F.post op) }
-        ensures ok { IfOk result (λ x. (name : ℕ) × Decodes (of_constructed (lent S.stream)) (F.post op) (borrowed name (S.stream source.old)) mode x (borrowed name (S.stream source.new))) }
-        ensures refused { IfErr result (λ e. (name : ℕ) × RefusesDecode cause_of (of_constructed (lent S.stream)) (F.post op) (borrowed name (S.stream source.old)) mode e (borrowed name (S.stream source.new))) }
-        ensures passed { (passed : List ℕ) × ((S.stream source.old).rest ≡ passed ++ (S.stream source.new).rest) }
+        requires callable { CallableOnLent S.stream source mode (F.pre op) }
+        requires lawful { LawfulOnLent S.stream source mode (F.post op) }
+        ensures ok { DecodesLent S.stream (F.post op) source mode result }
+        ensures refused { RefusesLent S.stream (F.post op) source mode result }
+        ensures passed { (passed : List ℕ)
+            × ((S.stream source.old).rest ≡ passed ++ (S.stream source.new).rest) }
         ensures faults { (S.stream source.old).faults ≤ (S.stream source.new).faults }
         ensures kept { (S.stream source.new).kept ≡ (S.stream source.old).kept }
     {

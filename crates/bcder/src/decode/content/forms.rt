@@ -1,16 +1,17 @@
 //! What a closure makes of content of one form.
 ghost use Rattle.std.specs.Prelude.{◌≡◌, ◌≢◌, ◌⊎◌, Ok, Err, IfOk, IfErr};
-ghost use Rattle.bcder.specs.Cause.{IsRefusal};
-ghost use Rattle.bcder.specs.Content.{Octets, Moves, Carries};
 ghost use Rattle.bcder.specs.Calls.{MayBeCalledOn, IsLawfulOn};
+ghost use Rattle.bcder.specs.Cause.{IsRefusal};
+ghost use Rattle.bcder.specs.Content.{Octets};
 ghost use Rattle.bcder.specs.Decoding.{AnsweredOn};
-ghost use Rattle.bcder.specs.Views.{of_constructed, of_primitive, of_content};
+ghost use Rattle.bcder.specs.Views.{of_constructed, of_primitive, of_content, content_before};
+ghost use Rattle.bcder.specs.Views.{content_after, MovedContent};
 
 use super::{Constructed, Content, Primitive};
 use crate::decode::error::DecodeError;
 use crate::decode::source::Source;
 
-#[tactic(auto, using(crate::proofs::Moving::moves_refl, crate::proofs::Moving::moves_trans))]
+#[tactic(auto, using(crate::proofs::moves))]
 impl<'a, S: Source> Content<'a, S> {
     /// Calls the closure on the content of a primitive value, and answers what it answers.
     ///
@@ -20,11 +21,20 @@ impl<'a, S: Source> Content<'a, S> {
     pub fn as_primitive<F, T: Drop>(&mut self, op: F) -> Result<T, DecodeError<S::Error>>
     where
         F: FnOnce(&mut Primitive<'_, S>) -> Result<T, DecodeError<S::Error>>,
-        requires callable { MayBeCalledOn (of_primitive S.stream) (λ i. i ≡ of_content S.stream self.old) (F.pre op) }
-        requires lawful { IsLawfulOn (of_primitive S.stream) (λ i. i ≡ of_content S.stream self.old) (F.post op) }
-        ensures moves { Carries (of_content S.stream self.old) (of_content S.stream self.new) }
-        ensures ok { IfOk result (λ x. AnsweredOn (of_primitive S.stream) (F.post op) (of_content S.stream self.old) (Ok x) (of_content S.stream self.new)) }
-        ensures refused { IfErr result (λ e. (((of_content S.stream self.old).kind ≢ Octets) × (of_content S.stream self.new ≡ of_content S.stream self.old) × IsRefusal e) ⊎ AnsweredOn (of_primitive S.stream) (F.post op) (of_content S.stream self.old) (Err e) (of_content S.stream self.new)) }
+        requires callable { MayBeCalledOn (of_primitive S.stream)
+            (λ i. i ≡ of_content S.stream self.old) (F.pre op) }
+        requires lawful { IsLawfulOn (of_primitive S.stream)
+            (λ i. i ≡ of_content S.stream self.old) (F.post op) }
+        ensures moves { MovedContent S.stream self }
+        ensures ok { IfOk result (λ x.
+            AnsweredOn (of_primitive S.stream) (F.post op)
+            (content_before S.stream self) (Ok x) (content_after S.stream self)) }
+        ensures refused { IfErr result (λ e.
+            ((content_before S.stream self).kind ≢ Octets)
+            × (content_after S.stream self ≡ content_before S.stream self)
+            × IsRefusal e
+            ⊎ AnsweredOn (of_primitive S.stream) (F.post op)
+            (content_before S.stream self) (Err e) (content_after S.stream self)) }
     {
         match self {
             Content::Primitive(primitive) => op(primitive),
@@ -42,11 +52,20 @@ impl<'a, S: Source> Content<'a, S> {
     pub fn as_constructed<F, T: Drop>(&mut self, op: F) -> Result<T, DecodeError<S::Error>>
     where
         F: FnOnce(&mut Constructed<'_, S>) -> Result<T, DecodeError<S::Error>>,
-        requires callable { MayBeCalledOn (of_constructed S.stream) (λ i. i ≡ of_content S.stream self.old) (F.pre op) }
-        requires lawful { IsLawfulOn (of_constructed S.stream) (λ i. i ≡ of_content S.stream self.old) (F.post op) }
-        ensures moves { Carries (of_content S.stream self.old) (of_content S.stream self.new) }
-        ensures ok { IfOk result (λ x. AnsweredOn (of_constructed S.stream) (F.post op) (of_content S.stream self.old) (Ok x) (of_content S.stream self.new)) }
-        ensures refused { IfErr result (λ e. (((of_content S.stream self.old).kind ≡ Octets) × (of_content S.stream self.new ≡ of_content S.stream self.old) × IsRefusal e) ⊎ AnsweredOn (of_constructed S.stream) (F.post op) (of_content S.stream self.old) (Err e) (of_content S.stream self.new)) }
+        requires callable { MayBeCalledOn (of_constructed S.stream)
+            (λ i. i ≡ of_content S.stream self.old) (F.pre op) }
+        requires lawful { IsLawfulOn (of_constructed S.stream)
+            (λ i. i ≡ of_content S.stream self.old) (F.post op) }
+        ensures moves { MovedContent S.stream self }
+        ensures ok { IfOk result (λ x.
+            AnsweredOn (of_constructed S.stream) (F.post op)
+            (content_before S.stream self) (Ok x) (content_after S.stream self)) }
+        ensures refused { IfErr result (λ e.
+            ((content_before S.stream self).kind ≡ Octets)
+            × (content_after S.stream self ≡ content_before S.stream self)
+            × IsRefusal e
+            ⊎ AnsweredOn (of_constructed S.stream) (F.post op)
+            (content_before S.stream self) (Err e) (content_after S.stream self)) }
     {
         match self {
             Content::Primitive(primitive) => Err(primitive.refusal("expected a constructed value")),

@@ -1,18 +1,19 @@
 //! Taking primitive values.
-ghost use Rattle.std.specs.Prelude.{◌≡◌, ◌≢◌, ◌⊎◌, ℕ, ◌+◌, ◌≤◌, true, false, length, Ok, Err, IfOk, IfErr, IfSome, IfNone, OnOk, OnErr};
-ghost use Rattle.bcder.specs.Cause.{cause_of, IsRefusal, NamesTag};
-ghost use Rattle.bcder.specs.Content.{Octets, Moves, Carries, any, tagged, EndsAt, IsDone, IsAbsent, IsLeft, IsMissing};
-ghost use Rattle.bcder.specs.Calls.{MayBeCalled, IsLawful, MayBeCalledOn, IsLawfulOn, IsInside, Untagged, Answered, TakesValue, RefusesValue, HasForm};
-ghost use Rattle.bcder.specs.Views.{of_constructed, of_primitive, of_content};
+ghost use Rattle.std.specs.Prelude.{◌≡◌};
+ghost use Rattle.bcder.specs.Calls.{Untagged};
+ghost use Rattle.bcder.specs.Content.{any, tagged};
+ghost use Rattle.bcder.specs.Decoding.{AnsweredOn};
+ghost use Rattle.bcder.specs.Takes.{CallableOnOctets, LawfulOnOctets, TookOctets, TookNextOctets};
+ghost use Rattle.bcder.specs.Views.{of_primitive, octets_before, octets_after, Moved};
 
-use super::{Constructed, Content, Primitive, State};
+use super::{Constructed, Primitive};
 use crate::decode::error::DecodeError;
 use crate::decode::source::Source;
 use crate::tag::Tag;
 
-#[tactic(auto, using(crate::proofs::Moving::moves_refl, crate::proofs::Moving::moves_trans))]
 impl<'a, S: Source> Constructed<'a, S> {
-    /// Takes the next value, which has to be primitive, or answers `None` at the end of the content.
+    /// Takes the next value, which has to be primitive, or answers `None` at the end of the
+    /// content.
     ///
     /// The closure is handed the value's tag and its contents octets. All else is as
     /// [`take_opt_value`](Self::take_opt_value) has it.
@@ -20,63 +21,44 @@ impl<'a, S: Source> Constructed<'a, S> {
     /// # Errors
     ///
     /// Those of `take_opt_value`, and where the value is constructed: the content has then failed.
+    #[inline(always)]
     pub fn take_opt_primitive<F, T: Drop>(
         &mut self,
         op: F,
     ) -> Result<Option<T>, DecodeError<S::Error>>
     where
         F: FnOnce(Tag, &mut Primitive<'_, S>) -> Result<T, DecodeError<S::Error>>,
-        requires callable { MayBeCalled (of_primitive S.stream) (IsInside (of_constructed S.stream self.old) 2) (F.pre op) }
-        requires lawful { IsLawful (of_primitive S.stream) (IsInside (of_constructed S.stream self.old) 2) (F.post op) }
-        ensures moves { Carries (of_constructed S.stream self.old) (of_constructed S.stream self.new) }
-        ensures end { IfOk result (λ o. IfNone o (EndsAt (of_constructed S.stream self.old) (of_constructed S.stream self.new))) }
-        ensures done { IfOk result (λ o. IfNone o (IsDone (of_constructed S.stream self.new))) }
-        ensures value { IfOk result (λ o. IfSome o (λ x. TakesValue (of_primitive S.stream) (F.post op) any (of_constructed S.stream self.old) x (of_constructed S.stream self.new))) }
-        ensures shorter { IfOk result (λ o. IfSome o (λ _. length (of_constructed S.stream self.new).stream.rest + 2 ≤ length (of_constructed S.stream self.old).stream.rest)) }
-        ensures refused { IfErr result (λ e. (HasForm true any (of_constructed S.stream self.old) × IsRefusal e) ⊎ RefusesValue cause_of (of_primitive S.stream) (F.post op) any (of_constructed S.stream self.old) e (of_constructed S.stream self.new)) }
-        ensures failed { OnErr result ((of_constructed S.stream self.new).state ≡ State.Failed) }
-        ensures mode { (of_constructed S.stream self.new).mode ≡ (of_constructed S.stream self.old).mode }
-        ensures unmarked { IfOk result (λ o. IfNone o ((of_constructed S.stream self.new).marked ≡ (of_constructed S.stream self.old).marked)) }
+        requires callable { CallableOnOctets S.stream self any (F.pre op) }
+        requires lawful { LawfulOnOctets S.stream self any (F.post op) }
+        ensures moves { Moved S.stream self }
+        ensures took { TookNextOctets S.stream self any (F.post op) result }
     {
-        self.take_opt_value(
-            |tag, content|
-                requires callable { (p : _) → of_primitive S.stream p.now ≡ of_content S.stream content.old → F.pre op tag p }
-                requires lawful { (p : _) (r : _) (q : _) → of_primitive S.stream p.now ≡ of_content S.stream content.old → F.post op tag p r q → Moves (of_primitive S.stream p.now) (of_primitive S.stream q.now) }
-                ensures moves { Moves (of_content S.stream content.old) (of_content S.stream content.new) }
-                ensures ok { IfOk result (λ x. Answered (of_primitive S.stream) (F.post op) tag (of_content S.stream content.old) (Ok x) (of_content S.stream content.new)) }
-                ensures refused { IfErr result (λ e. (((of_content S.stream content.old).kind ≢ Octets) × IsRefusal e) ⊎ Answered (of_primitive S.stream) (F.post op) tag (of_content S.stream content.old) (Err e) (of_content S.stream content.new)) }
-            {
-                match content {
-                    Content::Primitive(inner) => op(tag, inner),
-                    Content::Constructed(constructed) => Err(constructed.refusal(
-                        "expected a primitive value",
-                    )),
-                }
-            },
-        )
+        match self.next_header() {
+            Ok(Some(header)) => self.octets_behind(header, op),
+            Ok(None) => Ok(None),
+            Err(stop) => Err(self.stopped(stop)),
+        }
     }
 
     /// Takes the next value, which has to be there and primitive.
     ///
     /// # Errors
     ///
-    /// Those of [`take_opt_primitive`](Self::take_opt_primitive), and at the end of the content, which then
-    /// stays usable.
+    /// Those of [`take_opt_primitive`](Self::take_opt_primitive), and at the end of the content,
+    /// which then stays usable.
+    #[inline(always)]
     pub fn take_primitive<F, T: Drop>(&mut self, op: F) -> Result<T, DecodeError<S::Error>>
     where
         F: FnOnce(Tag, &mut Primitive<'_, S>) -> Result<T, DecodeError<S::Error>>,
-        requires callable { MayBeCalled (of_primitive S.stream) (IsInside (of_constructed S.stream self.old) 2) (F.pre op) }
-        requires lawful { IsLawful (of_primitive S.stream) (IsInside (of_constructed S.stream self.old) 2) (F.post op) }
-        ensures moves { Carries (of_constructed S.stream self.old) (of_constructed S.stream self.new) }
-        ensures value { IfOk result (λ x. TakesValue (of_primitive S.stream) (F.post op) any (of_constructed S.stream self.old) x (of_constructed S.stream self.new)) }
-        ensures shorter { OnOk result (length (of_constructed S.stream self.new).stream.rest + 2 ≤ length (of_constructed S.stream self.old).stream.rest) }
-        ensures refused { IfErr result (λ e. (IsMissing any (of_constructed S.stream self.old) (of_constructed S.stream self.new) × IsRefusal e) ⊎ ((HasForm true any (of_constructed S.stream self.old) × IsRefusal e) ⊎ RefusesValue cause_of (of_primitive S.stream) (F.post op) any (of_constructed S.stream self.old) e (of_constructed S.stream self.new))) }
-        ensures failed { OnErr result (((of_constructed S.stream self.new).state ≡ State.Failed) ⊎ (IsMissing any (of_constructed S.stream self.old) (of_constructed S.stream self.new) × ((of_constructed S.stream self.new).marked ≡ (of_constructed S.stream self.old).marked))) }
-        ensures mode { (of_constructed S.stream self.new).mode ≡ (of_constructed S.stream self.old).mode }
+        requires callable { CallableOnOctets S.stream self any (F.pre op) }
+        requires lawful { LawfulOnOctets S.stream self any (F.post op) }
+        ensures moves { Moved S.stream self }
+        ensures took { TookOctets S.stream self any (F.post op) result }
     {
-        match self.take_opt_primitive(op)? {
-            Some(value) => Ok(value),
-            None => Err(self.refusal("no value at the end of the content")),
+        match self.take_opt_primitive(op) {
+            Ok(Some(value)) => Ok(value),
+            Ok(None) => Err(self.refusal("no value at the end of the content")),
+            Err(error) => Err(error),
         }
     }
 
@@ -87,8 +69,9 @@ impl<'a, S: Source> Constructed<'a, S> {
     ///
     /// # Errors
     ///
-    /// Those of `take_opt_value_if`, and where the value of this tag is constructed: the content has then
-    /// failed.
+    /// Those of `take_opt_value_if`, and where the value of this tag is constructed: the content
+    /// has then failed.
+    #[inline(always)]
     pub fn take_opt_primitive_if<F, T: Drop>(
         &mut self,
         tag: Tag,
@@ -96,43 +79,32 @@ impl<'a, S: Source> Constructed<'a, S> {
     ) -> Result<Option<T>, DecodeError<S::Error>>
     where
         F: FnOnce(&mut Primitive<'_, S>) -> Result<T, DecodeError<S::Error>>,
-        requires callable { MayBeCalledOn (of_primitive S.stream) (IsInside (of_constructed S.stream self.old) 2) (F.pre op) }
-        requires lawful { IsLawfulOn (of_primitive S.stream) (IsInside (of_constructed S.stream self.old) 2) (F.post op) }
-        ensures moves { Carries (of_constructed S.stream self.old) (of_constructed S.stream self.new) }
-        ensures absent { IfOk result (λ o. IfNone o (IsAbsent (tagged tag) (of_constructed S.stream self.old) (of_constructed S.stream self.new).stream.rest)) }
-        ensures left { IfOk result (λ o. IfNone o (IsLeft tag (of_constructed S.stream self.old) (of_constructed S.stream self.new))) }
-        ensures value { IfOk result (λ o. IfSome o (λ x. TakesValue (of_primitive S.stream) (Untagged (F.post op)) (tagged tag) (of_constructed S.stream self.old) x (of_constructed S.stream self.new))) }
-        ensures shorter { IfOk result (λ o. IfSome o (λ _. length (of_constructed S.stream self.new).stream.rest + 2 ≤ length (of_constructed S.stream self.old).stream.rest)) }
-        ensures refused { IfErr result (λ e. (HasForm true (tagged tag) (of_constructed S.stream self.old) × IsRefusal e) ⊎ RefusesValue cause_of (of_primitive S.stream) (Untagged (F.post op)) (tagged tag) (of_constructed S.stream self.old) e (of_constructed S.stream self.new)) }
-        ensures failed { OnErr result ((of_constructed S.stream self.new).state ≡ State.Failed) }
-        ensures mode { (of_constructed S.stream self.new).mode ≡ (of_constructed S.stream self.old).mode }
-        ensures unmarked { IfOk result (λ o. IfNone o ((of_constructed S.stream self.new).marked ≡ (of_constructed S.stream self.old).marked)) }
+        requires callable { CallableOnOctets S.stream self (tagged tag) (λ _. F.pre op) }
+        requires lawful { LawfulOnOctets S.stream self (tagged tag) (Untagged (F.post op)) }
+        ensures moves { Moved S.stream self }
+        ensures took { TookNextOctets S.stream self (tagged tag) (Untagged (F.post op)) result }
     {
-        self.take_tagged(
-            tag,
-            |_tag, content|
-                requires callable { (p : _) → of_primitive S.stream p.now ≡ of_content S.stream content.old → F.pre op p }
-                requires lawful { (p : _) (r : _) (q : _) → of_primitive S.stream p.now ≡ of_content S.stream content.old → F.post op p r q → Moves (of_primitive S.stream p.now) (of_primitive S.stream q.now) }
-                ensures moves { Moves (of_content S.stream content.old) (of_content S.stream content.new) }
-                ensures ok { IfOk result (λ x. Answered (of_primitive S.stream) (Untagged (F.post op)) _tag (of_content S.stream content.old) (Ok x) (of_content S.stream content.new)) }
-                ensures refused { IfErr result (λ e. (((of_content S.stream content.old).kind ≢ Octets) × IsRefusal e) ⊎ Answered (of_primitive S.stream) (Untagged (F.post op)) _tag (of_content S.stream content.old) (Err e) (of_content S.stream content.new)) }
-            {
-                match content {
-                    Content::Primitive(inner) => op(inner),
-                    Content::Constructed(constructed) => Err(constructed.refusal(
-                        "expected a primitive value",
-                    )),
-                }
-            },
-        )
+        match self.next_header_if(tag) {
+            Ok(Some(header)) => self.octets_behind(
+                header,
+                |_tag, octets|
+                    requires { (p : _) → p.now ≡ octets.now → F.pre op p }
+                    ensures { AnsweredOn (of_primitive S.stream) (F.post op)
+                        (octets_before S.stream octets) result (octets_after S.stream octets) }
+                { op(octets) },
+            ),
+            Ok(None) => Ok(None),
+            Err(stop) => Err(self.stopped(stop)),
+        }
     }
 
     /// Takes the next value, which has to have this tag and be primitive.
     ///
     /// # Errors
     ///
-    /// Those of [`take_opt_primitive_if`](Self::take_opt_primitive_if), and `ContentError::ExpectedTag`
-    /// where that answers `None`: the content then stays usable.
+    /// Those of [`take_opt_primitive_if`](Self::take_opt_primitive_if), and
+    /// `ContentError::ExpectedTag` where that answers `None`: the content then stays usable.
+    #[inline(always)]
     pub fn take_primitive_if<F, T: Drop>(
         &mut self,
         tag: Tag,
@@ -140,18 +112,15 @@ impl<'a, S: Source> Constructed<'a, S> {
     ) -> Result<T, DecodeError<S::Error>>
     where
         F: FnOnce(&mut Primitive<'_, S>) -> Result<T, DecodeError<S::Error>>,
-        requires callable { MayBeCalledOn (of_primitive S.stream) (IsInside (of_constructed S.stream self.old) 2) (F.pre op) }
-        requires lawful { IsLawfulOn (of_primitive S.stream) (IsInside (of_constructed S.stream self.old) 2) (F.post op) }
-        ensures moves { Carries (of_constructed S.stream self.old) (of_constructed S.stream self.new) }
-        ensures value { IfOk result (λ x. TakesValue (of_primitive S.stream) (Untagged (F.post op)) (tagged tag) (of_constructed S.stream self.old) x (of_constructed S.stream self.new)) }
-        ensures shorter { OnOk result (length (of_constructed S.stream self.new).stream.rest + 2 ≤ length (of_constructed S.stream self.old).stream.rest) }
-        ensures refused { IfErr result (λ e. (IsMissing (tagged tag) (of_constructed S.stream self.old) (of_constructed S.stream self.new) × NamesTag tag e) ⊎ ((HasForm true (tagged tag) (of_constructed S.stream self.old) × IsRefusal e) ⊎ RefusesValue cause_of (of_primitive S.stream) (Untagged (F.post op)) (tagged tag) (of_constructed S.stream self.old) e (of_constructed S.stream self.new))) }
-        ensures failed { OnErr result (((of_constructed S.stream self.new).state ≡ State.Failed) ⊎ (IsMissing (tagged tag) (of_constructed S.stream self.old) (of_constructed S.stream self.new) × ((of_constructed S.stream self.new).marked ≡ (of_constructed S.stream self.old).marked))) }
-        ensures mode { (of_constructed S.stream self.new).mode ≡ (of_constructed S.stream self.old).mode }
+        requires callable { CallableOnOctets S.stream self (tagged tag) (λ _. F.pre op) }
+        requires lawful { LawfulOnOctets S.stream self (tagged tag) (Untagged (F.post op)) }
+        ensures moves { Moved S.stream self }
+        ensures took { TookOctets S.stream self (tagged tag) (Untagged (F.post op)) result }
     {
-        match self.take_opt_primitive_if(tag, op)? {
-            Some(value) => Ok(value),
-            None => Err(self.expected(tag)),
+        match self.take_opt_primitive_if(tag, op) {
+            Ok(Some(value)) => Ok(value),
+            Ok(None) => Err(self.expected(tag)),
+            Err(error) => Err(error),
         }
     }
 }

@@ -2,9 +2,8 @@
 ghost use Rattle.std.specs.Prelude.{◌≡◌, ℕ, [], length, Some, IfErr, OnOk, OnErr};
 ghost use Rattle.bcder.specs.Cause.{cause_of, IsRefusal};
 ghost use Rattle.bcder.specs.Stream.{limit_or};
-ghost use Rattle.bcder.specs.Content.{Moves, Carries};
 ghost use Rattle.bcder.specs.Walking.{RefusesOctets};
-ghost use Rattle.bcder.specs.Views.{of_primitive};
+ghost use Rattle.bcder.specs.Views.{of_primitive, octets_before, octets_after, MovedOctets};
 
 use super::Primitive;
 use crate::decode::error::{ContentError, DecodeError};
@@ -27,19 +26,28 @@ impl<'a, S: Source> Primitive<'a, S> {
     /// # Errors
     ///
     /// Where fewer octets come or where the source fails. Then no octet is passed.
-    #[tactic(auto, using(crate::proofs::Moving::moves_refl, crate::proofs::Moving::moves_trans), unfolding(crate::specs::Views::of_primitive))]
+    #[tactic(auto, using(crate::proofs::moves), unfolding(crate::specs::Views::of_primitive))]
     #[inline(always)]
     pub fn skip_all(&mut self) -> Result<(), DecodeError<S::Error>>
-        ensures moves { Carries (of_primitive S.stream self.old) (of_primitive S.stream self.new) }
-        ensures all { OnOk result ((of_primitive S.stream self.old).owed ≡ Some (length (of_primitive S.stream self.old).stream.rest)) }
-        ensures none_owed { OnOk result ((of_primitive S.stream self.new).owed ≡ Some 0) }
-        ensures none_left { OnOk result ((of_primitive S.stream self.new).stream.rest ≡ []) }
-        ensures no_fault { OnOk result ((of_primitive S.stream self.new).stream.faults ≡ (of_primitive S.stream self.old).stream.faults) }
-        ensures refused { IfErr result (λ e. RefusesOctets cause_of (of_primitive S.stream self.old) e (of_primitive S.stream self.new)) }
-        ensures kept { OnErr result ((of_primitive S.stream self.new).stream.rest ≡ (of_primitive S.stream self.old).stream.rest) }
-        ensures still_owed { OnErr result ((of_primitive S.stream self.new).owed ≡ (of_primitive S.stream self.old).owed) }
-        ensures mode { (of_primitive S.stream self.new).mode ≡ (of_primitive S.stream self.old).mode }
-        ensures marked { (of_primitive S.stream self.new).marked ≡ (of_primitive S.stream self.old).marked }
+        ensures moves { MovedOctets S.stream self }
+        ensures all { OnOk result (
+            (octets_before S.stream self).owed
+            ≡ Some (length (octets_before S.stream self).stream.rest)) }
+        ensures none_owed { OnOk result ((octets_after S.stream self).owed ≡ Some 0) }
+        ensures none_left { OnOk result ((octets_after S.stream self).stream.rest ≡ []) }
+        ensures no_fault { OnOk result (
+            (octets_after S.stream self).stream.faults
+            ≡ (octets_before S.stream self).stream.faults) }
+        ensures refused { IfErr result (λ e.
+            RefusesOctets cause_of (octets_before S.stream self) e (octets_after S.stream self)) }
+        ensures kept { OnErr result (
+            (octets_after S.stream self).stream.rest
+            ≡ (octets_before S.stream self).stream.rest) }
+        ensures still_owed { OnErr result
+            ((octets_after S.stream self).owed ≡ (octets_before S.stream self).owed) }
+        ensures mode { (octets_after S.stream self).mode ≡ (octets_before S.stream self).mode }
+        ensures marked { (octets_after S.stream self).marked
+            ≡ (octets_before S.stream self).marked }
     {
         match self.source.limit() {
             Some(owed) => match self.source.request(owed) {

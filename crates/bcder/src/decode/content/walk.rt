@@ -1,13 +1,15 @@
 //! Walking over values, which looks at every header inside them.
-ghost use Rattle.std.specs.Prelude.{◌≡◌, ◌≢◌, false, IsTrue, IfOk, IfErr, IfSome, IfNone, OnOk, OnErr};
-ghost use Rattle.bcder.specs.Cause.{cause_of, stop_cause, of_source};
+ghost use Rattle.std.specs.Prelude.{◌≡◌, ◌≢◌, ◌≤◌, false, IfOk, IfSome, OnOk, OnErr};
+ghost use Rattle.bcder.specs.Cause.{stop_cause};
 ghost use Rattle.bcder.specs.Stream.{Grew, Provides};
 ghost use Rattle.bcder.specs.Identifier.{Tag as TagValue};
 ghost use Rattle.bcder.specs.Peek.{header as header_of, Peeks};
-ghost use Rattle.bcder.specs.Content.{Moves, Carries, EndsAt, IsDone, FitsOwed, values, any, Resembles, RefusesHeader};
-ghost use Rattle.bcder.specs.Calls.{RanOver, TakesContent};
-ghost use Rattle.bcder.specs.Walking.{PassesValue, IsPrimitive, Goes, AnswersNext, RefusesWalk, HasValues, RefusesValues, itself, walked};
-ghost use Rattle.bcder.specs.Views.{of_constructed, limited_stream};
+ghost use Rattle.bcder.specs.Content.{Moves, FitsOwed, values, Resembles};
+ghost use Rattle.bcder.specs.Calls.{RanOver};
+ghost use Rattle.bcder.specs.Walking.{Between, PassedNext, ExactlyNext, NoFault, Fault, PassedStep};
+ghost use Rattle.bcder.specs.Walking.{PassedOver, PassedAtOnce, Stepped, PassedAll, WalkedOver};
+ghost use Rattle.bcder.specs.Walking.{IsPrimitive, BeginsWhole, itself, walked};
+ghost use Rattle.bcder.specs.Views.{Moved, of_constructed, limited_stream};
 
 use super::take::{pop, push};
 use super::{Constructed, Kind, State};
@@ -17,32 +19,27 @@ use crate::decode::source::{LimitedSource, Source};
 use crate::decode::stop::Stop;
 use crate::length::Length;
 use crate::mode::Mode;
+use crate::plain::{skip_one, skip_short};
 
 /// Passes over the next value, or answers `None` at the end of the content, whose marker it takes.
 ///
 /// A value is passed exactly where an encoding of one stands in front, in the content's mode
-/// (X.690, 8.1.1), unless the source fails. Its identifier octets, length octets and end-of-contents
-/// octets and those of all values inside it are looked at. Contents octets of primitive values are
-/// not. No memory is taken, but each level of values takes a level of calls.
+/// (X.690, 8.1.1), unless the source fails. Its identifier octets, length octets and
+/// end-of-contents octets and those of all values inside it are looked at. Contents octets of
+/// primitive values are not. No memory is taken, but each level of values takes a level of calls.
 ///
 /// # Errors
 ///
 /// Where neither the encoding of a value nor the end stands in front, where an earlier value was
 /// refused or where the source fails. The content has then failed.
-#[tactic(auto, using(crate::proofs::Moving::moves_trans))]
+#[tactic(auto, using(crate::proofs::moves_trans))]
 #[inline(always)]
 pub fn walk<S: Source>(cons: &mut Constructed<'_, S>) -> Result<Option<()>, DecodeError<S::Error>>
-    ensures moves { Carries (of_constructed S.stream cons.old) (of_constructed S.stream cons.new) }
-    ensures value { IfOk result (λ o. IfSome o (λ _. PassesValue (of_constructed S.stream cons.old) (of_constructed S.stream cons.new))) }
-    ensures end { IfOk result (λ o. IfNone o (EndsAt (of_constructed S.stream cons.old) (of_constructed S.stream cons.new))) }
-    ensures done { IfOk result (λ o. IfNone o (IsDone (of_constructed S.stream cons.new))) }
-    ensures refused { IfErr result (λ e. RefusesWalk cause_of (of_constructed S.stream cons.old) e (of_constructed S.stream cons.new)) }
-    ensures exact { (Grew (of_constructed S.stream cons.old).stream.faults (of_constructed S.stream cons.new).stream.faults → ⊥) → AnswersNext (of_constructed S.stream cons.old) result (of_constructed S.stream cons.new) }
-    ensures failed { OnErr result ((of_constructed S.stream cons.new).state ≡ State.Failed) }
-    ensures mode { (of_constructed S.stream cons.new).mode ≡ (of_constructed S.stream cons.old).mode }
-    ensures marked { OnOk result ((of_constructed S.stream cons.new).marked ≡ (of_constructed S.stream cons.old).marked) }
+    ensures moves { Moved S.stream cons }
+    ensures passed { PassedNext S.stream cons result }
+    ensures exact { ExactlyNext S.stream cons result }
 {
-    match step(cons) {
+    match walk_next(cons) {
         Ok(passed) => Ok(passed),
         Err(stop) => Err(cons.stopped(stop)),
     }
@@ -76,34 +73,123 @@ fn primitive_size(header: Header, size: usize) -> Option<usize>
     }
 }
 
+/// How many octets the value at the front has, if all of them are here. Only some values are looked
+/// for if `short`: primitive ones with a header of two octets.
+#[inline(always)]
+fn whole_size(mode: Mode, octets: &[u8], short: bool) -> Option<usize>
+    ensures { IfSome result (λ n. BeginsWhole mode octets.now n) }
+{
+    let found = if short {
+        skip_short(mode, octets)
+    } else {
+        skip_one(mode, octets)
+    };
+    match found {
+        Some(rest) => Some(octets.len() - rest.len()),
+        None => None,
+    }
+}
+
+/// The same of the value at the front of a source, of which nothing is taken. It asks for two
+/// octets, as the header of a value has at least. An error is the source's own.
+#[inline(always)]
+fn size_at_hand<S: Source>(
+    source: &mut S,
+    mode: Mode,
+    short: bool,
+) -> Result<Option<usize>, S::Error>
+    ensures whole { IfOk result (λ o.
+        IfSome o (λ n. BeginsWhole mode (S.stream source.new).rest n)) }
+    ensures at_hand { IfOk result (λ o. IfSome o (λ n. n ≤ (S.stream source.new).avail)) }
+    ensures no_fault { OnOk result
+        ((S.stream source.new).faults ≡ (S.stream source.old).faults) }
+    ensures fault { OnErr result
+        (Grew (S.stream source.old).faults (S.stream source.new).faults) }
+    ensures rest { (S.stream source.new).rest ≡ (S.stream source.old).rest }
+    ensures kept { (S.stream source.new).kept ≡ (S.stream source.old).kept }
+{
+    let found = source.request(2)?;
+    Ok(whole_size(mode, &source.slice()[..found], short))
+}
+
 impl<'a, S: Source> Constructed<'a, S> {
     /// Asks the source for so many octets, and takes none.
     #[tactic(auto, unfolding(crate::specs::Views::of_constructed))]
     #[inline(always)]
     fn ask(&mut self, size: usize) -> Result<usize, S::Error>
-        ensures same { Resembles (of_constructed S.stream self.old) (of_constructed S.stream self.new) }
-        ensures found { IfOk result (λ n. Provides size n (limited_stream S.stream self.new.source.now)) }
-        ensures no_fault { OnOk result ((of_constructed S.stream self.new).stream.faults ≡ (of_constructed S.stream self.old).stream.faults) }
-        ensures fault { OnErr result (Grew (of_constructed S.stream self.old).stream.faults (of_constructed S.stream self.new).stream.faults) }
+        ensures same { Between S.stream self Resembles }
+        ensures found { IfOk result (λ n.
+            Provides size n (limited_stream S.stream self.new.source.now)) }
+        ensures no_fault { OnOk result (NoFault S.stream self) }
+        ensures fault { OnErr result (Fault S.stream self) }
     {
         self.source.request(size)
     }
 
-    /// Passes over a primitive value in one step where all of its octets come, and says whether it did.
-    #[tactic(auto, using(crate::proofs::Moving::moves_refl), unfolding(crate::specs::Views::of_constructed))]
+    /// Passes over octets that are at hand.
+    #[tactic(auto, unfolding(crate::specs::Views::of_constructed))]
+    #[inline(always)]
+    fn pass_over(&mut self, size: usize)
+        requires { size ≤ (limited_stream S.stream self.old.source.now).avail }
+        ensures { PassedOver S.stream self size }
+    {
+        self.source.advance(size);
+    }
+
+    /// How many octets the next value has, if all of them are at hand. Nothing is taken.
+    #[tactic(auto, unfolding(crate::specs::Views::of_constructed))]
+    #[inline(always)]
+    fn look_at_whole(&mut self, short: bool) -> Result<Option<usize>, S::Error>
+        ensures same { Between S.stream self Resembles }
+        ensures whole { IfOk result (λ o. IfSome o (λ n.
+            BeginsWhole self.old.mode (limited_stream S.stream self.new.source.now).rest n)) }
+        ensures at_hand { IfOk result (λ o. IfSome o (λ n.
+            n ≤ (limited_stream S.stream self.new.source.now).avail)) }
+        ensures no_fault { OnOk result (NoFault S.stream self) }
+        ensures fault { OnErr result (Fault S.stream self) }
+    {
+        size_at_hand(self.source, self.mode, short)
+    }
+
+    /// Passes over the next value in one go where all of its octets are at hand, and says whether
+    /// it did. The source is asked at most once, and not where no octets are owed.
+    #[tactic(auto, using(crate::proofs::moves_refl), unfolding(crate::specs::Views::views))]
+    #[inline(always)]
+    fn pass_at_hand(&mut self, short: bool) -> Result<bool, Stop<S::Error>>
+        ensures moves { Between S.stream self Moves }
+        ensures passed { PassedAtOnce S.stream self result }
+    {
+        let State::Open = self.state else {
+            return Ok(false);
+        };
+        if let Some(0) = self.source.limit() {
+            return Ok(false);
+        }
+        match self.look_at_whole(short) {
+            Ok(Some(size)) => {
+                self.pass_over(size);
+                Ok(true)
+            }
+            Ok(None) => Ok(false),
+            Err(error) => {
+                self.state = State::Failed;
+                Err(Stop::Source(error))
+            }
+        }
+    }
+
+    /// Passes over a primitive value in one step where all of its octets come, and says whether it
+    /// did.
+    #[tactic(auto, using(crate::proofs::moves_refl), unfolding(crate::specs::Views::views))]
     #[inline(always)]
     fn pass_primitive(&mut self, header: Header, size: usize) -> Result<bool, Stop<S::Error>>
-        requires read { Peeks self.old.mode (Peeked.Front header size) (limited_stream S.stream self.old.source.now) }
+        requires read { Peeks self.old.mode (Peeked.Front header size)
+            (limited_stream S.stream self.old.source.now) }
         requires usable { self.old.state ≡ State.Open }
-        ensures moves { Moves (of_constructed S.stream self.old) (of_constructed S.stream self.new) }
-        ensures passed { IfOk result (λ b. IsTrue b → PassesValue (of_constructed S.stream self.old) (of_constructed S.stream self.new)) }
-        ensures same { IfOk result (λ b. b ≡ false → Resembles (of_constructed S.stream self.old) (of_constructed S.stream self.new)) }
-        ensures read { IfOk result (λ b. b ≡ false → Peeks self.new.mode (Peeked.Front header size) (limited_stream S.stream self.new.source.now)) }
-        ensures no_fault { IfOk result (λ b. b ≡ false → (of_constructed S.stream self.new).stream.faults ≡ (of_constructed S.stream self.old).stream.faults) }
-        ensures fault { IfErr result (λ e. (stop_cause e ≡ of_source) × Grew (of_constructed S.stream self.old).stream.faults (of_constructed S.stream self.new).stream.faults) }
-        ensures failed { OnErr result (self.new.state ≡ State.Failed) }
-        ensures mode { self.new.mode ≡ self.old.mode }
-        ensures marked { self.new.marked ≡ self.old.marked }
+        ensures moves { Between S.stream self Moves }
+        ensures passed { PassedAtOnce S.stream self result }
+        ensures read { IfOk result (λ b. b ≡ false → Peeks self.new.mode (Peeked.Front header size)
+            (limited_stream S.stream self.new.source.now)) }
     {
         let Some(all) = primitive_size(header, size) else {
             return Ok(false);
@@ -113,8 +199,7 @@ impl<'a, S: Source> Constructed<'a, S> {
                 if found < all {
                     return Ok(false);
                 }
-                self.pass(all);
-                self.state = State::Open;
+                self.pass_over(all);
                 Ok(true)
             }
             Err(error) => {
@@ -125,16 +210,13 @@ impl<'a, S: Source> Constructed<'a, S> {
     }
 }
 
-/// Passes over all of the next value if it is primitive and its octets come, and else over its header.
-#[tactic(auto, using(crate::proofs::Moving::moves_refl), unfolding(crate::specs::Views::of_constructed))]
+/// Passes over all of the next value if it is primitive and its octets come, and else over its
+/// header.
+#[tactic(auto, using(crate::proofs::moves_refl), unfolding(crate::specs::Views::of_constructed))]
 #[inline(always)]
 fn go_on<S: Source>(cons: &mut Constructed<'_, S>) -> Result<Next, Stop<S::Error>>
-    ensures moves { Moves (of_constructed S.stream cons.old) (of_constructed S.stream cons.new) }
-    ensures goes { IfOk result (λ n. Goes (of_constructed S.stream cons.old) n (of_constructed S.stream cons.new)) }
-    ensures refused { IfErr result (λ e. RefusesHeader stop_cause any (of_constructed S.stream cons.old) e (of_constructed S.stream cons.new)) }
-    ensures failed { OnErr result (cons.new.state ≡ State.Failed) }
-    ensures mode { cons.new.mode ≡ cons.old.mode }
-    ensures marked { cons.new.marked ≡ cons.old.marked }
+    ensures moves { Between S.stream cons Moves }
+    ensures stepped { Stepped S.stream cons result }
 {
     match cons.front() {
         Ok(Some(front)) => match cons.pass_primitive(front.header, front.size) {
@@ -151,19 +233,39 @@ fn go_on<S: Source>(cons: &mut Constructed<'_, S>) -> Result<Next, Stop<S::Error
     }
 }
 
-/// As `walk`, with a stop in the place of an error.
+/// As `walk`, with a stop in the place of an error. Values that need few steps are passed here.
+#[inline(always)]
+fn walk_next<S: Source>(cons: &mut Constructed<'_, S>) -> Result<Option<()>, Stop<S::Error>>
+    ensures moves { Between S.stream cons Moves }
+    ensures passed { PassedStep S.stream cons result }
+{
+    match cons.pass_at_hand(true) {
+        Ok(true) => Ok(Some(())),
+        Ok(false) => walk_any(cons),
+        Err(stop) => Err(stop),
+    }
+}
+
+/// The same, whatever stands in front.
+#[inline(never)]
+fn walk_any<S: Source>(cons: &mut Constructed<'_, S>) -> Result<Option<()>, Stop<S::Error>>
+    ensures moves { Between S.stream cons Moves }
+    ensures passed { PassedStep S.stream cons result }
+{
+    match cons.pass_at_hand(false) {
+        Ok(true) => Ok(Some(())),
+        Ok(false) => step(cons),
+        Err(stop) => Err(stop),
+    }
+}
+
+/// The same, header by header.
 #[cycle(walk)]
 #[tactic(auto, unfolding(crate::specs::Views::of_constructed))]
 #[inline(always)]
 fn step<S: Source>(cons: &mut Constructed<'_, S>) -> Result<Option<()>, Stop<S::Error>>
-    ensures moves { Moves (of_constructed S.stream cons.old) (of_constructed S.stream cons.new) }
-    ensures value { IfOk result (λ o. IfSome o (λ _. PassesValue (of_constructed S.stream cons.old) (of_constructed S.stream cons.new))) }
-    ensures end { IfOk result (λ o. IfNone o (EndsAt (of_constructed S.stream cons.old) (of_constructed S.stream cons.new))) }
-    ensures done { IfOk result (λ o. IfNone o (IsDone (of_constructed S.stream cons.new))) }
-    ensures refused { IfErr result (λ e. RefusesWalk stop_cause (of_constructed S.stream cons.old) e (of_constructed S.stream cons.new)) }
-    ensures failed { OnErr result ((of_constructed S.stream cons.new).state ≡ State.Failed) }
-    ensures mode { (of_constructed S.stream cons.new).mode ≡ (of_constructed S.stream cons.old).mode }
-    ensures marked { (of_constructed S.stream cons.new).marked ≡ (of_constructed S.stream cons.old).marked }
+    ensures moves { Between S.stream cons Moves }
+    ensures passed { PassedStep S.stream cons result }
 {
     match go_on(cons) {
         Ok(Next::Entered(header)) => match pass_content(cons, header) {
@@ -181,14 +283,14 @@ fn step<S: Source>(cons: &mut Constructed<'_, S>) -> Result<Option<()>, Stop<S::
 
 /// Passes over the content of a value whose header was passed over.
 #[cycle(walk)]
-#[tactic(auto, using(crate::proofs::Moving::moves_refl, crate::proofs::Moving::moves_trans), unfolding(crate::specs::Views::of_constructed))]
+#[tactic(auto, using(crate::proofs::moves), unfolding(crate::specs::Views::of_constructed))]
 #[inline(always)]
 fn pass_content<S: Source>(
     cons: &mut Constructed<'_, S>,
     header: Header,
 ) -> Result<(), Stop<S::Error>>
     requires { FitsOwed header.len cons.old.source.now.limit }
-    ensures taken { TakesContent stop_cause itself (walked stop_cause) (of_constructed S.stream cons.old) (header_of header) result (of_constructed S.stream cons.new) }
+    ensures taken { WalkedOver S.stream cons header result }
     ensures mode { cons.new.mode ≡ cons.old.mode }
     ensures marked { cons.new.marked ≡ cons.old.marked }
     ensures state { cons.new.state ≡ cons.old.state }
@@ -210,7 +312,7 @@ fn pass_content<S: Source>(
 
 /// Passes over the values inside a value.
 #[cycle(walk)]
-#[tactic(auto, using(crate::proofs::Moving::moves_refl, crate::proofs::Moving::moves_trans), unfolding(crate::specs::Views::of_constructed))]
+#[tactic(auto, using(crate::proofs::moves), unfolding(crate::specs::Views::of_constructed))]
 #[inline(never)]
 fn walk_over<S: Source>(
     source: &mut LimitedSource<S>,
@@ -218,7 +320,9 @@ fn walk_over<S: Source>(
     mode: Mode,
 ) -> Result<(), Stop<S::Error>>
     requires { kind ≢ Kind.Unbounded }
-    ensures { (t : TagValue) → RanOver stop_cause itself (walked stop_cause) (limited_stream S.stream source.old) source.old.limit (values kind) mode t result false (limited_stream S.stream source.new) source.new.limit }
+    ensures { (t : TagValue) → RanOver stop_cause itself (walked stop_cause)
+        (limited_stream S.stream source.old) source.old.limit (values kind) mode t result false
+        (limited_stream S.stream source.new) source.new.limit }
 {
     let start = source.pos();
     let mut cons = Constructed {
@@ -235,13 +339,8 @@ fn walk_over<S: Source>(
 /// Passes over all values up to the end of the content, whose marker it takes.
 #[cycle(walk)]
 fn walk_all<S: Source>(cons: &mut Constructed<'_, S>) -> Result<(), Stop<S::Error>>
-    ensures moves { Moves (of_constructed S.stream cons.old) (of_constructed S.stream cons.new) }
-    ensures all { OnOk result ((of_constructed S.stream cons.old).state ≡ State.Open → HasValues (of_constructed S.stream cons.old)) }
-    ensures done { OnOk result (IsDone (of_constructed S.stream cons.new)) }
-    ensures refused { IfErr result (λ e. RefusesValues stop_cause (of_constructed S.stream cons.old) e (of_constructed S.stream cons.new)) }
-    ensures failed { OnErr result ((of_constructed S.stream cons.new).state ≡ State.Failed) }
-    ensures mode { (of_constructed S.stream cons.new).mode ≡ (of_constructed S.stream cons.old).mode }
-    ensures marked { (of_constructed S.stream cons.new).marked ≡ (of_constructed S.stream cons.old).marked }
+    ensures moves { Between S.stream cons Moves }
+    ensures passed { PassedAll S.stream cons result }
     ensures name { cons.new.source.ghost_name ≡ cons.old.source.ghost_name }
 {
     while step(cons)?.is_some() {}

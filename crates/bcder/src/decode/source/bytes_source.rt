@@ -1,5 +1,6 @@
 //! A source over shared octets.
-ghost use Rattle.std.specs.Prelude.{◌≡◌, true, ℕ, ◌+◌, ◌-◌, ◌^◌, ◌<◌, ◌≤◌, [], ◌↔◌, IsTrue, length, take, drop, slice_range, IfOk, OnOk, OnErr};
+ghost use Rattle.std.specs.Prelude.{◌≡◌, true, ℕ, ◌+◌, ◌-◌, ◌^◌, ◌<◌, ◌≤◌, [], ◌↔◌};
+ghost use Rattle.std.specs.Prelude.{IsTrue, length, take, drop, slice_range, IfOk, OnOk, OnErr};
 ghost use Rattle.bcder.specs.Identifier.{AreOctets};
 ghost use Rattle.bcder.specs.Stream.{pos_after};
 
@@ -87,7 +88,8 @@ impl BytesSource {
         requires { len ≤ length (shared_rest self.old) }
         ensures front { IfOk result (λ b. b ≡ take len (shared_rest self.old)) }
         ensures rest { OnOk result (shared_rest self.new ≡ drop len (shared_rest self.old)) }
-        ensures position { OnOk result (shared_start self.new ≡ pos_after (shared_start self.old) len) }
+        ensures position { OnOk result
+            (shared_start self.new ≡ pos_after (shared_start self.old) len) }
         ensures err { OnErr result (self.new ≡ self.old) }
     {
         let front = self.octets.split_to(len)?;
@@ -107,11 +109,21 @@ impl BytesSource {
 impl Source for BytesSource {
     type Error = Infallible;
 
-    ghost stream = { λ s. record { rest = s.octets; avail = length s.octets; faults = 0; position = s.pos; kept = [] } };
+    ghost stream = { λ s. record {
+      rest = s.octets;
+      avail = length s.octets;
+      faults = 0;
+      position = s.pos;
+      kept = [];
+    } };
 
     ghost use Rattle.bcder.specs.laws.Limits.{at_most_itself};
 
-    ghost sound = { λ s. record { octets = s.are_octets; size = s.fit; at_hand = at_most_itself (length s.octets) } };
+    ghost sound = { λ s. record {
+      octets = s.are_octets;
+      size = s.fit;
+      at_hand = at_most_itself (length s.octets);
+    } };
 
     fn pos(&self) -> Pos {
         self.pos

@@ -1,5 +1,7 @@
 //! A source that can give back what is passed over.
-ghost use Rattle.std.specs.Prelude.{◌≡◌, true, ◌&&◌, nat_le, ℕ, ◌+◌, ◌-◌, ◌^◌, ◌<◌, ◌≤◌, List, [], ◌∷◌, ◌++◌, length, take, drop, slice_range, IfOk, IfErr, OnOk, OnErr};
+ghost use Rattle.std.specs.Prelude.{◌≡◌, true, ◌&&◌, nat_le, ℕ, ◌+◌, ◌-◌, ◌^◌, ◌<◌, ◌≤◌};
+ghost use Rattle.std.specs.Prelude.{List, [], ◌∷◌, ◌++◌, length, take, drop, slice_range};
+ghost use Rattle.std.specs.Prelude.{IfOk, IfErr, OnOk, OnErr};
 ghost use Rattle.bcder.specs.Sources.{behind, passed, borrow_of, capturing};
 ghost use Rattle.bcder.specs.Stream.{Grew, Provides};
 ghost use Rattle.bcder.specs.laws.Limits.{ahead_sound};
@@ -31,8 +33,8 @@ pub(super) fn take_front<S: Source>(
 /// A source that captures what is passed over.
 ///
 /// It borrows another source and gives that one's octets. What it passes over stays in the borrowed
-/// source, which only [`into_bytes`](Self::into_bytes) and [`skip`](Self::skip) advance. Where it is
-/// let go otherwise, the borrowed source has all its octets.
+/// source, which only [`into_bytes`](Self::into_bytes) and [`skip`](Self::skip) advance. Where it
+/// is let go otherwise, the borrowed source has all its octets.
 #[derive(Drop)]
 pub struct CaptureSource<'a, S> {
     source: &'a mut S,
@@ -144,7 +146,8 @@ impl<'a, S: Source> Source for CaptureSource<'a, S> {
 
     ghost stream = { capturing S.stream };
 
-    ghost sound = { λ s. ahead_sound s.source.ghost_name s.pos (S.stream s.source.now) (S.sound s.source.now) };
+    ghost sound = { λ s.
+        ahead_sound s.source.ghost_name s.pos (S.stream s.source.now) (S.sound s.source.now) };
 
     fn pos(&self) -> Pos {
         self.source.pos() + Pos::from(self.pos)
@@ -161,7 +164,8 @@ impl<'a, S: Source> Source for CaptureSource<'a, S> {
         ensures no_fewer { OnErr result
             ((capturing S.stream self.old).avail ≤ (capturing S.stream self.new).avail) }
         ensures rest { (capturing S.stream self.new).rest ≡ (capturing S.stream self.old).rest }
-        ensures position { (capturing S.stream self.new).position ≡ (capturing S.stream self.old).position }
+        ensures position { (capturing S.stream self.new).position
+            ≡ (capturing S.stream self.old).position }
         ensures kept { (capturing S.stream self.new).kept ≡ (capturing S.stream self.old).kept }
         ensures pos { passed self.new ≡ passed self.old }
         ensures at_hand { OnOk result
@@ -187,9 +191,12 @@ impl<'a, S: Source> Source for CaptureSource<'a, S> {
     /// As for every source. The borrowed source stays as it is.
     fn advance(&mut self, len: usize)
         requires { len ≤ (capturing S.stream self.old).avail }
-        ensures rest { (capturing S.stream self.new).rest ≡ drop len (capturing S.stream self.old).rest }
-        ensures avail { (capturing S.stream self.new).avail + len ≡ (capturing S.stream self.old).avail }
-        ensures faults { (capturing S.stream self.new).faults ≡ (capturing S.stream self.old).faults }
+        ensures rest { (capturing S.stream self.new).rest
+            ≡ drop len (capturing S.stream self.old).rest }
+        ensures avail { (capturing S.stream self.new).avail + len
+            ≡ (capturing S.stream self.old).avail }
+        ensures faults { (capturing S.stream self.new).faults
+            ≡ (capturing S.stream self.old).faults }
         ensures kept { (capturing S.stream self.new).kept ≡ (capturing S.stream self.old).kept }
         ensures pos { passed self.new ≡ passed self.old + len }
         ensures source { behind self.new ≡ behind self.old }

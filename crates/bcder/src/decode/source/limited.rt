@@ -1,10 +1,14 @@
 //! A source that is cut at a limit.
-ghost use Rattle.std.specs.Prelude.{◌≡◌, true, ℕ, ◌+◌, ◌-◌, ◌^◌, ◌<◌, ◌≤◌, List, [], ◌∷◌, ◌++◌, length, take, drop, slice_range, Some, None, IsSome, IfOk, IfErr, OnOk, OnErr};
+ghost use Rattle.std.specs.Prelude.{◌≡◌, true, ℕ, ◌+◌, ◌-◌, ◌^◌, ◌<◌, ◌≤◌, List, [], ◌∷◌, ◌++◌};
+ghost use Rattle.std.specs.Prelude.{length, take, drop, slice_range};
+ghost use Rattle.std.specs.Prelude.{Some, None, IsSome, IfOk, IfErr, OnOk, OnErr};
 ghost use Rattle.bcder.specs.Calls.{popped};
-ghost use Rattle.bcder.specs.Cause.{cause_of, MatchCause, MatchStop};
+ghost use Rattle.bcder.specs.Changed.{SameFaults, MoreFaults, SameRest, SamePosition, SameKept};
+ghost use Rattle.bcder.specs.Changed.{RefusedWhere, inside, EndsEarly, ReachesLimit, HasNoneLeft};
+ghost use Rattle.bcder.specs.Cause.{cause_of, MatchCause, MatchStop, IsRefusal};
 ghost use Rattle.bcder.specs.Content.{FitsOwed};
 ghost use Rattle.bcder.specs.Sources.{wrapped, limit_of, owed};
-ghost use Rattle.bcder.specs.Stream.{Grew, limited, IsNoLooser, IsUsedUp};
+ghost use Rattle.bcder.specs.Stream.{limited, IsNoLooser};
 ghost use Rattle.bcder.specs.laws.Limits.{limited_sound};
 
 use super::capture::take_front;
@@ -82,23 +86,18 @@ impl<S: Source> LimitedSource<S> {
     /// Where the wrapped source ends before the limit, and where it fails. Then no octet is passed.
     pub fn skip_all(&mut self) -> Result<(), DecodeError<S::Error>>
         requires { IsSome (limit_of self.old) }
-        ensures enough { OnOk result (owed self.old ≤ length (S.stream (wrapped self.old)).rest) }
+        ensures enough { OnOk result (ReachesLimit S.stream self.old) }
         ensures limit { OnOk result (limit_of self.new ≡ Some 0) }
         ensures rest { OnOk result
-            ((S.stream (wrapped self.new)).rest
-            ≡ drop (owed self.old) (S.stream (wrapped self.old)).rest) }
-        ensures no_fault { OnOk result
-            ((S.stream (wrapped self.new)).faults ≡ (S.stream (wrapped self.old)).faults) }
-        ensures cause { IfErr result (λ e. MatchCause (cause_of e)
-            (Grew (S.stream (wrapped self.old)).faults (S.stream (wrapped self.new)).faults)
-            (length (S.stream (wrapped self.old)).rest < owed self.old)
-            ⊥) }
-        ensures err { OnErr result
-            ((S.stream (wrapped self.new)).rest ≡ (S.stream (wrapped self.old)).rest) }
+            ((inside S.stream self.new).rest
+            ≡ drop (owed self.old) (inside S.stream self.old).rest) }
+        ensures no_fault { OnOk result (SameFaults (inside S.stream) self) }
+        ensures cause { IfErr result
+            (RefusedWhere (inside S.stream) self (EndsEarly S.stream self.old)) }
+        ensures err { OnErr result (SameRest (inside S.stream) self) }
         ensures err_limit { OnErr result (limit_of self.new ≡ limit_of self.old) }
-        ensures err_position { OnErr result
-            ((S.stream (wrapped self.new)).position ≡ (S.stream (wrapped self.old)).position) }
-        ensures kept { (S.stream (wrapped self.new)).kept ≡ (S.stream (wrapped self.old)).kept }
+        ensures err_position { OnErr result (SamePosition (inside S.stream) self) }
+        ensures kept { SameKept (inside S.stream) self }
     {
         let limit = self.limit.unwrap();
         if self.source.request(limit)? < limit {
@@ -113,17 +112,18 @@ impl<S: Source> LimitedSource<S> {
     #[inline(always)]
     pub(crate) fn skip_owed(&mut self, len: usize) -> Result<(), Stop<S::Error>>
         requires { FitsOwed (Length.Definite len) self.old.limit }
-        ensures enough { OnOk result (len ≤ length (S.stream self.old.source).rest) }
+        ensures enough { OnOk result (len ≤ length (inside S.stream self.old).rest) }
         ensures limit { OnOk result (self.new.limit ≡ popped self.old.limit len (Some 0)) }
-        ensures rest { OnOk result ((S.stream self.new.source).rest ≡ drop len (S.stream self.old.source).rest) }
-        ensures no_fault { OnOk result ((S.stream self.new.source).faults ≡ (S.stream self.old.source).faults) }
+        ensures rest { OnOk result
+            ((inside S.stream self.new).rest ≡ drop len (inside S.stream self.old).rest) }
+        ensures no_fault { OnOk result (SameFaults (inside S.stream) self) }
         ensures cause { IfErr result (λ e. MatchStop e
-            (Grew (S.stream self.old.source).faults (S.stream self.new.source).faults)
-            (length (S.stream self.old.source).rest < len)) }
-        ensures no_fewer { (S.stream self.old.source).faults ≤ (S.stream self.new.source).faults }
-        ensures err { OnErr result ((S.stream self.new.source).rest ≡ (S.stream self.old.source).rest) }
+            (MoreFaults (inside S.stream) self)
+            (length (inside S.stream self.old).rest < len)) }
+        ensures no_fewer { (inside S.stream self.old).faults ≤ (inside S.stream self.new).faults }
+        ensures err { OnErr result (SameRest (inside S.stream) self) }
         ensures err_limit { OnErr result (self.new.limit ≡ self.old.limit) }
-        ensures kept { (S.stream self.new.source).kept ≡ (S.stream self.old.source).kept }
+        ensures kept { SameKept (inside S.stream) self }
     {
         match self.source.request(len) {
             Ok(found) => {
@@ -144,26 +144,23 @@ impl<S: Source> LimitedSource<S> {
     ///
     /// # Errors
     ///
-    /// Where the wrapped source ends before the limit, where it fails, and where there is no memory for
-    /// the octets. Then none is taken.
+    /// Where the wrapped source ends before the limit, where it fails, and where there is no memory
+    /// for the octets. Then none is taken.
     pub fn take_all(&mut self, alloc: Global) -> Result<Bytes, DecodeError<S::Error>>
         requires { IsSome (limit_of self.old) }
         ensures value { IfOk result
-            (λ b. b ++ (S.stream (wrapped self.new)).rest ≡ (S.stream (wrapped self.old)).rest) }
+            (λ b. b ++ (inside S.stream self.new).rest ≡ (inside S.stream self.old).rest) }
         ensures count { IfOk result (λ b. length b ≡ owed self.old) }
         ensures limit { OnOk result (limit_of self.new ≡ Some 0) }
-        ensures no_fault { OnOk result
-            ((S.stream (wrapped self.new)).faults ≡ (S.stream (wrapped self.old)).faults) }
+        ensures no_fault { OnOk result (SameFaults (inside S.stream) self) }
         ensures cause { IfErr result (λ e. MatchCause (cause_of e)
-            (Grew (S.stream (wrapped self.old)).faults (S.stream (wrapped self.new)).faults)
-            (length (S.stream (wrapped self.old)).rest < owed self.old)
-            (owed self.old ≤ length (S.stream (wrapped self.old)).rest)) }
-        ensures err { OnErr result
-            ((S.stream (wrapped self.new)).rest ≡ (S.stream (wrapped self.old)).rest) }
+            (MoreFaults (inside S.stream) self)
+            (SameFaults (inside S.stream) self × EndsEarly S.stream self.old × IsRefusal e)
+            (SameFaults (inside S.stream) self × ReachesLimit S.stream self.old)) }
+        ensures err { OnErr result (SameRest (inside S.stream) self) }
         ensures err_limit { OnErr result (limit_of self.new ≡ limit_of self.old) }
-        ensures err_position { OnErr result
-            ((S.stream (wrapped self.new)).position ≡ (S.stream (wrapped self.old)).position) }
-        ensures kept { (S.stream (wrapped self.new)).kept ≡ (S.stream (wrapped self.old)).kept }
+        ensures err_position { OnErr result (SamePosition (inside S.stream) self) }
+        ensures kept { SameKept (inside S.stream) self }
     {
         let limit = self.limit.unwrap();
         if self.source.request(limit)? < limit {
@@ -184,17 +181,14 @@ impl<S: Source> LimitedSource<S> {
     ///
     /// Where octets are left, and where the wrapped source fails.
     pub fn exhausted(&mut self) -> Result<(), DecodeError<S::Error>>
-        ensures ok { OnOk result (IsUsedUp (limit_of self.old) (S.stream (wrapped self.old)).rest) }
-        ensures no_fault { OnOk result
-            ((S.stream (wrapped self.new)).faults ≡ (S.stream (wrapped self.old)).faults) }
-        ensures cause { IfErr result (λ e. MatchCause (cause_of e)
-            (Grew (S.stream (wrapped self.old)).faults (S.stream (wrapped self.new)).faults)
-            (¬ IsUsedUp (limit_of self.old) (S.stream (wrapped self.old)).rest)
-            ⊥) }
+        ensures ok { OnOk result (HasNoneLeft S.stream self.old) }
+        ensures no_fault { OnOk result (SameFaults (inside S.stream) self) }
+        ensures cause { IfErr result
+            (RefusedWhere (inside S.stream) self (¬ HasNoneLeft S.stream self.old)) }
         ensures limit { limit_of self.new ≡ limit_of self.old }
-        ensures rest { (S.stream (wrapped self.new)).rest ≡ (S.stream (wrapped self.old)).rest }
-        ensures position { (S.stream (wrapped self.new)).position ≡ (S.stream (wrapped self.old)).position }
-        ensures kept { (S.stream (wrapped self.new)).kept ≡ (S.stream (wrapped self.old)).kept }
+        ensures rest { SameRest (inside S.stream) self }
+        ensures position { SamePosition (inside S.stream) self }
+        ensures kept { SameKept (inside S.stream) self }
     {
         match self.limit {
             Some(0) => Ok(()),

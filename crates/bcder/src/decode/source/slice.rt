@@ -1,5 +1,6 @@
 //! A source over a slice.
-ghost use Rattle.std.specs.Prelude.{◌≡◌, true, ℕ, ◌+◌, ◌-◌, ◌^◌, ◌<◌, ◌≤◌, [], ◌↔◌, IsTrue, length, take, drop, slice_range, IfOk};
+ghost use Rattle.std.specs.Prelude.{◌≡◌, true, ℕ, ◌+◌, ◌-◌, ◌^◌, ◌<◌, ◌≤◌, [], ◌↔◌};
+ghost use Rattle.std.specs.Prelude.{IsTrue, length, take, drop, slice_range, IfOk};
 ghost use Rattle.bcder.specs.Identifier.{AreOctets};
 ghost use Rattle.bcder.specs.Stream.{pos_after};
 
@@ -64,11 +65,21 @@ impl<'a> SliceSource<'a> {
 impl<'a> Source for SliceSource<'a> {
     type Error = Infallible;
 
-    ghost stream = { λ s. record { rest = s.octets.now; avail = length s.octets.now; faults = 0; position = s.pos; kept = [] } };
+    ghost stream = { λ s. record {
+      rest = s.octets.now;
+      avail = length s.octets.now;
+      faults = 0;
+      position = s.pos;
+      kept = [];
+    } };
 
     ghost use Rattle.bcder.specs.laws.Limits.{at_most_itself};
 
-    ghost sound = { λ s. record { octets = s.are_octets; size = s.fit; at_hand = at_most_itself (length s.octets.now) } };
+    ghost sound = { λ s. record {
+      octets = s.are_octets;
+      size = s.fit;
+      at_hand = at_most_itself (length s.octets.now);
+    } };
 
     fn pos(&self) -> Pos {
         self.pos

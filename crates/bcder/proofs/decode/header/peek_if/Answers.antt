@@ -1,27 +1,17 @@
-use Rattle.std.proofs.Common.{◌≡◌, ◌≤◌, length, drop, Some, arith}
-use Rattle.bcder.specs.Reading.{read_front}
-use Rattle.bcder.specs.Peek.{header, HasOtherTag, HasNoLength}
-use Rattle.bcder.proofs.Peeking.{of_rest, size_at_hand, some_at_hand}
+use Rattle.std.proofs.Common.{◌≤◌, length, arith, rules}
+use Rattle.bcder.specs.Peek.{header}
+use Rattle.bcder.proofs.Headers.{other_of_front}
+use Rattle.bcder.proofs.Peeking.{short_at_hand, differs}
 use Rattle.bcder.proofs.decode.header.peek_if.Goals as goal
 
-pub returns-in_default-clause-peeked : goal.returns-in_default-clause-peeked
-returns-in_default-clause-peeked g c =
+pub returns-then-eq-clause-peeked : goal.returns-then-eq-clause-peeked
+returns-then-eq-clause-peeked g c =
     let enough : c.in_ok-found.found ≤ length c.slice.result.now = omega (arith, c.in_ok-found.ensures.ok.count, c.slice.ensures.enough) in
-    of_rest (HasOtherTag c.args.tag) _ _ _ c.slice.ensures.front enough c.in_default.ensures
+    let front = short_at_hand c.args.mode c.in-Some.header _ _ _ _ c.slice.ensures.front enough c.in_ok-found.ensures.ok.count c.in-Some.ensures in
+    (front.0, search rules, front.1)
 
-pub returns-in-Front-clause-peeked : goal.returns-in-Front-clause-peeked
-returns-in-Front-clause-peeked g c =
+pub returns-in-Some-clause-peeked : goal.returns-in-Some-clause-peeked
+returns-in-Some-clause-peeked g c =
     let enough : c.in_ok-found.found ≤ length c.slice.result.now = omega (arith, c.in_ok-found.ensures.ok.count, c.slice.ensures.enough) in
-    let seen = rw c.in-Front.is at c.in-Some.ensures in (
-      size_at_hand _ _ _ _ seen.0 c.in_ok-found.ensures.ok.count,
-      seen.1,
-      of_rest (λ w. read_front c.args.mode w ≡ Some (header c.in-Front.header, drop c.in-Front.size w)) _ _ _ c.slice.ensures.front enough seen.2,
-    )
-
-pub returns-in-Refused-clause-peeked : goal.returns-in-Refused-clause-peeked
-returns-in-Refused-clause-peeked g c =
-    let enough : c.in_ok-found.found ≤ length c.slice.result.now = omega (arith, c.in_ok-found.ensures.ok.count, c.slice.ensures.enough) in
-    let seen = rw c.in-Refused.is at c.in-Some.ensures in (
-      some_at_hand _ _ _ c.slice.ensures.front seen.0,
-      of_rest (HasNoLength c.args.mode c.args.tag) _ _ _ c.slice.ensures.front enough seen.1,
-    )
+    let front = short_at_hand c.args.mode c.in-Some.header _ _ _ _ c.slice.ensures.front enough c.in_ok-found.ensures.ok.count c.in-Some.ensures in
+    other_of_front c.args.mode c.args.tag _ (header c.in-Some.header) _ front.1 (differs c.in-Some.header.tag c.args.tag c.if-eq.ensures)

@@ -23,12 +23,16 @@ returns-in-Ok-Nothing-clause-moves g c = looked_moves _ _ c.look_for.ensures.sam
 pub returns-in-Ok-Other-clause-moves : goal.returns-in-Ok-Other-clause-moves
 returns-in-Ok-Other-clause-moves g c = looked_moves _ _ c.look_for.ensures.same (no_fewer _ _ c.in-Ok-Other.ensures.no_fault)
 
-pub returns-in-Ok-Other-clause-absent : goal.returns-in-Ok-Other-clause-absent
+pub returns-in-Ok-Other-clause-none : goal.returns-in-Ok-Other-clause-none
 unfolding of_constructed
-returns-in-Ok-Other-clause-absent g c =
+returns-in-Ok-Other-clause-none g c =
     let i = of_constructed g.S.Source.stream c.args.self.now in
     let p = rw c.in-Ok-Other.field-0-is at c.in-Ok-Other.ensures.peeked in
-    if_other_at i (of_constructed g.S.Source.stream c.look_for.new.self) c.look_for.ensures.same c.in-Open.is _ (within_constructed g.S.Source.stream g.met.S.Source.sound c.args.self.now) p
+    record {
+      missing = if_other_at i (of_constructed g.S.Source.stream c.look_for.new.self) c.look_for.ensures.same c.in-Open.is _ (within_constructed g.S.Source.stream g.met.S.Source.sound c.args.self.now) p;
+      marked = c.look_for.ensures.same.marked;
+      no_fault = c.in-Ok-Other.ensures.no_fault;
+    }
 
 pub returns-in-Ok-Refused-clause-moves : goal.returns-in-Ok-Refused-clause-moves
 unfolding of_constructed

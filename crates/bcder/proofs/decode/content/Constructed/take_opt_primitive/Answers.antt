@@ -1,13 +1,56 @@
 use Rattle.std.proofs.Common.{true}
-use Rattle.std.proofs.Common.{rules, ◌≢◌}
-use Rattle.bcder.specs.Cause.{cause_of}
-use Rattle.bcder.specs.Content.{any, Octets}
-use Rattle.bcder.specs.Views.{of_constructed, of_primitive, of_content}
-use Rattle.bcder.proofs.Forwarding.{takes_opt, refuses_opt, constructed_other}
+use Rattle.std.specs.Prelude.{Some}
+use Rattle.bcder.specs.Cause.{cause_of, stop_cause}
+use Rattle.bcder.specs.Content.{any}
+use Rattle.bcder.specs.Peek.{header}
+use Rattle.bcder.specs.Views.{of_constructed, of_primitive}
+use Rattle.bcder.proofs.Carrying.{carries}
+use Rattle.bcder.proofs.Stopping.{header_stopped}
+use Rattle.bcder.proofs.Taking.{takes_next, moves_next, next_none, next_refused, inside_entered, allowed_entered}
 use Rattle.bcder.proofs.decode.content.Constructed.take_opt_primitive.Goals as goal
 
-pub returns-clause-value : goal.returns-clause-value
-returns-clause-value g c = takes_opt cause_of (of_content g.S.Source.stream) _ (of_primitive g.S.Source.stream) _ (λ k. k ≢ Octets) (λ t p r q x. search rules) any (of_constructed g.S.Source.stream c.args.self.now) (of_constructed g.S.Source.stream c.take_opt_value.new.self) c.take_opt_value.result c.take_opt_value.ensures.value
+pub octets_behind-requires-clause-callable : goal.octets_behind-requires-clause-callable
+octets_behind-requires-clause-callable g c p i =
+    let e = rw c.in-Ok-Some.field-0-is at c.in-Ok-Some.ensures.entered in
+    c.requires.callable _ p (inside_entered (of_constructed g.S.Source.stream c.args.self.now) _ _ _ any e.0 e.1 i)
 
-pub returns-clause-refused : goal.returns-clause-refused
-returns-clause-refused g c = refuses_opt cause_of (of_content g.S.Source.stream) _ (of_primitive g.S.Source.stream) _ (λ k. k ≢ Octets) (λ t p r q x. search rules) true constructed_other any (of_constructed g.S.Source.stream c.args.self.now) (of_constructed g.S.Source.stream c.take_opt_value.new.self) c.take_opt_value.result c.take_opt_value.ensures.refused
+pub octets_behind-requires-clause-lawful : goal.octets_behind-requires-clause-lawful
+octets_behind-requires-clause-lawful g c p r q i d =
+    let e = rw c.in-Ok-Some.field-0-is at c.in-Ok-Some.ensures.entered in
+    c.requires.lawful _ p r q (inside_entered (of_constructed g.S.Source.stream c.args.self.now) _ _ _ any e.0 e.1 i) d
+
+pub octets_behind-requires-clause-allowed : goal.octets_behind-requires-clause-allowed
+unfolding of_constructed
+octets_behind-requires-clause-allowed g c =
+    let e = rw c.in-Ok-Some.field-0-is at c.in-Ok-Some.ensures.entered in
+    allowed_entered (of_constructed g.S.Source.stream c.args.self.now) (header c.in-Ok-Some.header) _ e.1
+
+pub octets_behind-requires-clause-fits : goal.octets_behind-requires-clause-fits
+unfolding of_constructed
+octets_behind-requires-clause-fits g c =
+    let e = rw c.in-Ok-Some.field-0-is at c.in-Ok-Some.ensures.entered in
+    e.1.fits
+
+pub returns-in-Ok-Some-clause-moves : goal.returns-in-Ok-Some-clause-moves
+returns-in-Ok-Some-clause-moves g c =
+    let e = rw c.in-Ok-Some.field-0-is at c.in-Ok-Some.ensures.entered in
+    carries _ _ (moves_next (of_primitive g.S.Source.stream) _ (Some true) any (of_constructed g.S.Source.stream c.args.self.now) _ _ (header c.in-Ok-Some.header) e.0 e.1 _ c.octets_behind.ensures)
+
+pub returns-in-Ok-Some-clause-took : goal.returns-in-Ok-Some-clause-took
+returns-in-Ok-Some-clause-took g c =
+    let e = rw c.in-Ok-Some.field-0-is at c.in-Ok-Some.ensures.entered in
+    takes_next (of_primitive g.S.Source.stream) _ (Some true) any (of_constructed g.S.Source.stream c.args.self.now) _ _ (header c.in-Ok-Some.header) e.0 e.1 _ c.octets_behind.ensures
+
+pub returns-in-Ok-None-clause-moves : goal.returns-in-Ok-None-clause-moves
+returns-in-Ok-None-clause-moves g c = carries _ _ c.next_header.ensures.moves
+
+pub returns-in-Ok-None-clause-took : goal.returns-in-Ok-None-clause-took
+unfolding of_constructed
+returns-in-Ok-None-clause-took g c = next_none (of_primitive g.S.Source.stream) _ (Some true) any _ (of_constructed g.S.Source.stream c.next_header.new.self) c.next_header.ensures.mode (rw c.in-Ok-None.field-0-is at c.in-Ok-None.ensures.none)
+
+pub returns-in-Err-clause-moves : goal.returns-in-Err-clause-moves
+returns-in-Err-clause-moves g c = carries _ _ c.next_header.ensures.moves
+
+pub returns-in-Err-clause-took : goal.returns-in-Err-clause-took
+unfolding of_constructed
+returns-in-Err-clause-took g c = next_refused (of_primitive g.S.Source.stream) _ (Some true) any _ (of_constructed g.S.Source.stream c.next_header.new.self) c.next_header.ensures.mode _ (header_stopped stop_cause cause_of _ _ c.stopped.ensures.refused c.stopped.ensures.source _ _ any c.in-Err.ensures.refused) c.next_header.ensures.marked c.in-Err.ensures.failed

@@ -1,13 +1,57 @@
-use Rattle.std.proofs.Common.{true}
-use Rattle.std.proofs.Common.{rules, ◌≢◌}
-use Rattle.bcder.specs.Cause.{cause_of}
-use Rattle.bcder.specs.Content.{tagged, Octets}
-use Rattle.bcder.specs.Views.{of_constructed, of_primitive, of_content}
-use Rattle.bcder.proofs.Forwarding.{takes_opt, refuses_opt, constructed_other}
+use Rattle.std.proofs.Common.{true, sym, subst, rules}
+use Rattle.std.specs.Prelude.{Some}
+use Rattle.bcder.specs.Calls.{IsInside}
+use Rattle.bcder.specs.Cause.{cause_of, stop_cause}
+use Rattle.bcder.specs.Content.{tagged}
+use Rattle.bcder.specs.Peek.{header}
+use Rattle.bcder.specs.Views.{of_constructed, of_primitive}
+use Rattle.bcder.proofs.Carrying.{carries}
+use Rattle.bcder.proofs.Stopping.{header_stopped}
+use Rattle.bcder.proofs.Taking.{takes_next, moves_next, next_none, next_refused, inside_entered, allowed_entered, said_behind, moves_on}
 use Rattle.bcder.proofs.decode.content.Constructed.take_opt_primitive_if.Goals as goal
 
-pub returns-clause-value : goal.returns-clause-value
-returns-clause-value g c = takes_opt cause_of (of_content g.S.Source.stream) _ (of_primitive g.S.Source.stream) _ (λ k. k ≢ Octets) (λ t p r q x. search rules) (tagged c.args.tag) (of_constructed g.S.Source.stream c.args.self.now) (of_constructed g.S.Source.stream c.take_tagged.new.self) c.take_tagged.result c.take_tagged.ensures.value
+pub octets_behind-requires-clause-callable : goal.octets_behind-requires-clause-callable
+octets_behind-requires-clause-callable g c p i y s =
+    let e = rw c.in-Ok-Some.field-0-is at c.in-Ok-Some.ensures.entered in
+    c.requires.callable _ y (subst (λ z. IsInside (tagged c.args.tag) (of_constructed g.S.Source.stream c.args.self.now) (header c.in-Ok-Some.header).tag (of_primitive g.S.Source.stream z)) (sym s) (inside_entered (of_constructed g.S.Source.stream c.args.self.now) _ _ _ (tagged c.args.tag) e.0 e.1 i))
 
-pub returns-clause-refused : goal.returns-clause-refused
-returns-clause-refused g c = refuses_opt cause_of (of_content g.S.Source.stream) _ (of_primitive g.S.Source.stream) _ (λ k. k ≢ Octets) (λ t p r q x. search rules) true constructed_other (tagged c.args.tag) (of_constructed g.S.Source.stream c.args.self.now) (of_constructed g.S.Source.stream c.take_tagged.new.self) c.take_tagged.result c.take_tagged.ensures.refused
+pub octets_behind-requires-clause-lawful : goal.octets_behind-requires-clause-lawful
+octets_behind-requires-clause-lawful g c p r q i d =
+    let e = rw c.in-Ok-Some.field-0-is at c.in-Ok-Some.ensures.entered in
+    moves_on (of_primitive g.S.Source.stream) _ (IsInside (tagged c.args.tag) (of_constructed g.S.Source.stream c.args.self.now) (header c.in-Ok-Some.header).tag) (λ p r q h d. c.requires.lawful _ p r q h d) _ r _ (inside_entered (of_constructed g.S.Source.stream c.args.self.now) _ _ _ (tagged c.args.tag) e.0 e.1 i) d.1
+
+pub octets_behind-requires-clause-allowed : goal.octets_behind-requires-clause-allowed
+unfolding of_constructed
+octets_behind-requires-clause-allowed g c =
+    let e = rw c.in-Ok-Some.field-0-is at c.in-Ok-Some.ensures.entered in
+    allowed_entered (of_constructed g.S.Source.stream c.args.self.now) (header c.in-Ok-Some.header) _ e.1
+
+pub octets_behind-requires-clause-fits : goal.octets_behind-requires-clause-fits
+unfolding of_constructed
+octets_behind-requires-clause-fits g c =
+    let e = rw c.in-Ok-Some.field-0-is at c.in-Ok-Some.ensures.entered in
+    e.1.fits
+
+pub returns-in-Ok-Some-clause-moves : goal.returns-in-Ok-Some-clause-moves
+returns-in-Ok-Some-clause-moves g c =
+    let e = rw c.in-Ok-Some.field-0-is at c.in-Ok-Some.ensures.entered in
+    carries _ _ (moves_next (of_primitive g.S.Source.stream) _ (Some true) (tagged c.args.tag) (of_constructed g.S.Source.stream c.args.self.now) _ _ (header c.in-Ok-Some.header) e.0 e.1 _ c.octets_behind.ensures)
+
+pub returns-in-Ok-Some-clause-took : goal.returns-in-Ok-Some-clause-took
+returns-in-Ok-Some-clause-took g c =
+    let e = rw c.in-Ok-Some.field-0-is at c.in-Ok-Some.ensures.entered in
+    takes_next (of_primitive g.S.Source.stream) _ (Some true) (tagged c.args.tag) (of_constructed g.S.Source.stream c.args.self.now) _ _ (header c.in-Ok-Some.header) e.0 e.1 _ (said_behind (of_primitive g.S.Source.stream) _ _ (λ t p r q h. search rules) (Some true) _ _ _ _ c.octets_behind.ensures)
+
+pub returns-in-Ok-None-clause-moves : goal.returns-in-Ok-None-clause-moves
+returns-in-Ok-None-clause-moves g c = carries _ _ c.next_header_if.ensures.moves
+
+pub returns-in-Ok-None-clause-took : goal.returns-in-Ok-None-clause-took
+unfolding of_constructed
+returns-in-Ok-None-clause-took g c = next_none (of_primitive g.S.Source.stream) _ (Some true) (tagged c.args.tag) _ (of_constructed g.S.Source.stream c.next_header_if.new.self) c.next_header_if.ensures.mode (rw c.in-Ok-None.field-0-is at c.in-Ok-None.ensures.none)
+
+pub returns-in-Err-clause-moves : goal.returns-in-Err-clause-moves
+returns-in-Err-clause-moves g c = carries _ _ c.next_header_if.ensures.moves
+
+pub returns-in-Err-clause-took : goal.returns-in-Err-clause-took
+unfolding of_constructed
+returns-in-Err-clause-took g c = next_refused (of_primitive g.S.Source.stream) _ (Some true) (tagged c.args.tag) _ (of_constructed g.S.Source.stream c.next_header_if.new.self) c.next_header_if.ensures.mode _ (header_stopped stop_cause cause_of _ _ c.stopped.ensures.refused c.stopped.ensures.source _ _ (tagged c.args.tag) c.in-Err.ensures.refused) c.next_header_if.ensures.marked c.in-Err.ensures.failed

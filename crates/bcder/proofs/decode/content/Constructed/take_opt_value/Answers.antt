@@ -1,48 +1,55 @@
-use Rattle.std.proofs.Common.{refl}
-use Rattle.bcder.specs.Cause.{cause_of}
+use Rattle.std.specs.Prelude.{None}
+use Rattle.bcder.specs.Cause.{cause_of, stop_cause}
 use Rattle.bcder.specs.Content.{any}
-use Rattle.bcder.specs.Calls.{RefusesValue, content}
 use Rattle.bcder.specs.Peek.{header}
 use Rattle.bcder.specs.Views.{of_constructed, of_content}
-use Rattle.bcder.proofs.Taking.{taken_value, taken_moves, taken_shorter, refused_front, refused_moves, inside_entered, tag_entered}
-use Rattle.bcder.proofs.Refusing.{residual}
+use Rattle.bcder.proofs.Carrying.{carries}
+use Rattle.bcder.proofs.Stopping.{header_stopped}
+use Rattle.bcder.proofs.Taking.{takes_next, moves_next, next_none, next_refused, inside_entered, allowed_entered}
 use Rattle.bcder.proofs.decode.content.Constructed.take_opt_value.Goals as goal
 
-pub take_content-requires-clause-callable : goal.take_content-requires-clause-callable
-take_content-requires-clause-callable g c p i =
-    let e = rw c.in-Some.is at c.in_ok-take_header.ensures.entered in
-    c.requires.callable _ p (tag_entered _ _ _ e) (inside_entered _ _ _ _ e i)
+pub content_behind-requires-clause-callable : goal.content_behind-requires-clause-callable
+content_behind-requires-clause-callable g c p i =
+    let e = rw c.in-Ok-Some.field-0-is at c.in-Ok-Some.ensures.entered in
+    c.requires.callable _ p (inside_entered (of_constructed g.S.Source.stream c.args.self.now) _ _ _ any e.0 e.1 i)
 
-pub take_content-requires-clause-lawful : goal.take_content-requires-clause-lawful
-take_content-requires-clause-lawful g c p r q i d =
-    let e = rw c.in-Some.is at c.in_ok-take_header.ensures.entered in
-    c.requires.lawful _ p r q (tag_entered _ _ _ e) (inside_entered _ _ _ _ e i) d
+pub content_behind-requires-clause-lawful : goal.content_behind-requires-clause-lawful
+content_behind-requires-clause-lawful g c p r q i d =
+    let e = rw c.in-Ok-Some.field-0-is at c.in-Ok-Some.ensures.entered in
+    c.requires.lawful _ p r q (inside_entered (of_constructed g.S.Source.stream c.args.self.now) _ _ _ any e.0 e.1 i) d
 
-pub returns-in_err-value-in-Some-clause-moves : goal.returns-in_err-value-in-Some-clause-moves
-returns-in_err-value-in-Some-clause-moves g c =
-    let e = rw c.in-Some.is at c.in_ok-take_header.ensures.entered in
-    refused_moves _ (of_constructed g.S.Source.stream c.take_header.new.self) _ (header c.in-Some.header) any refl e cause_of (of_content g.S.Source.stream) _ _ c.in_err-value-in-Some.ensures.taken
-
-pub returns-in_err-value-in-Some-clause-refused : goal.returns-in_err-value-in-Some-clause-refused
-returns-in_err-value-in-Some-clause-refused g c =
-    let e = rw c.in-Some.is at c.in_ok-take_header.ensures.entered in
-    residual c.from_residual-in_err-value-in-Some.result _ (λ z. RefusesValue cause_of (of_content g.S.Source.stream) _ any (of_constructed g.S.Source.stream c.args.self.now) z (of_constructed g.S.Source.stream c.take_content.new.self)) c.from_residual-in_err-value-in-Some.ensures.1
-    (content (refused_front (of_constructed g.S.Source.stream c.args.self.now) (of_constructed g.S.Source.stream c.take_header.new.self) (of_constructed g.S.Source.stream c.take_content.new.self) (header c.in-Some.header) any refl e cause_of (of_content g.S.Source.stream) _ _ c.in_err-value-in-Some.ensures.taken))
-
-pub returns-in_ok-value-in-Some-clause-moves : goal.returns-in_ok-value-in-Some-clause-moves
+pub content_behind-requires-clause-allowed : goal.content_behind-requires-clause-allowed
 unfolding of_constructed
-returns-in_ok-value-in-Some-clause-moves g c =
-    let e = rw c.in-Some.is at c.in_ok-take_header.ensures.entered in
-    taken_moves (of_constructed g.S.Source.stream c.args.self.now) (of_constructed g.S.Source.stream c.take_header.new.self) (of_constructed g.S.Source.stream c.take_content.new.self) (header c.in-Some.header) any refl e cause_of (of_content g.S.Source.stream) _ _ refl refl refl _ c.in_ok-value-in-Some.ensures.taken refl refl refl refl
+content_behind-requires-clause-allowed g c =
+    let e = rw c.in-Ok-Some.field-0-is at c.in-Ok-Some.ensures.entered in
+    allowed_entered (of_constructed g.S.Source.stream c.args.self.now) (header c.in-Ok-Some.header) _ e.1
 
-pub returns-in_ok-value-in-Some-clause-value : goal.returns-in_ok-value-in-Some-clause-value
+pub content_behind-requires-clause-fits : goal.content_behind-requires-clause-fits
 unfolding of_constructed
-returns-in_ok-value-in-Some-clause-value g c =
-    let e = rw c.in-Some.is at c.in_ok-take_header.ensures.entered in
-    taken_value (of_constructed g.S.Source.stream c.args.self.now) (of_constructed g.S.Source.stream c.take_header.new.self) (of_constructed g.S.Source.stream c.take_content.new.self) (header c.in-Some.header) any refl e cause_of (of_content g.S.Source.stream) _ _ refl refl refl _ c.in_ok-value-in-Some.ensures.taken
+content_behind-requires-clause-fits g c =
+    let e = rw c.in-Ok-Some.field-0-is at c.in-Ok-Some.ensures.entered in
+    e.1.fits
 
-pub returns-in_ok-value-in-Some-clause-shorter : goal.returns-in_ok-value-in-Some-clause-shorter
+pub returns-in-Ok-Some-clause-moves : goal.returns-in-Ok-Some-clause-moves
+returns-in-Ok-Some-clause-moves g c =
+    let e = rw c.in-Ok-Some.field-0-is at c.in-Ok-Some.ensures.entered in
+    carries _ _ (moves_next (of_content g.S.Source.stream) _ None any (of_constructed g.S.Source.stream c.args.self.now) _ _ (header c.in-Ok-Some.header) e.0 e.1 _ c.content_behind.ensures)
+
+pub returns-in-Ok-Some-clause-took : goal.returns-in-Ok-Some-clause-took
+returns-in-Ok-Some-clause-took g c =
+    let e = rw c.in-Ok-Some.field-0-is at c.in-Ok-Some.ensures.entered in
+    takes_next (of_content g.S.Source.stream) _ None any (of_constructed g.S.Source.stream c.args.self.now) _ _ (header c.in-Ok-Some.header) e.0 e.1 _ c.content_behind.ensures
+
+pub returns-in-Ok-None-clause-moves : goal.returns-in-Ok-None-clause-moves
+returns-in-Ok-None-clause-moves g c = carries _ _ c.next_header.ensures.moves
+
+pub returns-in-Ok-None-clause-took : goal.returns-in-Ok-None-clause-took
 unfolding of_constructed
-returns-in_ok-value-in-Some-clause-shorter g c =
-    let e = rw c.in-Some.is at c.in_ok-take_header.ensures.entered in
-    taken_shorter (of_constructed g.S.Source.stream c.args.self.now) (of_constructed g.S.Source.stream c.take_header.new.self) (of_constructed g.S.Source.stream c.take_content.new.self) (header c.in-Some.header) any refl e cause_of (of_content g.S.Source.stream) _ _ c.in_ok-value-in-Some.ensures.taken
+returns-in-Ok-None-clause-took g c = next_none (of_content g.S.Source.stream) _ None any _ (of_constructed g.S.Source.stream c.next_header.new.self) c.next_header.ensures.mode (rw c.in-Ok-None.field-0-is at c.in-Ok-None.ensures.none)
+
+pub returns-in-Err-clause-moves : goal.returns-in-Err-clause-moves
+returns-in-Err-clause-moves g c = carries _ _ c.next_header.ensures.moves
+
+pub returns-in-Err-clause-took : goal.returns-in-Err-clause-took
+unfolding of_constructed
+returns-in-Err-clause-took g c = next_refused (of_content g.S.Source.stream) _ None any _ (of_constructed g.S.Source.stream c.next_header.new.self) c.next_header.ensures.mode _ (header_stopped stop_cause cause_of _ _ c.stopped.ensures.refused c.stopped.ensures.source _ _ any c.in-Err.ensures.refused) c.next_header.ensures.marked c.in-Err.ensures.failed

@@ -1,57 +1,81 @@
-use Rattle.std.proofs.Common.{rules, false, ◌≡◌, ◌+◌, ◌≤◌, length, arith, refl, ap}
+use Rattle.std.proofs.Common.{rules, false, ◌≡◌, ◌∙◌, ◌+◌, ◌≤◌, length, arith, refl, ap}
 use Rattle.std.specs.Prelude.{Ok, Some}
 use Rattle.bcder.specs.Cause.{stop_cause}
-use Rattle.bcder.specs.Content.{any, EndsAt, values}
+use Rattle.bcder.specs.Content.{any, EndsAt, IsDone, values}
 use Rattle.bcder.specs.Calls.{content}
 use Rattle.bcder.specs.Peek.{header}
-use Rattle.bcder.specs.Walking.{PassesValue, RefusesValues, itself, walked}
+use Rattle.bcder.specs.Walking.{PassesValue, itself, walked}
 use Rattle.bcder.specs.Views.{of_constructed, limited_stream}
 use Rattle.bcder.proofs.Moving.{moves_trans}
 use Rattle.bcder.proofs.Names.{within_constructed, constructed_form, moves_constructed_name}
-use Rattle.bcder.proofs.Refusing.{residual, if_err}
+use Rattle.bcder.proofs.Refusing.{if_err}
 use Rattle.bcder.proofs.Entering.{kind_of}
 use Rattle.bcder.proofs.Inner.{takes_values, takes_marked}
 use Rattle.bcder.proofs.Taking.{taken_value, taken_moves, refused_front, refused_moves}
 use Rattle.bcder.proofs.Stepping.{step_refused, next_refused, entered_shorter, stop_reason, or_none, ran_values, skips}
-use Rattle.bcder.proofs.Walking.{walks_refl, walks_value, walks_refused, walks_all, moves_shorter, value_shorter}
+use Rattle.bcder.proofs.Walking.{walks_refl, walks_value, walks_refused, all_refused, walks_all, moves_shorter, value_shorter}
 use Rattle.bcder.proofs.Walked.{walks_one, some_value, none_value}
 use Rattle.bcder.proofs.decode.content.walk.+walk.Goals as goal
 
 pub step-pass_content-requires : goal.step-pass_content-requires
 unfolding of_constructed
 step-pass_content-requires g t c κs within =
-    let e = rw c.in-Ok-Entered.field-0-is at c.in-Ok-Entered.ensures.goes in
+    let e = rw c.in-Ok-Entered.field-0-is at c.in-Ok-Entered.ensures.stepped.goes in
     let f = e.fits in let h : length (of_constructed g.S.Source.stream c.go_on.new.cons).stream.rest + 2 ≤ length (of_constructed g.S.Source.stream c.args.cons.now).stream.rest = entered_shorter _ _ _ e in search rules
 
 pub step-returns-in-Ok-clause-moves : goal.step-returns-in-Ok-clause-moves
 unfolding of_constructed
 step-returns-in-Ok-clause-moves g t c =
-    let e = rw c.in-Ok-Entered.field-0-is at c.in-Ok-Entered.ensures.goes in
+    let e = rw c.in-Ok-Entered.field-0-is at c.in-Ok-Entered.ensures.stepped.goes in
     taken_moves (of_constructed g.S.Source.stream c.args.cons.now) (of_constructed g.S.Source.stream c.go_on.new.cons) (of_constructed g.S.Source.stream c.pass_content.new.cons) (header c.in-Ok-Entered.header) any refl e stop_cause itself (walked stop_cause) _ refl refl refl _ c.in-Ok.ensures.taken refl refl refl refl
 
-pub step-returns-in-Ok-clause-value : goal.step-returns-in-Ok-clause-value
+pub step-returns-in-Ok-clause-passed : goal.step-returns-in-Ok-clause-passed
 unfolding of_constructed
-step-returns-in-Ok-clause-value g t c =
-    let e = rw c.in-Ok-Entered.field-0-is at c.in-Ok-Entered.ensures.goes in
-    walks_one stop_cause itself (walked stop_cause) (λ t p r q x. x) (of_constructed g.S.Source.stream c.args.cons.now) _ (Ok (Some _)) (taken_value (of_constructed g.S.Source.stream c.args.cons.now) (of_constructed g.S.Source.stream c.go_on.new.cons) (of_constructed g.S.Source.stream c.pass_content.new.cons) (header c.in-Ok-Entered.header) any refl e stop_cause itself (walked stop_cause) _ refl refl refl _ c.in-Ok.ensures.taken)
+step-returns-in-Ok-clause-passed g t c =
+    let e = rw c.in-Ok-Entered.field-0-is at c.in-Ok-Entered.ensures.stepped.goes in
+    record {
+      value = walks_one stop_cause itself (walked stop_cause) (λ t p r q x. x) (of_constructed g.S.Source.stream c.args.cons.now) _ (Ok (Some _)) (taken_value (of_constructed g.S.Source.stream c.args.cons.now) (of_constructed g.S.Source.stream c.go_on.new.cons) (of_constructed g.S.Source.stream c.pass_content.new.cons) (header c.in-Ok-Entered.header) any refl e stop_cause itself (walked stop_cause) _ refl refl refl _ c.in-Ok.ensures.taken);
+      end = tt;
+      done = tt;
+      refused = tt;
+      failed = tt;
+      mode = c.pass_content.ensures.mode ∙ c.go_on.ensures.stepped.mode;
+      marked = c.pass_content.ensures.marked ∙ c.go_on.ensures.stepped.marked;
+    }
 
 pub step-returns-in-Err-pass_content-clause-moves : goal.step-returns-in-Err-pass_content-clause-moves
 unfolding of_constructed
 step-returns-in-Err-pass_content-clause-moves g t c =
-    let e = rw c.in-Ok-Entered.field-0-is at c.in-Ok-Entered.ensures.goes in
+    let e = rw c.in-Ok-Entered.field-0-is at c.in-Ok-Entered.ensures.stepped.goes in
     refused_moves (of_constructed g.S.Source.stream c.args.cons.now) (of_constructed g.S.Source.stream c.go_on.new.cons) (of_constructed g.S.Source.stream c.pass_content.new.cons) (header c.in-Ok-Entered.header) any refl e stop_cause itself (walked stop_cause) _ c.in-Err-pass_content.ensures.taken
 
-pub step-returns-in-Err-pass_content-clause-refused : goal.step-returns-in-Err-pass_content-clause-refused
+pub step-returns-in-Err-pass_content-clause-passed : goal.step-returns-in-Err-pass_content-clause-passed
 unfolding of_constructed
-step-returns-in-Err-pass_content-clause-refused g t c =
-    let e = rw c.in-Ok-Entered.field-0-is at c.in-Ok-Entered.ensures.goes in
-    step_refused stop_cause (of_constructed g.S.Source.stream c.args.cons.now) (of_constructed g.S.Source.stream c.pass_content.new.cons) _ (within_constructed g.S.Source.stream g.met.S.Source.sound c.args.cons.now)
-    (content (refused_front (of_constructed g.S.Source.stream c.args.cons.now) (of_constructed g.S.Source.stream c.go_on.new.cons) (of_constructed g.S.Source.stream c.pass_content.new.cons) (header c.in-Ok-Entered.header) any refl e stop_cause itself (walked stop_cause) _ c.in-Err-pass_content.ensures.taken))
+step-returns-in-Err-pass_content-clause-passed g t c =
+    let e = rw c.in-Ok-Entered.field-0-is at c.in-Ok-Entered.ensures.stepped.goes in
+    record {
+      value = tt;
+      end = tt;
+      done = tt;
+      refused =
+          step_refused stop_cause (of_constructed g.S.Source.stream c.args.cons.now) (of_constructed g.S.Source.stream c.pass_content.new.cons) _ (within_constructed g.S.Source.stream g.met.S.Source.sound c.args.cons.now)
+          (content (refused_front (of_constructed g.S.Source.stream c.args.cons.now) (of_constructed g.S.Source.stream c.go_on.new.cons) (of_constructed g.S.Source.stream c.pass_content.new.cons) (header c.in-Ok-Entered.header) any refl e stop_cause itself (walked stop_cause) _ c.in-Err-pass_content.ensures.taken));
+      failed = c.pass_content.ensures.state ∙ e.opened;
+      mode = c.pass_content.ensures.mode ∙ c.go_on.ensures.stepped.mode;
+      marked = c.pass_content.ensures.marked ∙ c.go_on.ensures.stepped.marked;
+    }
 
-pub step-returns-in-Err-clause-refused : goal.step-returns-in-Err-clause-refused
+pub step-returns-in-Err-clause-passed : goal.step-returns-in-Err-clause-passed
 unfolding of_constructed
-step-returns-in-Err-clause-refused g t c =
-    next_refused stop_cause (of_constructed g.S.Source.stream c.args.cons.now) (of_constructed g.S.Source.stream c.go_on.new.cons) _ (within_constructed g.S.Source.stream g.met.S.Source.sound c.args.cons.now) c.in-Err.ensures.refused
+step-returns-in-Err-clause-passed g t c = record {
+  value = tt;
+  end = tt;
+  done = tt;
+  refused = next_refused stop_cause (of_constructed g.S.Source.stream c.args.cons.now) (of_constructed g.S.Source.stream c.go_on.new.cons) _ (within_constructed g.S.Source.stream g.met.S.Source.sound c.args.cons.now) c.in-Err.ensures.stepped.refused;
+  failed = c.in-Err.ensures.stepped.failed;
+  mode = c.go_on.ensures.stepped.mode;
+  marked = c.go_on.ensures.stepped.marked;
+}
 
 pub pass_content-returns-then-header-clause-taken : goal.pass_content-returns-then-header-clause-taken
 unfolding of_constructed
@@ -78,7 +102,7 @@ pub walk_over-returns : goal.walk_over-returns
 unfolding of_constructed
 walk_over-returns g t c u =
     let same : c.walk_all.new.cons.source.now ≡ c.source-2-1.given.0 = search rules in
-    ran_values stop_cause _ (of_constructed g.S.Source.stream c.walk_all.new.cons) c.walk_all.result c.walk_all.ensures.moves c.walk_all.ensures.marked c.walk_all.ensures.done c.walk_all.ensures.refused
+    ran_values stop_cause _ (of_constructed g.S.Source.stream c.walk_all.new.cons) c.walk_all.result c.walk_all.ensures.moves c.walk_all.ensures.passed.marked c.walk_all.ensures.passed.done c.walk_all.ensures.passed.refused
     (limited_stream g.S.Source.stream c.args.source.now) (limited_stream g.S.Source.stream c.source-2-1.given.0) c.args.source.now.limit c.source-2-1.given.0.limit (values c.args.kind) c.args.mode u refl refl refl refl refl refl (ap (limited_stream g.S.Source.stream) same) (ap (λ z. z.limit) same) (λ e. c.requires (kind_of _ _ e))
 
 pub walk_all-loop-init : goal.walk_all-loop-init
@@ -91,37 +115,47 @@ walk_all-step-requires g t c κs within =
 pub walk_all-returns-in_err-step-clause-moves : goal.walk_all-returns-in_err-step-clause-moves
 walk_all-returns-in_err-step-clause-moves g t c = moves_trans _ _ _ c.loop.invariant.moves c.in_err-step.ensures.moves
 
-pub walk_all-returns-in_err-step-clause-refused : goal.walk_all-returns-in_err-step-clause-refused
-walk_all-returns-in_err-step-clause-refused g t c =
+pub walk_all-returns-in_err-step-clause-passed : goal.walk_all-returns-in_err-step-clause-passed
+walk_all-returns-in_err-step-clause-passed g t c =
     let i = of_constructed g.S.Source.stream c.args.cons.now in
     let j = of_constructed g.S.Source.stream c.loop.cons in
     let k = of_constructed g.S.Source.stream c.step.new.cons in
-    residual c.from_residual.result _ (λ e. RefusesValues stop_cause i e k) c.from_residual.ensures.1
-    (walks_refused stop_cause _ i j k (constructed_form g.S.Source.stream c.args.cons.now) c.loop.invariant c.in_err-step.ensures.refused)
+    all_refused stop_cause i k c.from_residual.result _ c.from_residual.ensures.1
+    (walks_refused stop_cause _ i j k (constructed_form g.S.Source.stream c.args.cons.now) c.loop.invariant c.in_err-step.ensures.passed.refused)
+    c.in_err-step.ensures.passed.failed
+    (c.in_err-step.ensures.passed.mode ∙ c.loop.invariant.mode)
+    (c.in_err-step.ensures.passed.marked ∙ c.loop.invariant.marked)
 
 pub walk_all-loop-smaller : goal.walk_all-loop-smaller
 walk_all-loop-smaller g t c =
     let j = of_constructed g.S.Source.stream c.loop.cons in
     let k = of_constructed g.S.Source.stream c.step.new.cons in
-    let h = value_shorter j k (some_value (PassesValue j k) _ c.if-is_some.ensures c.in_ok-step.ensures.value) in omega (arith, h)
+    let h = value_shorter j k (some_value (PassesValue j k) _ c.if-is_some.ensures c.in_ok-step.ensures.passed.value) in omega (arith, h)
 
 pub walk_all-loop-preserved : goal.walk_all-loop-preserved
 walk_all-loop-preserved g t c =
     let i = of_constructed g.S.Source.stream c.args.cons.now in
     let j = of_constructed g.S.Source.stream c.loop.cons in
     let k = of_constructed g.S.Source.stream c.step.new.cons in
-    walks_value i j k (within_constructed g.S.Source.stream g.met.S.Source.sound c.loop.cons) c.loop.invariant c.in_ok-step.ensures.moves c.in_ok-step.ensures.mode c.in_ok-step.ensures.marked
-    (some_value (PassesValue j k) _ c.if-is_some.ensures c.in_ok-step.ensures.value)
+    walks_value i j k (within_constructed g.S.Source.stream g.met.S.Source.sound c.loop.cons) c.loop.invariant c.in_ok-step.ensures.moves c.in_ok-step.ensures.passed.mode c.in_ok-step.ensures.passed.marked
+    (some_value (PassesValue j k) _ c.if-is_some.ensures c.in_ok-step.ensures.passed.value)
 
 pub walk_all-returns-clause-moves : goal.walk_all-returns-clause-moves
 walk_all-returns-clause-moves g t c = moves_trans _ _ _ c.loop.invariant.moves c.in_ok-step.ensures.moves
 
-pub walk_all-returns-clause-all : goal.walk_all-returns-clause-all
-walk_all-returns-clause-all g t c s =
+pub walk_all-returns-clause-passed : goal.walk_all-returns-clause-passed
+walk_all-returns-clause-passed g t c =
     let i = of_constructed g.S.Source.stream c.args.cons.now in
     let j = of_constructed g.S.Source.stream c.loop.cons in
     let k = of_constructed g.S.Source.stream c.step.new.cons in
-    walks_all i j k (constructed_form g.S.Source.stream c.args.cons.now) c.loop.invariant (none_value (EndsAt j k) _ c.if-is_some.ensures c.in_ok-step.ensures.end) s
+    record {
+      all = λ s. walks_all i j k (constructed_form g.S.Source.stream c.args.cons.now) c.loop.invariant (none_value (EndsAt j k) _ c.if-is_some.ensures c.in_ok-step.ensures.passed.end) s;
+      done = none_value (IsDone k) _ c.if-is_some.ensures c.in_ok-step.ensures.passed.done;
+      refused = tt;
+      failed = tt;
+      mode = c.in_ok-step.ensures.passed.mode ∙ c.loop.invariant.mode;
+      marked = c.in_ok-step.ensures.passed.marked ∙ c.loop.invariant.marked;
+    }
 
 pub walk_all-returns-in_err-step-clause-name : goal.walk_all-returns-in_err-step-clause-name
 walk_all-returns-in_err-step-clause-name g t c = moves_constructed_name g.S.Source.stream c.args.cons.now c.step.new.cons (moves_trans _ _ _ c.loop.invariant.moves c.in_err-step.ensures.moves)

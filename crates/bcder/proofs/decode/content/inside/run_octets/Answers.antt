@@ -1,0 +1,25 @@
+use Rattle.std.proofs.Common.{refl, ap, subst, sym}
+use Rattle.bcder.specs.Content.{Moves}
+use Rattle.bcder.specs.Calls.{by_closure, unfinished}
+use Rattle.bcder.specs.Views.{of_primitive}
+use Rattle.bcder.proofs.Moving.{moves_refl}
+use Rattle.bcder.proofs.decode.content.inside.run_octets.Goals as goal
+
+pub returns-in-Err-clause-refused : goal.returns-in-Err-clause-refused
+returns-in-Err-clause-refused g c = by_closure (record { handed = _; left = _; handed_is = refl; left_is = refl; called = c.in-Err.ensures })
+
+pub returns-in-Err-finish-clause-refused : goal.returns-in-Err-finish-clause-refused
+returns-in-Err-finish-clause-refused g c =
+    unfinished c.in-Ok.value (of_primitive g.S.Source.stream c.op.new.arg3)
+    (record { handed = _; left = _; handed_is = refl; left_is = refl; called = c.in-Ok.ensures })
+    (subst (λ z. Moves (of_primitive g.S.Source.stream c.op.new.arg3) (of_primitive g.S.Source.stream z)) (sym c.finish.ensures.same) (moves_refl _)) c.in-Err-finish.ensures.refused
+
+pub returns-in-Ok-finish-clause-ok : goal.returns-in-Ok-finish-clause-ok
+returns-in-Ok-finish-clause-ok g c = record {
+  left = of_primitive g.S.Source.stream c.op.new.arg3;
+  answered = record { handed = _; left = _; handed_is = refl; left_is = refl; called = c.in-Ok.ensures };
+  finishes = (subst (λ z. Moves (of_primitive g.S.Source.stream c.op.new.arg3) (of_primitive g.S.Source.stream z)) (sym c.finish.ensures.same) (moves_refl _));
+  marked = ap (λ z. (of_primitive g.S.Source.stream z).marked) c.finish.ensures.same;
+  ends = c.in-Ok-finish.ensures.end;
+  done = c.in-Ok-finish.ensures.done;
+}

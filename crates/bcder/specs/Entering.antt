@@ -1,0 +1,30 @@
+-- What a step over the header of the next value answers and leaves.
+use Rattle.std.specs.Prelude.{◌≡◌, Option, Result, IfOk, IfErr, IfSome, IfNone, OnOk, OnErr}
+use Rattle.bcder.specs.declared.decode.error.ContentError.{ContentError}
+use Rattle.bcder.specs.declared.decode.header.Header.{Header as Kept}
+use Rattle.bcder.specs.Cause.{Cause}
+use Rattle.bcder.specs.Peek.{header}
+use Rattle.bcder.specs.Stream.{Grew}
+use Rattle.bcder.specs.Content.{Reading, Asked, IsAsked, Enters, RefusesHeader}
+use Rattle.bcder.specs.Takes.{HasNone}
+
+module _ {E : Type 0} (c d : Reading) where
+  -- the header of a value that is asked for was passed
+  abbrev pub EntersNext : Asked → Result (Option Kept) E → Type 0
+  EntersNext asked r = IfOk r (λ o. IfSome o (λ h. IsAsked asked h.tag × Enters c (header h) d))
+
+  -- there is none, and what is left
+  abbrev pub FindsNone : Asked → {T : Type 0} → Result (Option T) E → Type 0
+  FindsNone asked r = IfOk r (λ o. IfNone o (HasNone asked c d))
+
+  -- why none was passed
+  abbrev pub RefusesNext : (E → Cause ContentError) → Asked → {T : Type 0} → Result T E → Type 0
+  RefusesNext why asked r = IfErr r (λ e. RefusesHeader why asked c e d)
+
+  -- where it succeeded, the source met no fault
+  abbrev pub MeetsNoFault : {T : Type 0} → Result T E → Type 0
+  MeetsNoFault r = OnOk r (d.stream.faults ≡ c.stream.faults)
+
+  -- where it didn't, the source failed
+  abbrev pub MeetsFault : {T : Type 0} → Result T E → Type 0
+  MeetsFault r = OnErr r (Grew c.stream.faults d.stream.faults)

@@ -1,0 +1,578 @@
+//! Taking the content of a value whose header was passed over.
+ghost use Rattle.std.specs.Prelude.{◌≡◌, ◌||◌, Bool, true, false, None, Some, Ok, IfOk, IfErr};
+ghost use Rattle.std.specs.Prelude.{OnOk};
+ghost use Rattle.bcder.specs.Calls.{MayBeCalledAt, IsLawfulAt, IsOver, AnswersDone, RefusesContent};
+ghost use Rattle.bcder.specs.Calls.{RefusesEnd, RanOver, TakesContent};
+ghost use Rattle.bcder.specs.Cause.{cause_of, stop_cause};
+ghost use Rattle.bcder.specs.Content.{Octets, Moves, FitsOwed, values, EndsAt, IsDone};
+ghost use Rattle.bcder.specs.Encoding.{may_have};
+ghost use Rattle.bcder.specs.Inside.{kind_behind, limit_inside, limit_outside, IsBehind};
+ghost use Rattle.bcder.specs.Inside.{TakesBehind};
+ghost use Rattle.bcder.specs.Peek.{header as header_of};
+ghost use Rattle.bcder.specs.Views.{of_constructed, of_primitive, of_content, limited_stream};
+ghost use Rattle.bcder.specs.Views.{content_name, content_source, content_mark, before, after};
+ghost use Rattle.bcder.specs.Views.{octets_before, octets_after, content_before, content_after};
+
+use super::take::{pop, push};
+use super::{Constructed, Content, Kind, Primitive, State};
+use crate::decode::error::DecodeError;
+use crate::decode::header::Header;
+use crate::decode::source::{LimitedSource, Source};
+use crate::decode::stop::{Stop, Why};
+use crate::length::Length;
+use crate::mode::Mode;
+use crate::tag::Tag;
+
+/// How the end of the values behind a length is known (X.690, 8.1.3.2).
+#[inline(always)]
+fn kind_behind(len: Length) -> Kind
+    ensures { result ≡ kind_behind len }
+{
+    match len {
+        Length::Definite(_) => Kind::Definite,
+        Length::Indefinite => Kind::Indefinite,
+    }
+}
+
+/// Limits the source to the content behind a length, and answers the limit of the content around
+/// it.
+#[inline(always)]
+fn go_inside<S>(source: &mut LimitedSource<S>, len: Length) -> Option<usize>
+    ensures outer { result ≡ source.old.limit }
+    ensures limit { source.new.limit ≡ limit_inside len source.old.limit }
+    ensures source { source.new.source ≡ source.old.source }
+{
+    match len {
+        Length::Definite(len) => push(source, len),
+        Length::Indefinite => source.limit(),
+    }
+}
+
+/// Gives the source the limit of the content around a value back, less what was passed over.
+#[inline(always)]
+fn go_outside<S>(source: &mut LimitedSource<S>, outer: Option<usize>, len: Length)
+    ensures limit { source.new.limit ≡ limit_outside len outer source.old.limit }
+    ensures source { source.new.source ≡ source.old.source }
+{
+    if let Length::Definite(len) = len {
+        pop(source, outer, len);
+    }
+}
+
+/// Whether one of two marks is set.
+#[inline(always)]
+fn either(one: bool, other: bool) -> bool
+    ensures { result ≡ (one || other) }
+{
+    one || other
+}
+
+impl<'a, S: Source> Primitive<'a, S> {
+    /// Makes sure that no octets are left.
+    #[tactic(auto, using(crate::proofs::moves_refl), unfolding(crate::specs::Views::of_primitive))]
+    #[inline(always)]
+    fn finish(&mut self) -> Result<(), DecodeError<S::Error>>
+        ensures same { self.new ≡ self.old }
+        ensures done { OnOk result (IsDone (octets_after S.stream self)) }
+        ensures end { OnOk result
+            (EndsAt (octets_before S.stream self) (octets_after S.stream self)) }
+        ensures refused { IfErr result (λ e.
+            RefusesEnd cause_of (octets_before S.stream self) e (octets_after S.stream self)) }
+    {
+        match self.source.limit() {
+            Some(0) => Ok(()),
+            _ => Err(self.refusal("octets left in a primitive value")),
+        }
+    }
+}
+
+impl<'a, S: Source> Constructed<'a, S> {
+    /// Makes sure that the content is at its end, and takes its marker.
+    #[tactic(auto, using(crate::proofs::moves_refl), unfolding(crate::specs::Views::views))]
+    #[inline(always)]
+    fn finish(&mut self) -> Result<(), DecodeError<S::Error>>
+        ensures moves { Moves (before S.stream self) (after S.stream self) }
+        ensures name { self.new.source.ghost_name ≡ self.old.source.ghost_name }
+        ensures marked { self.new.marked ≡ self.old.marked }
+        ensures done { OnOk result (IsDone (after S.stream self)) }
+        ensures end { OnOk result (EndsAt (before S.stream self) (after S.stream self)) }
+        ensures refused { IfErr result (λ e.
+            RefusesEnd cause_of (before S.stream self) e (after S.stream self)) }
+    {
+        if let State::Open = self.state {
+            if self.is_used_up() {
+                return Ok(());
+            }
+        }
+        match self.finish_apart() {
+            Ok(()) => Ok(()),
+            Err(stop) => Err(self.stopped(stop)),
+        }
+    }
+
+    /// The same in a call of its own, with a stop in the place of an error.
+    #[tactic(auto, using(crate::proofs::moves_constructed_name))]
+    #[inline(never)]
+    fn finish_apart(&mut self) -> Result<(), Stop<S::Error>>
+        ensures moves { Moves (before S.stream self) (after S.stream self) }
+        ensures name { self.new.source.ghost_name ≡ self.old.source.ghost_name }
+        ensures marked { self.new.marked ≡ self.old.marked }
+        ensures done { OnOk result (IsDone (after S.stream self)) }
+        ensures end { OnOk result (EndsAt (before S.stream self) (after S.stream self)) }
+        ensures refused { IfErr result (λ e.
+            RefusesEnd stop_cause (before S.stream self) e (after S.stream self)) }
+    {
+        match self.next_header() {
+            Ok(None) => Ok(()),
+            Ok(Some(_)) => Err(Stop::Refused(Why::ValuesLeft)),
+            Err(stop) => Err(stop),
+        }
+    }
+}
+
+impl<'a, S: Source> Content<'a, S> {
+    /// Makes sure that the content is at its end, and takes its marker.
+    #[tactic(auto, using(crate::proofs::moves_refl), unfolding(crate::specs::Views::views))]
+    #[inline(always)]
+    fn finish(&mut self) -> Result<(), DecodeError<S::Error>>
+        ensures moves { Moves (content_before S.stream self) (content_after S.stream self) }
+        ensures marked { content_mark self.new ≡ content_mark self.old }
+        ensures done { OnOk result (IsDone (content_after S.stream self)) }
+        ensures end { OnOk result
+            (EndsAt (content_before S.stream self) (content_after S.stream self)) }
+        ensures refused { IfErr result (λ e.
+            RefusesEnd cause_of (content_before S.stream self) e (content_after S.stream self)) }
+    {
+        match self {
+            Content::Primitive(octets) => octets.finish(),
+            Content::Constructed(values) => values.finish(),
+        }
+    }
+
+    /// Whether a mode was changed.
+    #[inline(always)]
+    fn is_marked(&self) -> bool
+        ensures { result ≡ content_mark self.now }
+    {
+        match self {
+            Content::Primitive(octets) => octets.marked,
+            Content::Constructed(values) => values.marked,
+        }
+    }
+
+    /// Hands the source back to its owner.
+    #[inline(always)]
+    fn into_source(self) -> &'a mut LimitedSource<S>
+        ensures name { result.ghost_name ≡ content_name self.entry }
+        ensures now { result.now ≡ content_source self.entry }
+    {
+        match self {
+            Content::Primitive(Primitive { source, .. }) => source,
+            Content::Constructed(Constructed { source, .. }) => source,
+        }
+    }
+}
+
+/// Calls the closure on contents octets, of which then none are left.
+#[tactic(auto, using(crate::proofs::moves_trans, crate::proofs::moves_octets_name))]
+#[inline(always)]
+fn run_octets<S: Source, F, T: Drop>(
+    octets: &mut Primitive<'_, S>,
+    tag: Tag,
+    op: F,
+) -> Result<T, DecodeError<S::Error>>
+where
+    F: FnOnce(Tag, &mut Primitive<'_, S>) -> Result<T, DecodeError<S::Error>>,
+    requires callable { MayBeCalledAt (of_primitive S.stream)
+        (λ i. i ≡ of_primitive S.stream octets.old) tag (F.pre op) }
+    requires lawful { IsLawfulAt (of_primitive S.stream)
+        (λ i. i ≡ of_primitive S.stream octets.old) tag (F.post op) }
+    ensures moves { Moves (octets_before S.stream octets) (octets_after S.stream octets) }
+    ensures name { octets.new.source.ghost_name ≡ octets.old.source.ghost_name }
+    ensures ok { IfOk result (λ x.
+        AnswersDone (of_primitive S.stream) (F.post op) tag
+        (octets_before S.stream octets) (Ok x) (octets_after S.stream octets)) }
+    ensures refused { IfErr result (λ e.
+        RefusesContent cause_of (of_primitive S.stream) (F.post op) tag
+        (octets_before S.stream octets) e (octets_after S.stream octets)) }
+{
+    match op(tag, octets) {
+        Ok(value) => match octets.finish() {
+            Ok(()) => Ok(value),
+            Err(error) => Err(error),
+        },
+        Err(error) => Err(error),
+    }
+}
+
+/// Calls the closure on values, which then are at their end.
+#[tactic(auto, using(crate::proofs::moves_trans, crate::proofs::moves_constructed_name))]
+#[inline(always)]
+fn run_values<S: Source, F, T: Drop>(
+    cons: &mut Constructed<'_, S>,
+    tag: Tag,
+    op: F,
+) -> Result<T, DecodeError<S::Error>>
+where
+    F: FnOnce(Tag, &mut Constructed<'_, S>) -> Result<T, DecodeError<S::Error>>,
+    requires callable { MayBeCalledAt (of_constructed S.stream)
+        (λ i. i ≡ of_constructed S.stream cons.old) tag (F.pre op) }
+    requires lawful { IsLawfulAt (of_constructed S.stream)
+        (λ i. i ≡ of_constructed S.stream cons.old) tag (F.post op) }
+    ensures moves { Moves (before S.stream cons) (after S.stream cons) }
+    ensures name { cons.new.source.ghost_name ≡ cons.old.source.ghost_name }
+    ensures ok { IfOk result (λ x.
+        AnswersDone (of_constructed S.stream) (F.post op) tag
+        (before S.stream cons) (Ok x) (after S.stream cons)) }
+    ensures refused { IfErr result (λ e.
+        RefusesContent cause_of (of_constructed S.stream) (F.post op) tag
+        (before S.stream cons) e (after S.stream cons)) }
+{
+    match op(tag, cons) {
+        Ok(value) => match cons.finish() {
+            Ok(()) => Ok(value),
+            Err(error) => Err(error),
+        },
+        Err(error) => Err(error),
+    }
+}
+
+/// Calls the closure on content, which then is at its end.
+#[tactic(auto, using(crate::proofs::moves_trans, crate::proofs::moves_content_name))]
+#[inline(always)]
+fn run<S: Source, F, T: Drop>(
+    content: &mut Content<'_, S>,
+    tag: Tag,
+    op: F,
+) -> Result<T, DecodeError<S::Error>>
+where
+    F: FnOnce(Tag, &mut Content<'_, S>) -> Result<T, DecodeError<S::Error>>,
+    requires callable { MayBeCalledAt (of_content S.stream)
+        (λ i. i ≡ of_content S.stream content.old) tag (F.pre op) }
+    requires lawful { IsLawfulAt (of_content S.stream)
+        (λ i. i ≡ of_content S.stream content.old) tag (F.post op) }
+    ensures moves { Moves (content_before S.stream content) (content_after S.stream content) }
+    ensures name { content_name content.new ≡ content_name content.old }
+    ensures ok { IfOk result (λ x.
+        AnswersDone (of_content S.stream) (F.post op) tag
+        (content_before S.stream content) (Ok x) (content_after S.stream content)) }
+    ensures refused { IfErr result (λ e.
+        RefusesContent cause_of (of_content S.stream) (F.post op) tag
+        (content_before S.stream content) e (content_after S.stream content)) }
+{
+    match op(tag, content) {
+        Ok(value) => match content.finish() {
+            Ok(()) => Ok(value),
+            Err(error) => Err(error),
+        },
+        Err(error) => Err(error),
+    }
+}
+
+/// Calls the closure on the contents octets that a source is limited to, and says whether it
+/// changed the mode.
+#[tactic(auto, using(crate::proofs::moves), unfolding(crate::specs::Views::of_primitive))]
+#[inline(always)]
+fn octets_over<S: Source, F, T: Drop>(
+    source: &mut LimitedSource<S>,
+    mode: Mode,
+    tag: Tag,
+    op: F,
+) -> (Result<T, DecodeError<S::Error>>, bool)
+where
+    F: FnOnce(Tag, &mut Primitive<'_, S>) -> Result<T, DecodeError<S::Error>>,
+    requires callable { MayBeCalledAt (of_primitive S.stream)
+        (IsOver (limited_stream S.stream source.old) source.old.limit Octets mode)
+        tag (F.pre op) }
+    requires lawful { IsLawfulAt (of_primitive S.stream)
+        (IsOver (limited_stream S.stream source.old) source.old.limit Octets mode)
+        tag (F.post op) }
+    ensures { RanOver cause_of (of_primitive S.stream) (F.post op)
+        (limited_stream S.stream source.old) source.old.limit Octets mode tag
+        result.0 result.1 (limited_stream S.stream source.new) source.new.limit }
+{
+    let start = source.pos();
+    let mut octets = Primitive {
+        source: &mut *source,
+        mode,
+        marked: false,
+        start,
+    };
+    let result = run_octets(&mut octets, tag, op);
+    let marked = octets.marked;
+    (result, marked)
+}
+
+/// The same on values.
+#[tactic(auto, using(crate::proofs::moves), unfolding(crate::specs::Views::of_constructed))]
+#[inline(always)]
+fn values_over<S: Source, F, T: Drop>(
+    source: &mut LimitedSource<S>,
+    kind: Kind,
+    mode: Mode,
+    tag: Tag,
+    op: F,
+) -> (Result<T, DecodeError<S::Error>>, bool)
+where
+    F: FnOnce(Tag, &mut Constructed<'_, S>) -> Result<T, DecodeError<S::Error>>,
+    requires callable { MayBeCalledAt (of_constructed S.stream)
+        (IsOver (limited_stream S.stream source.old) source.old.limit (values kind) mode)
+        tag (F.pre op) }
+    requires lawful { IsLawfulAt (of_constructed S.stream)
+        (IsOver (limited_stream S.stream source.old) source.old.limit (values kind) mode)
+        tag (F.post op) }
+    ensures { RanOver cause_of (of_constructed S.stream) (F.post op)
+        (limited_stream S.stream source.old) source.old.limit (values kind) mode tag
+        result.0 result.1 (limited_stream S.stream source.new) source.new.limit }
+{
+    let start = source.pos();
+    let mut cons = Constructed {
+        source: &mut *source,
+        kind,
+        state: State::Open,
+        mode,
+        marked: false,
+        start,
+    };
+    let result = run_values(&mut cons, tag, op);
+    let marked = cons.marked;
+    (result, marked)
+}
+
+/// The same on contents octets, for a closure that takes either form.
+#[tactic(auto, using(crate::proofs::moves), unfolding(crate::specs::Views::views))]
+#[inline(always)]
+fn run_primitive<S: Source, F, T: Drop>(
+    source: &mut LimitedSource<S>,
+    mode: Mode,
+    tag: Tag,
+    op: F,
+) -> (Result<T, DecodeError<S::Error>>, bool)
+where
+    F: FnOnce(Tag, &mut Content<'_, S>) -> Result<T, DecodeError<S::Error>>,
+    requires callable { MayBeCalledAt (of_content S.stream)
+        (IsOver (limited_stream S.stream source.old) source.old.limit Octets mode)
+        tag (F.pre op) }
+    requires lawful { IsLawfulAt (of_content S.stream)
+        (IsOver (limited_stream S.stream source.old) source.old.limit Octets mode)
+        tag (F.post op) }
+    ensures { RanOver cause_of (of_content S.stream) (F.post op)
+        (limited_stream S.stream source.old) source.old.limit Octets mode tag
+        result.0 result.1 (limited_stream S.stream source.new) source.new.limit }
+{
+    let start = source.pos();
+    let mut content = Content::Primitive(Primitive {
+        source: &mut *source,
+        mode,
+        marked: false,
+        start,
+    });
+    let result = run(&mut content, tag, op);
+    let marked = content.is_marked();
+    let _back = content.into_source();
+    (result, marked)
+}
+
+/// The same on values, for a closure that takes either form.
+#[tactic(auto, using(crate::proofs::moves), unfolding(crate::specs::Views::views))]
+#[inline(always)]
+fn run_constructed<S: Source, F, T: Drop>(
+    source: &mut LimitedSource<S>,
+    kind: Kind,
+    mode: Mode,
+    tag: Tag,
+    op: F,
+) -> (Result<T, DecodeError<S::Error>>, bool)
+where
+    F: FnOnce(Tag, &mut Content<'_, S>) -> Result<T, DecodeError<S::Error>>,
+    requires callable { MayBeCalledAt (of_content S.stream)
+        (IsOver (limited_stream S.stream source.old) source.old.limit (values kind) mode)
+        tag (F.pre op) }
+    requires lawful { IsLawfulAt (of_content S.stream)
+        (IsOver (limited_stream S.stream source.old) source.old.limit (values kind) mode)
+        tag (F.post op) }
+    ensures { RanOver cause_of (of_content S.stream) (F.post op)
+        (limited_stream S.stream source.old) source.old.limit (values kind) mode tag
+        result.0 result.1 (limited_stream S.stream source.new) source.new.limit }
+{
+    let start = source.pos();
+    let mut content = Content::Constructed(Constructed {
+        source: &mut *source,
+        kind,
+        state: State::Open,
+        mode,
+        marked: false,
+        start,
+    });
+    let result = run(&mut content, tag, op);
+    let marked = content.is_marked();
+    let _back = content.into_source();
+    (result, marked)
+}
+
+#[tactic(auto, unfolding(crate::specs::Views::views))]
+impl<'a, S: Source> Constructed<'a, S> {
+    /// Takes the contents octets behind a header of a primitive value.
+    #[inline(always)]
+    fn take_octets<F, T: Drop>(&mut self, header: Header, op: F) -> Result<T, DecodeError<S::Error>>
+    where
+        F: FnOnce(Tag, &mut Primitive<'_, S>) -> Result<T, DecodeError<S::Error>>,
+        requires callable { MayBeCalledAt (of_primitive S.stream) (IsBehind S.stream self header)
+            header.tag (F.pre op) }
+        requires lawful { IsLawfulAt (of_primitive S.stream) (IsBehind S.stream self header)
+            header.tag (F.post op) }
+        requires form { header.constructed ≡ false }
+        requires allowed { may_have self.old.mode header.constructed header.len ≡ true }
+        requires fits { FitsOwed header.len self.old.source.now.limit }
+        ensures taken { TakesContent cause_of (of_primitive S.stream) (F.post op)
+            (before S.stream self) (header_of header) result (after S.stream self) }
+    {
+        let outer = go_inside(self.source, header.len);
+        let (result, marked) = octets_over(self.source, self.mode, header.tag, op);
+        go_outside(self.source, outer, header.len);
+        self.marked = either(self.marked, marked);
+        result
+    }
+
+    /// Takes the values behind a header of a constructed value.
+    #[inline(always)]
+    fn take_values<F, T: Drop>(&mut self, header: Header, op: F) -> Result<T, DecodeError<S::Error>>
+    where
+        F: FnOnce(Tag, &mut Constructed<'_, S>) -> Result<T, DecodeError<S::Error>>,
+        requires callable { MayBeCalledAt (of_constructed S.stream) (IsBehind S.stream self header)
+            header.tag (F.pre op) }
+        requires lawful { IsLawfulAt (of_constructed S.stream) (IsBehind S.stream self header)
+            header.tag (F.post op) }
+        requires form { header.constructed ≡ true }
+        requires fits { FitsOwed header.len self.old.source.now.limit }
+        ensures taken { TakesContent cause_of (of_constructed S.stream) (F.post op)
+            (before S.stream self) (header_of header) result (after S.stream self) }
+    {
+        let outer = go_inside(self.source, header.len);
+        let kind = kind_behind(header.len);
+        let (result, marked) = values_over(self.source, kind, self.mode, header.tag, op);
+        go_outside(self.source, outer, header.len);
+        self.marked = either(self.marked, marked);
+        result
+    }
+
+    /// Takes the content behind a header.
+    #[inline(always)]
+    fn take_content<F, T: Drop>(
+        &mut self,
+        header: Header,
+        op: F,
+    ) -> Result<T, DecodeError<S::Error>>
+    where
+        F: FnOnce(Tag, &mut Content<'_, S>) -> Result<T, DecodeError<S::Error>>,
+        requires callable { MayBeCalledAt (of_content S.stream) (IsBehind S.stream self header)
+            header.tag (F.pre op) }
+        requires lawful { IsLawfulAt (of_content S.stream) (IsBehind S.stream self header)
+            header.tag (F.post op) }
+        requires allowed { may_have self.old.mode header.constructed header.len ≡ true }
+        requires fits { FitsOwed header.len self.old.source.now.limit }
+        ensures taken { TakesContent cause_of (of_content S.stream) (F.post op)
+            (before S.stream self) (header_of header) result (after S.stream self) }
+    {
+        let outer = go_inside(self.source, header.len);
+        if header.constructed {
+            let kind = kind_behind(header.len);
+            let (result, marked) = run_constructed(self.source, kind, self.mode, header.tag, op);
+            go_outside(self.source, outer, header.len);
+            self.marked = either(self.marked, marked);
+            result
+        } else {
+            let (result, marked) = run_primitive(self.source, self.mode, header.tag, op);
+            go_outside(self.source, outer, header.len);
+            self.marked = either(self.marked, marked);
+            result
+        }
+    }
+
+    /// Takes a value whose header was passed over, and which has to be primitive. The content is
+    /// usable again where it was taken.
+    #[inline(always)]
+    pub(super) fn octets_behind<F, T: Drop>(
+        &mut self,
+        header: Header,
+        op: F,
+    ) -> Result<Option<T>, DecodeError<S::Error>>
+    where
+        F: FnOnce(Tag, &mut Primitive<'_, S>) -> Result<T, DecodeError<S::Error>>,
+        requires callable { MayBeCalledAt (of_primitive S.stream) (IsBehind S.stream self header)
+            header.tag (F.pre op) }
+        requires lawful { IsLawfulAt (of_primitive S.stream) (IsBehind S.stream self header)
+            header.tag (F.post op) }
+        requires allowed { may_have self.old.mode header.constructed header.len ≡ true }
+        requires fits { FitsOwed header.len self.old.source.now.limit }
+        ensures { TakesBehind (of_primitive S.stream) (F.post op) (Some true)
+            (before S.stream self) (header_of header) result (after S.stream self) }
+    {
+        if header.constructed {
+            return Err(self.refusal("expected a primitive value"));
+        }
+        match self.take_octets(header, op) {
+            Ok(value) => {
+                self.state = State::Open;
+                Ok(Some(value))
+            }
+            Err(error) => Err(error),
+        }
+    }
+
+    /// The same of a value that has to be constructed.
+    #[inline(always)]
+    pub(super) fn values_behind<F, T: Drop>(
+        &mut self,
+        header: Header,
+        op: F,
+    ) -> Result<Option<T>, DecodeError<S::Error>>
+    where
+        F: FnOnce(Tag, &mut Constructed<'_, S>) -> Result<T, DecodeError<S::Error>>,
+        requires callable { MayBeCalledAt (of_constructed S.stream) (IsBehind S.stream self header)
+            header.tag (F.pre op) }
+        requires lawful { IsLawfulAt (of_constructed S.stream) (IsBehind S.stream self header)
+            header.tag (F.post op) }
+        requires fits { FitsOwed header.len self.old.source.now.limit }
+        ensures { TakesBehind (of_constructed S.stream) (F.post op) (Some false)
+            (before S.stream self) (header_of header) result (after S.stream self) }
+    {
+        if !header.constructed {
+            return Err(self.refusal("expected a constructed value"));
+        }
+        match self.take_values(header, op) {
+            Ok(value) => {
+                self.state = State::Open;
+                Ok(Some(value))
+            }
+            Err(error) => Err(error),
+        }
+    }
+
+    /// The same of a value of either form.
+    #[inline(always)]
+    pub(super) fn content_behind<F, T: Drop>(
+        &mut self,
+        header: Header,
+        op: F,
+    ) -> Result<Option<T>, DecodeError<S::Error>>
+    where
+        F: FnOnce(Tag, &mut Content<'_, S>) -> Result<T, DecodeError<S::Error>>,
+        requires callable { MayBeCalledAt (of_content S.stream) (IsBehind S.stream self header)
+            header.tag (F.pre op) }
+        requires lawful { IsLawfulAt (of_content S.stream) (IsBehind S.stream self header)
+            header.tag (F.post op) }
+        requires allowed { may_have self.old.mode header.constructed header.len ≡ true }
+        requires fits { FitsOwed header.len self.old.source.now.limit }
+        ensures { TakesBehind (of_content S.stream) (F.post op) None
+            (before S.stream self) (header_of header) result (after S.stream self) }
+    {
+        match self.take_content(header, op) {
+            Ok(value) => {
+                self.state = State::Open;
+                Ok(Some(value))
+            }
+            Err(error) => Err(error),
+        }
+    }
+}

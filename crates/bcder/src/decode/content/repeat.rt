@@ -1,0 +1,89 @@
+//! Loops over content.
+ghost use Rattle.std.specs.Prelude.{◌≡◌, IsTrue, ◌↔◌};
+ghost use Rattle.bcder.specs.Repeating.{AnswersOnce, MayRepeat, OwesAsBefore, Repeated};
+ghost use Rattle.bcder.specs.Repeating.{RepeatsLawfully};
+ghost use Rattle.bcder.specs.Views.{Moved, of_constructed};
+
+use super::Constructed;
+use crate::decode::error::DecodeError;
+use crate::decode::source::Source;
+
+/// Whether as many octets are owed as before. Without a limit that isn't known.
+fn owes_as_before(before: Option<usize>, after: Option<usize>) -> bool
+    ensures { IsTrue result ↔ OwesAsBefore before after }
+{
+    match before {
+        Some(before) => match after {
+            Some(after) => after == before,
+            None => false,
+        },
+        None => false,
+    }
+}
+
+/// One call of the closure.
+#[inline(always)]
+fn call<S: Source, F>(
+    cons: &mut Constructed<'_, S>,
+    op: &mut F,
+) -> Result<Option<()>, DecodeError<S::Error>>
+where
+    F: FnMut(&mut Constructed<'_, S>) -> Result<Option<()>, DecodeError<S::Error>>,
+    requires { (p : _) → p.now ≡ cons.old → F.pre op.old p }
+    ensures { AnswersOnce S.stream cons F.step op.old result op.new }
+{
+    op(cons)
+}
+
+impl<'a, S: Source> Constructed<'a, S> {
+    /// How many octets are owed up to the nearest limit, if there is one.
+    #[tactic(auto, unfolding(crate::specs::Views::of_constructed))]
+    fn owed(&self) -> Option<usize>
+        ensures { result ≡ (of_constructed S.stream self.now).owed }
+    {
+        self.source.limit()
+    }
+
+    /// Calls the closure over the content again and again while it answers `Some`, and ends where
+    /// it answers `None`: the loop over a SEQUENCE OF or a SET OF.
+    ///
+    /// ```text
+    /// let mut count = 0u64;
+    /// cons.while_some(|cons| {
+    ///     cons.take_opt_primitive_if(Tag::INTEGER, |number| {
+    ///         count = count.saturating_add(1);
+    ///         number.skip_all()
+    ///     })
+    /// })?;
+    /// ```
+    ///
+    /// Each call finds the content as the one before left it. The content is left as the last call
+    /// left it, also where this refuses.
+    ///
+    /// # Errors
+    ///
+    /// The closure's refusal, which ends the loop. And where the closure answers `Some` and took no
+    /// octet, if the content is within a limit, as all content of a definite length is; without a
+    /// limit nothing tells what was taken, and it is refused after 2^64 - 1 answers of `Some`.
+    pub fn while_some<F>(&mut self, mut op: F) -> Result<(), DecodeError<S::Error>>
+    where
+        F: FnMut(&mut Constructed<'_, S>) -> Result<Option<()>, DecodeError<S::Error>>,
+        requires callable { MayRepeat S.stream self F.pre }
+        requires lawful { RepeatsLawfully S.stream self F.step }
+        ensures moves { Moved S.stream self }
+        ensures repeated { Repeated S.stream self F.step op result }
+    {
+        for turn in 0..u64::MAX {
+            let owed = self.owed();
+            match call(self, &mut op) {
+                Ok(Some(())) => {}
+                Ok(None) => return Ok(()),
+                Err(error) => return Err(error),
+            }
+            if owes_as_before(owed, self.owed()) {
+                return Err(self.refusal("a repeated step took no octet"));
+            }
+        }
+        Err(self.refusal("steps without an end"))
+    }
+}

@@ -1,0 +1,273 @@
+//! Certificates (RFC 5280, section 4.1).
+ghost use Rattle.std.specs.Prelude.{◌≡◌, ℕ, List, ◌++◌};
+ghost use Rattle.bcder.specs.Views.{Moved};
+
+use crate::take_len;
+use bcder::decode::{Constructed, ContentError, DecodeError, Source, walk};
+use bcder::{Mode, Tag};
+
+/// A time, by the number of its octets.
+#[derive(Clone, Copy)]
+pub enum Time {
+    /// With two digits for the year.
+    Utc(usize),
+
+    /// With four digits for the year.
+    Generalized(usize),
+}
+
+impl Time {
+    /// A value of one of two tags.
+    pub fn take_from<S: Source>(
+        cons: &mut Constructed<'_, S>,
+    ) -> Result<Time, DecodeError<S::Error>>
+        ensures { Moved S.stream cons }
+    {
+        cons.take_primitive(|tag, octets| {
+            let len = octets.remaining();
+            octets.skip_all()?;
+            if tag == Tag::UTC_TIME {
+                Ok(Time::Utc(len))
+            } else if tag == Tag::GENERALIZED_TIME {
+                Ok(Time::Generalized(len))
+            } else {
+                Err(octets.content_err(ContentError::from_static("expected a time")))
+            }
+        })
+    }
+}
+
+/// A time span.
+#[derive(Clone, Copy)]
+pub struct Validity {
+    /// Its first time.
+    pub from: Time,
+
+    /// Its last time.
+    pub to: Time,
+}
+
+impl Validity {
+    /// A SEQUENCE of two times.
+    pub fn take_from<S: Source>(
+        cons: &mut Constructed<'_, S>,
+    ) -> Result<Validity, DecodeError<S::Error>>
+        ensures { Moved S.stream cons }
+    {
+        cons.take_sequence(|cons| {
+            let from = Time::take_from(cons)?;
+            let to = Time::take_from(cons)?;
+            Ok(Validity { from, to })
+        })
+    }
+}
+
+/// An algorithm: a SEQUENCE of an OBJECT IDENTIFIER and any parameters.
+pub(crate) fn skip_algorithm<S: Source>(
+    cons: &mut Constructed<'_, S>,
+) -> Result<(), DecodeError<S::Error>>
+    ensures { Moved S.stream cons }
+{
+    cons.take_sequence(|cons| skip_algorithm_parts(cons))
+}
+
+/// What is inside that SEQUENCE.
+pub(crate) fn skip_algorithm_parts<S: Source>(
+    cons: &mut Constructed<'_, S>,
+) -> Result<(), DecodeError<S::Error>>
+    ensures { Moved S.stream cons }
+{
+    cons.take_primitive_if(Tag::OID, |oid| oid.skip_all())?;
+    walk(cons)?;
+    Ok(())
+}
+
+/// A name: a SEQUENCE OF SET OF attributes, each a SEQUENCE of its kind and its text. It answers
+/// the number of attributes.
+pub(crate) fn take_name<S: Source>(
+    cons: &mut Constructed<'_, S>,
+) -> Result<u64, DecodeError<S::Error>>
+    ensures { Moved S.stream cons }
+{
+    let mut attributes = 0u64;
+    cons.take_sequence(|cons| {
+        cons.while_some(|cons| {
+            cons.take_opt_set(|cons| {
+                cons.while_some(|cons| {
+                    cons.take_opt_sequence(|cons| {
+                        attributes = attributes.saturating_add(1);
+                        cons.take_primitive_if(Tag::OID, |oid| oid.skip_all())?;
+                        cons.take_primitive(|_tag, text| text.skip_all())
+                    })
+                })
+            })
+        })
+    })?;
+    Ok(attributes)
+}
+
+/// What a certificate holds, as far as it is read here.
+#[derive(Clone, Copy)]
+pub struct Certificate {
+    /// Its version, which its parts tell: without the field that says so it is 1, and with
+    /// extensions it is 3.
+    pub version: u8,
+
+    /// The octets of its serial number.
+    pub serial: usize,
+
+    /// The attributes of its issuer.
+    pub issuer: u64,
+
+    /// When it is valid.
+    pub validity: Validity,
+
+    /// The attributes of its subject.
+    pub subject: u64,
+
+    /// The octets of its key.
+    pub key: usize,
+
+    /// Its extensions.
+    pub extensions: u64,
+
+    /// Those of them that are critical.
+    pub critical: u64,
+}
+
+impl Certificate {
+    /// A SEQUENCE of what is signed, an algorithm and a signature.
+    pub fn take_from<S: Source>(
+        cons: &mut Constructed<'_, S>,
+    ) -> Result<Certificate, DecodeError<S::Error>>
+        ensures { Moved S.stream cons }
+    {
+        cons.take_sequence(|cons| Certificate::take_parts(cons))
+    }
+
+    /// What is inside that SEQUENCE.
+    pub(crate) fn take_parts<S: Source>(
+        cons: &mut Constructed<'_, S>,
+    ) -> Result<Certificate, DecodeError<S::Error>>
+        ensures { Moved S.stream cons }
+    {
+        let certificate = Certificate::take_signed(cons)?;
+        skip_algorithm(cons)?;
+        cons.take_primitive_if(Tag::BIT_STRING, |signature| signature.skip_all())?;
+        Ok(certificate)
+    }
+
+    /// What is signed, in one closure.
+    fn take_signed<S: Source>(
+        cons: &mut Constructed<'_, S>,
+    ) -> Result<Certificate, DecodeError<S::Error>>
+        ensures { Moved S.stream cons }
+    {
+        cons.take_sequence(
+            |cons|
+                ensures { Moved S.stream cons }
+            {
+                let version = cons.take_opt_constructed_if(Tag::CTX_0, |cons| {
+                    cons.take_primitive_if(Tag::INTEGER, |version| version.skip_all())
+                })?;
+                let serial = cons.take_primitive_if(Tag::INTEGER, |serial| take_len(serial))?;
+                skip_algorithm(cons)?;
+                let issuer = take_name(cons)?;
+                let validity = Validity::take_from(cons)?;
+                let subject = take_name(cons)?;
+                let key = cons.take_sequence(|cons| {
+                    skip_algorithm(cons)?;
+                    cons.take_primitive_if(Tag::BIT_STRING, |key| take_len(key))
+                })?;
+                let mut certificate = Certificate {
+                    version: 1,
+                    serial,
+                    issuer,
+                    validity,
+                    subject,
+                    key,
+                    extensions: 0,
+                    critical: 0,
+                };
+                if version.is_none() {
+                    return Ok(certificate);
+                }
+                cons.take_opt_primitive_if(Tag::CTX_1, |issuer| issuer.skip_all())?;
+                cons.take_opt_primitive_if(Tag::CTX_2, |subject| subject.skip_all())?;
+                certificate.version = 2;
+                let extensions = cons.take_opt_constructed_if(
+                    Tag::CTX_3,
+                    |cons| Extensions::take_from(cons),
+                )?;
+                if let Some(extensions) = extensions {
+                    certificate.version = 3;
+                    certificate.extensions = extensions.all;
+                    certificate.critical = extensions.critical;
+                }
+                Ok(certificate)
+            },
+        )
+    }
+}
+
+/// How many extensions there are.
+#[derive(Clone, Copy)]
+struct Extensions {
+    all: u64,
+    critical: u64,
+}
+
+impl Extensions {
+    /// A SEQUENCE OF extensions, each a SEQUENCE of an OBJECT IDENTIFIER, perhaps a BOOLEAN, and an
+    /// OCTET STRING.
+    fn take_from<S: Source>(
+        cons: &mut Constructed<'_, S>,
+    ) -> Result<Extensions, DecodeError<S::Error>>
+        ensures { Moved S.stream cons }
+    {
+        let mut all = 0u64;
+        let mut critical = 0u64;
+        cons.take_sequence(|cons| {
+            cons.while_some(|cons| {
+                cons.take_opt_sequence(
+                    |cons|
+                        ensures { Moved S.stream cons }
+                    {
+                        cons.take_primitive_if(Tag::OID, |oid| oid.skip_all())?;
+                        let flag = cons.take_opt_primitive_if(
+                            Tag::BOOLEAN,
+                            |flag| flag.skip_all(),
+                        )?;
+                        if flag.is_some() {
+                            critical = critical.saturating_add(1);
+                        }
+                        all = all.saturating_add(1);
+                        cons.take_primitive_if(Tag::OCTET_STRING, |value| value.skip_all())
+                    },
+                )
+            })
+        })?;
+        Ok(Extensions { all, critical })
+    }
+}
+
+/// A certificate at the front of a source that is handed in.
+pub fn decode_certificate<S: Source + Drop>(
+    source: S,
+) -> Result<Certificate, DecodeError<S::Error>> {
+    Constructed::decode(source, Mode::Der, |cons| Certificate::take_from(cons))
+}
+
+/// Two certificates at the front of a source whose owner goes on with what is left.
+pub fn decode_two<S: Source>(
+    source: &mut S,
+) -> Result<(Certificate, Certificate), DecodeError<S::Error>>
+    ensures { (passed : List ℕ)
+        × ((S.stream source.old).rest ≡ passed ++ (S.stream source.new).rest) }
+{
+    Constructed::decode_lent(source, Mode::Der, |cons| {
+        let first = Certificate::take_from(cons)?;
+        let second = Certificate::take_from(cons)?;
+        Ok((first, second))
+    })
+}

@@ -1,0 +1,201 @@
+//! At which position content says that it is refused.
+ghost use Rattle.bcder.specs.Views.{Moved, MovedContent, MovedOctets};
+
+use crate::calls::Use;
+use crate::fields::{find, next, number, octets_of};
+use crate::takes::{use_content, use_octets};
+use crate::tally::Tally;
+use anyhow::Error;
+use bcder::Mode;
+use bcder::decode::{
+    BytesSource, Constructed, Content, ContentError, DecodeError, Pos, Primitive, SliceSource,
+    Source,
+};
+use bytes::Bytes;
+use rows::sip::Sip;
+use std::alloc::{AllocError, Global};
+
+/// Whose `content_err` is answered.
+#[derive(Clone, Copy, Debug, PartialEq, Eq)]
+enum Whose {
+    /// That of the values at top level.
+    Outside,
+
+    /// That of what is inside the next value.
+    Content,
+
+    /// That of the octets inside the next value, which is primitive.
+    Primitive,
+
+    /// That of the values inside the next value, which is constructed.
+    Constructed,
+}
+
+/// The words for whose it is.
+const WHOSE: [(&str, Whose); 4] = [
+    ("outside", Whose::Outside),
+    ("content", Whose::Content),
+    ("primitive", Whose::Primitive),
+    ("constructed", Whose::Constructed),
+];
+
+/// A line of the data.
+#[derive(Drop)]
+struct Row {
+    /// The position where the source begins.
+    offset: usize,
+    octets: Vec<u8>,
+
+    /// How many values are taken at top level, before content is asked.
+    before: usize,
+    whose: Whose,
+
+    /// How many values are taken inside, or whether octets are.
+    inside: usize,
+
+    /// The position that the refusal bears.
+    position: usize,
+}
+
+/// Takes so many values.
+fn take_some<S: Source>(
+    cons: &mut Constructed<'_, S>,
+    count: usize,
+) -> Result<(), DecodeError<S::Error>>
+    ensures { Moved S.stream cons }
+{
+    'values: for _ in 0..count {
+        cons.take_value(|_, content| use_content(content, true, Use::Pass))?;
+    }
+    Ok(())
+}
+
+/// The refusal of octets, all of which are passed first where that is said.
+fn refuse_octets<S: Source>(
+    octets: &mut Primitive<'_, S>,
+    inside: usize,
+) -> Result<(), DecodeError<S::Error>>
+    ensures { MovedOctets S.stream octets }
+{
+    if inside > 0 {
+        use_octets(octets, true, Use::Pass)?;
+    }
+    Err(octets.content_err(ContentError::from_static("bad")))
+}
+
+/// The refusal of values, after so many of them.
+fn refuse_values<S: Source>(
+    values: &mut Constructed<'_, S>,
+    inside: usize,
+) -> Result<(), DecodeError<S::Error>>
+    ensures { Moved S.stream values }
+{
+    take_some(values, inside)?;
+    Err(values.content_err(ContentError::from_static("bad")))
+}
+
+/// The refusal of content, all of which is passed first where that is said.
+fn refuse_content<S: Source>(
+    content: &mut Content<'_, S>,
+    inside: usize,
+) -> Result<(), DecodeError<S::Error>>
+    ensures { MovedContent S.stream content }
+{
+    if inside > 0 {
+        use_content(content, true, Use::Pass)?;
+    }
+    Err(content.content_err(ContentError::from_static("bad")))
+}
+
+/// Refuses as `bad`.
+fn refuse<S: Source>(
+    cons: &mut Constructed<'_, S>,
+    whose: Whose,
+    inside: usize,
+) -> Result<(), DecodeError<S::Error>>
+    ensures { Moved S.stream cons }
+{
+    match whose {
+        Whose::Outside => Err(cons.content_err(ContentError::from_static("bad"))),
+        Whose::Content => cons.take_value(|_, content| refuse_content(content, inside)),
+        Whose::Primitive => cons.take_primitive(|_, octets| refuse_octets(octets, inside)),
+        Whose::Constructed => cons.take_constructed(|_, values| refuse_values(values, inside)),
+    }
+}
+
+/// Takes values at top level, and refuses.
+fn take_and_refuse<S: Source>(
+    cons: &mut Constructed<'_, S>,
+    row: &Row,
+) -> Result<(), DecodeError<S::Error>>
+    ensures { Moved S.stream cons }
+{
+    take_some(cons, row.before)?;
+    refuse(cons, row.whose, row.inside)
+}
+
+/// Whether a source that begins at the offset answers the refusal, with its text and its position.
+fn is_refused<S: Source>(alloc: Global, source: &mut S, row: &Row) -> Result<bool, AllocError> {
+    match Mode::Ber.decode_lent(source, |cons| take_and_refuse(cons, row)) {
+        Ok(_) => Ok(false),
+        Err(error) => {
+            let shown = format!(in alloc; "{error}")?;
+            let wanted = format!(in alloc; "bad (at position {})", row.position)?;
+            Ok(shown.as_str() == wanted.as_str())
+        }
+    }
+}
+
+/// The octets of a row behind as many others as its offset says.
+fn behind_others(alloc: Global, row: &Row) -> Result<Vec<u8>, AllocError> {
+    let mut all = Vec::new(alloc);
+    for _ in 0..row.offset {
+        all.push(0)?;
+    }
+    all.extend_from_slice(&row.octets)?;
+    Ok(all)
+}
+
+/// Whether the same is so for a source over the octets that has passed over its first ones.
+fn is_refused_behind<S: Source>(
+    alloc: Global,
+    source: &mut S,
+    row: &Row,
+) -> Result<bool, AllocError> {
+    match source.skip(row.offset) {
+        Ok(_) => is_refused(alloc, source, row),
+        Err(_) => Ok(false),
+    }
+}
+
+fn row_of(alloc: Global, line: &str) -> Result<Row, Error> {
+    let mut fields = line.split('\t');
+    let offset = number(next(&mut fields)?)?;
+    let octets = octets_of(alloc, next(&mut fields)?)?;
+    let before = number(next(&mut fields)?)?;
+    let whose = find(&WHOSE, next(&mut fields)?)?;
+    let inside = number(next(&mut fields)?)?;
+    let position = number(next(&mut fields)?)?;
+    Ok(Row {
+        offset,
+        octets,
+        before,
+        whose,
+        inside,
+        position,
+    })
+}
+
+/// Compares the position of a line over four sources.
+pub fn compare_line(alloc: Global, line: &str, tally: &mut Tally) -> Result<(), Error> {
+    let row = row_of(alloc, line)?;
+    let shared = Bytes::copy_from_slice(alloc, &row.octets)?;
+    let mut offset = BytesSource::with_offset(shared, Pos::from(row.offset));
+    tally.count(is_refused(alloc, &mut offset, &row)?);
+    let all = behind_others(alloc, &row)?;
+    tally.count(is_refused_behind(alloc, &mut SliceSource::new(&all), &row)?);
+    let shared = Bytes::copy_from_slice(alloc, &all)?;
+    tally.count(is_refused_behind(alloc, &mut BytesSource::new(shared), &row)?);
+    tally.count(is_refused_behind(alloc, &mut Sip::new(all, 0), &row)?);
+    Ok(())
+}

@@ -1,0 +1,425 @@
+//! Taking values from content: which are taken, which are refused and how, and what stands then.
+ghost use Rattle.bcder.specs.Views.{Moved, MovedOctets, MovedContent};
+
+use crate::calls::{Answer, CALLS, Call, Step, Use, answer_of, steps_of};
+use crate::fields::{modes_of, next, number, octets_of};
+use crate::tally::Tally;
+use anyhow::Error;
+use bcder::decode::{
+    BytesSource, Constructed, Content, ContentError, DecodeError, Primitive, SliceSource, Source,
+    walk,
+};
+use bcder::{Mode, Tag};
+use bytes::Bytes;
+use rows::sip::Sip;
+use std::alloc::{AllocError, Global};
+
+/// The refusal of a closure: no call answers it by itself.
+const OWN: u8 = 200;
+
+/// Passes over the values, two at most.
+fn pass_values<S: Source>(cons: &mut Constructed<'_, S>) -> Result<(), DecodeError<S::Error>>
+    ensures { Moved S.stream cons }
+{
+    if walk(cons)?.is_some() {
+        walk(cons)?;
+    }
+    Ok(())
+}
+
+/// What a closure does with values, of the tag that was to be told or of another.
+fn use_values<S: Source>(
+    inner: &mut Constructed<'_, S>,
+    told: bool,
+    with: Use,
+) -> Result<(), DecodeError<S::Error>>
+    ensures { Moved S.stream inner }
+{
+    if !told {
+        return Err(inner.content_err(ContentError::ExpectedInteger(0)));
+    }
+    match with {
+        Use::Pass => pass_values(inner),
+        Use::Refuse => {
+            pass_values(inner)?;
+            Err(inner.content_err(ContentError::ExpectedInteger(OWN)))
+        }
+        _ => Ok(()),
+    }
+}
+
+/// What a closure does with octets, of the tag that was to be told or of another.
+pub fn use_octets<S: Source>(
+    inner: &mut Primitive<'_, S>,
+    told: bool,
+    with: Use,
+) -> Result<(), DecodeError<S::Error>>
+    ensures { MovedOctets S.stream inner }
+{
+    if !told {
+        return Err(inner.content_err(ContentError::ExpectedInteger(0)));
+    }
+    match with {
+        Use::Pass => inner.skip_all(),
+        Use::Refuse => {
+            inner.skip_all()?;
+            Err(inner.content_err(ContentError::ExpectedInteger(OWN)))
+        }
+        _ => Ok(()),
+    }
+}
+
+/// Asks for content of the form that it has not.
+fn ask<S: Source>(content: &mut Content<'_, S>) -> Result<(), DecodeError<S::Error>>
+    ensures { MovedContent S.stream content }
+{
+    if content.is_primitive() {
+        content.as_constructed(|_| Ok(()))
+    } else {
+        content.as_primitive(|_| Ok(()))
+    }
+}
+
+/// What a closure does with content, of the tag that was to be told or of another.
+pub fn use_content<S: Source>(
+    content: &mut Content<'_, S>,
+    told: bool,
+    with: Use,
+) -> Result<(), DecodeError<S::Error>>
+    ensures { MovedContent S.stream content }
+{
+    if with == Use::Ask {
+        return ask(content);
+    }
+    match content {
+        Content::Primitive(inner) => use_octets(inner, told, with),
+        Content::Constructed(inner) => use_values(inner, told, with),
+    }
+}
+
+/// What kind of error it is, of a call for this tag.
+pub fn error_kind<E>(error: &DecodeError<E>, tag: Tag) -> Answer {
+    match error.content_error() {
+        Some(ContentError::Static(_)) => Answer::Static,
+        Some(ContentError::ExpectedTag(expected)) => {
+            if *expected == tag {
+                Answer::Expected
+            } else {
+                Answer::Other
+            }
+        }
+        Some(ContentError::ExpectedInteger(OWN)) => Answer::Own,
+        _ => Answer::Other,
+    }
+}
+
+fn of_result<T: Drop, E: Drop>(outcome: Result<T, DecodeError<E>>, tag: Tag) -> Answer {
+    match outcome {
+        Ok(_) => Answer::Taken,
+        Err(error) => error_kind(&error, tag),
+    }
+}
+
+fn of_option<T: Drop, E: Drop>(outcome: Result<Option<T>, DecodeError<E>>, tag: Tag) -> Answer {
+    match outcome {
+        Ok(Some(_)) => Answer::Taken,
+        Ok(None) => Answer::Absent,
+        Err(error) => error_kind(&error, tag),
+    }
+}
+
+/// A call that takes a value of either form.
+#[tactic(auto, using(bcder::proofs::Moving::moves_refl, bcder::proofs::Carrying::carries))]
+fn take_any<S: Source>(cons: &mut Constructed<'_, S>, step: Step) -> Answer
+    ensures { Moved S.stream cons }
+{
+    let Step { tag, with, .. } = step;
+    match step.call {
+        Call::Value => of_result(
+            cons.take_value(|found, content| use_content(content, found == tag, with)),
+            tag,
+        ),
+        Call::ValueIf => of_result(
+            cons.take_value_if(tag, |content| use_content(content, true, with)),
+            tag,
+        ),
+        Call::OptValueIf => of_option(
+            cons.take_opt_value_if(tag, |content| use_content(content, true, with)),
+            tag,
+        ),
+        _ => of_option(
+            cons.take_opt_value(|found, content| use_content(content, found == tag, with)),
+            tag,
+        ),
+    }
+}
+
+/// A call that takes a primitive value.
+fn take_octets<S: Source>(cons: &mut Constructed<'_, S>, step: Step) -> Answer
+    ensures { Moved S.stream cons }
+{
+    let Step { tag, with, .. } = step;
+    match step.call {
+        Call::Primitive => of_result(
+            cons.take_primitive(|found, inner| use_octets(inner, found == tag, with)),
+            tag,
+        ),
+        Call::PrimitiveIf => of_result(
+            cons.take_primitive_if(tag, |inner| use_octets(inner, true, with)),
+            tag,
+        ),
+        Call::OptPrimitiveIf => of_option(
+            cons.take_opt_primitive_if(tag, |inner| use_octets(inner, true, with)),
+            tag,
+        ),
+        _ => of_option(
+            cons.take_opt_primitive(|found, inner| use_octets(inner, found == tag, with)),
+            tag,
+        ),
+    }
+}
+
+/// A call that takes a constructed value.
+fn take_values<S: Source>(cons: &mut Constructed<'_, S>, step: Step) -> Answer
+    ensures { Moved S.stream cons }
+{
+    let Step { tag, with, .. } = step;
+    match step.call {
+        Call::Constructed => of_result(
+            cons.take_constructed(|found, inner| use_values(inner, found == tag, with)),
+            tag,
+        ),
+        Call::ConstructedIf => of_result(
+            cons.take_constructed_if(tag, |inner| use_values(inner, true, with)),
+            tag,
+        ),
+        Call::OptConstructedIf => of_option(
+            cons.take_opt_constructed_if(tag, |inner| use_values(inner, true, with)),
+            tag,
+        ),
+        _ => of_option(
+            cons.take_opt_constructed(|found, inner| use_values(inner, found == tag, with)),
+            tag,
+        ),
+    }
+}
+
+/// A call that takes a sequence or a set.
+fn take_list<S: Source>(cons: &mut Constructed<'_, S>, step: Step) -> Answer
+    ensures { Moved S.stream cons }
+{
+    let Step { tag, with, .. } = step;
+    match step.call {
+        Call::Sequence => of_result(
+            cons.take_sequence(|inner| use_values(inner, true, with)),
+            tag,
+        ),
+        Call::OptSequence => of_option(
+            cons.take_opt_sequence(|inner| use_values(inner, true, with)),
+            tag,
+        ),
+        Call::Set => of_result(cons.take_set(|inner| use_values(inner, true, with)), tag),
+        _ => of_option(
+            cons.take_opt_set(|inner| use_values(inner, true, with)),
+            tag,
+        ),
+    }
+}
+
+/// A call, and what it answered.
+#[tactic(auto, using(bcder::proofs::Moving::moves_refl, bcder::proofs::Carrying::carries))]
+fn perform<S: Source>(cons: &mut Constructed<'_, S>, step: Step) -> Answer
+    ensures { Moved S.stream cons }
+{
+    match step.call {
+        Call::Value | Call::OptValue | Call::ValueIf | Call::OptValueIf => take_any(cons, step),
+        Call::Primitive | Call::OptPrimitive | Call::PrimitiveIf | Call::OptPrimitiveIf => {
+            take_octets(cons, step)
+        }
+        Call::Constructed | Call::OptConstructed | Call::ConstructedIf | Call::OptConstructedIf => {
+            take_values(cons, step)
+        }
+        Call::Sequence | Call::OptSequence | Call::Set | Call::OptSet => take_list(cons, step),
+        Call::Walk => of_option(walk(cons), step.tag),
+        _ => {
+            cons.set_mode(Mode::Ber);
+            Answer::Taken
+        }
+    }
+}
+
+/// Steps on octets in some modes.
+#[derive(Drop)]
+struct Row {
+    modes: Vec<Mode>,
+    octets: Vec<u8>,
+
+    /// On the content that `enter` enters.
+    inside: Vec<Step>,
+
+    /// At top level.
+    outside: Vec<Step>,
+
+    /// How `decode` refuses, if it does, or how many octets are left.
+    left: Result<usize, Answer>,
+}
+
+/// How often each call was compared, and how often the mode of the content and what is left of the
+/// source.
+#[derive(Drop)]
+pub struct Counts {
+    calls: Vec<(Call, Tally)>,
+    pub modes: Tally,
+    pub left: Tally,
+}
+
+impl Counts {
+    pub fn new(alloc: Global) -> Result<Counts, AllocError> {
+        let mut calls = Vec::new(alloc);
+        for entry in CALLS {
+            calls.push((entry.1, Tally::default()))?;
+        }
+        Ok(Counts {
+            calls,
+            modes: Tally::default(),
+            left: Tally::default(),
+        })
+    }
+
+    /// Counts an answer of a call.
+    fn count(&mut self, call: Call, same: bool) {
+        for entry in self.calls.iter_mut() {
+            if entry.0 == call {
+                entry.1.count(same);
+            }
+        }
+    }
+
+    /// What was counted of a call.
+    pub fn of(&self, call: Call) -> Tally {
+        for entry in &self.calls {
+            if entry.0 == call {
+                return entry.1;
+            }
+        }
+        Tally::default()
+    }
+
+    /// How many answers differ in all.
+    pub fn differ(&self) -> u64 {
+        let mut all = self.modes;
+        all.join(self.left);
+        for entry in &self.calls {
+            all.join(entry.1);
+        }
+        all.differ
+    }
+}
+
+/// Does the steps, and compares their answers.
+fn compare_steps<S: Source>(cons: &mut Constructed<'_, S>, steps: &[Step], counts: &mut Counts)
+    ensures { Moved S.stream cons }
+{
+    for step in steps {
+        let answer = perform(cons, *step);
+        counts.count(step.call, answer == step.answer);
+    }
+}
+
+/// Enters a sequence, and does the steps there. The content has the mode of what is around it.
+fn enter<S: Source>(
+    cons: &mut Constructed<'_, S>,
+    steps: &[Step],
+    mode: Mode,
+    tag: Tag,
+    counts: &mut Counts,
+) -> Answer
+    ensures { Moved S.stream cons }
+{
+    let entered = cons.take_sequence(
+        |inner|
+            ensures { Moved S.stream inner }
+        {
+            counts.modes.count(inner.mode() == mode);
+            compare_steps(inner, steps, counts);
+            Ok(())
+        },
+    );
+    of_result(entered, tag)
+}
+
+/// Does the steps at top level, and compares their answers. The mode of the content stays.
+fn compare_outside<S: Source>(
+    cons: &mut Constructed<'_, S>,
+    row: &Row,
+    mode: Mode,
+    counts: &mut Counts,
+)
+    ensures { Moved S.stream cons }
+{
+    for step in &row.outside {
+        let answer = if step.call == Call::Enter {
+            enter(cons, &row.inside, mode, step.tag, counts)
+        } else {
+            perform(cons, *step)
+        };
+        counts.count(step.call, answer == step.answer);
+    }
+    counts.modes.count(cons.mode() == mode);
+}
+
+/// Decodes the octets of a row from a source over them.
+fn compare_over<S: Source>(source: &mut S, row: &Row, mode: Mode, counts: &mut Counts) {
+    let decoded = mode.decode_lent(source, |cons| {
+        compare_outside(cons, row, mode, counts);
+        Ok(())
+    });
+    let answer = of_result(decoded, Tag::END_OF_VALUE);
+    match row.left {
+        Ok(left) => {
+            counts.count(Call::Decode, answer == Answer::Taken);
+            let found = source.request(row.octets.len());
+            counts.left.count(found.is_ok_and(|found| found == left));
+        }
+        Err(refusal) => {
+            counts.count(Call::Decode, answer == refusal);
+        }
+    }
+}
+
+/// How many octets are left, or how `decode` refuses.
+fn left_of(field: &str) -> Result<Result<usize, Answer>, Error> {
+    match answer_of(field) {
+        Ok(answer) => Ok(Err(answer)),
+        Err(_) => Ok(Ok(number(field)?)),
+    }
+}
+
+fn row_of(alloc: Global, line: &str) -> Result<Row, Error> {
+    let mut fields = line.split('\t');
+    let modes = modes_of(alloc, next(&mut fields)?)?;
+    let octets = octets_of(alloc, next(&mut fields)?)?;
+    let inside = steps_of(alloc, next(&mut fields)?)?;
+    let outside = steps_of(alloc, next(&mut fields)?)?;
+    let left = left_of(next(&mut fields)?)?;
+    Ok(Row {
+        modes,
+        octets,
+        inside,
+        outside,
+        left,
+    })
+}
+
+/// Does the steps of a line in its modes, over three sources, and compares their answers.
+pub fn compare_line(alloc: Global, line: &str, counts: &mut Counts) -> Result<(), Error> {
+    let row = row_of(alloc, line)?;
+    for mode in &row.modes {
+        compare_over(&mut SliceSource::new(&row.octets), &row, *mode, counts);
+        let shared = Bytes::copy_from_slice(alloc, &row.octets)?;
+        compare_over(&mut BytesSource::new(shared), &row, *mode, counts);
+        let sipped = row.octets.clone()?;
+        compare_over(&mut Sip::new(sipped, 0), &row, *mode, counts);
+    }
+    Ok(())
+}

@@ -1,0 +1,24 @@
+//! Answers that were compared.
+
+/// How many answers were compared, and how many of them differ.
+#[derive(Clone, Copy, Debug, Default)]
+pub struct Tally {
+    pub compared: u64,
+    pub differ: u64,
+}
+
+impl Tally {
+    /// Counts an answer that is the wanted one, or is not.
+    pub fn count(&mut self, same: bool) {
+        self.compared = self.compared.saturating_add(1);
+        if !same {
+            self.differ = self.differ.saturating_add(1);
+        }
+    }
+
+    /// Counts the answers of another tally too.
+    pub fn join(&mut self, other: Tally) {
+        self.compared = self.compared.saturating_add(other.compared);
+        self.differ = self.differ.saturating_add(other.differ);
+    }
+}
