@@ -123,6 +123,7 @@ module _ {E : Type 0} (why : E → Cause ContentError) (c d e : Reading) (s : Re
     value = tt;
     end = looked_ends c d e.stream.rest s p.end;
     done = p.done;
+    no_fault = p.no_fault ∙ f;
     refused = tt;
     failed = tt;
     mode = p.mode ∙ s.mode;
@@ -132,6 +133,7 @@ module _ {E : Type 0} (why : E → Cause ContentError) (c d e : Reading) (s : Re
     value = looked_passes c d e s p.value;
     end = tt;
     done = tt;
+    no_fault = p.no_fault ∙ f;
     refused = tt;
     failed = tt;
     mode = p.mode ∙ s.mode;
@@ -141,6 +143,7 @@ module _ {E : Type 0} (why : E → Cause ContentError) (c d e : Reading) (s : Re
     value = tt;
     end = tt;
     done = tt;
+    no_fault = tt;
     refused = looked_refused x p.refused;
     failed = p.failed;
     mode = p.mode ∙ s.mode;

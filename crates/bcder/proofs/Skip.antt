@@ -2,14 +2,14 @@
 use Rattle.std.proofs.Common.{◌≡◌, ◌≢◌, ℕ, zero, suc, ◌+◌, ◌-◌, ◌%◌, ◌<◌, ◌≤◌, Bool, true, false, List, [], ◌∷◌, ◌++◌, length, get_or, take, drop, Option, Some, None, MatchOption, IfSome, IfNone, refl, sym, ap, subst, ◌∙◌, arith, inl, inr}
 use Rattle.std.proofs.lemmas.Bool.{cases_lt, lt-ltb, le-ltb, lt-leb}
 use Rattle.std.proofs.lemmas.Grind.{common_steps}
-use Rattle.std.proofs.lemmas.List.{length-append}
+use Rattle.std.proofs.lemmas.List.{length-append, length-drop, take_at, take-append-drop}
 use Rattle.bcder.specs.declared.mode.Mode.{Mode}
 use Rattle.bcder.specs.declared.length.Length.{Length}
 use Rattle.bcder.specs.declared.length.Length.TheVariants.{Definite, Indefinite}
 use Rattle.bcder.specs.Identifier.{universal, AreOctets, Tag}
 use Rattle.bcder.specs.Tree.{Tree, primitive, constructed, Trees, no_trees, ◌∷ₜ◌}
 use Rattle.bcder.specs.Encoding.{may_have, IsEncoding}
-use Rattle.bcder.specs.Grammar.{IsOnly}
+use Rattle.bcder.specs.Grammar.{IsOnly, BeginsWhole}
 use Rattle.bcder.specs.Reading.{class_of, is_value_tag, is_marked, read_identifier, read_length, Header, BeginPrimitive, read_header, read_end, read_contents, read_value, at_end, read_list, read_tree}
 use Rattle.bcder.specs.laws.Complete.{header_size, tree_complete, one_encoding}
 use Rattle.bcder.specs.laws.Sound.{end_sound, some_inj, none_is}
@@ -90,14 +90,27 @@ short_header b n some l k mode x =
     let z : b ≢ 0 = λ e. (let m : b % 64 ≡ 0 = rw e refl in omega arith) in
     (record { class = class_of b; number = b % 32 }, rw (lt-ltb (b % 32) 31 p, lt-leb 32 (b % 64) (omega arith), value_octet b (omega arith) z, lt-ltb n 128 k) refl)
 
-pub short_primitive : (w : List ℕ) (n : ℕ) (rest : List ℕ) → AreOctets w → 2 ≤ length w → BeginPrimitive (get_or w 0 0) (get_or w 1 0) → n ≡ get_or w 1 0 → n ≤ length (take (length w - 2) (drop 2 w)) → rest ≡ drop n (take (length w - 2) (drop 2 w)) → (mode : Mode) → TreeRead mode w rest
-short_primitive [] n rest o two k e h r mode = absurd (omega arith)
-short_primitive (b ∷ []) n rest o two k e h r mode = absurd (omega arith)
-short_primitive (b ∷ m ∷ x) n rest o two k e h r mode =
-    let q : take (length (b ∷ m ∷ x) - 2) x ≡ x = grind (arith, common_steps) in
-    let d = k mode x in
-    let v = primitive_read mode d.0 m (b ∷ m ∷ x) x o d.1 (omega (arith, h, e, ap length q)) in
-    (v.0, v.1 ∙ ap (λ y. Some (v.0, y)) (sym (r ∙ ap (drop n) q ∙ ap (λ l. drop l x) e)))
+short_read : (mode : Mode) (b m : ℕ) (x : List ℕ) → AreOctets (b ∷ m ∷ x) → BeginPrimitive b m → m ≤ length x → TreeRead mode (b ∷ m ∷ x) (drop m x)
+short_read mode b m x o k l = let d = k mode x in primitive_read mode d.0 m (b ∷ m ∷ x) x o d.1 l
+
+-- what is read of octets is their front
+begins_of_read : (mode : Mode) (w : List ℕ) (n : ℕ) → AreOctets w → n ≤ length w → TreeRead mode w (drop n w) → BeginsWhole mode w n
+begins_of_read mode w n o l r =
+    let s = tree_sound mode w (r.0, drop n w) o r.1 in
+    let e : length s.front ≡ n = omega (arith, ap length s.is, length-append s.front (drop n w), length-drop n w) in
+    record { tree = r.0; encodes = subst (λ v. IsEncoding mode r.0 v) (sym (ap (take n) s.is ∙ take_at s.front (drop n w) n e)) s.is_encoding; fits = l }
+
+pub short_begins : (w : List ℕ) (n m : ℕ) → AreOctets w → 2 ≤ length w → BeginPrimitive (get_or w 0 0) (get_or w 1 0) → m ≡ get_or w 1 0 → m ≤ length (take (length w - 2) (drop 2 w)) → n ≡ 2 + m → (mode : Mode) → BeginsWhole mode w n
+short_begins [] n m o two k e h r mode = absurd (omega arith)
+short_begins (b ∷ []) n m o two k e h r mode = absurd (omega arith)
+short_begins (b ∷ l ∷ x) n m o two k e h r mode =
+    let q : take (length (b ∷ l ∷ x) - 2) x ≡ x = grind (arith, common_steps) in
+    let f : l ≤ length x = omega (arith, h, e, ap length q) in
+    let c : n ≡ suc (suc l) = omega (arith, r, e) in
+    rw c (begins_of_read mode (b ∷ l ∷ x) (suc (suc l)) o (omega arith) (short_read mode b l x o k f))
+
+pub whole_read : (mode : Mode) (w rest : List ℕ) (n : ℕ) → BeginsWhole mode w n → rest ≡ drop n w → TreeRead mode w rest
+whole_read mode w rest n b e = (b.tree, ap (read_tree mode) (sym (take-append-drop n w)) ∙ tree_complete mode b.tree (take n w) (drop n w) b.encodes ∙ ap (λ y. Some (b.tree, y)) (sym e))
 
 -- ---- lists
 
@@ -200,7 +213,3 @@ if_found (Some x) now mode octets o h = found mode octets (now x) o h
 pub if_nothing_found : {X : Type 0} (r : Option X) (now : X → List ℕ) (mode : Mode) (octets : List ℕ) → MatchOption r (read_tree mode octets ≡ None) (λ x. TreeRead mode octets (now x)) → IfNone r (NothingFound mode octets)
 if_nothing_found None now mode octets h = nothing_found mode octets h
 if_nothing_found (Some x) now mode octets h = tt
-
-pub if_short_found : {X : Type 0} (r : Option X) (now : X → List ℕ) (mode : Mode) (octets : List ℕ) → AreOctets octets → IfSome r (λ x. (m : Mode) → TreeRead m octets (now x)) → IfSome r (λ x. Found mode octets (now x))
-if_short_found None now mode octets o h = tt
-if_short_found (Some x) now mode octets o h = found mode octets (now x) o (h mode)

@@ -185,7 +185,7 @@ walks_refused why e i j k o w (walking.RefusesWalk.nothing s n f a) = walking.Re
 -- and answers the error that it met
 pub all_refused : {T E : Type 0} (why : E → Cause ContentError) (c d : Reading) (r : Result T E) (e : E) → IsErrAnd r (λ x. x ≡ e) → walking.RefusesValues why c e d → d.state ≡ Failed → d.mode ≡ c.mode → d.marked ≡ c.marked → AllBy why c r d
 all_refused why c d (Ok x) e h a f m g = absurd h
-all_refused why c d (Err x) e h a f m g = record { all = tt; done = tt; refused = subst (λ y. walking.RefusesValues why c y d) (sym h) a; failed = f; mode = m; marked = g }
+all_refused why c d (Err x) e h a f m g = record { all = tt; done = tt; no_fault = tt; refused = subst (λ y. walking.RefusesValues why c y d) (sym h) a; failed = f; mode = m; marked = g }
 
 -- at the end no values are left
 pub none_left : (c : Reading) (after : List ℕ) → c.kind ≢ Octets → IsAtEnd c after → HasValues c

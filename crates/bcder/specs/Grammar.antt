@@ -1,5 +1,5 @@
 -- Laws of the encodings. Each is the contract of a function of `src/laws.rt`.
-use Rattle.std.specs.Prelude.{◌≡◌, ◌≢◌, ◌≤◌, ◌*◌, ℕ, Bool, List, ◌++◌, length}
+use Rattle.std.specs.Prelude.{◌≡◌, ◌≢◌, ◌≤◌, ◌*◌, ℕ, Bool, List, ◌++◌, length, take}
 use Rattle.bcder.specs.declared.mode.Mode.{Mode}
 use Rattle.bcder.specs.declared.mode.Mode.TheVariants.{Ber}
 use Rattle.bcder.specs.declared.length.Length.{Length}
@@ -24,6 +24,12 @@ OneEnd = (mode : Mode) (v w x y : List ℕ) → IsEndOfContents mode v → IsEnd
 -- a value with an encoding of it is the only one at the front of the octets
 abbrev pub IsOnly : Mode → Tree → List ℕ → List ℕ → Type 0
 IsOnly mode t w octets = (u : Tree) (v y : List ℕ) → IsEncoding mode u v → octets ≡ v ++ y → (u ≡ t) × (v ≡ w)
+
+-- the first n octets are the encoding of a value
+pub record BeginsWhole (mode : Mode) (octets : List ℕ) (n : ℕ) : Type 0 where
+  pub tree : Tree
+  pub encodes : IsEncoding mode tree (take n octets)
+  pub fits : n ≤ length octets
 
 -- a front of octets is at most one value, with at most one encoding
 abbrev pub OneFront : Type 0

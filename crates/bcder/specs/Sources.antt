@@ -1,5 +1,5 @@
 -- The parts of the sources.
-use Rattle.std.specs.Prelude.{ℕ, Option, List}
+use Rattle.std.specs.Prelude.{ℕ, Option, List, drop}
 use Rattle.bcder.specs.Stream.{Stream, limit_or, ahead}
 use Rattle.bcder.specs.declared.decode.source.limited.LimitedSource.{LimitedSource}
 use Rattle.bcder.specs.declared.decode.source.slice.SliceSource.{SliceSource}
@@ -36,14 +36,14 @@ capturing stream s = ahead (borrow_of s) (passed s) (stream (behind s))
 
 -- the octets that are left of a slice and of shared octets
 abbrev pub slice_rest : SliceSource → List ℕ
-slice_rest s = s.octets.now
+slice_rest s = drop s.passed s.octets.now
 
 abbrev pub shared_rest : BytesSource → List ℕ
 shared_rest s = s.octets
 
 -- and where they begin
 abbrev pub slice_start : SliceSource → ℕ
-slice_start s = s.pos
+slice_start s = s.passed
 
 abbrev pub shared_start : BytesSource → ℕ
 shared_start s = s.pos

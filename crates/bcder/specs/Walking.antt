@@ -18,12 +18,13 @@ use Rattle.bcder.specs.declared.decode.header.Header.{Header as Kept}
 use Rattle.bcder.specs.declared.decode.content.Constructed.{Constructed}
 use Rattle.bcder.specs.Views.{of_constructed}
 use Rattle.bcder.specs.Calls.{TakesContent}
+use Rattle.bcder.specs.declared.length.Length.{Length}
 use Rattle.bcder.specs.declared.length.Length.TheVariants.{Definite}
 use Rattle.bcder.specs.declared.decode.content.walk.Next.{Next}
 use Rattle.bcder.specs.declared.decode.content.walk.Next.TheVariants as next
 use Rattle.bcder.specs.Reading.{Header, is_value_tag}
-use Rattle.bcder.specs.Peek.{header}
-use Rattle.bcder.specs.Content.{Reading, Form, octets, values, Octets, Moves, HasMarker, EndsBefore, EndsAt, NotAtEnd, IsDone, Enters, Advances, any, Resembles, RefusesHeader}
+use Rattle.bcder.specs.Peek.{header as header_of}
+use Rattle.bcder.specs.Content.{Reading, Form, octets, values, Octets, Moves, HasMarker, EndsBefore, EndsAt, NotAtEnd, IsDone, Enters, TakesMarker, NoFront, Advances, any, Resembles, RefusesHeader}
 
 -- ---- one value
 
@@ -56,6 +57,10 @@ pub record AnswersNext {T E : Type 0} (c : Reading) (r : Result (Option T) E) (d
   pub found : (t : Tree) (w after : List ℕ) → HasValue c t w after → IsOkAnd r (λ o. IsTrue (is_some o)) × (d.stream.rest ≡ after)
   pub ended : (after : List ℕ) → EndsBefore c after → IsOkAnd r (λ o. IsTrue (is_none o))
 
+-- a header by its parts
+abbrev pub header : Tag → Bool → Length → Header
+header t f len = record { tag = t; form = f; len = len }
+
 -- a header of so many octets is that of a primitive value of n octets in all
 pub record IsPrimitive (h : Header) (size n : ℕ) : Type 0 where
   pub is_value : is_value_tag h.tag ≡ true
@@ -66,7 +71,7 @@ pub record IsPrimitive (h : Header) (size n : ℕ) : Type 0 where
 
 -- a step over content went to the inside of a value, over a value, or to the end
 abbrev pub Goes : Reading → Next → Reading → Type 0
-Goes c (next.Entered h) d = Enters c (header h) d
+Goes c (next.Entered h) d = Enters c (header_of h) d
 Goes c next.Passed d = PassesValue c d
 Goes c next.Ended d = EndsAt c d × IsDone d
 
@@ -77,6 +82,8 @@ pub record PassedBy {T E : Type 0} (why : E → Cause ContentError) (c : Reading
   -- None: content was at its end, whose marker, if any, was taken
   pub end : IfOk r (λ o. IfNone o (EndsAt c d))
   pub done : IfOk r (λ o. IfNone o (IsDone d))
+  -- no answer is given over a failure of the source
+  pub no_fault : OnOk r (d.stream.faults ≡ c.stream.faults)
   -- an error tells why no value was passed, and content has failed
   pub refused : IfErr r (λ e. RefusesWalk why c e d)
   pub failed : OnErr r (d.state ≡ Failed)
@@ -104,19 +111,24 @@ pub record AtOnceBy {E : Type 0} (why : E → Cause ContentError) (c : Reading) 
   pub mode : d.mode ≡ c.mode
   pub marked : d.marked ≡ c.marked
 
+-- a header was passed whose content comes next, or the marker of the end was, or neither stands there; `why` tells the cause of an error
+pub record EntersBy {E : Type 0} (why : E → Cause ContentError) (c : Reading) (r : Result (Option Kept) E) (d : Reading) : Type 0 where
+  pub entered : IfOk r (λ o. IfSome o (λ h. Enters c (header_of h) d))
+  pub ended : IfOk r (λ o. IfNone o (TakesMarker c d))
+  pub refused : IfErr r (λ e. IsOfContent (why e) × NoFront c)
+  pub failed : OnErr r (d.state ≡ Failed)
+  pub no_fault : d.stream.faults ≡ c.stream.faults
+  pub mode : d.mode ≡ c.mode
+  pub marked : d.marked ≡ c.marked
+
 -- a step went over the next value, over its header or to the end, or was refused; `why` tells the cause of its error
 pub record StepsBy {E : Type 0} (why : E → Cause ContentError) (c : Reading) (r : Result Next E) (d : Reading) : Type 0 where
   pub goes : IfOk r (λ n. Goes c n d)
+  pub no_fault : OnOk r (d.stream.faults ≡ c.stream.faults)
   pub refused : IfErr r (λ e. RefusesHeader why any c e d)
   pub failed : OnErr r (d.state ≡ Failed)
   pub mode : d.mode ≡ c.mode
   pub marked : d.marked ≡ c.marked
-
--- the first n octets are the encoding of a value
-pub record BeginsWhole (mode : Mode) (octets : List ℕ) (n : ℕ) : Type 0 where
-  pub tree : Tree
-  pub encodes : IsEncoding mode tree (take n octets)
-  pub fits : n ≤ length octets
 
 -- ---- all values
 
@@ -157,6 +169,8 @@ pub record AllBy {T E : Type 0} (why : E → Cause ContentError) (c : Reading) (
   -- there were values up to the end, and content is at it
   pub all : OnOk r (c.state ≡ Open → HasValues c)
   pub done : OnOk r (IsDone d)
+  -- no answer is given over a failure of the source
+  pub no_fault : OnOk r (d.stream.faults ≡ c.stream.faults)
   -- an error tells why not, and content has failed
   pub refused : IfErr r (λ e. RefusesValues why c e d)
   pub failed : OnErr r (d.state ≡ Failed)
@@ -219,6 +233,9 @@ module _ {S : Type 0} (stream : S → Stream) (c : Both (MutBor (Constructed S))
   abbrev pub PassedAtOnce : {X : Type 0} → Result Bool (Stop X) → Type 0
   PassedAtOnce r = AtOnceBy stop_cause (of_constructed stream c.entry.now) r (of_constructed stream c.exit.now)
 
+  abbrev pub Entered : {X : Type 0} → Result (Option Kept) (Stop X) → Type 0
+  Entered r = EntersBy stop_cause (of_constructed stream c.entry.now) r (of_constructed stream c.exit.now)
+
   abbrev pub Stepped : {X : Type 0} → Result Next (Stop X) → Type 0
   Stepped r = StepsBy stop_cause (of_constructed stream c.entry.now) r (of_constructed stream c.exit.now)
 
@@ -227,4 +244,4 @@ module _ {S : Type 0} (stream : S → Stream) (c : Both (MutBor (Constructed S))
 
   -- the content of a header was walked over
   abbrev pub WalkedOver : {T X : Type 0} → Kept → Result T (Stop X) → Type 0
-  WalkedOver h r = TakesContent stop_cause itself (walked stop_cause) (of_constructed stream c.entry.now) (header h) r (of_constructed stream c.exit.now)
+  WalkedOver h r = TakesContent stop_cause itself (walked stop_cause) (of_constructed stream c.entry.now) (header_of h) r (of_constructed stream c.exit.now)

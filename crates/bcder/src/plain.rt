@@ -11,14 +11,16 @@ ghost use Rattle.bcder.specs.Told.{told};
 ghost use Rattle.bcder.specs.Identifier.{Tag as TagValue};
 ghost use Rattle.bcder.specs.Reading.{is_value_tag, BeginPrimitive};
 ghost use Rattle.bcder.specs.Reading.{read_header, read_tree, read_list, at_end};
-ghost use Rattle.bcder.specs.Grammar.{IsOnly};
+ghost use Rattle.bcder.specs.Grammar.{IsOnly, BeginsWhole};
 
 use crate::length::{Length, after_end, length_at};
 use crate::mode::Mode;
 use crate::tag::{Tag, identifier_at};
 
+/// Whether a mode allows a length (X.690, 9.1, 10.1) in an encoding of a form (8.1.3.2).
 #[tactic(auto, using(std::proofs::lemmas::Bool::Decides::nat_tests))]
-fn may_have(mode: Mode, constructed: bool, len: Length) -> bool
+#[inline(always)]
+pub(crate) fn may_have(mode: Mode, constructed: bool, len: Length) -> bool
     ensures { result ≡ may_have mode constructed len }
 {
     match len {
@@ -62,18 +64,18 @@ fn is_primitive(first: u8, len: u8) -> bool
     1 <= low && low <= 30 && len < 0x80
 }
 
-/// The octets after the value at the front, if it is primitive and has one identifier octet and one
-/// length octet.
+/// How many octets the value at the front has, if it is primitive, has one identifier octet and one
+/// length octet, and is all here.
 #[inline(always)]
-fn primitive_at(octets: &[u8]) -> Option<&[u8]>
-    ensures less { IfSome result (λ r. length r.now + 2 ≤ length octets.now) }
-    ensures read { IfSome result
-        (λ r. (mode : ModeValue) → (t : Tree) × (read_tree mode octets.now ≡ Some (t, r.now))) }
+pub(crate) fn short_size(octets: &[u8]) -> Option<usize>
+    ensures some { IfSome result (λ n. 2 ≤ n) }
+    ensures fits { IfSome result (λ n. n ≤ length octets.now) }
+    ensures begins { IfSome result (λ n. (mode : ModeValue) → BeginsWhole mode octets.now n) }
 {
     match octets {
         [first, len, rest @ ..] => {
             if is_primitive(*first, *len) && usize::from(*len) <= rest.len() {
-                Some(rest.split_at(usize::from(*len)).1)
+                Some(2 + usize::from(*len))
             } else {
                 None
             }
@@ -91,8 +93,8 @@ fn value_at(mode: Mode, octets: &[u8]) -> Option<&[u8]>
         (λ r. (t : Tree) × (read_tree mode octets.now ≡ Some (t, r.now))) }
     ensures less { IfSome result (λ r. length r.now + 2 ≤ length octets.now) }
 {
-    match primitive_at(octets) {
-        Some(rest) => Some(rest),
+    match short_size(octets) {
+        Some(size) => Some(octets.split_at(size).1),
         None => any_at(mode, octets),
     }
 }
@@ -233,17 +235,6 @@ pub fn skip_one(mode: Mode, octets: &[u8]) -> Option<&[u8]>
         ((t : Tree) (w x : List ℕ) → IsEncoding mode t w → octets.now ≡ w ++ x → ⊥) }
 {
     value_at(mode, octets)
-}
-
-/// The same of some values alone: primitive ones with a header of two octets.
-#[inline(always)]
-pub(crate) fn skip_short(mode: Mode, octets: &[u8]) -> Option<&[u8]>
-    ensures { IfSome result
-        (λ rest.
-        (t : Tree) × (w : List ℕ) × IsEncoding mode t w × (octets.now ≡ w ++ rest.now)
-        × IsOnly mode t w octets.now) }
-{
-    primitive_at(octets)
 }
 
 /// Whether the octets are the encodings of a list of values in the mode, one after the other.

@@ -1,6 +1,5 @@
 -- What listing answers, and what the target then holds.
-use Rattle.std.specs.Prelude.{◌≡◌, ℕ, List, Option, Some, MatchOption, codes}
-use Rattle.std_io.specs.declared.io.error.Error.{Error}
+use Rattle.std.specs.Prelude.{◌≡◌, ℕ, List, Option, MatchOption}
 use Rattle.std.specs.Io.KnownBytes.{Appends, Keeps}
 use Rattle.bcder.specs.declared.mode.Mode.{Mode}
 use Rattle.bcder.specs.Tree.{Trees}
@@ -36,9 +35,3 @@ abbrev pub IsUnlisted : Mode → List ℕ → Option (List ℕ) → Option (List
 IsUnlisted mode octets old new Refused = IsNoList mode octets × Keeps old new
 IsUnlisted mode octets old new NoMemory = Keeps old new
 IsUnlisted mode octets old new (Target e) = ListedInPart mode octets old new
-
--- what is shown of an error, where it is known what is shown of a target's
-abbrev pub list_text : (Error → Option (List ℕ)) → ListError → Option (List ℕ)
-list_text error_text Refused = Some (codes "refused")
-list_text error_text NoMemory = Some (codes "out of memory")
-list_text error_text (Target e) = error_text e

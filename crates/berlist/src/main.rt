@@ -7,7 +7,7 @@
 
 ghost use Rattle.std.specs.Prelude.{◌≡◌, ℕ, List, OnOk, IfErr, codes, map, string_bytes};
 ghost use Rattle.bcder.specs.declared.mode.Mode.{Mode as TheMode};
-ghost use Rattle.berlist.specs.Answers.{Listed, IsUnlisted, list_text};
+ghost use Rattle.berlist.specs.Answers.{Listed, IsUnlisted};
 ghost use Rattle.berlist.specs.Front.{AppendsFront};
 ghost use Rattle.berlist.specs.Requests.{Asks, AsksNothing, Tells, Ends};
 
@@ -40,7 +40,14 @@ pub enum ListError {
 }
 
 impl fmt::Display for ListError {
-    ghost output = { list_text ⟦<io::Error as fmt::Display>⟧.output };
+    ghost use Rattle.std.specs.Prelude.{Some};
+    ghost use Rattle.berlist.specs.declared.ListError.TheVariants.{Refused, NoMemory, Target};
+
+    ghost output = { elim [
+      | Refused ↦ Some (codes "refused")
+      | NoMemory ↦ Some (codes "out of memory")
+      | Target e ↦ ⟦<io::Error as fmt::Display>⟧.output e
+    ] };
 
     fn fmt<W: fmt::Write>(&self, f: &mut fmt::Formatter<W>) -> fmt::Result {
         match self {

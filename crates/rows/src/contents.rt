@@ -36,6 +36,7 @@ fn pass_one<S: Source>(values: &mut Constructed<'_, S>) -> Result<(), DecodeErro
 }
 
 /// Three octets are owed, and none once they are passed. Other rules hold from when they are set.
+#[tactic(auto, using(bcder::proofs::Moving::moves_refl, bcder::proofs::Carrying::carries))]
 fn check_octets<S: Source>(
     rt: &impl Abort,
     octets: &mut Primitive<'_, S>,
@@ -53,6 +54,7 @@ fn check_octets<S: Source>(
 }
 
 /// Other rules hold from when they are set.
+#[tactic(auto, using(bcder::proofs::Moving::moves_refl, bcder::proofs::Carrying::carries))]
 fn check_values<S: Source>(
     rt: &impl Abort,
     values: &mut Constructed<'_, S>,
@@ -116,6 +118,7 @@ fn content_tells_of_itself(rt: HostRuntime) -> Result<(), Fail> {
 }
 
 /// Takes a value, and drops the error of a source that failed: then no other one is taken.
+#[tactic(auto, using(bcder::proofs::Moving::moves_refl, bcder::proofs::Carrying::carries))]
 fn take_failing<S: Source>(rt: &impl Abort, cons: &mut Constructed<'_, S>)
     ensures { Moved S.stream cons }
 {
@@ -130,6 +133,7 @@ fn take_failing<S: Source>(rt: &impl Abort, cons: &mut Constructed<'_, S>)
 }
 
 /// The same of a value in a sequence, which then is refused.
+#[tactic(auto, using(bcder::proofs::Moving::moves_refl, bcder::proofs::Carrying::carries))]
 fn enter_failing<S: Source>(rt: &impl Abort, cons: &mut Constructed<'_, S>)
     ensures { Moved S.stream cons }
 {

@@ -110,6 +110,7 @@ fn no_octets(rt: HostRuntime) -> Result<(), Fail> {
     Ok(())
 }
 
+#[tactic(auto, using(bcder::proofs::Moving::moves_refl))]
 #[test]
 fn owned_sources(rt: HostRuntime) -> Result<(), Fail> {
     holds(&rt, two_empty_of(SliceSource::new(TWO), Mode::Der)?);
@@ -133,6 +134,7 @@ fn a_failed_source(rt: HostRuntime) -> Result<(), Fail> {
     Ok(())
 }
 
+#[tactic(auto, using(bcder::proofs::Moving::moves_refl))]
 #[test]
 fn the_closure_refuses(rt: HostRuntime) -> Result<(), Fail> {
     let mut source = SliceSource::new(TWO);

@@ -19,3 +19,5 @@ mod sources;
 #[cfg(test)]
 mod tag_names;
 pub mod tags;
+#[cfg(test)]
+mod users;

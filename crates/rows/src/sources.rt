@@ -146,10 +146,10 @@ fn check_limit<S: Source + Drop>(rt: &impl Abort, source: S) -> Result<(), Fail>
             .exhausted()
             .is_err_and(|error| error.content_error().is_some()),
     );
-    same(rt, source.request(6)?, 4);
+    assert_eq!(rt; source.request(6)?, 4);
     source.advance(2);
     holds(rt, source.exhausted().is_err());
-    same(rt, source.request(6)?, 2);
+    assert_eq!(rt; source.request(6)?, 2);
     source.advance(2);
     holds(rt, source.exhausted().is_ok());
     same(rt, source.request(6)?, 0);
@@ -265,7 +265,7 @@ fn check_capture<S: Source + Drop>(
     let mut capture = CaptureSource::new(&mut source);
     assert!(rt; capture.request(5)? >= 5);
     capture.advance(5);
-    same(rt, capture.request(usize::MAX)?, 1);
+    assert_eq!(rt; capture.request(usize::MAX)?, 1);
     same(rt, capture.bytes(alloc, 0, 1)?.as_slice(), b"0".as_slice());
     assert_rest(rt, &mut source, b"567890")
 }

@@ -118,8 +118,7 @@ fn takes_if<S: Source>(source: &mut S, tag: Tag, constructed: bool) -> bool {
     }
 }
 
-/// Whether all three readers refuse by a fixed text, and take nothing: the first octet still
-/// stands.
+/// Whether all three readers refuse by a fixed text, and take nothing: the first octet is left.
 fn refuses<S: Source>(source: &mut S, tag: Tag, first: u8) -> bool {
     is_static(Tag::take_from(source))
         && is_static(Tag::take_opt_from(source))

@@ -1,5 +1,5 @@
 -- What is cut off at a limit, and what is kept of it.
-use Rattle.std.specs.Prelude.{◌≡◌, ◌-◌, ◌≤◌, ℕ, List, [], ◌∷◌, ◌++◌, Option, Some, None, length, take, drop, min, refl}
+use Rattle.std.specs.Prelude.{◌≡◌, ◌-◌, ◌^◌, ◌<◌, ◌≤◌, ℕ, List, [], ◌∷◌, ◌++◌, Option, Some, None, length, take, drop, min, refl}
 use Rattle.std.proofs.Common.{arith, ap, sym, ◌∙◌, append_assoc, zero, suc}
 use Rattle.std.proofs.lemmas.Grind.{common_steps}
 use Rattle.bcder.specs.Identifier.{AreOctets}
@@ -56,6 +56,10 @@ AreOctets-drop (suc n) (b ∷ w) h = AreOctets-drop n w (λ i. h (suc i))
 -- what is left after some octets is sound too
 pub ahead_sound : (name n : ℕ) (s : Stream) → IsSound s → IsSound (ahead name n s)
 ahead_sound name n s h = record { octets = AreOctets-drop n s.rest h.octets; size = grind (arith, common_steps, h.size); at_hand = grind (arith, common_steps, h.at_hand) }
+
+-- and so are octets that are all at hand, after the first ones
+pub left_sound : (n : ℕ) (w : List ℕ) → AreOctets w → length w < 2 ^ 64 → IsSound (record { rest = drop n w; avail = length (drop n w); faults = 0; position = n; kept = [] })
+left_sound n w h f = record { octets = AreOctets-drop n w h; size = grind (arith, common_steps, f); at_hand = at_most_itself (length (drop n w)) }
 
 -- and so is a borrowed source
 pub borrowed_sound : (name : ℕ) (s : Stream) → IsSound s → IsSound (borrowed name s)

@@ -1,6 +1,6 @@
 use Rattle.std.proofs.Common.{arith}
 use Rattle.bcder.specs.Identifier.{AreOctets}
-use Rattle.bcder.proofs.Skip.{HasHeader, at_end_less, no_header, too_short_at, bad_contents_at, primitive_at, definite_at, indefinite_at, reads_more, reads_end, reads_nothing}
+use Rattle.bcder.proofs.Skip.{HasHeader, at_end_less, no_header, too_short_at, bad_contents_at, primitive_at, definite_at, indefinite_at, reads_more, reads_end, reads_nothing, whole_read}
 use Rattle.bcder.proofs.plain.+plain.Goals as goal
 
 pub list_at-returns-in-Some-clause-less : goal.list_at-returns-in-Some-clause-less
@@ -49,3 +49,6 @@ any_at-returns-in-Indefinite-clause-read t c =
     let o : AreOctets c.args.octets.now = λ i. omega (arith, c.type_inv.octets i) in
     let h : HasHeader c.args.mode c.args.octets.now c.in-Some.field-0-0 c.in-Some.constructed c.in-Some.len c.in-Some.rest.now = record { octets = o; read = c.in-Some.ensures.read } in
     indefinite_at c.list_at-in-Indefinite.result (λ r. r.now) c.args.mode c.args.octets.now c.in-Some.field-0-0 c.in-Some.constructed c.in-Some.len c.in-Some.rest.now h c.in-Indefinite.is c.list_at-in-Indefinite.ensures.read
+
+pub value_at-returns-in-Some-clause-read : goal.value_at-returns-in-Some-clause-read
+value_at-returns-in-Some-clause-read t c = whole_read c.args.mode c.args.octets.now c.split_at.result.1.now c.in-Some.size (c.in-Some.ensures.begins c.args.mode) c.split_at.ensures.back

@@ -19,6 +19,14 @@ impl<'a, S: Source> Constructed<'a, S> {
     /// has to take all of it. Its answer is answered. At the end the end-of-contents octets, if
     /// any, are taken (X.690, 8.1.5).
     ///
+    /// A closure with up to two `?` needs no clause. One with more steps, a loop or a choice by the
+    /// form of content says that it moves the content, and so does a function that takes from it:
+    ///
+    /// ```text
+    /// |cons| ensures { Moved S.stream cons } { .. }
+    /// |_tag, content| ensures { MovedContent S.stream content } { match content { .. } }
+    /// ```
+    ///
     /// # Errors
     ///
     /// Where neither the end nor the header of a value stands in front, allowed by the mode and

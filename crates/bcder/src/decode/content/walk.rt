@@ -1,14 +1,15 @@
 //! Walking over values, which looks at every header inside them.
-ghost use Rattle.std.specs.Prelude.{◌≡◌, ◌≢◌, ◌≤◌, false, IfOk, IfSome, OnOk, OnErr};
+ghost use Rattle.std.specs.Prelude.{◌≡◌, ◌≢◌, ◌≤◌, false, IsTrue, IfOk, IfSome, OnOk, OnErr};
 ghost use Rattle.bcder.specs.Cause.{stop_cause};
 ghost use Rattle.bcder.specs.Stream.{Grew, Provides};
 ghost use Rattle.bcder.specs.Identifier.{Tag as TagValue};
 ghost use Rattle.bcder.specs.Peek.{header as header_of, Peeks};
-ghost use Rattle.bcder.specs.Content.{Moves, FitsOwed, values, Resembles};
+ghost use Rattle.bcder.specs.Content.{Moves, FitsOwed, Accepts, end_header, values, Resembles};
 ghost use Rattle.bcder.specs.Calls.{RanOver};
 ghost use Rattle.bcder.specs.Walking.{Between, PassedNext, ExactlyNext, NoFault, Fault, PassedStep};
-ghost use Rattle.bcder.specs.Walking.{PassedOver, PassedAtOnce, Stepped, PassedAll, WalkedOver};
-ghost use Rattle.bcder.specs.Walking.{IsPrimitive, BeginsWhole, itself, walked};
+ghost use Rattle.bcder.specs.Walking.{PassedOver, PassedAtOnce, Entered, Stepped, PassedAll, WalkedOver};
+ghost use Rattle.bcder.specs.Grammar.{BeginsWhole};
+ghost use Rattle.bcder.specs.Walking.{IsPrimitive, itself, walked, header};
 ghost use Rattle.bcder.specs.Views.{Moved, of_constructed, limited_stream};
 
 use super::take::{pop, push};
@@ -16,10 +17,11 @@ use super::{Constructed, Kind, State};
 use crate::decode::error::DecodeError;
 use crate::decode::header::{Front, Header, Peeked};
 use crate::decode::source::{LimitedSource, Source};
-use crate::decode::stop::Stop;
+use crate::decode::stop::{Stop, Why};
 use crate::length::Length;
 use crate::mode::Mode;
-use crate::plain::{skip_one, skip_short};
+use crate::plain::{may_have, short_size, skip_one};
+use crate::tag::Tag;
 
 /// Passes over the next value, or answers `None` at the end of the content, whose marker it takes.
 ///
@@ -79,12 +81,10 @@ fn primitive_size(header: Header, size: usize) -> Option<usize>
 fn whole_size(mode: Mode, octets: &[u8], short: bool) -> Option<usize>
     ensures { IfSome result (λ n. BeginsWhole mode octets.now n) }
 {
-    let found = if short {
-        skip_short(mode, octets)
-    } else {
-        skip_one(mode, octets)
-    };
-    match found {
+    if short {
+        return short_size(octets);
+    }
+    match skip_one(mode, octets) {
         Some(rest) => Some(octets.len() - rest.len()),
         None => None,
     }
@@ -162,8 +162,10 @@ impl<'a, S: Source> Constructed<'a, S> {
         let State::Open = self.state else {
             return Ok(false);
         };
-        if let Some(0) = self.source.limit() {
-            return Ok(false);
+        if let Kind::Definite = self.kind {
+            if let Some(0) = self.source.limit() {
+                return Ok(false);
+            }
         }
         match self.look_at_whole(short) {
             Ok(Some(size)) => {
@@ -210,6 +212,57 @@ impl<'a, S: Source> Constructed<'a, S> {
     }
 }
 
+/// Whether this is the header of a value that content in the mode may hold, where so many octets are
+/// owed behind it.
+#[inline(always)]
+fn may_enter(mode: Mode, tag: Tag, constructed: bool, len: Length, owed: Option<usize>) -> bool
+    ensures yes { IsTrue result → Accepts mode (header tag constructed len) owed }
+    ensures no { result ≡ false → Accepts mode (header tag constructed len) owed → ⊥ }
+{
+    let fits = match (len, owed) {
+        (Length::Definite(len), Some(owed)) => len <= owed,
+        _ => true,
+    };
+    tag.is_value() && may_have(mode, constructed, len) && fits
+}
+
+/// Whether these are end-of-contents octets (8.1.5).
+#[inline(always)]
+fn is_end(tag: Tag, constructed: bool, len: Length) -> bool
+    ensures yes { IsTrue result → header tag constructed len ≡ end_header }
+    ensures no { result ≡ false → header tag constructed len ≡ end_header → ⊥ }
+{
+    tag == Tag::END_OF_VALUE && !constructed && len == Length::Definite(0)
+}
+
+impl<'a, S: Source> Constructed<'a, S> {
+    /// Passes over a header that was looked at, or over the marker at the end.
+    #[tactic(auto, unfolding(crate::specs::Views::of_constructed))]
+    #[inline(always)]
+    fn go_in(&mut self, header: Header, size: usize) -> Result<Option<Header>, Stop<S::Error>>
+        requires read { Peeks self.old.mode (Peeked.Front header size)
+            (limited_stream S.stream self.old.source.now) }
+        requires usable { self.old.state ≡ State.Open }
+        ensures moves { Between S.stream self Moves }
+        ensures entered { Entered S.stream self result }
+    {
+        self.pass_over(size);
+        let owed = self.source.limit();
+        if may_enter(self.mode, header.tag, header.constructed, header.len, owed) {
+            self.state = State::Failed;
+            return Ok(Some(header));
+        }
+        if let Kind::Indefinite = self.kind {
+            if is_end(header.tag, header.constructed, header.len) {
+                self.state = State::Ended;
+                return Ok(None);
+            }
+        }
+        self.state = State::Failed;
+        Err(Stop::Refused(Why::ValueHeader))
+    }
+}
+
 /// Passes over all of the next value if it is primitive and its octets come, and else over its
 /// header.
 #[tactic(auto, using(crate::proofs::moves_refl), unfolding(crate::specs::Views::of_constructed))]
@@ -221,7 +274,7 @@ fn go_on<S: Source>(cons: &mut Constructed<'_, S>) -> Result<Next, Stop<S::Error
     match cons.front() {
         Ok(Some(front)) => match cons.pass_primitive(front.header, front.size) {
             Ok(true) => Ok(Next::Passed),
-            Ok(false) => match cons.enter(front.header, front.size) {
+            Ok(false) => match cons.go_in(front.header, front.size) {
                 Ok(Some(header)) => Ok(Next::Entered(header)),
                 Ok(None) => Ok(Next::Ended),
                 Err(stop) => Err(stop),
@@ -294,6 +347,7 @@ fn pass_content<S: Source>(
     ensures mode { cons.new.mode ≡ cons.old.mode }
     ensures marked { cons.new.marked ≡ cons.old.marked }
     ensures state { cons.new.state ≡ cons.old.state }
+    ensures no_fault { OnOk result (NoFault S.stream cons) }
 {
     match header.len {
         Length::Definite(len) => {
@@ -320,9 +374,11 @@ fn walk_over<S: Source>(
     mode: Mode,
 ) -> Result<(), Stop<S::Error>>
     requires { kind ≢ Kind.Unbounded }
-    ensures { (t : TagValue) → RanOver stop_cause itself (walked stop_cause)
+    ensures ran { (t : TagValue) → RanOver stop_cause itself (walked stop_cause)
         (limited_stream S.stream source.old) source.old.limit (values kind) mode t result false
         (limited_stream S.stream source.new) source.new.limit }
+    ensures no_fault { OnOk result
+        ((limited_stream S.stream source.new).faults ≡ (limited_stream S.stream source.old).faults) }
 {
     let start = source.pos();
     let mut cons = Constructed {

@@ -14,9 +14,10 @@ use std::convert::Infallible;
 #[derive(Clone, Copy, Debug)]
 pub struct SliceSource<'a> {
     octets: &'a [u8],
-    pos: Pos,
+    passed: usize,
     ghost are_octets: { AreOctets octets.now },
     ghost fit: { length octets.now < 2 ^ 64 },
+    ghost within: { passed ≤ length octets.now },
 }
 
 impl<'a> SliceSource<'a> {
@@ -27,24 +28,21 @@ impl<'a> SliceSource<'a> {
         ensures octets { slice_rest result ≡ octets.now }
         ensures start { slice_start result ≡ 0 }
     {
-        SliceSource {
-            octets,
-            pos: Pos::default(),
-        }
+        SliceSource { octets, passed: 0 }
     }
 
     /// How many octets are left.
     pub fn len(&self) -> usize
         ensures { result ≡ length (slice_rest self.now) }
     {
-        self.octets.len()
+        self.octets.len() - self.passed
     }
 
     /// Whether no octets are left.
     pub fn is_empty(&self) -> bool
         ensures { IsTrue result ↔ (slice_rest self.now ≡ []) }
     {
-        self.octets.is_empty()
+        self.octets[self.passed..].is_empty()
     }
 
     /// Takes the first `len` octets, of which there have to be as many, and answers them.
@@ -54,9 +52,9 @@ impl<'a> SliceSource<'a> {
         ensures rest { slice_rest self.new ≡ drop len (slice_rest self.old) }
         ensures position { slice_start self.new ≡ pos_after (slice_start self.old) len }
     {
-        let (front, rest) = self.octets.split_at(len);
-        self.octets = rest;
-        self.pos = self.pos + Pos::from(len);
+        let end = self.passed + len;
+        let front = &self.octets[self.passed..end];
+        self.passed = end;
         front
     }
 }
@@ -66,39 +64,34 @@ impl<'a> Source for SliceSource<'a> {
     type Error = Infallible;
 
     ghost stream = { λ s. record {
-      rest = s.octets.now;
-      avail = length s.octets.now;
+      rest = drop s.passed s.octets.now;
+      avail = length (drop s.passed s.octets.now);
       faults = 0;
-      position = s.pos;
+      position = s.passed;
       kept = [];
     } };
 
-    ghost use Rattle.bcder.specs.laws.Limits.{at_most_itself};
+    ghost use Rattle.bcder.specs.laws.Limits.{left_sound};
 
-    ghost sound = { λ s. record {
-      octets = s.are_octets;
-      size = s.fit;
-      at_hand = at_most_itself (length s.octets.now);
-    } };
+    ghost sound = { λ s. left_sound s.passed s.octets.now s.are_octets s.fit };
 
     fn pos(&self) -> Pos {
-        self.pos
+        Pos::from(self.passed)
     }
 
     fn request(&mut self, _len: usize) -> Result<usize, Infallible> {
-        Ok(self.octets.len())
+        Ok(self.octets.len() - self.passed)
     }
 
     fn slice(&self) -> &[u8] {
-        self.octets
+        &self.octets[self.passed..]
     }
 
     fn bytes(&self, alloc: Global, start: usize, end: usize) -> Result<Bytes, NoMemory> {
-        Ok(Bytes::copy_from_slice(alloc, &self.octets[start..end])?)
+        Ok(Bytes::copy_from_slice(alloc, &self.octets[self.passed..][start..end])?)
     }
 
     fn advance(&mut self, len: usize) {
-        self.octets = &self.octets[len..];
-        self.pos = self.pos + Pos::from(len);
+        self.passed += len;
     }
 }

@@ -37,6 +37,7 @@ step-returns-in-Ok-clause-passed g t c =
       value = walks_one stop_cause itself (walked stop_cause) (λ t p r q x. x) (of_constructed g.S.Source.stream c.args.cons.now) _ (Ok (Some _)) (taken_value (of_constructed g.S.Source.stream c.args.cons.now) (of_constructed g.S.Source.stream c.go_on.new.cons) (of_constructed g.S.Source.stream c.pass_content.new.cons) (header c.in-Ok-Entered.header) any refl e stop_cause itself (walked stop_cause) _ refl refl refl _ c.in-Ok.ensures.taken);
       end = tt;
       done = tt;
+      no_fault = c.in-Ok.ensures.no_fault ∙ c.in-Ok-Entered.ensures.stepped.no_fault;
       refused = tt;
       failed = tt;
       mode = c.pass_content.ensures.mode ∙ c.go_on.ensures.stepped.mode;
@@ -57,6 +58,7 @@ step-returns-in-Err-pass_content-clause-passed g t c =
       value = tt;
       end = tt;
       done = tt;
+      no_fault = tt;
       refused =
           step_refused stop_cause (of_constructed g.S.Source.stream c.args.cons.now) (of_constructed g.S.Source.stream c.pass_content.new.cons) _ (within_constructed g.S.Source.stream g.met.S.Source.sound c.args.cons.now)
           (content (refused_front (of_constructed g.S.Source.stream c.args.cons.now) (of_constructed g.S.Source.stream c.go_on.new.cons) (of_constructed g.S.Source.stream c.pass_content.new.cons) (header c.in-Ok-Entered.header) any refl e stop_cause itself (walked stop_cause) _ c.in-Err-pass_content.ensures.taken));
@@ -71,6 +73,7 @@ step-returns-in-Err-clause-passed g t c = record {
   value = tt;
   end = tt;
   done = tt;
+  no_fault = tt;
   refused = next_refused stop_cause (of_constructed g.S.Source.stream c.args.cons.now) (of_constructed g.S.Source.stream c.go_on.new.cons) _ (within_constructed g.S.Source.stream g.met.S.Source.sound c.args.cons.now) c.in-Err.ensures.stepped.refused;
   failed = c.in-Err.ensures.stepped.failed;
   mode = c.go_on.ensures.stepped.mode;
@@ -82,7 +85,7 @@ unfolding of_constructed
 pass_content-returns-then-header-clause-taken g t c =
     takes_values stop_cause itself (walked stop_cause) (of_constructed g.S.Source.stream c.args.cons.now) _ (header c.args.header) _ refl refl refl refl false (or_none _ _ refl)
     g.S.Source.stream c.in-Definite.len c.args.cons.now.source.now c.push-outer.new.source c.walk_over-result.new.source c.pop.new.source c.push-outer.result c.in-Definite.is
-    refl refl c.push-outer.ensures.outer c.push-outer.ensures.limit c.push-outer.ensures.source c.pop.ensures.limit c.pop.ensures.source refl refl c.requires c.if-header.true (c.walk_over-result.ensures c.args.header.tag)
+    refl refl c.push-outer.ensures.outer c.push-outer.ensures.limit c.push-outer.ensures.source c.pop.ensures.limit c.pop.ensures.source refl refl c.requires c.if-header.true (c.walk_over-result.ensures.ran c.args.header.tag)
 
 pub pass_content-returns-else-header-clause-taken : goal.pass_content-returns-else-header-clause-taken
 unfolding of_constructed
@@ -96,24 +99,24 @@ pass_content-returns-else-header-clause-taken g t c =
 pub pass_content-returns-in-Indefinite-clause-taken : goal.pass_content-returns-in-Indefinite-clause-taken
 unfolding of_constructed
 pass_content-returns-in-Indefinite-clause-taken g t c =
-    takes_marked stop_cause itself (walked stop_cause) (of_constructed g.S.Source.stream c.args.cons.now) _ (header c.args.header) _ refl refl refl refl false (or_none _ _ refl) c.in-Indefinite.is (c.walk_over.ensures c.args.header.tag)
+    takes_marked stop_cause itself (walked stop_cause) (of_constructed g.S.Source.stream c.args.cons.now) _ (header c.args.header) _ refl refl refl refl false (or_none _ _ refl) c.in-Indefinite.is (c.walk_over.ensures.ran c.args.header.tag)
 
-pub walk_over-returns : goal.walk_over-returns
+pub walk_over-returns-clause-ran : goal.walk_over-returns-clause-ran
 unfolding of_constructed
-walk_over-returns g t c u =
+walk_over-returns-clause-ran g t c u =
     let same : c.walk_all.new.cons.source.now ≡ c.source-2-1.given.0 = search rules in
     ran_values stop_cause _ (of_constructed g.S.Source.stream c.walk_all.new.cons) c.walk_all.result c.walk_all.ensures.moves c.walk_all.ensures.passed.marked c.walk_all.ensures.passed.done c.walk_all.ensures.passed.refused
     (limited_stream g.S.Source.stream c.args.source.now) (limited_stream g.S.Source.stream c.source-2-1.given.0) c.args.source.now.limit c.source-2-1.given.0.limit (values c.args.kind) c.args.mode u refl refl refl refl refl refl (ap (limited_stream g.S.Source.stream) same) (ap (λ z. z.limit) same) (λ e. c.requires (kind_of _ _ e))
 
 pub walk_all-loop-init : goal.walk_all-loop-init
-walk_all-loop-init g t c = walks_refl _
+walk_all-loop-init g t c = record { walks = walks_refl _; no_fault = refl }
 
 pub walk_all-step-requires : goal.walk_all-step-requires
 walk_all-step-requires g t c κs within =
-    let h : length (of_constructed g.S.Source.stream c.loop.cons).stream.rest ≤ length (of_constructed g.S.Source.stream c.args.cons.now).stream.rest = moves_shorter _ _ c.loop.invariant.moves in search rules
+    let h : length (of_constructed g.S.Source.stream c.loop.cons).stream.rest ≤ length (of_constructed g.S.Source.stream c.args.cons.now).stream.rest = moves_shorter _ _ c.loop.invariant.walks.moves in search rules
 
 pub walk_all-returns-in_err-step-clause-moves : goal.walk_all-returns-in_err-step-clause-moves
-walk_all-returns-in_err-step-clause-moves g t c = moves_trans _ _ _ c.loop.invariant.moves c.in_err-step.ensures.moves
+walk_all-returns-in_err-step-clause-moves g t c = moves_trans _ _ _ c.loop.invariant.walks.moves c.in_err-step.ensures.moves
 
 pub walk_all-returns-in_err-step-clause-passed : goal.walk_all-returns-in_err-step-clause-passed
 walk_all-returns-in_err-step-clause-passed g t c =
@@ -121,10 +124,10 @@ walk_all-returns-in_err-step-clause-passed g t c =
     let j = of_constructed g.S.Source.stream c.loop.cons in
     let k = of_constructed g.S.Source.stream c.step.new.cons in
     all_refused stop_cause i k c.from_residual.result _ c.from_residual.ensures.1
-    (walks_refused stop_cause _ i j k (constructed_form g.S.Source.stream c.args.cons.now) c.loop.invariant c.in_err-step.ensures.passed.refused)
+    (walks_refused stop_cause _ i j k (constructed_form g.S.Source.stream c.args.cons.now) c.loop.invariant.walks c.in_err-step.ensures.passed.refused)
     c.in_err-step.ensures.passed.failed
-    (c.in_err-step.ensures.passed.mode ∙ c.loop.invariant.mode)
-    (c.in_err-step.ensures.passed.marked ∙ c.loop.invariant.marked)
+    (c.in_err-step.ensures.passed.mode ∙ c.loop.invariant.walks.mode)
+    (c.in_err-step.ensures.passed.marked ∙ c.loop.invariant.walks.marked)
 
 pub walk_all-loop-smaller : goal.walk_all-loop-smaller
 walk_all-loop-smaller g t c =
@@ -137,11 +140,15 @@ walk_all-loop-preserved g t c =
     let i = of_constructed g.S.Source.stream c.args.cons.now in
     let j = of_constructed g.S.Source.stream c.loop.cons in
     let k = of_constructed g.S.Source.stream c.step.new.cons in
-    walks_value i j k (within_constructed g.S.Source.stream g.met.S.Source.sound c.loop.cons) c.loop.invariant c.in_ok-step.ensures.moves c.in_ok-step.ensures.passed.mode c.in_ok-step.ensures.passed.marked
-    (some_value (PassesValue j k) _ c.if-is_some.ensures c.in_ok-step.ensures.passed.value)
+    record {
+      walks =
+          walks_value i j k (within_constructed g.S.Source.stream g.met.S.Source.sound c.loop.cons) c.loop.invariant.walks c.in_ok-step.ensures.moves c.in_ok-step.ensures.passed.mode c.in_ok-step.ensures.passed.marked
+          (some_value (PassesValue j k) _ c.if-is_some.ensures c.in_ok-step.ensures.passed.value);
+      no_fault = c.in_ok-step.ensures.passed.no_fault ∙ c.loop.invariant.no_fault;
+    }
 
 pub walk_all-returns-clause-moves : goal.walk_all-returns-clause-moves
-walk_all-returns-clause-moves g t c = moves_trans _ _ _ c.loop.invariant.moves c.in_ok-step.ensures.moves
+walk_all-returns-clause-moves g t c = moves_trans _ _ _ c.loop.invariant.walks.moves c.in_ok-step.ensures.moves
 
 pub walk_all-returns-clause-passed : goal.walk_all-returns-clause-passed
 walk_all-returns-clause-passed g t c =
@@ -149,16 +156,17 @@ walk_all-returns-clause-passed g t c =
     let j = of_constructed g.S.Source.stream c.loop.cons in
     let k = of_constructed g.S.Source.stream c.step.new.cons in
     record {
-      all = λ s. walks_all i j k (constructed_form g.S.Source.stream c.args.cons.now) c.loop.invariant (none_value (EndsAt j k) _ c.if-is_some.ensures c.in_ok-step.ensures.passed.end) s;
+      all = λ s. walks_all i j k (constructed_form g.S.Source.stream c.args.cons.now) c.loop.invariant.walks (none_value (EndsAt j k) _ c.if-is_some.ensures c.in_ok-step.ensures.passed.end) s;
       done = none_value (IsDone k) _ c.if-is_some.ensures c.in_ok-step.ensures.passed.done;
+      no_fault = c.in_ok-step.ensures.passed.no_fault ∙ c.loop.invariant.no_fault;
       refused = tt;
       failed = tt;
-      mode = c.in_ok-step.ensures.passed.mode ∙ c.loop.invariant.mode;
-      marked = c.in_ok-step.ensures.passed.marked ∙ c.loop.invariant.marked;
+      mode = c.in_ok-step.ensures.passed.mode ∙ c.loop.invariant.walks.mode;
+      marked = c.in_ok-step.ensures.passed.marked ∙ c.loop.invariant.walks.marked;
     }
 
 pub walk_all-returns-in_err-step-clause-name : goal.walk_all-returns-in_err-step-clause-name
-walk_all-returns-in_err-step-clause-name g t c = moves_constructed_name g.S.Source.stream c.args.cons.now c.step.new.cons (moves_trans _ _ _ c.loop.invariant.moves c.in_err-step.ensures.moves)
+walk_all-returns-in_err-step-clause-name g t c = moves_constructed_name g.S.Source.stream c.args.cons.now c.step.new.cons (moves_trans _ _ _ c.loop.invariant.walks.moves c.in_err-step.ensures.moves)
 
 pub walk_all-returns-clause-name : goal.walk_all-returns-clause-name
-walk_all-returns-clause-name g t c = moves_constructed_name g.S.Source.stream c.args.cons.now c.step.new.cons (moves_trans _ _ _ c.loop.invariant.moves c.in_ok-step.ensures.moves)
+walk_all-returns-clause-name g t c = moves_constructed_name g.S.Source.stream c.args.cons.now c.step.new.cons (moves_trans _ _ _ c.loop.invariant.walks.moves c.in_ok-step.ensures.moves)

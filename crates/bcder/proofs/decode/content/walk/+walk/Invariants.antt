@@ -1,4 +1,4 @@
-use Rattle.std.proofs.Common.{◌+◌, ◌*◌, length}
+use Rattle.std.proofs.Common.{◌≡◌, ◌+◌, ◌*◌, length}
 use Rattle.bcder.specs.Walking.{Walks}
 use Rattle.bcder.specs.Views.{of_constructed, limited_stream}
 use Rattle.bcder.proofs.decode.content.walk.+walk.Given as goal
@@ -16,7 +16,10 @@ abbrev pub decreases-walk_all : goal.decreases-walk_all
 decreases-walk_all g l = 4 * length (of_constructed g.S.Source.stream l.cons.now).stream.rest + 1
 
 abbrev pub invariant-walk_all-loop : goal.invariant-walk_all-loop
-invariant-walk_all-loop g l = Walks (of_constructed g.S.Source.stream l.fn.cons) (of_constructed g.S.Source.stream l.cons)
+invariant-walk_all-loop g l = record {
+  walks : Walks (of_constructed g.S.Source.stream l.fn.cons) (of_constructed g.S.Source.stream l.cons);
+  no_fault : (of_constructed g.S.Source.stream l.cons).stream.faults ≡ (of_constructed g.S.Source.stream l.fn.cons).stream.faults;
+}
 
 abbrev pub decreases-walk_all-loop : goal.decreases-walk_all-loop
 decreases-walk_all-loop g l = length (of_constructed g.S.Source.stream l.cons).stream.rest
