@@ -51,14 +51,15 @@ class Edit:
         if not self.pairs:
             raise BadEdit("it has no 'old:' and 'new:' pair")
         texts = self.applied({}, crate)
-        self.paths, self.turns, bare = list(texts), [], []
-        added = []
+        self.paths, self.turns, self.cycles = list(texts), [], set()
+        added, bare = [], []
         for path, text in texts.items():
             was = crate.functions[path]
             for name, now in functions_of(text).items():
                 if [it.words for it in now] != [it.words for it in was.get(name, [])]:
                     (self.turns if name in was else added).append((path, name))
                     bare += [it for it in now if it.is_bare and name in was]
+                    self.cycles |= {(path, it.cycle) for it in now if it.cycle}
         # The functions that it turns, or else those that it adds; of a constant it turns none.
         self.turns = self.turns or added
         self.shuns = crate.resting_on({last(it.name) for it in bare}).union(*[it.words for it in bare])
@@ -77,7 +78,7 @@ class Edit:
 
     def clashes(self, other):
         """Whether the two can't be told apart in one check."""
-        if not self.turns or not other.turns or set(self.turns) & set(other.turns):
+        if not self.turns or not other.turns or set(self.turns) & set(other.turns) or self.cycles & other.cycles:
             return True
         mine, its = ({last(name) for _, name in it.turns} for it in (self, other))
         return bool(self.shuns & its or other.shuns & mine)
@@ -100,7 +101,7 @@ def pairs_of(text):
         elif line.startswith("new:"):
             if not path or not old:
                 raise BadEdit("a 'new:' line stands before any 'file:' or 'old:' line")
-            yield path, old, line[4:].removeprefix(" ")
+            yield path, old, line[5:] if line.startswith("new: ") else line[4:]
             old = None
         elif line.strip():
             raise BadEdit(f"a line is no 'file:', 'old:' or 'new:' line: {line[:60]}")

@@ -10,8 +10,9 @@ TOKEN = re.compile(
 )
 # name: without the module, as `f`, `Type::f`, or `TypeTrait::f` for a trait's method.
 # is_bare: it has no clause of its own or of a trait, so its callers rest on its body.
-# lines: the first and the last. words: all its text, from `fn` on.
-Function = collections.namedtuple("Function", "name is_bare is_test lines words")
+# cycle: the cycle of calls that it is in, which has one proof, or "". lines: the first and the last.
+# words: all its text, from `fn` on.
+Function = collections.namedtuple("Function", "name is_bare cycle is_test lines words")
 
 
 def functions_of(text):
@@ -63,20 +64,21 @@ class File:
 
     def items(self, at, end, inside, is_of_trait, in_test):
         """Goes over the items from one place to another, below a module, a type or a trait."""
-        is_test = in_test
+        is_test, cycle = in_test, ""
         while at < end:
             word = self.words[at]
             if word == "#":
                 behind = self.behind(at + 1, "[", "]")
                 is_test = is_test or "test" in self.words[at:behind]
+                cycle = self.words[at + 4] if self.words[at + 2] == "cycle" else cycle
                 at = behind
             elif word == "fn" and re.match(r"[^\W\d]", self.words[at + 1]):
                 body, has_clause = self.body(at + 2)
                 behind = self.behind(body) if self.words[body] == "{" else body + 1
                 name, is_bare = inside + self.words[at + 1], not has_clause and not is_of_trait
                 lines = self.lines[at], self.lines[behind - 1]
-                self.functions.append(Function(name, is_bare, is_test, lines, self.words[at:behind]))
-                at, is_test = behind, in_test
+                self.functions.append(Function(name, is_bare, cycle, is_test, lines, self.words[at:behind]))
+                at, is_test, cycle = behind, in_test, ""
             elif word in ("impl", "trait", "mod"):
                 first = at + 1
                 while self.words[at] not in ("{", ";", ""):
