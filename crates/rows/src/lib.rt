@@ -19,5 +19,3 @@ mod sources;
 #[cfg(test)]
 mod tag_names;
 pub mod tags;
-#[cfg(test)]
-mod users;

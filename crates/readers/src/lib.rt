@@ -1,5 +1,7 @@
-//! The readers of `user`, run on data from outside. What is expected is what `openssl asn1parse`
-//! shows of it.
+//! Tests that run the readers of `user` on data from outside. What is expected is what `openssl
+//! asn1parse` shows of it.
+#![tactic(auto)]
+
 ghost use Rattle.bcder.specs.Views.{Moved};
 
 use bcder::Mode;
