@@ -12,11 +12,14 @@ import shutil
 import subprocess
 import sys
 import tempfile
+import threading
 import time
+from concurrent.futures import ThreadPoolExecutor
 
 from edit import ROOT, BadEdit, Crate, Edit, place
 from functions import functions_of
 
+PROCESSORS = len(os.sched_getaffinity(0))
 ERROR = re.compile(r"^(?:\./)?((?:src|specs|proofs)/\S+?):(\d+):\d+: error(?:\[[\w-]+\])?: (.*)")
 # Where an answer fails so, the edit took away a step that it names, and nothing is said of the contract.
 NAMES = re.compile(r"has no field|is not in scope|has no `|was not admitted|is no name|cannot continue")
@@ -86,49 +89,47 @@ class Report:
 
 class Judge:
     def __init__(self, scratch):
-        self.scratch, self.began, self.refused, self.failed = scratch, time.monotonic(), 0, 0
+        self.scratch, self.began, self.lock = scratch, time.monotonic(), threading.Lock()
+        self.refused = self.failed = 0
 
     def say(self, label, is_refused, why):
-        self.refused, self.failed = self.refused + is_refused, self.failed + (not is_refused)
-        print(f"{'refused' if is_refused else 'NOT REFUSED'} {label}: {why}", flush=True)
+        with self.lock:
+            self.refused, self.failed = self.refused + is_refused, self.failed + (not is_refused)
+            print(f"{'refused' if is_refused else 'NOT REFUSED'} {label}: {why}", flush=True)
 
     def note(self, text):
         print(f"[{int(time.monotonic() - self.began)} s] {text}", flush=True)
 
     def crate(self, name, files):
-        """Judges these edits of a crate."""
+        """Checks a crate without an edit, and answers its edits sorted into checks, each beside the crate."""
         crate, batches = Crate(name), []
         for file in files:
             try:
                 place(Edit(crate, file), batches, crate)
             except (BadEdit, OSError, UnicodeDecodeError) as why:
                 self.say(os.path.relpath(file, ROOT), False, why)
-        self.base = f"{self.scratch}/{name}"
-        copy(ROOT, self.base)
-        self.note(f"{name}: a check without an edit")
-        report = check(f"{self.base}/crates/{name}")
-        if not report.is_proved:
-            print("\n".join(report.text.split("\n")[-30:]))
-        for at, (edits, _) in enumerate(batches):
-            if report.is_proved:
-                self.note(f"{name}: check {at + 1} of {len(batches)}, {len(edits)} edits")
-                self.batch(crate, edits)
-            else:
-                for edit in edits:
-                    self.say(edit.label, False, f"{name} isn't proved without an edit, so nothing was tried")
-        shutil.rmtree(self.base)
+        copy(ROOT, f"{self.scratch}/{name}")
+        self.note(f"{name}: a check without an edit, then {len(batches)} with edits")
+        report = check(f"{self.scratch}/{name}/crates/{name}", PROCESSORS)
+        if report.is_proved:
+            return [(crate, edits) for edits, _ in batches]
+        print("\n".join(report.text.split("\n")[-30:]))
+        for edit in (it for edits, _ in batches for it in edits):
+            self.say(edit.label, False, f"{name} isn't proved without an edit, so nothing was tried")
+        return []
 
     def batch(self, crate, batch):
         """Judges edits of which no two clash, in one check."""
-        folder, texts = f"{self.scratch}/edited", {}
-        copy(self.base, folder)
+        folder, texts = f"{tempfile.mkdtemp(dir=self.scratch)}/edited", {}
+        copy(f"{self.scratch}/{crate.name}", folder)
         for edit in batch:
             texts = edit.applied(texts, crate)
         for path, text in texts.items():
             with open(f"{folder}/crates/{crate.name}/{path}", "w", encoding="utf-8") as it:
                 it.write(text)
-        report = check(f"{folder}/crates/{crate.name}")
+        report = check(f"{folder}/crates/{crate.name}", max(1, PROCESSORS // 2))
         shutil.rmtree(folder)
+        self.note(f"{crate.name}: a check of {len(batch)} edits")
         bad = report.uncompiled(texts, batch)
         if not report.is_whole and len(batch) == 1:
             bad = bad or {batch[0]: f"the check gave no verdict: {report.text.strip()[-200:]}"}
@@ -142,7 +143,7 @@ class Judge:
             # What doesn't compile keeps the others from being judged: go on without it, or look for it.
             half = len(rest) if bad else len(rest) // 2
             for part in filter(None, (rest[:half], rest[half:])):
-                self.note(f"{crate.name}: some edit didn't compile; a check of {len(part)} others")
+                self.note(f"{crate.name}: some edit doesn't compile; checking {len(part)} others")
                 self.batch(crate, part)
 
 
@@ -155,8 +156,8 @@ def copy(root, to):
         shutil.rmtree(f"{to}/crates/{it}/must-fail", ignore_errors=True)
 
 
-def check(folder):
-    words = ["rt", "check", "--jobs", str(len(os.sched_getaffinity(0)))]
+def check(folder, jobs):
+    words = ["rt", "check", "--jobs", str(jobs)]
     how = {"stdin": subprocess.DEVNULL, "stdout": subprocess.PIPE, "stderr": subprocess.STDOUT}
     return Report(subprocess.run(words, cwd=folder, **how).stdout.decode(errors="replace"))
 
@@ -173,12 +174,14 @@ def main(words):
             print(f"edits/run: there is no crate {it}")
             return 2
     with tempfile.TemporaryDirectory(prefix="edits-") as scratch:
-        judge = Judge(scratch)
+        judge, batches = Judge(scratch), []
         for name in names or sorted(os.listdir(f"{ROOT}/crates")):
             files = edits_in(f"{ROOT}/edits/{name}")
             files += edits_in(f"{ROOT}/crates/{name}/must-fail") if "--gate" in words else []
-            if files:
-                judge.crate(name, files)
+            batches += judge.crate(name, files) if files else []
+        # Two checks at a time, the largest first: the end of a check often waits for one long proof.
+        with ThreadPoolExecutor(2) as pool:
+            list(pool.map(lambda it: judge.batch(*it), sorted(batches, key=lambda it: -len(it[1]))))
         used = resource.getrusage(resource.RUSAGE_CHILDREN)
         minutes, work = (time.monotonic() - judge.began) / 60, (used.ru_utime + used.ru_stime) / 60
         print(f"{judge.refused} refused, {judge.failed} failed, in {minutes:.1f} minutes ({work:.1f} of one processor)")
