@@ -57,10 +57,6 @@ pub record AnswersNext {T E : Type 0} (c : Reading) (r : Result (Option T) E) (d
   pub found : (t : Tree) (w after : List ℕ) → HasValue c t w after → IsOkAnd r (λ o. IsTrue (is_some o)) × (d.stream.rest ≡ after)
   pub ended : (after : List ℕ) → EndsBefore c after → IsOkAnd r (λ o. IsTrue (is_none o))
 
--- a header by its parts
-abbrev pub header : Tag → Bool → Length → Header
-header t f len = record { tag = t; form = f; len = len }
-
 -- a header of so many octets is that of a primitive value of n octets in all
 pub record IsPrimitive (h : Header) (size n : ℕ) : Type 0 where
   pub is_value : is_value_tag h.tag ≡ true
@@ -108,16 +104,6 @@ pub record AtOnceBy {E : Type 0} (why : E → Cause ContentError) (c : Reading) 
   pub no_fault : OnOk r (d.stream.faults ≡ c.stream.faults)
   pub fault : IfErr r (λ e. (why e ≡ of_source) × Grew c.stream.faults d.stream.faults)
   pub failed : OnErr r (d.state ≡ Failed)
-  pub mode : d.mode ≡ c.mode
-  pub marked : d.marked ≡ c.marked
-
--- a header was passed whose content comes next, or the marker of the end was, or neither stands there; `why` tells the cause of an error
-pub record EntersBy {E : Type 0} (why : E → Cause ContentError) (c : Reading) (r : Result (Option Kept) E) (d : Reading) : Type 0 where
-  pub entered : IfOk r (λ o. IfSome o (λ h. Enters c (header_of h) d))
-  pub ended : IfOk r (λ o. IfNone o (TakesMarker c d))
-  pub refused : IfErr r (λ e. IsOfContent (why e) × NoFront c)
-  pub failed : OnErr r (d.state ≡ Failed)
-  pub no_fault : d.stream.faults ≡ c.stream.faults
   pub mode : d.mode ≡ c.mode
   pub marked : d.marked ≡ c.marked
 
@@ -232,9 +218,6 @@ module _ {S : Type 0} (stream : S → Stream) (c : Both (MutBor (Constructed S))
 
   abbrev pub PassedAtOnce : {X : Type 0} → Result Bool (Stop X) → Type 0
   PassedAtOnce r = AtOnceBy stop_cause (of_constructed stream c.entry.now) r (of_constructed stream c.exit.now)
-
-  abbrev pub Entered : {X : Type 0} → Result (Option Kept) (Stop X) → Type 0
-  Entered r = EntersBy stop_cause (of_constructed stream c.entry.now) r (of_constructed stream c.exit.now)
 
   abbrev pub Stepped : {X : Type 0} → Result Next (Stop X) → Type 0
   Stepped r = StepsBy stop_cause (of_constructed stream c.entry.now) r (of_constructed stream c.exit.now)

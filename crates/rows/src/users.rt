@@ -55,7 +55,10 @@ const SIGNED: &str = "\
 fn reads_a_certificate(rt: HostRuntime) -> Result<(), Fail> {
     let octets = hex::decode(rt.alloc(), CERTIFICATE)?;
     let found = decode_certificate(SliceSource::new(&octets))?;
-    assert_eq!(rt; (found.version, found.extensions, found.critical), (3, 3, 1));
+    assert_eq!(rt;
+        (found.version, found.extensions, found.critical),
+        (3, 3, 1)
+    );
     assert_eq!(rt; (found.issuer, found.subject), (3, 3));
     assert_eq!(rt; (found.serial, found.key), (20, 271));
     assert!(rt; matches!(found.validity.from, Time::Utc(13)));

@@ -6,7 +6,6 @@ ghost use Rattle.bcder.specs.Cause.{cause_of, stop_cause, of_source, IsOfContent
 ghost use Rattle.bcder.specs.Cause.{NamesTag};
 ghost use Rattle.bcder.specs.Content.{Moves, Advances, FitsOwed, Accepts, any, tagged, end_header};
 ghost use Rattle.bcder.specs.Content.{Enters, TakesMarker, NoFront, Resembles, EndsAt, IsDone};
-ghost use Rattle.bcder.specs.Encoding.{may_have};
 ghost use Rattle.bcder.specs.Entering.{EntersNext, FindsNone, RefusesNext, MeetsNoFault};
 ghost use Rattle.bcder.specs.Entering.{MeetsFault};
 ghost use Rattle.bcder.specs.Identifier.{AreOctets, end_of_contents};
@@ -21,6 +20,7 @@ use crate::decode::source::{LimitedSource, Source};
 use crate::decode::stop::{Stop, Why};
 use crate::length::Length;
 use crate::mode::Mode;
+use crate::plain::may_have;
 use crate::tag::Tag;
 
 /// Whether the octets that a length promises are within what is owed.
@@ -35,17 +35,6 @@ fn fits(len: Length, owed: Option<usize>) -> bool
     }
 }
 
-/// Whether a mode allows a length (X.690, 9.1, 10.1) in an encoding of a form (8.1.3.2).
-#[inline(always)]
-fn allows(mode: Mode, constructed: bool, len: Length) -> bool
-    ensures { result ≡ may_have mode constructed len }
-{
-    match len {
-        Length::Definite(_) => !constructed || mode != Mode::Cer,
-        Length::Indefinite => constructed && mode != Mode::Der,
-    }
-}
-
 /// Whether this is the header of a value that can be taken.
 #[inline(always)]
 fn accepts(mode: Mode, tag: Tag, constructed: bool, len: Length, owed: Option<usize>) -> bool
@@ -54,7 +43,7 @@ fn accepts(mode: Mode, tag: Tag, constructed: bool, len: Length, owed: Option<us
     ensures no { result ≡ false
         → Accepts mode (record { tag = tag; form = constructed; len = len }) owed → ⊥ }
 {
-    tag.is_value() && allows(mode, constructed, len) && fits(len, owed)
+    tag.is_value() && may_have(mode, constructed, len) && fits(len, owed)
 }
 
 /// Whether these are end-of-contents octets (8.1.5).

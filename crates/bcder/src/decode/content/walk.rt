@@ -4,12 +4,13 @@ ghost use Rattle.bcder.specs.Cause.{stop_cause};
 ghost use Rattle.bcder.specs.Stream.{Grew, Provides};
 ghost use Rattle.bcder.specs.Identifier.{Tag as TagValue};
 ghost use Rattle.bcder.specs.Peek.{header as header_of, Peeks};
-ghost use Rattle.bcder.specs.Content.{Moves, FitsOwed, Accepts, end_header, values, Resembles};
+ghost use Rattle.bcder.specs.Content.{Moves, FitsOwed, values, Resembles};
 ghost use Rattle.bcder.specs.Calls.{RanOver};
 ghost use Rattle.bcder.specs.Walking.{Between, PassedNext, ExactlyNext, NoFault, Fault, PassedStep};
-ghost use Rattle.bcder.specs.Walking.{PassedOver, PassedAtOnce, Entered, Stepped, PassedAll, WalkedOver};
+ghost use Rattle.bcder.specs.Walking.{PassedOver, PassedAtOnce, Stepped};
+ghost use Rattle.bcder.specs.Walking.{PassedAll, WalkedOver};
 ghost use Rattle.bcder.specs.Grammar.{BeginsWhole};
-ghost use Rattle.bcder.specs.Walking.{IsPrimitive, itself, walked, header};
+ghost use Rattle.bcder.specs.Walking.{IsPrimitive, itself, walked};
 ghost use Rattle.bcder.specs.Views.{Moved, of_constructed, limited_stream};
 
 use super::take::{pop, push};
@@ -17,11 +18,10 @@ use super::{Constructed, Kind, State};
 use crate::decode::error::DecodeError;
 use crate::decode::header::{Front, Header, Peeked};
 use crate::decode::source::{LimitedSource, Source};
-use crate::decode::stop::{Stop, Why};
+use crate::decode::stop::Stop;
 use crate::length::Length;
 use crate::mode::Mode;
-use crate::plain::{may_have, short_size, skip_one};
-use crate::tag::Tag;
+use crate::plain::{short_size, skip_one};
 
 /// Passes over the next value, or answers `None` at the end of the content, whose marker it takes.
 ///
@@ -34,7 +34,7 @@ use crate::tag::Tag;
 ///
 /// Where neither the encoding of a value nor the end stands in front, where an earlier value was
 /// refused or where the source fails. The content has then failed.
-#[tactic(auto, using(crate::proofs::moves_trans))]
+#[tactic(auto, using(crate::proofs::Moving::moves_trans))]
 #[inline(always)]
 pub fn walk<S: Source>(cons: &mut Constructed<'_, S>) -> Result<Option<()>, DecodeError<S::Error>>
     ensures moves { Moved S.stream cons }
@@ -152,8 +152,8 @@ impl<'a, S: Source> Constructed<'a, S> {
     }
 
     /// Passes over the next value in one go where all of its octets are at hand, and says whether
-    /// it did. The source is asked at most once, and not where no octets are owed.
-    #[tactic(auto, using(crate::proofs::moves_refl), unfolding(crate::specs::Views::views))]
+    /// it did. The source is asked once at most, and not where no octets are owed.
+    #[tactic(auto, unfolding(crate::specs::Views::of_constructed))]
     #[inline(always)]
     fn pass_at_hand(&mut self, short: bool) -> Result<bool, Stop<S::Error>>
         ensures moves { Between S.stream self Moves }
@@ -182,7 +182,7 @@ impl<'a, S: Source> Constructed<'a, S> {
 
     /// Passes over a primitive value in one step where all of its octets come, and says whether it
     /// did.
-    #[tactic(auto, using(crate::proofs::moves_refl), unfolding(crate::specs::Views::views))]
+    #[tactic(auto, unfolding(crate::specs::Views::of_constructed))]
     #[inline(always)]
     fn pass_primitive(&mut self, header: Header, size: usize) -> Result<bool, Stop<S::Error>>
         requires read { Peeks self.old.mode (Peeked.Front header size)
@@ -212,60 +212,9 @@ impl<'a, S: Source> Constructed<'a, S> {
     }
 }
 
-/// Whether this is the header of a value that content in the mode may hold, where so many octets are
-/// owed behind it.
-#[inline(always)]
-fn may_enter(mode: Mode, tag: Tag, constructed: bool, len: Length, owed: Option<usize>) -> bool
-    ensures yes { IsTrue result → Accepts mode (header tag constructed len) owed }
-    ensures no { result ≡ false → Accepts mode (header tag constructed len) owed → ⊥ }
-{
-    let fits = match (len, owed) {
-        (Length::Definite(len), Some(owed)) => len <= owed,
-        _ => true,
-    };
-    tag.is_value() && may_have(mode, constructed, len) && fits
-}
-
-/// Whether these are end-of-contents octets (8.1.5).
-#[inline(always)]
-fn is_end(tag: Tag, constructed: bool, len: Length) -> bool
-    ensures yes { IsTrue result → header tag constructed len ≡ end_header }
-    ensures no { result ≡ false → header tag constructed len ≡ end_header → ⊥ }
-{
-    tag == Tag::END_OF_VALUE && !constructed && len == Length::Definite(0)
-}
-
-impl<'a, S: Source> Constructed<'a, S> {
-    /// Passes over a header that was looked at, or over the marker at the end.
-    #[tactic(auto, unfolding(crate::specs::Views::of_constructed))]
-    #[inline(always)]
-    fn go_in(&mut self, header: Header, size: usize) -> Result<Option<Header>, Stop<S::Error>>
-        requires read { Peeks self.old.mode (Peeked.Front header size)
-            (limited_stream S.stream self.old.source.now) }
-        requires usable { self.old.state ≡ State.Open }
-        ensures moves { Between S.stream self Moves }
-        ensures entered { Entered S.stream self result }
-    {
-        self.pass_over(size);
-        let owed = self.source.limit();
-        if may_enter(self.mode, header.tag, header.constructed, header.len, owed) {
-            self.state = State::Failed;
-            return Ok(Some(header));
-        }
-        if let Kind::Indefinite = self.kind {
-            if is_end(header.tag, header.constructed, header.len) {
-                self.state = State::Ended;
-                return Ok(None);
-            }
-        }
-        self.state = State::Failed;
-        Err(Stop::Refused(Why::ValueHeader))
-    }
-}
-
 /// Passes over all of the next value if it is primitive and its octets come, and else over its
 /// header.
-#[tactic(auto, using(crate::proofs::moves_refl), unfolding(crate::specs::Views::of_constructed))]
+#[tactic(auto, unfolding(crate::specs::Views::of_constructed))]
 #[inline(always)]
 fn go_on<S: Source>(cons: &mut Constructed<'_, S>) -> Result<Next, Stop<S::Error>>
     ensures moves { Between S.stream cons Moves }
@@ -274,7 +223,7 @@ fn go_on<S: Source>(cons: &mut Constructed<'_, S>) -> Result<Next, Stop<S::Error
     match cons.front() {
         Ok(Some(front)) => match cons.pass_primitive(front.header, front.size) {
             Ok(true) => Ok(Next::Passed),
-            Ok(false) => match cons.go_in(front.header, front.size) {
+            Ok(false) => match cons.enter(front.header, front.size) {
                 Ok(Some(header)) => Ok(Next::Entered(header)),
                 Ok(None) => Ok(Next::Ended),
                 Err(stop) => Err(stop),
@@ -336,7 +285,7 @@ fn step<S: Source>(cons: &mut Constructed<'_, S>) -> Result<Option<()>, Stop<S::
 
 /// Passes over the content of a value whose header was passed over.
 #[cycle(walk)]
-#[tactic(auto, using(crate::proofs::moves), unfolding(crate::specs::Views::of_constructed))]
+#[tactic(auto, unfolding(crate::specs::Views::of_constructed))]
 #[inline(always)]
 fn pass_content<S: Source>(
     cons: &mut Constructed<'_, S>,
@@ -366,7 +315,7 @@ fn pass_content<S: Source>(
 
 /// Passes over the values inside a value.
 #[cycle(walk)]
-#[tactic(auto, using(crate::proofs::moves), unfolding(crate::specs::Views::of_constructed))]
+#[tactic(auto, unfolding(crate::specs::Views::of_constructed))]
 #[inline(never)]
 fn walk_over<S: Source>(
     source: &mut LimitedSource<S>,
@@ -378,7 +327,8 @@ fn walk_over<S: Source>(
         (limited_stream S.stream source.old) source.old.limit (values kind) mode t result false
         (limited_stream S.stream source.new) source.new.limit }
     ensures no_fault { OnOk result
-        ((limited_stream S.stream source.new).faults ≡ (limited_stream S.stream source.old).faults) }
+        ((limited_stream S.stream source.new).faults
+        ≡ (limited_stream S.stream source.old).faults) }
 {
     let start = source.pos();
     let mut cons = Constructed {

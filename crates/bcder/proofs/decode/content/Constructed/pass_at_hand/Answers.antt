@@ -1,7 +1,7 @@
 use Rattle.std.proofs.Common.{◌∙◌, take, refl, sym, rules, subst}
 use Rattle.bcder.specs.Encoding.{IsEncoding}
 use Rattle.bcder.specs.Views.{of_constructed}
-use Rattle.bcder.proofs.Moving.{moves_trans}
+use Rattle.bcder.proofs.Moving.{moves_refl, moves_trans}
 use Rattle.bcder.proofs.Entering.{looked_moves, looked_failed, no_fewer, grew_least}
 use Rattle.bcder.proofs.Passing.{passes_encoding, moves_encoding, looked_passes}
 use Rattle.bcder.proofs.decode.content.Constructed.pass_at_hand.Goals as goal
@@ -39,3 +39,9 @@ returns-in-Ok-Some-clause-passed g c =
 pub returns-in-Err-clause-moves : goal.returns-in-Err-clause-moves
 unfolding of_constructed
 returns-in-Err-clause-moves g c = looked_failed _ _ c.look_at_whole.ensures.same (grew_least _ _ c.in-Err.ensures.fault) _ c.in-Open.is refl refl refl refl refl refl refl
+
+pub returns-in_default-clause-moves : goal.returns-in_default-clause-moves
+returns-in_default-clause-moves g c = moves_refl _
+
+pub returns-in-Some-eq0-clause-moves : goal.returns-in-Some-eq0-clause-moves
+returns-in-Some-eq0-clause-moves g c = moves_refl _

@@ -1,7 +1,7 @@
 use Rattle.std.proofs.Common.{◌∙◌, refl, rules}
 use Rattle.bcder.specs.Peek.{header}
 use Rattle.bcder.specs.Views.{of_constructed}
-use Rattle.bcder.proofs.Moving.{moves_trans}
+use Rattle.bcder.proofs.Moving.{moves_refl, moves_trans}
 use Rattle.bcder.proofs.Entering.{looked_moves, looked_failed, no_fewer, grew_least}
 use Rattle.bcder.proofs.Passing.{passes_primitive, moves_primitive, looked_read, looked_passes}
 use Rattle.bcder.proofs.decode.content.Constructed.pass_primitive.Goals as goal
@@ -37,3 +37,6 @@ returns-else-found-all-clause-passed g c =
 pub returns-in-Err-clause-moves : goal.returns-in-Err-clause-moves
 unfolding of_constructed
 returns-in-Err-clause-moves g c = looked_failed _ _ c.ask.ensures.same (grew_least _ _ c.in-Err.ensures.fault) _ c.requires.usable refl refl refl refl refl refl refl
+
+pub returns-in_default-clause-moves : goal.returns-in_default-clause-moves
+returns-in_default-clause-moves g c = moves_refl _
