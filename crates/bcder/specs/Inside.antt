@@ -1,5 +1,5 @@
 -- What the steps over the content of a value answer and leave.
-use Rattle.std.specs.Prelude.{◌≡◌, ℕ, Bool, Option, Some, None, Result, Ok, Err}
+use Rattle.std.specs.Prelude.{◌≡◌, ℕ, Bool, Option, Some, Result, Ok, Err}
 use Rattle.std.specs.Borrow.{MutBor}
 use Rattle.bcder.specs.declared.length.Length.{Length}
 use Rattle.bcder.specs.declared.length.Length.TheVariants.{Definite, Indefinite}

@@ -18,13 +18,12 @@ use Rattle.bcder.specs.declared.decode.header.Header.{Header as Kept}
 use Rattle.bcder.specs.declared.decode.content.Constructed.{Constructed}
 use Rattle.bcder.specs.Views.{of_constructed}
 use Rattle.bcder.specs.Calls.{TakesContent}
-use Rattle.bcder.specs.declared.length.Length.{Length}
 use Rattle.bcder.specs.declared.length.Length.TheVariants.{Definite}
 use Rattle.bcder.specs.declared.decode.content.walk.Next.{Next}
 use Rattle.bcder.specs.declared.decode.content.walk.Next.TheVariants as next
 use Rattle.bcder.specs.Reading.{Header, is_value_tag}
 use Rattle.bcder.specs.Peek.{header as header_of}
-use Rattle.bcder.specs.Content.{Reading, Form, octets, values, Octets, Moves, HasMarker, EndsBefore, EndsAt, NotAtEnd, IsDone, Enters, TakesMarker, NoFront, Advances, any, Resembles, RefusesHeader}
+use Rattle.bcder.specs.Content.{Reading, Form, octets, values, Octets, Moves, HasMarker, EndsBefore, EndsAt, NotAtEnd, IsDone, Enters, Advances, any, Resembles, RefusesHeader}
 
 -- ---- one value
 

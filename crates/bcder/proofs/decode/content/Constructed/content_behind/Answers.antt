@@ -1,6 +1,5 @@
-use Rattle.std.proofs.Common.{refl, ap}
-use Rattle.std.specs.Prelude.{Some, true, false}
-use Rattle.bcder.specs.Inside.{of_form, refused, taken}
+use Rattle.std.proofs.Common.{refl}
+use Rattle.bcder.specs.Inside.{refused, taken}
 use Rattle.bcder.specs.Views.{of_constructed}
 use Rattle.bcder.proofs.decode.content.Constructed.content_behind.Goals as goal
 

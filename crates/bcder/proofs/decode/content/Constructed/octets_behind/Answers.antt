@@ -1,5 +1,5 @@
 use Rattle.std.proofs.Common.{refl, ap, sym}
-use Rattle.std.specs.Prelude.{Some, true, false}
+use Rattle.std.specs.Prelude.{Some}
 use Rattle.bcder.specs.Inside.{of_form, refused, taken}
 use Rattle.bcder.specs.Views.{of_constructed}
 use Rattle.bcder.proofs.decode.content.Constructed.octets_behind.Goals as goal

@@ -6,7 +6,7 @@ use Rattle.bcder.specs.Peek.{header}
 use Rattle.bcder.specs.Views.{of_constructed}
 use Rattle.bcder.proofs.Carrying.{carries}
 use Rattle.bcder.proofs.Stopping.{header_stopped}
-use Rattle.bcder.proofs.Taking.{takes_next, moves_next, next_none, next_refused, inside_entered, allowed_entered}
+use Rattle.bcder.proofs.Taking.{takes_next, moves_next, next_none, next_refused, inside_entered}
 use Rattle.bcder.proofs.decode.content.Constructed.take_opt_constructed.Goals as goal
 
 pub values_behind-requires-clause-callable : goal.values_behind-requires-clause-callable
