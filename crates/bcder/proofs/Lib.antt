@@ -26,3 +26,4 @@ pub mod Decoding
 pub mod Insides
 pub mod Nested
 pub mod Repeating
+pub mod Keeping

@@ -27,3 +27,4 @@ pub mod PeekLength
 pub mod Answers
 pub mod Changed
 pub mod Repeating
+pub mod Captured

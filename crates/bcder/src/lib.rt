@@ -5,6 +5,7 @@
 //! proved. The README says crate by crate what that comes to.
 #![tactic(auto)]
 
+mod captured;
 pub mod decode;
 pub mod laws;
 mod length;
@@ -14,6 +15,7 @@ mod mode;
 pub mod plain;
 mod tag;
 
+pub use captured::Captured;
 pub use memory::NoMemory;
 pub use mode::Mode;
 pub use tag::Tag;

@@ -1,0 +1,211 @@
+//! Values that are kept as their octets.
+ghost use Rattle.std.specs.Prelude.{◌≡◌, [], IfOk, OnErr};
+ghost use Rattle.bcder.specs.Captured.{AreWhole, kept_stream};
+ghost use Rattle.bcder.specs.Captured.{CallableOnKept, LawfulOnKept, DecodesPart, RefusesPart};
+ghost use Rattle.bcder.specs.Decoding.{CallableOnAll, LawfulOnAll, DecodesAll, RefusesAll};
+
+use crate::NoMemory;
+use crate::decode::{BytesSource, Constructed, DecodeError, IntoSource, Pos, Source};
+use crate::mode::Mode;
+use bytes::Bytes;
+use std::alloc::{AllocError, Global};
+use std::convert::{AsRef, AsSlice, Infallible};
+use std::fmt;
+use std::marker::Model;
+use std::ops::Deref;
+
+/// A list of values, kept as their encodings in a mode, one after the other (X.690, 8.1.1).
+///
+/// The octets are shared: a clone copies none. It remembers the position where they began in the
+/// source that they come from, for messages.
+#[derive(Drop)]
+pub struct Captured {
+    octets: Bytes,
+    mode: Mode,
+    start: Pos,
+}
+
+impl Model for Captured {
+    ghost use Rattle.bcder.specs.Captured.{Kept, AreWhole};
+
+    ghost Value = { Kept };
+
+    ghost view = { λ c. record { mode = c.mode; octets = c.octets; start = c.start } };
+
+    ghost invariant = { λ c. AreWhole c.mode c.octets };
+}
+
+impl Captured {
+    /// Octets that are encodings in a mode, which began at a position.
+    pub(crate) fn new(octets: Bytes, mode: Mode, start: Pos) -> Captured
+        requires { AreWhole mode octets }
+        ensures mode { result.mode ≡ mode }
+        ensures octets { result.octets ≡ octets }
+        ensures start { result.start ≡ start }
+    {
+        Captured {
+            octets,
+            mode,
+            start,
+        }
+    }
+
+    /// No values, in a mode, at position 0.
+    pub fn empty(_alloc: Global, mode: Mode) -> Captured
+        ensures mode { result.mode ≡ mode }
+        ensures octets { result.octets ≡ [] }
+        ensures start { result.start ≡ 0 }
+    {
+        Captured {
+            octets: Bytes::new(),
+            mode,
+            start: Pos::default(),
+        }
+    }
+
+    /// Decodes the values, in the mode that they are kept in.
+    ///
+    /// The closure is handed all of them, as [`Mode::decode`] hands them over. Octets that it
+    /// leaves aren't looked at.
+    ///
+    /// # Errors
+    ///
+    /// Those of [`Constructed::decode`].
+    pub fn decode<F, T: Drop>(self, op: F) -> Result<T, DecodeError<Infallible>>
+    where
+        F: FnOnce(&mut Constructed<'_, BytesSource>) -> Result<T, DecodeError<Infallible>>,
+        requires callable { CallableOnAll ⟦<BytesSource as Source>⟧.stream
+            (kept_stream self) self.mode (F.pre op) }
+        requires lawful { LawfulOnAll ⟦<BytesSource as Source>⟧.stream
+            (kept_stream self) self.mode (F.post op) }
+        ensures ok { DecodesAll ⟦<BytesSource as Source>⟧.stream (F.post op)
+            (kept_stream self) self.mode result }
+        ensures refused { RefusesAll ⟦<BytesSource as Source>⟧.stream (F.post op)
+            (kept_stream self) self.mode result }
+    {
+        let mode = self.mode;
+        Constructed::decode(self, mode, op)
+    }
+
+    /// Decodes the values at the front, and keeps those behind them.
+    ///
+    /// The closure is handed all values. What it leaves is kept, in the mode as before, and begins
+    /// where it begins in the source.
+    ///
+    /// # Errors
+    ///
+    /// Those of [`Constructed::decode_lent`], and want of memory. The values are then as they were.
+    pub fn decode_partial<F, T: Drop>(&mut self, op: F) -> Result<T, DecodeError<Infallible>>
+    where
+        F: FnOnce(&mut Constructed<'_, &mut BytesSource>) -> Result<T, DecodeError<Infallible>>,
+        requires callable { CallableOnKept ⟦<BytesSource as Source>⟧.stream self.old (F.pre op) }
+        requires lawful { LawfulOnKept ⟦<BytesSource as Source>⟧.stream self.old (F.post op) }
+        ensures ok { DecodesPart ⟦<BytesSource as Source>⟧.stream (F.post op) self result }
+        ensures refused { RefusesPart ⟦<BytesSource as Source>⟧.stream (F.post op) self result }
+        ensures unchanged { OnErr result (self.new ≡ self.old) }
+    {
+        let Ok(octets) = self.octets.clone() else {
+            return Err(DecodeError::no_memory());
+        };
+        let mut source = BytesSource::with_offset(octets, self.start);
+        let value = Constructed::decode_lent(&mut source, self.mode, op)?;
+        self.start = source.pos();
+        self.octets = source.into_bytes();
+        Ok(value)
+    }
+
+    /// The octets.
+    pub fn into_bytes(self) -> Bytes
+        ensures value { result ≡ self.octets }
+        ensures whole { AreWhole self.mode result }
+    {
+        self.octets
+    }
+
+    /// The octets, lent.
+    pub fn as_slice(&self) -> &[u8]
+        ensures value { result.now ≡ self.now.octets }
+        ensures whole { AreWhole self.now.mode result.now }
+    {
+        self.octets.as_slice()
+    }
+
+    /// The octets, shared.
+    ///
+    /// # Errors
+    ///
+    /// Where there is no memory to share them.
+    pub fn bytes(&self) -> Result<Bytes, NoMemory>
+        ensures value { IfOk result (λ b. b ≡ self.now.octets) }
+        ensures whole { IfOk result (λ b. AreWhole self.now.mode b) }
+    {
+        Ok(self.octets.clone()?)
+    }
+}
+
+/// It shows its octets.
+impl Deref for Captured {
+    type Target = Bytes;
+
+    ghost deref_gives = { λ c b. b ≡ c.octets };
+
+    fn deref(&self) -> &Bytes {
+        &self.octets
+    }
+}
+
+/// It lends its octets.
+impl AsRef<Bytes> for Captured {
+    fn as_ref(&self) -> &Bytes
+        ensures { result.now ≡ self.now.octets }
+    {
+        &self.octets
+    }
+}
+
+/// It lends its octets.
+impl AsSlice<u8> for Captured {
+    ghost items = { λ c. c.octets };
+
+    fn as_slice(&self) -> &[u8] {
+        self.octets.as_slice()
+    }
+}
+
+/// The octets are given from the position where they began.
+impl IntoSource for Captured {
+    type Source = BytesSource;
+
+    ghost gives = { kept_stream };
+
+    fn into_source(self) -> BytesSource {
+        BytesSource::with_offset(self.octets, self.start)
+    }
+}
+
+/// The clone has the same octets in the same mode, from the same position.
+impl Clone for Captured {
+    ghost is_clone = { λ c copy. copy ≡ c };
+
+    fn clone(&self) -> Result<Captured, AllocError> {
+        Ok(Captured {
+            octets: self.octets.clone()?,
+            mode: self.mode,
+            start: self.start,
+        })
+    }
+}
+
+/// The octets in hexadecimal, in groups of four.
+impl fmt::Debug for Captured {
+    fn fmt<W: fmt::Write>(&self, f: &mut fmt::Formatter<W>) -> fmt::Result {
+        write!(f, "[ ")?;
+        for (index, octet) in self.octets.as_slice().iter().enumerate() {
+            write!(f, "{octet:02x} ")?;
+            if index % 4 == 3 {
+                write!(f, " ")?;
+            }
+        }
+        write!(f, "]")
+    }
+}
