@@ -4,6 +4,7 @@ pub mod Length
 pub mod Tree
 pub mod Encoding
 pub mod Preorder
+pub mod Integer
 pub mod Grammar
 pub mod Reading
 pub mod Classes

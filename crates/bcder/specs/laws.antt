@@ -10,3 +10,5 @@ pub mod Lists
 pub mod Options
 pub mod Preorder
 pub mod Limits
+pub mod Integers
+pub mod Order
