@@ -1,15 +1,15 @@
 -- The order of the octets of integers is that of the integers.
-use Rattle.std.proofs.Common.{◌≡◌, ℕ, zero, suc, ◌+◌, ◌-◌, ◌*◌, ◌^◌, ◌<◌, ◌≤◌, Bool, true, false, List, [], ◌∷◌, length, refl, sym, ap, ◌∙◌, arith, inl, inr, ◌⊎◌, ltb, subst}
+use Rattle.std.proofs.Common.{◌≡◌, ℕ, suc, ◌+◌, ◌*◌, ◌^◌, ◌<◌, true, false, List, [], ◌∷◌, length, refl, sym, ap, ◌∙◌, arith, inl, inr}
 use Rattle.std.specs.Prelude.{ℤ, pos, negsuc}
 use Rattle.std.specs.declared.cmp.Ordering.TheVariants.{Less, Equal, Greater}
-use Rattle.std.specs.Ordering.{nat_cmp, int_cmp, ordering_then}
+use Rattle.std.specs.Ordering.{nat_cmp, int_cmp}
 use Rattle.std.specs.Cmp.Lexicographic.{slice_cmp}
-use Rattle.std.proofs.lemmas.Bool.{cases_lt, lt-ltb, le-ltb, lt-leb, le-leb}
+use Rattle.std.proofs.lemmas.Bool.{cases_lt, lt-leb, le-leb}
 use Rattle.std.proofs.lemmas.Bool.Decides.{nat_tests}
 use Rattle.std.proofs.lemmas.Nat.{mul-le}
 use Rattle.bcder.specs.Identifier.{AreOctets}
 use Rattle.bcder.specs.Length.{big_endian}
-use Rattle.bcder.specs.Integer.{number, IsSmallest, AreInteger, is_negative, same_sign_order, sign_order, integer_order, OrderOfIntegers}
+use Rattle.bcder.specs.Integer.{is_negative, same_sign_order, integer_order, OrderOfIntegers}
 use Rattle.bcder.specs.laws.Canonical.{big_endian-lt}
 use Rattle.bcder.specs.laws.Integers.{Leads, Sized, Told, positive, negative, told_by, nearer}
 
