@@ -26,3 +26,5 @@ pub mod Decoding
 pub mod Insides
 pub mod Nested
 pub mod Repeating
+pub mod Numbers
+pub mod Reading

@@ -20,6 +20,12 @@ IsSmallest [] = ⊥
 IsSmallest (a ∷ []) = Unit {0}
 IsSmallest (a ∷ b ∷ w) = (a ≡ 0x00 → 0x80 ≤ b) × (a ≡ 0xFF → b < 0x80)
 
+-- bit 8 of the first octet is the sign
+abbrev pub Leads : Bool → List ℕ → Type 0
+Leads negative [] = ⊥
+Leads false (b ∷ w) = b < 0x80
+Leads true (b ∷ w) = 0x80 ≤ b
+
 -- w is contents octets of the integer z
 pub record AreInteger (z : ℤ) (w : List ℕ) : Type 0 where
   pub smallest : IsSmallest w

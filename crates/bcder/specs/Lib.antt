@@ -5,6 +5,7 @@ pub mod Tree
 pub mod Encoding
 pub mod Preorder
 pub mod Integer
+pub mod Number
 pub mod Grammar
 pub mod Reading
 pub mod Classes
@@ -21,6 +22,7 @@ pub mod Takes
 pub mod Entering
 pub mod Inside
 pub mod Walking
+pub mod Readers
 pub mod Decoding
 pub mod Begins
 pub mod PeekTag

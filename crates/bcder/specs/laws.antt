@@ -12,3 +12,4 @@ pub mod Preorder
 pub mod Limits
 pub mod Integers
 pub mod Order
+pub mod Numbers

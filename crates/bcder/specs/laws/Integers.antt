@@ -6,7 +6,7 @@ use Rattle.std.proofs.lemmas.Nat.{mul-le}
 use Rattle.std.proofs.Math.Nat.{pow-le-pow_right}
 use Rattle.bcder.specs.Identifier.{AreOctets}
 use Rattle.bcder.specs.Length.{big_endian}
-use Rattle.bcder.specs.Integer.{number, IsSmallest, AreInteger, octet, octets_within, integer_octets, OneInteger, SomeInteger}
+use Rattle.bcder.specs.Integer.{number, IsSmallest, AreInteger, octet, octets_within, integer_octets, Leads, OneInteger, SomeInteger}
 use Rattle.bcder.specs.laws.Canonical.{big_endian-lt, same_digits}
 
 pub AreOctets-nil : AreOctets []
@@ -55,12 +55,6 @@ fits_itself (suc n) =
     let r = fits_itself n in
     let p : 256 ^ suc n ≡ 256 * 256 ^ n = omega arith in
     omega arith
-
--- bit 8 of the first octet is the sign
-abbrev pub Leads : Bool → List ℕ → Type 0
-Leads negative [] = ⊥
-Leads false (b ∷ w) = b < 128
-Leads true (b ∷ w) = 128 ≤ b
 
 leads_more : (negative : Bool) (w v : List ℕ) → Leads negative w → Leads negative (w ++ v)
 leads_more negative [] v h = absurd h

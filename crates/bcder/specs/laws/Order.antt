@@ -9,9 +9,9 @@ use Rattle.std.proofs.lemmas.Bool.Decides.{nat_tests}
 use Rattle.std.proofs.lemmas.Nat.{mul-le}
 use Rattle.bcder.specs.Identifier.{AreOctets}
 use Rattle.bcder.specs.Length.{big_endian}
-use Rattle.bcder.specs.Integer.{is_negative, same_sign_order, integer_order, OrderOfIntegers}
+use Rattle.bcder.specs.Integer.{Leads, is_negative, same_sign_order, integer_order, OrderOfIntegers}
 use Rattle.bcder.specs.laws.Canonical.{big_endian-lt}
-use Rattle.bcder.specs.laws.Integers.{Leads, Sized, Told, positive, negative, told_by, nearer}
+use Rattle.bcder.specs.laws.Integers.{Sized, Told, positive, negative, told_by, nearer}
 
 pub cmp_less : (m n : ℕ) → m < n → nat_cmp m n ≡ Less
 cmp_less m n l = grind (arith, nat_tests)
