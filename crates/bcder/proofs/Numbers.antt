@@ -102,7 +102,8 @@ seventeen true m l h = omega (arith, l, h)
 -- a number of 17 octets whose first tells something, or of more, has a magnitude of more than 128 bits
 pub too_large : (neg : Bool) (w : List ℕ) → AreOctets w → Leads neg w → 16 < length w → (length w ≡ 17 → octet neg (get_or w 0 0) ≢ 0) → IsNoNumber HasMagnitude w
 too_large neg w o l long top z a h = elim (cases_lt (length w) 18) [
-    inl short ↦ (
+  | inl short ↦ (
       let count : length w ≡ 17 = omega arith in
       seventeen neg (magnitude neg w) (leading neg w count (top count)) (subst HasMagnitude (magnitude_is neg z w o l a) h))
-  | inr more ↦ sized z w (told_by z w o a) more h ]
+  | inr more ↦ sized z w (told_by z w o a) more h
+]

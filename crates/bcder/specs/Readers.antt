@@ -1,13 +1,14 @@
 -- What readers of contents octets say, by what the octets mean.
-use Rattle.std.specs.Prelude.{◌≡◌, ℕ, ℤ, pos, Bool, List, [], length, Option, Some, Result, IfOk, IfErr, OnOk, OnErr}
+use Rattle.std.specs.Prelude.{◌≡◌, ℕ, ℤ, pos, Bool, List, [], length, Option, Some, Result, Ok, Err, IfOk, IfErr, OnOk, OnErr}
 use Rattle.std.specs.Borrow.{MutBor}
 use Rattle.std.specs.Int.{Width, FitsUnsignedBits}
 use Rattle.std.specs.Int.RustNames.{FitsSigned}
 use denote.Triple.Both.{Both}
 use Rattle.bcder.specs.declared.mode.Mode.{Mode}
 use Rattle.bcder.specs.declared.decode.content.Primitive.{Primitive}
+use Rattle.bcder.specs.declared.decode.error.ContentError.{ContentError}
 use Rattle.bcder.specs.declared.decode.error.DecodeError.{DecodeError}
-use Rattle.bcder.specs.Cause.{cause_of, of_source, IsRefusal}
+use Rattle.bcder.specs.Cause.{cause_of, of_source, of_content, of_memory, IsRefusal}
 use Rattle.bcder.specs.Stream.{Stream, Grew}
 use Rattle.bcder.specs.Content.{Reading}
 use Rattle.bcder.specs.Walking.{IsShort}
@@ -45,11 +46,19 @@ pub data RefusesAll {X : Type 0} (c : Reading) (e : DecodeError X) (d : Reading)
   source : cause_of e ≡ of_source → Grew c.stream.faults d.stream.faults → RefusesAll c e d
   few : IsShort c → IsRefusal e → d.stream.faults ≡ c.stream.faults → RefusesAll c e d
 
-module _ {T X : Type 0} (Means : List ℕ → T → Type 0) where
-  -- why contents octets were not read, and e was answered: they did not come, or they mean nothing
+-- they mean nothing
+abbrev pub MeanNothing : {T X : Type 0} → (List ℕ → T → Type 0) → List ℕ → DecodeError X → Type 0
+MeanNothing Means w e = ((x : _) → Means w x → ⊥) × IsRefusal e
+
+-- there was no memory for them
+abbrev pub FindNoMemory : {X : Type 0} → List ℕ → DecodeError X → Type 0
+FindNoMemory w e = cause_of e ≡ of_memory
+
+module _ {T X : Type 0} (Means : List ℕ → T → Type 0) (Refuses : List ℕ → DecodeError X → Type 0) where
+  -- why contents octets were not read, and e was answered: they did not come, or were refused
   pub data RefusesReading (c : Reading) (e : DecodeError X) (d : Reading) : Type 0 where
     missing : RefusesAll c e d → RefusesReading c e d
-    meaningless : HasAll (length c.stream.rest) c → ((x : T) → Means c.stream.rest x → ⊥) → IsRefusal e → d.stream.faults ≡ c.stream.faults → RefusesReading c e d
+    refused : HasAll (length c.stream.rest) c → Refuses c.stream.rest e → d.stream.faults ≡ c.stream.faults → RefusesReading c e d
 
   -- contents octets were read as what they mean, and taken; or refused, and left
   pub record Reads (c : Reading) (r : Result T (DecodeError X)) (d : Reading) : Type 0 where
@@ -64,6 +73,23 @@ module _ {T X : Type 0} (Means : List ℕ → T → Type 0) where
     pub mode : d.mode ≡ c.mode
     pub marked : d.marked ≡ c.marked
 
--- the same of a parameter as a whole
-abbrev pub ReadOctets : {S T X : Type 0} → (S → Stream) → Both (MutBor (Primitive S)) (MutBor (Primitive S)) → (List ℕ → T → Type 0) → Result T (DecodeError X) → Type 0
-ReadOctets stream c Means r = Reads Means (octets_before stream c) r (octets_after stream c)
+-- ---- the same of a parameter as a whole
+
+module _ {S T X : Type 0} (stream : S → Stream) (c : Both (MutBor (Primitive S)) (MutBor (Primitive S))) where
+  -- by a reader of its own that means something or refuses
+  abbrev pub ReadBy : (List ℕ → T → Type 0) → (List ℕ → DecodeError X → Type 0) → Result T (DecodeError X) → Type 0
+  ReadBy Means Refuses r = Reads Means Refuses (octets_before stream c) r (octets_after stream c)
+
+  -- what the octets mean, refused exactly where they mean nothing
+  abbrev pub ReadOctets : (List ℕ → T → Type 0) → Result T (DecodeError X) → Type 0
+  ReadOctets Means r = ReadBy Means (MeanNothing Means) r
+
+-- ---- octets that are lent to a closure
+
+-- a closure that is lent octets answered x
+abbrev pub Told : {B T : Type 0} → (B → List ℕ) → (B → Result T ContentError → Type 0) → List ℕ → T → Type 0
+Told now post w x = (p : _) × (now p ≡ w) × post p (Ok x)
+
+-- it refused them, and its error is answered
+abbrev pub Untold : {B T X : Type 0} → (B → List ℕ) → (B → Result T ContentError → Type 0) → List ℕ → DecodeError X → Type 0
+Untold now post w e = (p : _) × (error : ContentError) × (now p ≡ w) × post p (Err error) × (cause_of e ≡ of_content error)

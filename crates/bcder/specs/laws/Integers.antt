@@ -29,8 +29,9 @@ one_octet false d h = AreOctets-cons d [] h AreOctets-nil
 pub octets_are : (k : ℕ) (negative : Bool) (n : ℕ) → AreOctets (octets_within k negative n)
 octets_are zero negative n = one_octet negative (n % 256) (omega arith)
 octets_are (suc k) negative n = elim (cases_lt n 128) [
-    inl a ↦ rw (lt-ltb n 128 a) (one_octet negative n (omega arith))
-  | inr a ↦ rw (le-ltb n 128 a) (AreOctets-join _ _ (octets_are k negative (n / 256)) (one_octet negative (n % 256) (omega arith))) ]
+  | inl a ↦ rw (lt-ltb n 128 a) (one_octet negative n (omega arith))
+  | inr a ↦ rw (le-ltb n 128 a) (AreOctets-join _ _ (octets_are k negative (n / 256)) (one_octet negative (n % 256) (omega arith)))
+]
 
 pub snoc_value : (w : List ℕ) (d : ℕ) → big_endian (w ++ d ∷ []) ≡ 256 * big_endian w + d
 snoc_value [] d = omega arith
@@ -68,14 +69,16 @@ leads_one true d h = omega arith
 leads_within : (k : ℕ) (negative : Bool) (n : ℕ) → FitsBehind k n → Leads negative (octets_within k negative n)
 leads_within zero negative n h = leads_one negative (n % 256) (omega arith)
 leads_within (suc k) negative n h = elim (cases_lt n 128) [
-    inl a ↦ rw (lt-ltb n 128 a) (leads_one negative n a)
-  | inr a ↦ rw (le-ltb n 128 a) (leads_more negative _ _ (leads_within k negative (n / 256) (fits_next k n h))) ]
+  | inl a ↦ rw (lt-ltb n 128 a) (leads_one negative n a)
+  | inr a ↦ rw (le-ltb n 128 a) (leads_more negative _ _ (leads_within k negative (n / 256) (fits_next k n h)))
+]
 
 positive_within : (k n : ℕ) → FitsBehind k n → big_endian (octets_within k false n) ≡ n
 positive_within zero n h = omega arith
 positive_within (suc k) n h = elim (cases_lt n 128) [
-    inl a ↦ rw (lt-ltb n 128 a) (omega arith)
-  | inr a ↦ rw (le-ltb n 128 a) (omega (arith, snoc_value (octets_within k false (n / 256)) (n % 256), positive_within k (n / 256) (fits_next k n h))) ]
+  | inl a ↦ rw (lt-ltb n 128 a) (omega arith)
+  | inr a ↦ rw (le-ltb n 128 a) (omega (arith, snoc_value (octets_within k false (n / 256)) (n % 256), positive_within k (n / 256) (fits_next k n h)))
+]
 
 negative_snoc : (w : List ℕ) (n : ℕ) → big_endian w + n / 256 + 1 ≡ 256 ^ length w → big_endian (w ++ (255 - n % 256) ∷ []) + n + 1 ≡ 256 ^ length (w ++ (255 - n % 256) ∷ [])
 negative_snoc w n h =
@@ -87,8 +90,9 @@ negative_snoc w n h =
 negative_within : (k n : ℕ) → FitsBehind k n → big_endian (octets_within k true n) + n + 1 ≡ 256 ^ length (octets_within k true n)
 negative_within zero n h = omega arith
 negative_within (suc k) n h = elim (cases_lt n 128) [
-    inl a ↦ rw (lt-ltb n 128 a) (omega arith)
-  | inr a ↦ rw (le-ltb n 128 a) (negative_snoc (octets_within k true (n / 256)) n (negative_within k (n / 256) (fits_next k n h))) ]
+  | inl a ↦ rw (lt-ltb n 128 a) (omega arith)
+  | inr a ↦ rw (le-ltb n 128 a) (negative_snoc (octets_within k true (n / 256)) n (negative_within k (n / 256) (fits_next k n h)))
+]
 
 -- ---- the number that octets are
 
@@ -122,8 +126,9 @@ two_snoc negative (a ∷ b ∷ w) d l = tt
 one_or_more : (k : ℕ) (negative : Bool) (n : ℕ) → FitsBehind k n → ((octets_within k negative n ≡ octet negative n ∷ []) × (n < 128)) ⊎ TwoOrMore (octets_within k negative n)
 one_or_more zero negative n h = let small : n % 256 ≡ n = omega arith in inl (ap (λ d. octet negative d ∷ []) small, omega arith)
 one_or_more (suc k) negative n h = elim (cases_lt n 128) [
-    inl a ↦ rw (lt-ltb n 128 a) (inl (refl, a))
-  | inr a ↦ rw (le-ltb n 128 a) (inr (two_snoc negative _ _ (leads_within k negative (n / 256) (fits_next k n h)))) ]
+  | inl a ↦ rw (lt-ltb n 128 a) (inl (refl, a))
+  | inr a ↦ rw (le-ltb n 128 a) (inr (two_snoc negative _ _ (leads_within k negative (n / 256) (fits_next k n h))))
+]
 
 smallest_more : (w v : List ℕ) → TwoOrMore w → IsSmallest w → IsSmallest (w ++ v)
 smallest_more [] v t h = absurd t
@@ -137,10 +142,12 @@ smallest_two true n h k = (λ e. absurd (omega (arith, e)), λ e. omega (arith, 
 smallest_within : (k : ℕ) (negative : Bool) (n : ℕ) → FitsBehind k n → IsSmallest (octets_within k negative n)
 smallest_within zero negative n h = tt
 smallest_within (suc k) negative n h = elim (cases_lt n 128) [
-    inl a ↦ rw (lt-ltb n 128 a) tt
+  | inl a ↦ rw (lt-ltb n 128 a) tt
   | inr a ↦ rw (le-ltb n 128 a) (elim (one_or_more k negative (n / 256) (fits_next k n h)) [
-      inl one ↦ rw (one.0) (smallest_two negative n a one.1)
-    | inr two ↦ smallest_more _ _ two (smallest_within k negative (n / 256) (fits_next k n h)) ]) ]
+    | inl one ↦ rw (one.0) (smallest_two negative n a one.1)
+    | inr two ↦ smallest_more _ _ two (smallest_within k negative (n / 256) (fits_next k n h))
+  ])
+]
 
 pub positive_octets : (k n : ℕ) → FitsBehind k n → AreInteger (pos n) (octets_within k false n)
 positive_octets k n h = record { smallest = smallest_within k false n h; is = number_positive _ n (leads_within k false n h) (positive_within k n h) }
@@ -182,7 +189,7 @@ positive_sized b w o l h =
 negative_least : (b n : ℕ) (w : List ℕ) → AreOctets (b ∷ w) → 128 ≤ b → IsSmallest (b ∷ w) → big_endian (b ∷ w) + n + 1 ≡ 256 ^ length (b ∷ w) → 2 ≤ length (b ∷ w) → 256 ^ length (b ∷ w) ≤ 512 * n
 negative_least b n [] o l h e two = absurd (omega arith)
 negative_least b n (c ∷ w) o l h e two = elim (cases_lt b 255) [
-    inl a ↦ (
+  | inl a ↦ (
       let m = mul-le b (256 ^ length (c ∷ w)) 254 (256 ^ length (c ∷ w)) (omega arith) (omega arith) in
       let r = big_endian-lt (c ∷ w) (λ i. o (suc i)) in
       omega (arith, m, r, e, place w, place (c ∷ w)))
@@ -192,7 +199,8 @@ negative_least b n (c ∷ w) o l h e two = elim (cases_lt b 255) [
       let m = mul-le c (256 ^ length w) 127 (256 ^ length w) (omega arith) (omega arith) in
       let k = mul-le b (256 ^ length (c ∷ w)) 255 (256 ^ length (c ∷ w)) (omega arith) (omega arith) in
       let r = big_endian-lt w (λ i. o (suc (suc i))) in
-      omega (arith, m, k, r, e, place w, place (c ∷ w))) ]
+      omega (arith, m, k, r, e, place w, place (c ∷ w)))
+]
 
 negative_sized : (b n : ℕ) (w : List ℕ) → AreOctets (b ∷ w) → 128 ≤ b → IsSmallest (b ∷ w) → big_endian (b ∷ w) + n + 1 ≡ 256 ^ length (b ∷ w) → Sized n (b ∷ w)
 negative_sized b n w o l h e =
@@ -210,10 +218,12 @@ nearer m n v w s t less =
 
 same_length : (m : ℕ) (v w : List ℕ) → Sized m v → Sized m w → length v ≡ length w
 same_length m v w s t = elim (cases_lt (length v) (length w)) [
-    inl a ↦ absurd (omega (arith, nearer m m v w s t a))
+  | inl a ↦ absurd (omega (arith, nearer m m v w s t a))
   | inr a ↦ elim (cases_lt (length w) (length v)) [
-      inl b ↦ absurd (omega (arith, nearer m m w v t s b))
-    | inr b ↦ omega arith ] ]
+    | inl b ↦ absurd (omega (arith, nearer m m w v t s b))
+    | inr b ↦ omega arith
+  ]
+]
 
 -- what a smallest list tells: its sign and its size
 pub data Told (w : List ℕ) : ℤ → Type 0 where
@@ -223,11 +233,12 @@ pub data Told (w : List ℕ) : ℤ → Type 0 where
 pub told : (w : List ℕ) → AreOctets w → IsSmallest w → Told w (number w)
 told [] o h = absurd h
 told (b ∷ w) o h = elim (cases_lt b 128) [
-    inl a ↦ rw (number_positive (b ∷ w) _ a refl) (positive (big_endian (b ∷ w)) a (positive_sized b w o a h) refl)
+  | inl a ↦ rw (number_positive (b ∷ w) _ a refl) (positive (big_endian (b ∷ w)) a (positive_sized b w o a h) refl)
   | inr a ↦ (
       let n = 256 ^ length (b ∷ w) - suc (big_endian (b ∷ w)) in
       let e : big_endian (b ∷ w) + n + 1 ≡ 256 ^ length (b ∷ w) = omega (arith, big_endian-lt (b ∷ w) o) in
-      rw (number_negative (b ∷ w) n a e) (negative n a (negative_sized b n w o a h e) e)) ]
+      rw (number_negative (b ∷ w) n a e) (negative n a (negative_sized b n w o a h e) e))
+]
 
 pub told_by : (z : ℤ) (w : List ℕ) → AreOctets w → AreInteger z w → Told w z
 told_by z w o a = subst (λ x. Told w x) a.is (told w o a.smallest)

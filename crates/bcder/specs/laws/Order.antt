@@ -34,21 +34,23 @@ same_length_order (a ∷ v) (b ∷ w) l o p =
     let y = big_endian-lt w (λ i. p (suc i)) in
     let again = same_length_order v w len (λ i. o (suc i)) (λ i. p (suc i)) in
     elim (cases_lt a b) [
-      inl less ↦ (
-        let m = mul-le (suc a) (256 ^ length w) b (256 ^ length w) less (omega arith) in
-        let left : a * 256 ^ length v ≡ a * 256 ^ length w = ap (λ k. a * k) power in
-        let below : big_endian (a ∷ v) < big_endian (b ∷ w) = omega (arith, m, x, power, left) in
-        rw (cmp_less a b less) (sym (cmp_less _ _ below)))
-    | inr other ↦ elim (cases_lt b a) [
-        inl more ↦ (
-          let m = mul-le (suc b) (256 ^ length v) a (256 ^ length v) more (omega arith) in
-          let left : b * 256 ^ length v ≡ b * 256 ^ length w = ap (λ k. b * k) power in
-          let below : big_endian (b ∷ w) < big_endian (a ∷ v) = omega (arith, m, y, power, left) in
-          rw (cmp_greater a b more) (sym (cmp_greater _ _ below)))
-      | inr same ↦ (
-          let e : a ≡ b = omega arith in
-          let left : a * 256 ^ length v ≡ b * 256 ^ length w = ap (λ k. k * 256 ^ length v) e ∙ ap (λ k. b * k) power in
-          rw (cmp_equal a b e, again) (same_place (a * 256 ^ length v) (b * 256 ^ length w) (big_endian v) (big_endian w) left)) ] ]
+      | inl less ↦ (
+          let m = mul-le (suc a) (256 ^ length w) b (256 ^ length w) less (omega arith) in
+          let left : a * 256 ^ length v ≡ a * 256 ^ length w = ap (λ k. a * k) power in
+          let below : big_endian (a ∷ v) < big_endian (b ∷ w) = omega (arith, m, x, power, left) in
+          rw (cmp_less a b less) (sym (cmp_less _ _ below)))
+      | inr other ↦ elim (cases_lt b a) [
+        | inl more ↦ (
+            let m = mul-le (suc b) (256 ^ length v) a (256 ^ length v) more (omega arith) in
+            let left : b * 256 ^ length v ≡ b * 256 ^ length w = ap (λ k. b * k) power in
+            let below : big_endian (b ∷ w) < big_endian (a ∷ v) = omega (arith, m, y, power, left) in
+            rw (cmp_greater a b more) (sym (cmp_greater _ _ below)))
+        | inr same ↦ (
+            let e : a ≡ b = omega arith in
+            let left : a * 256 ^ length v ≡ b * 256 ^ length w = ap (λ k. k * 256 ^ length v) e ∙ ap (λ k. b * k) power in
+            rw (cmp_equal a b e, again) (same_place (a * 256 ^ length v) (b * 256 ^ length w) (big_endian v) (big_endian w) left))
+      ]
+    ]
   where
     same_place : (x y m n : ℕ) → x ≡ y → nat_cmp m n ≡ nat_cmp (x + m) (y + n)
     same_place x y m n e = grind (arith, nat_tests)
@@ -69,21 +71,25 @@ leads_tested_negative (b ∷ w) l = le-leb 128 b l
 
 positives : (m n : ℕ) (v w : List ℕ) → AreOctets v → AreOctets w → Sized m v → Sized n w → big_endian v ≡ m → big_endian w ≡ n → same_sign_order false v w ≡ nat_cmp m n
 positives m n v w o p s t a b = elim (cases_lt (length v) (length w)) [
-    inl less ↦ rw (cmp_less (length v) (length w) less) (sym (cmp_less m n (nearer m n v w s t less)))
+  | inl less ↦ rw (cmp_less (length v) (length w) less) (sym (cmp_less m n (nearer m n v w s t less)))
   | inr other ↦ elim (cases_lt (length w) (length v)) [
-      inl more ↦ rw (cmp_greater (length v) (length w) more) (sym (cmp_greater m n (nearer n m w v t s more)))
+    | inl more ↦ rw (cmp_greater (length v) (length w) more) (sym (cmp_greater m n (nearer n m w v t s more)))
     | inr same ↦ (
         let l : length v ≡ length w = omega arith in
-        rw (cmp_equal (length v) (length w) l, same_length_order v w l o p, a, b) refl) ] ]
+        rw (cmp_equal (length v) (length w) l, same_length_order v w l o p, a, b) refl)
+  ]
+]
 
 negatives : (m n : ℕ) (v w : List ℕ) → AreOctets v → AreOctets w → Sized m v → Sized n w → big_endian v + m + 1 ≡ 256 ^ length v → big_endian w + n + 1 ≡ 256 ^ length w → same_sign_order true v w ≡ nat_cmp n m
 negatives m n v w o p s t a b = elim (cases_lt (length v) (length w)) [
-    inl less ↦ rw (cmp_greater (length w) (length v) less) (sym (cmp_greater n m (nearer m n v w s t less)))
+  | inl less ↦ rw (cmp_greater (length w) (length v) less) (sym (cmp_greater n m (nearer m n v w s t less)))
   | inr other ↦ elim (cases_lt (length w) (length v)) [
-      inl more ↦ rw (cmp_less (length w) (length v) more) (sym (cmp_less n m (nearer n m w v t s more)))
+    | inl more ↦ rw (cmp_less (length w) (length v) more) (sym (cmp_less n m (nearer n m w v t s more)))
     | inr same ↦ (
         let l : length v ≡ length w = omega arith in
-        rw (cmp_equal (length w) (length v) (sym l), same_length_order v w l o p) (turned (big_endian v) (big_endian w) m n _ _ a b (ap (λ k. 256 ^ k) l))) ] ]
+        rw (cmp_equal (length w) (length v) (sym l), same_length_order v w l o p) (turned (big_endian v) (big_endian w) m n _ _ a b (ap (λ k. 256 ^ k) l)))
+  ]
+]
   where
     turned : (x y m n a b : ℕ) → x + m + 1 ≡ a → y + n + 1 ≡ b → a ≡ b → nat_cmp x y ≡ nat_cmp n m
     turned x y m n a b e f g = grind (arith, nat_tests)

@@ -27,5 +27,6 @@ pub returns-clause-none : goal.returns-clause-none
 returns-clause-none c =
     let o : AreOctets c.args.octets.now = λ i. omega (arith, c.type_inv.octets i) in
     elim c.else-octets-eq17.branch [
-      else-octets-eq17-via-then-octets-eq17+else-turned-eq0 w ↦ too_large c.is_negative-negative.result c.args.octets.now o c.is_negative-negative.ensures (omega arith) (λ _ e. w.if-turned-eq0.false (w.turned.ensures ∙ e))
-    | else-octets-eq17-via-else-octets-eq17 w ↦ too_large c.is_negative-negative.result c.args.octets.now o c.is_negative-negative.ensures (omega arith) (λ e _. w.if-octets-eq17.false e) ]
+      | else-octets-eq17-via-then-octets-eq17+else-turned-eq0 w ↦ too_large c.is_negative-negative.result c.args.octets.now o c.is_negative-negative.ensures (omega arith) (λ _ e. w.if-turned-eq0.false (w.turned.ensures ∙ e))
+      | else-octets-eq17-via-else-octets-eq17 w ↦ too_large c.is_negative-negative.result c.args.octets.now o c.is_negative-negative.ensures (omega arith) (λ e _. w.if-octets-eq17.false e)
+    ]
