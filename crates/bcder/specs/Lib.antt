@@ -4,6 +4,8 @@ pub mod Length
 pub mod Tree
 pub mod Encoding
 pub mod Preorder
+pub mod Integer
+pub mod Number
 pub mod Grammar
 pub mod Reading
 pub mod Classes
@@ -20,6 +22,7 @@ pub mod Takes
 pub mod Entering
 pub mod Inside
 pub mod Walking
+pub mod Readers
 pub mod Decoding
 pub mod Begins
 pub mod PeekTag

@@ -10,3 +10,6 @@ pub mod Lists
 pub mod Options
 pub mod Preorder
 pub mod Limits
+pub mod Integers
+pub mod Order
+pub mod Numbers

@@ -9,6 +9,7 @@ mod decode;
 mod forms;
 mod inside;
 mod octets;
+mod readers;
 mod remaining;
 mod repeat;
 mod sequences;

@@ -66,7 +66,7 @@ impl<'a, S: Source> Primitive<'a, S> {
 
     /// A refusal at the present position.
     #[cold]
-    fn too_few(&self) -> DecodeError<S::Error>
+    pub(super) fn too_few(&self) -> DecodeError<S::Error>
         ensures { IsRefusal result }
     {
         self.source

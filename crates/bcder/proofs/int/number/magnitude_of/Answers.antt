@@ -1,0 +1,16 @@
+use Rattle.std.proofs.Common.{◌≡◌, ℕ, ◌+◌, ◌*◌, ◌^◌, ◌<◌, length, take, arith}
+use Rattle.bcder.specs.Identifier.{AreOctets}
+use Rattle.bcder.specs.Number.{magnitude}
+use Rattle.bcder.proofs.Numbers.{magnitude_fits}
+use Rattle.bcder.proofs.int.number.magnitude_of.Goals as goal
+
+pub overflow_mul-value : goal.overflow_mul-value
+overflow_mul-value c =
+    let o : AreOctets c.args.octets.now = λ i. omega (arith, c.type_inv.octets i) in
+    omega (arith, magnitude_fits c.args.negative c.args.octets.now c.loop-octet.octet-index o (omega arith) (omega arith), c.loop-octet.invariant)
+
+pub overflow_add-value : goal.overflow_add-value
+overflow_add-value c =
+    let o : AreOctets c.args.octets.now = λ i. omega (arith, c.type_inv.octets i) in
+    let b : c.turned.result < 256 = omega arith in
+    omega (arith, magnitude_fits c.args.negative c.args.octets.now c.loop-octet.octet-index o (omega arith) (omega arith), c.loop-octet.invariant)

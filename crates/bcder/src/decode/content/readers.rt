@@ -1,0 +1,370 @@
+//! Reading the contents octets of a primitive value as what they mean.
+ghost use Rattle.std.specs.Prelude.{◌≡◌, ◌≤◌, [], Some, IfOk, IfErr, OnOk};
+ghost use Rattle.std.specs.Int.{w8, w16, w32, w64, w128};
+ghost use Rattle.bcder.specs.Number.{IsNumber};
+ghost use Rattle.bcder.specs.Integer.{truth};
+ghost use Rattle.bcder.specs.Readers.{HasAll, RefusesAll, ReadBy, ReadOctets, FindNoMemory};
+ghost use Rattle.bcder.specs.Readers.{IsSigned, IsUnsigned, IsTruth, IsNull, Told, Untold};
+ghost use Rattle.bcder.specs.Views.{of_primitive, octets_before, octets_after, MovedOctets};
+
+use super::Primitive;
+use crate::NoMemory;
+use crate::decode::error::{ContentError, DecodeError};
+use crate::decode::source::Source;
+use crate::int::number::{Number, number_at};
+use crate::mode::Mode;
+use bytes::Bytes;
+use std::alloc::Global;
+
+/// The truth value that contents octets are, if they are any (X.690, 8.2, 11.1).
+#[inline(always)]
+fn truth_at(mode: Mode, octets: &[u8]) -> Option<bool>
+    ensures { result ≡ truth mode octets.now }
+{
+    match octets {
+        [0x00] => Some(false),
+        [0xFF] => Some(true),
+        [_] => match mode {
+            Mode::Ber => Some(true),
+            Mode::Cer => None,
+            Mode::Der => None,
+        },
+        _ => None,
+    }
+}
+
+#[tactic(auto, using(crate::proofs::moves), unfolding(crate::specs::Views::of_primitive))]
+impl<'a, S: Source> Primitive<'a, S> {
+    /// Asks for all octets that are owed, and says how many they are.
+    #[inline(always)]
+    fn request_all(&mut self) -> Result<usize, DecodeError<S::Error>>
+        ensures moves { MovedOctets S.stream self }
+        ensures found { IfOk result (λ n. HasAll n (octets_before S.stream self)) }
+        ensures at_hand { IfOk result (λ n. n ≤ (octets_after S.stream self).stream.avail) }
+        ensures no_fault { OnOk result (
+            (octets_after S.stream self).stream.faults
+            ≡ (octets_before S.stream self).stream.faults) }
+        ensures refused { IfErr result (λ e.
+            RefusesAll (octets_before S.stream self) e (octets_after S.stream self)) }
+        ensures rest { (octets_after S.stream self).stream.rest
+            ≡ (octets_before S.stream self).stream.rest }
+        ensures owed { (octets_after S.stream self).owed ≡ (octets_before S.stream self).owed }
+        ensures mode { (octets_after S.stream self).mode ≡ (octets_before S.stream self).mode }
+        ensures marked { (octets_after S.stream self).marked
+            ≡ (octets_before S.stream self).marked }
+    {
+        match self.source.limit() {
+            Some(owed) => match self.source.request(owed) {
+                Ok(found) => {
+                    if found < owed {
+                        return Err(self.too_few());
+                    }
+                    Ok(owed)
+                }
+                Err(error) => Err(DecodeError::Source(error)),
+            },
+            None => Err(self.too_few()),
+        }
+    }
+
+    /// All octets that are owed, which are at hand.
+    #[inline(always)]
+    fn all(&self, len: usize) -> &[u8]
+        requires found { HasAll len (of_primitive S.stream self.now) }
+        requires at_hand { len ≤ (of_primitive S.stream self.now).stream.avail }
+        ensures { result.now ≡ (of_primitive S.stream self.now).stream.rest }
+    {
+        &self.source.slice()[..len]
+    }
+
+    /// The same as a value of their own.
+    fn bytes_of_all(&self, alloc: Global, len: usize) -> Result<Bytes, NoMemory>
+        requires found { HasAll len (of_primitive S.stream self.now) }
+        requires at_hand { len ≤ (of_primitive S.stream self.now).stream.avail }
+        ensures { IfOk result (λ b. b ≡ (of_primitive S.stream self.now).stream.rest) }
+    {
+        self.source.bytes(alloc, 0, len)
+    }
+
+    /// Lends them to the closure.
+    #[inline(always)]
+    fn lend_all<F, T: Drop>(&self, len: usize, op: F) -> Result<T, ContentError>
+    where
+        F: FnOnce(&[u8]) -> Result<T, ContentError>,
+        requires found { HasAll len (of_primitive S.stream self.now) }
+        requires at_hand { len ≤ (of_primitive S.stream self.now).stream.avail }
+        requires callable { (p : _) → p.now ≡ (of_primitive S.stream self.now).stream.rest → F.pre op p }
+        ensures { (p : _) × (p.now ≡ (of_primitive S.stream self.now).stream.rest) × F.post op p result }
+    {
+        op(self.all(len))
+    }
+
+    /// Passes over them.
+    #[inline(always)]
+    fn pass_all(&mut self, len: usize)
+        requires found { HasAll len (of_primitive S.stream self.old) }
+        requires at_hand { len ≤ (of_primitive S.stream self.old).stream.avail }
+        ensures moves { MovedOctets S.stream self }
+        ensures none_left { (octets_after S.stream self).stream.rest ≡ [] }
+        ensures none_owed { (octets_after S.stream self).owed ≡ Some 0 }
+        ensures no_fault { (octets_after S.stream self).stream.faults
+            ≡ (octets_before S.stream self).stream.faults }
+        ensures mode { (octets_after S.stream self).mode ≡ (octets_before S.stream self).mode }
+        ensures marked { (octets_after S.stream self).marked
+            ≡ (octets_before S.stream self).marked }
+    {
+        self.source.advance(len);
+    }
+}
+
+#[tactic(auto, using(crate::proofs::moves, crate::proofs::Reading::refuses_missing))]
+impl<'a, S: Source> Primitive<'a, S> {
+    /// Reads all octets that are owed as the number of a type, and takes them.
+    #[inline(always)]
+    fn read_number<N: Number>(&mut self) -> Result<N, DecodeError<S::Error>>
+        ensures moves { MovedOctets S.stream self }
+        ensures read { ReadOctets S.stream self (IsNumber N.value N.in_range) result }
+    {
+        let len = match self.request_all() {
+            Ok(len) => len,
+            Err(error) => return Err(error),
+        };
+        match number_at(self.all(len)) {
+            Some(number) => {
+                self.pass_all(len);
+                Ok(number)
+            }
+            None => Err(self.refusal("no integer of this type")),
+        }
+    }
+
+    /// Reads all octets as a BOOLEAN (X.690, 8.2), and takes them: in BER one octet, 0 for false
+    /// and any other for true; in CER and DER true is `FF` (11.1).
+    ///
+    /// # Errors
+    ///
+    /// Where the octets are no such value, where fewer come than are owed, and where the source
+    /// fails. Then none is taken.
+    #[inline(always)]
+    pub fn to_bool(&mut self) -> Result<bool, DecodeError<S::Error>>
+        ensures moves { MovedOctets S.stream self }
+        ensures read { ReadOctets S.stream self
+            (IsTruth (octets_before S.stream self).mode) result }
+    {
+        let len = match self.request_all() {
+            Ok(len) => len,
+            Err(error) => return Err(error),
+        };
+        match truth_at(self.mode(), self.all(len)) {
+            Some(truth) => {
+                self.pass_all(len);
+                Ok(truth)
+            }
+            None => Err(self.refusal("no boolean")),
+        }
+    }
+
+    /// Makes sure that there are no octets, as NULL has none (X.690, 8.8).
+    ///
+    /// # Errors
+    ///
+    /// Where octets are owed, and where no length is known. Then none is taken.
+    #[inline(always)]
+    pub fn to_null(&mut self) -> Result<(), DecodeError<S::Error>>
+        ensures moves { MovedOctets S.stream self }
+        ensures read { ReadOctets S.stream self IsNull result }
+    {
+        let len = match self.request_all() {
+            Ok(len) => len,
+            Err(error) => return Err(error),
+        };
+        if len == 0 {
+            self.pass_all(len);
+            Ok(())
+        } else {
+            Err(self.refusal("octets in a null"))
+        }
+    }
+
+    /// Takes all octets.
+    ///
+    /// # Errors
+    ///
+    /// Where fewer octets come than are owed, where the source fails, and where there is no memory
+    /// for them. Then none is taken.
+    pub fn take_all(&mut self, alloc: Global) -> Result<Bytes, DecodeError<S::Error>>
+        ensures moves { MovedOctets S.stream self }
+        ensures read { ReadBy S.stream self (λ w b. b ≡ w) FindNoMemory result }
+    {
+        let len = match self.request_all() {
+            Ok(len) => len,
+            Err(error) => return Err(error),
+        };
+        match self.bytes_of_all(alloc, len) {
+            Ok(octets) => {
+                self.pass_all(len);
+                Ok(octets)
+            }
+            Err(_) => Err(DecodeError::no_memory()),
+        }
+    }
+
+    /// Lends all octets to the closure, and takes them where it answers.
+    ///
+    /// # Errors
+    ///
+    /// The closure's refusal; where fewer octets come than are owed, and where the source fails.
+    /// Then none is taken.
+    #[inline(always)]
+    pub fn with_slice_all<F, T: Drop>(&mut self, op: F) -> Result<T, DecodeError<S::Error>>
+    where
+        F: FnOnce(&[u8]) -> Result<T, ContentError>,
+        requires { (p : _) → p.now ≡ (of_primitive S.stream self.old).stream.rest → F.pre op p }
+        ensures moves { MovedOctets S.stream self }
+        ensures read { ReadBy S.stream self
+            (Told (λ p. p.now) (F.post op)) (Untold (λ p. p.now) (F.post op)) result }
+    {
+        let len = match self.request_all() {
+            Ok(len) => len,
+            Err(error) => return Err(error),
+        };
+        match self.lend_all(len, op) {
+            Ok(value) => {
+                self.pass_all(len);
+                Ok(value)
+            }
+            Err(error) => Err(self.content_err(error)),
+        }
+    }
+
+    /// Reads all octets as an INTEGER (X.690, 8.3) that an `i8` holds, and takes them.
+    ///
+    /// # Errors
+    ///
+    /// Where the octets are no contents octets of such an integer, where fewer come than are owed,
+    /// and where the source fails. Then none is taken.
+    #[inline(always)]
+    pub fn to_i8(&mut self) -> Result<i8, DecodeError<S::Error>>
+        ensures moves { MovedOctets S.stream self }
+        ensures read { ReadOctets S.stream self (IsSigned w8) result }
+    {
+        self.read_number()
+    }
+
+    /// Reads all octets as an INTEGER (X.690, 8.3) that an `i16` holds, and takes them.
+    ///
+    /// # Errors
+    ///
+    /// Those of [`to_i8`](Self::to_i8).
+    #[inline(always)]
+    pub fn to_i16(&mut self) -> Result<i16, DecodeError<S::Error>>
+        ensures moves { MovedOctets S.stream self }
+        ensures read { ReadOctets S.stream self (IsSigned w16) result }
+    {
+        self.read_number()
+    }
+
+    /// Reads all octets as an INTEGER (X.690, 8.3) that an `i32` holds, and takes them.
+    ///
+    /// # Errors
+    ///
+    /// Those of [`to_i8`](Self::to_i8).
+    #[inline(always)]
+    pub fn to_i32(&mut self) -> Result<i32, DecodeError<S::Error>>
+        ensures moves { MovedOctets S.stream self }
+        ensures read { ReadOctets S.stream self (IsSigned w32) result }
+    {
+        self.read_number()
+    }
+
+    /// Reads all octets as an INTEGER (X.690, 8.3) that an `i64` holds, and takes them.
+    ///
+    /// # Errors
+    ///
+    /// Those of [`to_i8`](Self::to_i8).
+    #[inline(always)]
+    pub fn to_i64(&mut self) -> Result<i64, DecodeError<S::Error>>
+        ensures moves { MovedOctets S.stream self }
+        ensures read { ReadOctets S.stream self (IsSigned w64) result }
+    {
+        self.read_number()
+    }
+
+    /// Reads all octets as an INTEGER (X.690, 8.3) that an `i128` holds, and takes them.
+    ///
+    /// # Errors
+    ///
+    /// Those of [`to_i8`](Self::to_i8).
+    #[inline(always)]
+    pub fn to_i128(&mut self) -> Result<i128, DecodeError<S::Error>>
+        ensures moves { MovedOctets S.stream self }
+        ensures read { ReadOctets S.stream self (IsSigned w128) result }
+    {
+        self.read_number()
+    }
+
+    /// Reads all octets as an INTEGER (X.690, 8.3) that a `u8` holds, and takes them.
+    ///
+    /// # Errors
+    ///
+    /// Those of [`to_i8`](Self::to_i8).
+    #[inline(always)]
+    pub fn to_u8(&mut self) -> Result<u8, DecodeError<S::Error>>
+        ensures moves { MovedOctets S.stream self }
+        ensures read { ReadOctets S.stream self (IsUnsigned 8) result }
+    {
+        self.read_number()
+    }
+
+    /// Reads all octets as an INTEGER (X.690, 8.3) that a `u16` holds, and takes them.
+    ///
+    /// # Errors
+    ///
+    /// Those of [`to_i8`](Self::to_i8).
+    #[inline(always)]
+    pub fn to_u16(&mut self) -> Result<u16, DecodeError<S::Error>>
+        ensures moves { MovedOctets S.stream self }
+        ensures read { ReadOctets S.stream self (IsUnsigned 16) result }
+    {
+        self.read_number()
+    }
+
+    /// Reads all octets as an INTEGER (X.690, 8.3) that a `u32` holds, and takes them.
+    ///
+    /// # Errors
+    ///
+    /// Those of [`to_i8`](Self::to_i8).
+    #[inline(always)]
+    pub fn to_u32(&mut self) -> Result<u32, DecodeError<S::Error>>
+        ensures moves { MovedOctets S.stream self }
+        ensures read { ReadOctets S.stream self (IsUnsigned 32) result }
+    {
+        self.read_number()
+    }
+
+    /// Reads all octets as an INTEGER (X.690, 8.3) that a `u64` holds, and takes them.
+    ///
+    /// # Errors
+    ///
+    /// Those of [`to_i8`](Self::to_i8).
+    #[inline(always)]
+    pub fn to_u64(&mut self) -> Result<u64, DecodeError<S::Error>>
+        ensures moves { MovedOctets S.stream self }
+        ensures read { ReadOctets S.stream self (IsUnsigned 64) result }
+    {
+        self.read_number()
+    }
+
+    /// Reads all octets as an INTEGER (X.690, 8.3) that a `u128` holds, and takes them.
+    ///
+    /// # Errors
+    ///
+    /// Those of [`to_i8`](Self::to_i8).
+    #[inline(always)]
+    pub fn to_u128(&mut self) -> Result<u128, DecodeError<S::Error>>
+        ensures moves { MovedOctets S.stream self }
+        ensures read { ReadOctets S.stream self (IsUnsigned 128) result }
+    {
+        self.read_number()
+    }
+}

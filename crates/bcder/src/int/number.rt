@@ -1,0 +1,301 @@
+//! The numbers that contents octets of INTEGER values are (X.690, 8.3), as values of Rust's types.
+ghost use Rattle.std.specs.Prelude.{◌≡◌, ◌∷◌, [], ◌≤◌, ◌<◌, ◌↔◌, ℤ, pos, IfSome, IfNone, IsTrue, length};
+ghost use Rattle.std.specs.Int.{complement_if, w8, w16, w32, w64, w128, FitsUnsignedBits};
+ghost use Rattle.std.specs.Int.RustNames.{FitsSigned};
+ghost use Rattle.bcder.specs.Integer.{AreInteger, IsSmallest, Leads, octet};
+ghost use Rattle.bcder.specs.Number.{HasMagnitude, IsNumber, IsNoNumber, magnitude};
+ghost use Rattle.bcder.specs.laws.Numbers.{u8_magnitude, u16_magnitude, u32_magnitude};
+ghost use Rattle.bcder.specs.laws.Numbers.{u64_magnitude, u128_magnitude, i8_magnitude};
+ghost use Rattle.bcder.specs.laws.Numbers.{i16_magnitude, i32_magnitude, i64_magnitude};
+ghost use Rattle.bcder.specs.laws.Numbers.{i128_magnitude};
+
+/// A type of Rust's integers.
+pub(crate) trait Number: Sized {
+    /// The number that a value is.
+    ghost value: { Self → ℤ };
+
+    /// The numbers that the type holds.
+    ghost in_range: { ℤ → Type 0 };
+
+    /// The value that is `magnitude`, or -1 less it where the number is negative, if the type holds
+    /// it.
+    fn of(negative: bool, magnitude: u128) -> Option<Self>
+        ensures value { IfSome result (λ x. value x ≡ complement_if negative magnitude) }
+        ensures fits { IfSome result (λ x. in_range (value x)) }
+        ensures none { IfNone result (in_range (complement_if negative magnitude) → ⊥) };
+
+    /// They have a magnitude of at most 128 bits.
+    ghost bounded: { (z : ℤ) → in_range z → HasMagnitude z };
+}
+
+/// Whether octets are the smallest that tell their number (8.3.1, 8.3.2).
+#[inline(always)]
+fn is_smallest(octets: &[u8]) -> bool
+    ensures { IsTrue result ↔ IsSmallest octets.now }
+{
+    match octets {
+        [] => false,
+        [_] => true,
+        [first, second, ..] => {
+            (*first != 0x00 || *second >= 0x80) && (*first != 0xFF || *second < 0x80)
+        }
+    }
+}
+
+/// Whether the octets of a number begin with its sign (8.3.3).
+#[inline(always)]
+fn is_negative(octets: &[u8]) -> bool
+    requires { IsSmallest octets.now }
+    ensures { Leads result octets.now }
+{
+    octets[0] >= 0x80
+}
+
+/// An octet, or all its bits turned.
+#[inline(always)]
+fn turned(negative: bool, bits: u8) -> u8
+    ensures { result ≡ octet negative bits }
+{
+    if negative { 255 - bits } else { bits }
+}
+
+/// What at most 16 octets tell of a number apart from its sign.
+#[tactic(auto, using(crate::proofs::Numbers::magnitude_step))]
+fn magnitude_of(negative: bool, octets: &[u8]) -> u128
+    requires { length octets.now ≤ 16 }
+    ensures { result ≡ magnitude negative octets.now }
+{
+    let mut value = 0u128;
+    for octet in octets {
+        value = value * 256 + u128::from(turned(negative, *octet));
+    }
+    value
+}
+
+/// Whether the number is negative, and its magnitude, if the octets are contents octets of a number
+/// whose magnitude has at most 128 bits.
+fn parts_of(octets: &[u8]) -> Option<(bool, u128)>
+    ensures some { IfSome result (λ r. AreInteger (complement_if r.0 r.1) octets.now) }
+    ensures none { IfNone result (IsNoNumber HasMagnitude octets.now) }
+{
+    if !is_smallest(octets) {
+        return None;
+    }
+    let negative = is_negative(octets);
+    if octets.len() <= 16 {
+        return Some((negative, magnitude_of(negative, octets)));
+    }
+    if octets.len() == 17 && turned(negative, octets[0]) == 0 {
+        return Some((negative, magnitude_of(negative, octets.split_at(1).1)));
+    }
+    None
+}
+
+/// The number that one octet is.
+#[inline(always)]
+fn small<N: Number>(first: u8) -> Option<N>
+    ensures value { IfSome result (λ x. IsNumber N.value N.in_range (first ∷ []) x) }
+    ensures none { IfNone result (IsNoNumber N.in_range (first ∷ [])) }
+{
+    let negative = first >= 0x80;
+    N::of(negative, u128::from(turned(negative, first)))
+}
+
+/// The number of a type that contents octets are, if they are of one.
+#[inline(always)]
+pub(crate) fn number_at<N: Number>(octets: &[u8]) -> Option<N>
+    ensures some { IfSome result (IsNumber N.value N.in_range octets.now) }
+    ensures none { IfNone result (IsNoNumber N.in_range octets.now) }
+{
+    if let [first] = octets {
+        return small(*first);
+    }
+    match parts_of(octets) {
+        Some((negative, magnitude)) => N::of(negative, magnitude),
+        None => None,
+    }
+}
+
+impl Number for u8 {
+    ghost value = { λ x. pos x };
+
+    ghost in_range = { FitsUnsignedBits 8 };
+
+    ghost bounded = { u8_magnitude };
+
+    #[inline(always)]
+    fn of(negative: bool, magnitude: u128) -> Option<u8> {
+        if negative {
+            None
+        } else if magnitude <= u8::MAX as u128 {
+            Some(magnitude as u8)
+        } else {
+            None
+        }
+    }
+}
+
+impl Number for u16 {
+    ghost value = { λ x. pos x };
+
+    ghost in_range = { FitsUnsignedBits 16 };
+
+    ghost bounded = { u16_magnitude };
+
+    #[inline(always)]
+    fn of(negative: bool, magnitude: u128) -> Option<u16> {
+        if negative {
+            None
+        } else if magnitude <= u16::MAX as u128 {
+            Some(magnitude as u16)
+        } else {
+            None
+        }
+    }
+}
+
+impl Number for u32 {
+    ghost value = { λ x. pos x };
+
+    ghost in_range = { FitsUnsignedBits 32 };
+
+    ghost bounded = { u32_magnitude };
+
+    #[inline(always)]
+    fn of(negative: bool, magnitude: u128) -> Option<u32> {
+        if negative {
+            None
+        } else if magnitude <= u32::MAX as u128 {
+            Some(magnitude as u32)
+        } else {
+            None
+        }
+    }
+}
+
+impl Number for u64 {
+    ghost value = { λ x. pos x };
+
+    ghost in_range = { FitsUnsignedBits 64 };
+
+    ghost bounded = { u64_magnitude };
+
+    #[inline(always)]
+    fn of(negative: bool, magnitude: u128) -> Option<u64> {
+        if negative {
+            None
+        } else if magnitude <= u64::MAX as u128 {
+            Some(magnitude as u64)
+        } else {
+            None
+        }
+    }
+}
+
+impl Number for u128 {
+    ghost value = { λ x. pos x };
+
+    ghost in_range = { FitsUnsignedBits 128 };
+
+    ghost bounded = { u128_magnitude };
+
+    #[inline(always)]
+    fn of(negative: bool, magnitude: u128) -> Option<u128> {
+        if negative { None } else { Some(magnitude) }
+    }
+}
+
+impl Number for i8 {
+    ghost value = { λ x. x };
+
+    ghost in_range = { FitsSigned w8 };
+
+    ghost bounded = { i8_magnitude };
+
+    #[inline(always)]
+    fn of(negative: bool, magnitude: u128) -> Option<i8> {
+        if magnitude > i8::MAX as u128 {
+            None
+        } else if negative {
+            Some(!(magnitude as i8))
+        } else {
+            Some(magnitude as i8)
+        }
+    }
+}
+
+impl Number for i16 {
+    ghost value = { λ x. x };
+
+    ghost in_range = { FitsSigned w16 };
+
+    ghost bounded = { i16_magnitude };
+
+    #[inline(always)]
+    fn of(negative: bool, magnitude: u128) -> Option<i16> {
+        if magnitude > i16::MAX as u128 {
+            None
+        } else if negative {
+            Some(!(magnitude as i16))
+        } else {
+            Some(magnitude as i16)
+        }
+    }
+}
+
+impl Number for i32 {
+    ghost value = { λ x. x };
+
+    ghost in_range = { FitsSigned w32 };
+
+    ghost bounded = { i32_magnitude };
+
+    #[inline(always)]
+    fn of(negative: bool, magnitude: u128) -> Option<i32> {
+        if magnitude > i32::MAX as u128 {
+            None
+        } else if negative {
+            Some(!(magnitude as i32))
+        } else {
+            Some(magnitude as i32)
+        }
+    }
+}
+
+impl Number for i64 {
+    ghost value = { λ x. x };
+
+    ghost in_range = { FitsSigned w64 };
+
+    ghost bounded = { i64_magnitude };
+
+    #[inline(always)]
+    fn of(negative: bool, magnitude: u128) -> Option<i64> {
+        if magnitude > i64::MAX as u128 {
+            None
+        } else if negative {
+            Some(!(magnitude as i64))
+        } else {
+            Some(magnitude as i64)
+        }
+    }
+}
+
+impl Number for i128 {
+    ghost value = { λ x. x };
+
+    ghost in_range = { FitsSigned w128 };
+
+    ghost bounded = { i128_magnitude };
+
+    #[inline(always)]
+    fn of(negative: bool, magnitude: u128) -> Option<i128> {
+        if magnitude > i128::MAX as u128 {
+            None
+        } else if negative {
+            Some(!(magnitude as i128))
+        } else {
+            Some(magnitude as i128)
+        }
+    }
+}

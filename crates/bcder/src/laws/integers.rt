@@ -1,0 +1,14 @@
+//! The contents octets of integers (X.690, 8.3).
+ghost use Rattle.bcder.specs.Integer.{SomeInteger, OneInteger, OrderOfIntegers};
+
+/// Each integer has contents octets, and no others: the smallest two's complement octets.
+pub fn an_integer_is_its_octets()
+    ensures some { SomeInteger }
+    ensures one { OneInteger }
+{}
+
+/// Contents octets of integers, compared by their sign, then by their length (of negative integers
+/// the longer ones are less), then octet by octet, are in the order of the integers.
+pub fn octets_order_integers()
+    ensures { OrderOfIntegers }
+{}
