@@ -26,3 +26,6 @@ pub mod Decoding
 pub mod Insides
 pub mod Nested
 pub mod Repeating
+pub mod Writing
+pub mod Enclosing
+pub mod Joining

@@ -27,3 +27,8 @@ pub mod PeekLength
 pub mod Answers
 pub mod Changed
 pub mod Repeating
+pub mod Octets
+pub mod Target
+pub mod Meaning
+pub mod Joined
+pub mod Encoders

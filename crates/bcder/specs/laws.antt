@@ -10,3 +10,6 @@ pub mod Lists
 pub mod Options
 pub mod Preorder
 pub mod Limits
+pub mod Written
+pub mod Meanings
+pub mod Joined

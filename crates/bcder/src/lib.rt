@@ -6,6 +6,7 @@
 #![tactic(auto)]
 
 pub mod decode;
+pub mod encode;
 pub mod laws;
 mod length;
 mod memory;
