@@ -29,3 +29,6 @@ pub mod Repeating
 pub mod Keeping
 pub mod Numbers
 pub mod Reading
+pub mod Writing
+pub mod Enclosing
+pub mod Joining

@@ -31,3 +31,8 @@ pub mod Answers
 pub mod Changed
 pub mod Repeating
 pub mod Captured
+pub mod Octets
+pub mod Target
+pub mod Meaning
+pub mod Joined
+pub mod Encoders

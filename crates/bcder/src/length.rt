@@ -8,6 +8,7 @@ ghost use Rattle.bcder.specs.Reading.{least, may_tell, read_length, read_long, r
 use crate::mode::Mode;
 
 pub(crate) mod take;
+pub(crate) mod write;
 
 /// What length octets say.
 #[derive(Clone, Copy, PartialEq, Eq)]

@@ -7,6 +7,7 @@
 
 mod captured;
 pub mod decode;
+pub mod encode;
 pub mod int;
 pub mod laws;
 mod length;

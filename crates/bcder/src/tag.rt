@@ -15,6 +15,7 @@ mod display;
 use std::marker::Model;
 
 pub(crate) mod take;
+mod write;
 
 /// The class of a tag (8.1.2.2, table 1).
 #[derive(Clone, Copy, Debug, PartialEq, Eq)]

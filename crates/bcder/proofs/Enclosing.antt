@@ -1,0 +1,36 @@
+-- The meaning of a value, from what is inside.
+use Rattle.std.proofs.Common.{◌≡◌, ℕ, ◌+◌, ◌<◌, ◌^◌, List, ◌++◌, Bool, true, length, nat_lt, Ok, Err, refl, sym, ap, ◌∙◌, inr, length-append}
+use Rattle.std.proofs.lemmas.Bool.{lt-ltb}
+use Rattle.bcder.specs.declared.mode.Mode.{Mode}
+use Rattle.bcder.specs.declared.length.Length.{Length}
+use Rattle.bcder.specs.declared.length.Length.TheVariants.{Definite}
+use Rattle.bcder.specs.Identifier.{Tag, identifier, IsValueTag}
+use Rattle.bcder.specs.Octets.{length_octets, header, definite, constructed_length, closing, enclosed, enclosed_size}
+use Rattle.bcder.specs.Encoders.{LengthMeans}
+use Rattle.bcder.specs.Meaning.{Encoded, Meaning, ContentsMeaning, ValueMeans, primitive_encoded, primitive_meaning, constructed_encoded, constructed_meaning, fits_enclosed}
+
+pub primitive_given : (t : Tag) (M : ContentsMeaning → Type 0) (c : List ℕ) → M (Ok c) → length c < 2 ^ 32 → IsValueTag t → ValueMeans t (primitive_meaning t) M (Ok (primitive_encoded t c))
+primitive_given t M c m fits v =
+    let test : nat_lt (length c) (2 ^ 32) ≡ true = lt-ltb _ _ fits in
+    inr (v, (Ok c, m, rw test refl))
+
+pub constructed_given : (t : Tag) (mode : Mode) (M : Meaning → Type 0) (x : Encoded) → M (Ok x) → fits_enclosed mode t (length x.octets) ≡ true → IsValueTag t → ValueMeans t (constructed_meaning t mode) M (Ok (constructed_encoded mode t x))
+constructed_given t mode M x m fits v = inr (v, (Ok x, m, rw fits refl))
+
+-- a length has one meaning
+pub length_same : (len : Length) (m n : ContentsMeaning) → LengthMeans len m → LengthMeans len n → m ≡ n
+length_same len (Ok v) (Ok w) p q = ap Ok (p.1 ∙ sym q.1)
+length_same len (Ok v) (Err e) p q = cc
+length_same len (Err d) (Ok w) p q = cc
+length_same len (Err d) (Err e) p q = ap Err (p.1 ∙ sym q.1)
+
+pub header-length : (t : Tag) (f : Bool) (len : Length) → length (header t f len) ≡ length (identifier t f) + length (length_octets len)
+header-length t f len = length-append (identifier t f) (length_octets len)
+
+pub definite-length : (t : Tag) (f : Bool) (c : List ℕ) → length (definite t f c) ≡ length (identifier t f) + length (length_octets (Definite (length c))) + length c
+definite-length t f c = length-append (header t f (Definite (length c))) c ∙ ap (λ n. n + length c) (header-length t f (Definite (length c)))
+
+pub enclosed-length : (mode : Mode) (t : Tag) (b : List ℕ) → length (enclosed mode t b) ≡ enclosed_size mode t (length b)
+enclosed-length mode t b =
+    length-append (header t true (constructed_length mode (length b)) ++ b) (closing mode)
+    ∙ ap (λ n. n + length (closing mode)) (length-append (header t true (constructed_length mode (length b))) b)

@@ -1,0 +1,81 @@
+-- What an encoder means in a mode: a list of values with the octets that are written for them, or a refusal.
+use Rattle.std.specs.Prelude.{◌≡◌, ℕ, ◌^◌, Bool, false, List, length, nat_lt, Result, Ok, Err, ◌⊎◌, if◌then◌else◌}
+use Rattle.bcder.specs.declared.encode.error.EncodeError.{EncodeError}
+use Rattle.bcder.specs.declared.encode.error.EncodeError.TheVariants.{EndOfValueTag, LengthTooLarge, SizeOverflow}
+use Rattle.bcder.specs.declared.mode.Mode.{Mode}
+use Rattle.bcder.specs.declared.mode.Mode.TheVariants.{Cer}
+use Rattle.bcder.specs.Identifier.{AreOctets, Tag, IsValueTag, end_of_contents}
+use Rattle.bcder.specs.Tree.{Trees, primitive, constructed, no_trees, ◌∷ₜ◌}
+use Rattle.bcder.specs.Encoding.{AreEncodings}
+use Rattle.bcder.specs.Octets.{definite, enclosed, enclosed_size}
+
+pub record Encoded : Type 0 where
+  pub values : Trees
+  pub octets : List ℕ
+
+abbrev pub octets_of : Encoded → List ℕ
+octets_of e = e.octets
+
+abbrev pub Meaning : Type 0
+Meaning = Result Encoded EncodeError
+
+-- of contents octets alone
+abbrev pub ContentsMeaning : Type 0
+ContentsMeaning = Result (List ℕ) EncodeError
+
+-- ---- what encoders keep
+
+-- a relation that holds of one thing at most
+pub record IsOne {A : Type 0} (P : A → Type 0) : Type 0 where
+  pub same : (m n : A) → P m → P n → m ≡ n
+
+-- there is one meaning at most, and where it isn't a refusal, its octets are an encoding of its values
+pub record IsLawful (mode : Mode) (M : Meaning → Type 0) : Type 0 where
+  pub one : IsOne M
+  pub encodes : (e : Encoded) → M (Ok e) → AreEncodings mode e.values e.octets
+
+-- there is one meaning at most, and where it isn't a refusal, it is octets
+pub record IsLawfulContents (M : ContentsMeaning → Type 0) : Type 0 where
+  pub one : IsOne M
+  pub octets : (w : List ℕ) → M (Ok w) → AreOctets w
+
+-- ---- contents octets
+
+-- just these
+abbrev pub Exactly : List ℕ → ContentsMeaning → Type 0
+Exactly w m = m ≡ Ok w
+
+-- ---- one value
+
+-- refused for the tag of the end-of-contents octets, and else what f makes of what P says
+abbrev pub ValueMeans : {A : Type 0} → Tag → (A → Meaning) → (A → Type 0) → Meaning → Type 0
+ValueMeans t f P m =
+    ((t ≡ end_of_contents) × (m ≡ Err EndOfValueTag))
+    ⊎ ((IsValueTag t) × ((a : _) × P a × (m ≡ f a)))
+
+abbrev pub primitive_encoded : Tag → List ℕ → Encoded
+primitive_encoded t contents = record { values = primitive t contents ∷ₜ no_trees; octets = definite t false contents }
+
+-- a primitive value with these contents octets
+abbrev pub primitive_meaning : Tag → ContentsMeaning → Meaning
+primitive_meaning t (Err e) = Err e
+primitive_meaning t (Ok contents) =
+    if nat_lt (length contents) (2 ^ 32) then Ok (primitive_encoded t contents) else Err LengthTooLarge
+
+abbrev pub constructed_encoded : Mode → Tag → Encoded → Encoded
+constructed_encoded mode t x = record { values = constructed t x.values ∷ₜ no_trees; octets = enclosed mode t x.octets }
+
+-- whether a constructed value may have n contents octets: a definite length fits four octets, and what is written in CER a `usize`
+abbrev pub fits_enclosed : Mode → Tag → ℕ → Bool
+fits_enclosed Cer t n = nat_lt (enclosed_size Cer t n) (2 ^ 64)
+fits_enclosed mode t n = nat_lt n (2 ^ 32)
+
+abbrev pub enclosed_refusal : Mode → EncodeError
+enclosed_refusal Cer = SizeOverflow
+enclosed_refusal mode = LengthTooLarge
+
+-- a constructed value of these values
+abbrev pub constructed_meaning : Tag → Mode → Meaning → Meaning
+constructed_meaning t mode (Err e) = Err e
+constructed_meaning t mode (Ok x) =
+    if fits_enclosed mode t (length x.octets) then Ok (constructed_encoded mode t x) else Err (enclosed_refusal mode)

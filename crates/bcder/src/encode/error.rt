@@ -1,0 +1,107 @@
+//! Errors: why a value has no encoding, and why one was not written.
+use std::error::Error;
+use std::{fmt, io};
+
+/// Why a value has no encoding.
+#[derive(Clone, Copy, Debug, PartialEq, Eq)]
+pub enum EncodeError {
+    /// There is no memory for the octets, or for what a part needs to tell them.
+    NoMemory,
+
+    /// A value would have the tag of the end-of-contents octets (X.690, 8.1.5).
+    EndOfValueTag,
+
+    /// A definite length is 2^32 or more, which four octets don't tell.
+    LengthTooLarge,
+
+    /// The encoding has more octets than a `usize` counts.
+    SizeOverflow,
+
+    /// Captured values would be written in CER or DER, and were captured in another mode.
+    CapturedMode,
+
+    /// A bit string would have over 1000 contents octets in CER (X.690, 9.2).
+    LongCerBitString,
+}
+
+impl fmt::Display for EncodeError {
+    ghost use Rattle.std.specs.Prelude.{codes, Some};
+    ghost use Rattle.bcder.specs.declared.encode.error.EncodeError.TheVariants.{NoMemory};
+    ghost use Rattle.bcder.specs.declared.encode.error.EncodeError.TheVariants.{EndOfValueTag};
+    ghost use Rattle.bcder.specs.declared.encode.error.EncodeError.TheVariants.{LengthTooLarge};
+    ghost use Rattle.bcder.specs.declared.encode.error.EncodeError.TheVariants.{SizeOverflow};
+    ghost use Rattle.bcder.specs.declared.encode.error.EncodeError.TheVariants.{CapturedMode};
+    ghost use Rattle.bcder.specs.declared.encode.error.EncodeError.TheVariants.{LongCerBitString};
+
+    ghost output = { elim [
+      | NoMemory ↦ Some (codes "out of memory")
+      | EndOfValueTag ↦ Some (codes "tag of the end-of-contents octets")
+      | LengthTooLarge ↦ Some (codes "length of 2^32 octets or more")
+      | SizeOverflow ↦ Some (codes "size out of range")
+      | CapturedMode ↦ Some (codes "values captured in another mode")
+      | LongCerBitString ↦ Some (codes "long bit string in CER")
+    ] };
+
+    fn fmt<W: fmt::Write>(&self, f: &mut fmt::Formatter<W>) -> fmt::Result {
+        match self {
+            EncodeError::NoMemory => write!(f, "out of memory"),
+            EncodeError::EndOfValueTag => write!(f, "tag of the end-of-contents octets"),
+            EncodeError::LengthTooLarge => write!(f, "length of 2^32 octets or more"),
+            EncodeError::SizeOverflow => write!(f, "size out of range"),
+            EncodeError::CapturedMode => write!(f, "values captured in another mode"),
+            EncodeError::LongCerBitString => write!(f, "long bit string in CER"),
+        }
+    }
+}
+
+impl Error for EncodeError {}
+
+/// Why values were not written.
+#[derive(Debug, Drop)]
+pub enum WriteError {
+    /// They have no encoding, or there was no memory to tell it.
+    Refused(EncodeError),
+
+    /// The target failed, or took none of some octets.
+    Target(io::Error),
+}
+
+impl fmt::Display for WriteError {
+    ghost use Rattle.bcder.specs.declared.encode.error.WriteError.TheVariants.{Refused, Target};
+
+    ghost output = { elim [
+      | Refused e ↦ ⟦<EncodeError as fmt::Display>⟧.output e
+      | Target e ↦ ⟦<io::Error as fmt::Display>⟧.output e
+    ] };
+
+    fn fmt<W: fmt::Write>(&self, f: &mut fmt::Formatter<W>) -> fmt::Result {
+        match self {
+            WriteError::Refused(error) => write!(f, "{error}"),
+            WriteError::Target(error) => write!(f, "{error}"),
+        }
+    }
+}
+
+impl Error for WriteError {}
+
+impl From<EncodeError> for WriteError {
+    ghost use Rattle.std.specs.Prelude.{◌≡◌};
+    ghost use Rattle.bcder.specs.declared.encode.error.WriteError.TheVariants.{Refused};
+
+    ghost from_gives = { λ error e. e ≡ Refused error };
+
+    fn from(error: EncodeError) -> WriteError {
+        WriteError::Refused(error)
+    }
+}
+
+impl From<io::Error> for WriteError {
+    ghost use Rattle.std.specs.Prelude.{◌≡◌};
+    ghost use Rattle.bcder.specs.declared.encode.error.WriteError.TheVariants.{Target};
+
+    ghost from_gives = { λ error e. e ≡ Target error };
+
+    fn from(error: io::Error) -> WriteError {
+        WriteError::Target(error)
+    }
+}

@@ -1,0 +1,68 @@
+//! Headers: identifier octets and length octets (X.690, 8.1.2, 8.1.3).
+ghost use Rattle.std.specs.Prelude.{◌≡◌, ◌+◌, length, true, false, IfOk, IfErr};
+ghost use Rattle.bcder.specs.declared.length.Length.TheVariants.{Definite};
+ghost use Rattle.bcder.specs.Identifier.{IsValueTag, end_of_contents};
+ghost use Rattle.bcder.specs.Octets.{header, fits_length};
+ghost use Rattle.bcder.specs.Encoders.{HasHeader, RefusesHeader, HeaderMeans};
+ghost use Rattle.bcder.specs.Encoders.{WroteOctets, WritesContents};
+
+use crate::encode::{EncodeError, WriteError};
+use crate::length::Length;
+use crate::tag::Tag;
+use std::io;
+
+/// How many octets a value with the tag and `len` contents octets has, with a definite length in
+/// the fewest octets (X.690, 10.1).
+///
+/// # Errors
+///
+/// `EndOfValueTag` for `Tag::END_OF_VALUE`, and else `LengthTooLarge` for 2^32 or more octets.
+pub fn total_encoded_len(tag: Tag, len: usize) -> Result<usize, EncodeError>
+    ensures ok { IfOk result (λ n. HasHeader tag len
+        × (n ≡ length (header tag false (Definite len)) + len)) }
+    ensures refused { IfErr result (RefusesHeader tag len) }
+{
+    if !tag.is_value() {
+        return Err(EncodeError::EndOfValueTag);
+    }
+    let size = Length::Definite(len).encoded_len()?;
+    Ok(tag.encoded_len() + size + len)
+}
+
+/// Writes the header of a value with the tag and `len` contents octets, constructed or primitive,
+/// with a definite length in the fewest octets (X.690, 10.1).
+///
+/// # Errors
+///
+/// `EndOfValueTag` for `Tag::END_OF_VALUE`, and else `LengthTooLarge` for 2^32 or more octets, and
+/// nothing is written; or the target's.
+pub fn write_header<W: io::Write>(
+    target: &mut W,
+    tag: Tag,
+    constructed: bool,
+    len: usize,
+) -> Result<(), WriteError>
+    ensures { WritesContents W.contents target (HeaderMeans tag constructed len) ⊥ result }
+{
+    if !tag.is_value() {
+        return Err(WriteError::Refused(EncodeError::EndOfValueTag));
+    }
+    if len > 0xFFFF_FFFF {
+        return Err(WriteError::Refused(EncodeError::LengthTooLarge));
+    }
+    put_header(target, tag, constructed, Length::Definite(len))
+}
+
+/// Writes a header with a length that four octets tell.
+pub(crate) fn put_header<W: io::Write>(
+    target: &mut W,
+    tag: Tag,
+    constructed: bool,
+    len: Length,
+) -> Result<(), WriteError>
+    requires { fits_length len ≡ true }
+    ensures { WroteOctets W.contents target (header tag constructed len) result }
+{
+    tag.put(constructed, target)?;
+    len.write_encoded(target)
+}

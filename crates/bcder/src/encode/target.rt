@@ -1,0 +1,36 @@
+//! The loop that writes octets to a target.
+ghost use Rattle.std.specs.Prelude.{OnOk, OnErr};
+ghost use Rattle.bcder.specs.Encoders.{WroteOctets};
+ghost use Rattle.bcder.specs.Target.{Appended, AppendedShorter};
+
+use crate::encode::WriteError;
+use std::io;
+use std::io::{Error, ErrorKind, Write};
+
+/// Writes all octets. A target that takes none of some octets has failed, and any error ends it.
+///
+/// # Errors
+///
+/// That of the target. A front of the octets was then written, and not all of them.
+pub(crate) fn write_octets<W: Write>(target: &mut W, octets: &[u8]) -> io::Result<()>
+    ensures ok { OnOk result (Appended W.contents target octets.now) }
+    ensures refused { OnErr result (AppendedShorter W.contents target octets.now) }
+{
+    let mut rest = octets;
+    while !rest.is_empty() {
+        let count = target.write(rest)?;
+        if count == 0 {
+            return Err(Error::from(ErrorKind::WriteZero));
+        }
+        rest = &rest[count..];
+    }
+    Ok(())
+}
+
+/// Writes all octets, where a refusal may follow.
+pub(crate) fn write_all<W: Write>(target: &mut W, octets: &[u8]) -> Result<(), WriteError>
+    ensures { WroteOctets W.contents target octets.now result }
+{
+    write_octets(target, octets)?;
+    Ok(())
+}

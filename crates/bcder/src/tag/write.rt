@@ -1,0 +1,105 @@
+//! Writing identifier octets (X.690, 8.1.2).
+#![tactic(auto, using(crate::proofs::nat_tests), unfolding(crate::specs::Identifier::identifier))]
+
+ghost use Rattle.std.specs.Prelude.{◌≡◌, ◌<◌, ◌+◌, Bool, length, OnOk, OnErr};
+ghost use Rattle.bcder.specs.Classes.{class_meant};
+ghost use Rattle.bcder.specs.Encoders.{WroteOctets};
+ghost use Rattle.bcder.specs.Identifier.{class_bits, form_bit, identifier};
+ghost use Rattle.bcder.specs.Target.{Appended, AppendedShorter};
+
+use super::{Class, Tag};
+use crate::encode::WriteError;
+use crate::encode::target::write_octets;
+use std::io;
+
+impl Class {
+    /// Bits 8 and 7 of the leading octet (8.1.2.2, table 1).
+    fn bits(self) -> u8
+        ensures value { result ≡ class_bits (class_meant self) }
+        ensures limit { result < 193 }
+    {
+        match self {
+            Class::Universal => 0x00,
+            Class::Application => 0x40,
+            Class::ContextSpecific => 0x80,
+            Class::Private => 0xC0,
+        }
+    }
+}
+
+impl Tag {
+    /// How many identifier octets the tag has, in either form (8.1.2.2, 8.1.2.4): 1 to 4.
+    pub fn encoded_len(self) -> usize
+        ensures value { (form : Bool) → result ≡ length (identifier self form) }
+        ensures limit { result < 5 }
+    {
+        if self.number < 31 {
+            1
+        } else if self.number < 128 {
+            2
+        } else if self.number < 16384 {
+            3
+        } else {
+            4
+        }
+    }
+
+    /// The leading octet: class, form and five bits (8.1.2.2, 8.1.2.5).
+    #[inline(always)]
+    fn leading(self, constructed: bool, low: u8) -> u8
+        requires { low < 32 }
+        ensures { result ≡ class_bits self.class + form_bit constructed + low }
+    {
+        let mark = if constructed { 0x20 } else { 0x00 };
+        self.class.bits() + mark + low
+    }
+
+    /// Writes the identifier octets of the tag, for a constructed or a primitive encoding (8.1.2).
+    /// Those of `Tag::END_OF_VALUE` are written too.
+    ///
+    /// # Errors
+    ///
+    /// That of the target, or `WriteZero` where it took none of some octets. A front of the octets
+    /// was then written, and not all of them.
+    pub fn write_encoded<W: io::Write>(self, constructed: bool, target: &mut W) -> io::Result<()>
+        ensures ok { OnOk result (Appended W.contents target (identifier self constructed)) }
+        ensures refused { OnErr result
+            (AppendedShorter W.contents target (identifier self constructed)) }
+    {
+        let number = self.number;
+        if number < 31 {
+            return write_octets(target, &[self.leading(constructed, number as u8)]);
+        }
+        let leading = self.leading(constructed, 31);
+        if number < 128 {
+            write_octets(target, &[leading, number as u8])
+        } else if number < 16384 {
+            write_octets(
+                target,
+                &[leading, (128 + number / 128) as u8, (number % 128) as u8],
+            )
+        } else {
+            write_octets(
+                target,
+                &[
+                    leading,
+                    (128 + number / 16384) as u8,
+                    (128 + number / 128 % 128) as u8,
+                    (number % 128) as u8,
+                ],
+            )
+        }
+    }
+
+    /// Writes the identifier octets, where a refusal may follow.
+    pub(crate) fn put<W: io::Write>(
+        self,
+        constructed: bool,
+        target: &mut W,
+    ) -> Result<(), WriteError>
+        ensures { WroteOctets W.contents target (identifier self constructed) result }
+    {
+        self.write_encoded(constructed, target)?;
+        Ok(())
+    }
+}
