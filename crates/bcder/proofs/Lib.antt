@@ -27,3 +27,5 @@ pub mod Insides
 pub mod Nested
 pub mod Repeating
 pub mod Keeping
+pub mod Capturing
+pub mod Markers

@@ -28,3 +28,4 @@ pub mod Answers
 pub mod Changed
 pub mod Repeating
 pub mod Captured
+pub mod Capturing
