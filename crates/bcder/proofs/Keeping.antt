@@ -1,6 +1,6 @@
 -- What is left of values that are kept, once those at the front were passed.
-use Rattle.std.proofs.Common.{◌≡◌, ◌≢◌, ℕ, Bool, true, false, List, [], ◌++◌, length, Option, Some, None, refl, sym, ap, ◌∙◌, append_assoc, append-nil, subst, arith, inl, inr}
-use Rattle.std.specs.Prelude.{Result, Ok, Err, ◌⊎◌}
+use Rattle.std.proofs.Common.{◌≡◌, ◌≢◌, ℕ, Bool, true, false, List, [], ◌++◌, length, sym, ap, ◌∙◌, append_assoc, append-nil, subst, arith, inl, inr}
+use Rattle.std.specs.Prelude.{Result}
 use Rattle.std.specs.Borrow.{MutBor}
 use Rattle.std.proofs.lemmas.List.{length-append}
 use Rattle.bcder.specs.declared.mode.Mode.{Mode}
@@ -9,9 +9,9 @@ use Rattle.bcder.specs.declared.decode.content.Constructed.{Constructed}
 use Rattle.bcder.specs.declared.decode.content.State.TheVariants.{Failed}
 use Rattle.bcder.specs.declared.decode.error.DecodeError.{DecodeError}
 use Rattle.bcder.specs.Cause.{cause_of}
-use Rattle.bcder.specs.Tree.{Tree, Trees, no_trees, ◌∷ₜ◌}
+use Rattle.bcder.specs.Tree.{Trees, no_trees, ◌∷ₜ◌}
 use Rattle.bcder.specs.Encoding.{IsEncoding, AreEncodings}
-use Rattle.bcder.specs.Stream.{Stream, limited, borrowed}
+use Rattle.bcder.specs.Stream.{Stream, borrowed}
 use Rattle.bcder.specs.Content.{Reading, label, Moves, Whole, Closes, UnboundedValues, IndefiniteValues, Octets}
 use Rattle.bcder.specs.Decoding.{HandsAll, Decodes, RefusesDecode}
 use Rattle.bcder.specs.Captured.{Kept, AreWhole, kept_stream, DecodesFront, RefusesFront, by_decode}

@@ -32,3 +32,5 @@ pub mod Reading
 pub mod Writing
 pub mod Enclosing
 pub mod Joining
+pub mod Capturing
+pub mod Markers

@@ -1,12 +1,12 @@
 -- Octets that are kept as whole values.
-use Rattle.std.specs.Prelude.{◌≡◌, ◌⊎◌, ℕ, List, [], ◌++◌, length, Result, IfOk, IfErr}
+use Rattle.std.specs.Prelude.{◌≡◌, ℕ, List, [], ◌++◌, length, Result, IfOk, IfErr}
 use Rattle.std.specs.Borrow.{MutBor}
 use denote.Triple.Both.{Both}
 use Rattle.bcder.specs.declared.mode.Mode.{Mode}
 use Rattle.bcder.specs.declared.decode.content.Constructed.{Constructed}
 use Rattle.bcder.specs.declared.decode.error.DecodeError.{DecodeError}
 use Rattle.bcder.specs.Cause.{cause_of, of_memory}
-use Rattle.bcder.specs.Tree.{Trees, ◌+++◌}
+use Rattle.bcder.specs.Tree.{Trees}
 use Rattle.bcder.specs.Encoding.{AreEncodings}
 use Rattle.bcder.specs.Stream.{Stream, borrowed}
 use Rattle.bcder.specs.Calls.{MayBeCalledOn, IsLawfulOn}

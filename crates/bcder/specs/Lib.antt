@@ -36,3 +36,4 @@ pub mod Target
 pub mod Meaning
 pub mod Joined
 pub mod Encoders
+pub mod Capturing

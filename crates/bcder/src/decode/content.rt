@@ -5,9 +5,11 @@ ghost use Rattle.bcder.specs.Content.{Octets};
 ghost use Rattle.bcder.specs.Views.{of_constructed, of_primitive, of_content, content_start};
 ghost use Rattle.bcder.specs.Views.{before, after, octets_before, octets_after, Moved, MovedOctets};
 
+mod capture;
 mod decode;
 mod forms;
 mod inside;
+mod marker;
 mod octets;
 mod readers;
 mod remaining;

@@ -39,7 +39,7 @@ impl<'a, S: Source> Constructed<'a, S> {
 
 /// Calls the closure on content, which then has not failed.
 #[tactic(auto, using(crate::proofs::moves_constructed_name), unfolding(crate::specs::Views::views))]
-fn run<S: Source, F, T: Drop>(
+pub(super) fn run<S: Source, F, T: Drop>(
     cons: &mut Constructed<'_, S>,
     op: F,
 ) -> Result<T, DecodeError<S::Error>>

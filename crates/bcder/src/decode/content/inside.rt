@@ -61,7 +61,7 @@ fn go_outside<S>(source: &mut LimitedSource<S>, outer: Option<usize>, len: Lengt
 
 /// Whether one of two marks is set.
 #[inline(always)]
-fn either(one: bool, other: bool) -> bool
+pub(super) fn either(one: bool, other: bool) -> bool
     ensures { result ≡ (one || other) }
 {
     one || other

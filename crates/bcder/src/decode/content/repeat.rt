@@ -38,7 +38,7 @@ where
 impl<'a, S: Source> Constructed<'a, S> {
     /// How many octets are owed up to the nearest limit, if there is one.
     #[tactic(auto, unfolding(crate::specs::Views::of_constructed))]
-    fn owed(&self) -> Option<usize>
+    pub(super) fn owed(&self) -> Option<usize>
         ensures { result ≡ (of_constructed S.stream self.now).owed }
     {
         self.source.limit()

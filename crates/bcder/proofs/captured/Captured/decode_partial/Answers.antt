@@ -1,4 +1,4 @@
-use Rattle.std.proofs.Common.{◌≡◌, refl, sym, ◌∙◌, ap, subst}
+use Rattle.std.proofs.Common.{refl, sym, ◌∙◌, ap, subst}
 use Rattle.bcder.specs.Captured.{Kept, AreWhole}
 use Rattle.bcder.proofs.Keeping.{same_stream, left_whole, front_decoded, refused_at}
 use Rattle.bcder.proofs.Refusing.{residual}

@@ -1,0 +1,240 @@
+//! Capturing values.
+ghost use Rattle.std.specs.Prelude.{◌≡◌, ◌≤◌, ◌++◌, ◌↔◌, length, IsTrue, IfOk, IfErr};
+ghost use Rattle.std.specs.Prelude.{OnOk, OnErr};
+ghost use Rattle.bcder.specs.Calls.{MayBeCalledOn, IsLawfulOn};
+ghost use Rattle.bcder.specs.Capturing.{CallableOnCapture, LawfulOnCapture, CapturedWhat};
+ghost use Rattle.bcder.specs.Capturing.{RefusedCapture, IsFrom, RanFrom, CapturesOver};
+ghost use Rattle.bcder.specs.Capturing.{CallableOver, LawfulOver};
+ghost use Rattle.bcder.specs.Cause.{cause_of, MatchCause};
+ghost use Rattle.bcder.specs.Content.{label};
+ghost use Rattle.bcder.specs.Sources.{behind, passed, borrow_of, capturing};
+ghost use Rattle.bcder.specs.Stream.{Grew};
+ghost use Rattle.bcder.specs.Views.{of_constructed, limited_stream, Moved, before, after};
+
+use super::decode::run;
+use super::inside::either;
+use super::marker::without_marker;
+use super::{Constructed, Kind, State};
+use crate::captured::Captured;
+use crate::decode::error::DecodeError;
+use crate::decode::source::{CaptureSource, LimitedSource, Pos, Source};
+use crate::mode::Mode;
+use bytes::Bytes;
+use std::alloc::Global;
+
+/// The mode of what was passed: BER where a mode was changed.
+fn label(mode: Mode, marked: bool) -> Mode
+    ensures { result ≡ label mode marked }
+{
+    if marked { Mode::Ber } else { mode }
+}
+
+/// Whether the end-of-contents octets were taken between two states.
+fn ends(before: State, after: State) -> bool
+    ensures { IsTrue result ↔ ((before ≡ State.Open) × (after ≡ State.Ended)) }
+{
+    match (before, after) {
+        (State::Open, State::Ended) => true,
+        _ => false,
+    }
+}
+
+/// Calls the closure on content over a source, in whatever state, and answers the state and the
+/// mark that it left too.
+#[tactic(auto, using(crate::proofs::moves), unfolding(crate::specs::Views::of_constructed))]
+#[inline(always)]
+fn run_from<S: Source, F>(
+    source: &mut LimitedSource<S>,
+    kind: Kind,
+    state: State,
+    mode: Mode,
+    op: F,
+) -> (Result<(), DecodeError<S::Error>>, State, bool)
+where
+    F: FnOnce(&mut Constructed<'_, S>) -> Result<(), DecodeError<S::Error>>,
+    requires callable { MayBeCalledOn (of_constructed S.stream)
+        (IsFrom (limited_stream S.stream source.old) source.old.limit kind state mode)
+        (F.pre op) }
+    requires lawful { IsLawfulOn (of_constructed S.stream)
+        (IsFrom (limited_stream S.stream source.old) source.old.limit kind state mode)
+        (F.post op) }
+    ensures { RanFrom cause_of (of_constructed S.stream) (F.post op)
+        (limited_stream S.stream source.old) source.old.limit kind state mode
+        result.0 result.1 result.2 (limited_stream S.stream source.new) source.new.limit }
+{
+    let start = source.pos();
+    let mut cons = Constructed {
+        source: &mut *source,
+        kind,
+        state,
+        mode,
+        marked: false,
+        start,
+    };
+    let result = run(&mut cons, op);
+    let state = cons.state;
+    let marked = cons.marked;
+    (result, state, marked)
+}
+
+/// The same over a source that captures what is passed over. That one's own source keeps all its
+/// octets.
+#[inline(always)]
+fn run_capturing<S: Source, F>(
+    view: &mut LimitedSource<CaptureSource<'_, S>>,
+    kind: Kind,
+    state: State,
+    mode: Mode,
+    op: F,
+) -> (Result<(), DecodeError<S::Error>>, State, bool)
+where
+    F: FnOnce(&mut Constructed<'_, CaptureSource<'_, S>>) -> Result<(), DecodeError<S::Error>>,
+    requires fresh { passed view.old.source ≡ 0 }
+    requires callable { MayBeCalledOn (of_constructed (capturing S.stream))
+        (IsFrom (limited_stream (capturing S.stream) view.old) view.old.limit kind state mode)
+        (F.pre op) }
+    requires lawful { IsLawfulOn (of_constructed (capturing S.stream))
+        (IsFrom (limited_stream (capturing S.stream) view.old) view.old.limit kind state mode)
+        (F.post op) }
+    ensures ran { RanFrom cause_of (of_constructed (capturing S.stream)) (F.post op)
+        (limited_stream (capturing S.stream) view.old) view.old.limit kind state mode
+        result.0 result.1 result.2
+        (limited_stream (capturing S.stream) view.new) view.new.limit }
+    ensures name { borrow_of view.new.source ≡ borrow_of view.old.source }
+    ensures within { passed view.new.source ≤ length (S.stream (behind view.new.source)).rest }
+    ensures rest { (S.stream (behind view.new.source)).rest
+        ≡ (S.stream (behind view.old.source)).rest }
+    ensures kept { (S.stream (behind view.new.source)).kept
+        ≡ (S.stream (behind view.old.source)).kept }
+{
+    run_from(view, kind, state, mode, op)
+}
+
+/// Takes the octets that were passed over from the source behind, and gives that one back. A
+/// refusal takes none.
+fn take_passed<'a, S: Source>(
+    mut capture: CaptureSource<'a, S>,
+    alloc: Global,
+) -> (Result<Bytes, DecodeError<S::Error>>, &'a mut S)
+    requires { passed capture ≤ length (S.stream (behind capture)).rest }
+    ensures same_reference { result.1.ghost_name ≡ borrow_of capture.entry }
+    ensures value { IfOk result.0
+        (λ b. b ++ (S.stream result.1.now).rest ≡ (S.stream (behind capture.entry)).rest) }
+    ensures count { IfOk result.0 (λ b. length b ≡ passed capture.entry) }
+    ensures no_fault { OnOk result.0
+        ((S.stream result.1.now).faults ≡ (S.stream (behind capture.entry)).faults) }
+    ensures cause { IfErr result.0 (λ e. MatchCause (cause_of e)
+        (Grew (S.stream (behind capture.entry)).faults (S.stream result.1.now).faults)
+        ⊥
+        ((S.stream result.1.now).faults ≡ (S.stream (behind capture.entry)).faults)) }
+    ensures err { OnErr result.0
+        ((S.stream result.1.now).rest ≡ (S.stream (behind capture.entry)).rest) }
+    ensures kept { (S.stream result.1.now).kept ≡ (S.stream (behind capture.entry)).kept }
+{
+    match capture.settle() {
+        Ok(()) => {
+            let (octets, source) = capture.into_bytes_and_source(alloc);
+            match octets {
+                Ok(octets) => (Ok(octets), source),
+                Err(_) => (Err(DecodeError::no_memory()), source),
+            }
+        }
+        Err(error) => (Err(DecodeError::Source(error)), capture.into_source()),
+    }
+}
+
+/// Calls the closure on what comes of a source up to a limit, and takes the octets that it passed
+/// over. A refusal takes none.
+#[inline(always)]
+fn capture_over<S: Source, F>(
+    source: &mut S,
+    alloc: Global,
+    limit: Option<usize>,
+    kind: Kind,
+    state: State,
+    mode: Mode,
+    op: F,
+) -> (Result<Bytes, DecodeError<S::Error>>, State, bool)
+where
+    F: FnOnce(&mut Constructed<'_, CaptureSource<'_, S>>) -> Result<(), DecodeError<S::Error>>,
+    requires callable { CallableOver S.stream source limit kind state mode (F.pre op) }
+    requires lawful { LawfulOver S.stream source limit kind state mode (F.post op) }
+    ensures { CapturesOver (of_constructed (capturing S.stream)) (F.post op)
+        (S.stream source.old) limit kind state mode
+        result.0 result.1 result.2 (S.stream source.new) }
+{
+    let mut view = LimitedSource::new(CaptureSource::new(&mut *source));
+    view.set_limit(limit);
+    let (result, state, marked) = run_capturing(&mut view, kind, state, mode, op);
+    let capture = view.unwrap();
+    match result {
+        Ok(()) => {
+            let (octets, _back) = take_passed(capture, alloc);
+            (octets, state, marked)
+        }
+        Err(error) => {
+            let _back = capture.into_source();
+            (Err(error), state, marked)
+        }
+    }
+}
+
+impl<'a, S: Source> Constructed<'a, S> {
+    /// Where the values to come begin.
+    #[tactic(auto, unfolding(crate::specs::Views::of_constructed))]
+    fn position(&self) -> Pos
+        ensures { result ≡ (of_constructed S.stream self.now).stream.position }
+    {
+        self.source.pos()
+    }
+
+    /// Calls the closure on this content, and captures the octets that it passes over.
+    ///
+    /// The closure is handed content with the same values to come, in the same state and mode.
+    /// What it leaves of that is what is left of this, but for the mode, which stays. The octets
+    /// are shared with the source where that holds shared octets. End-of-contents octets that end
+    /// the content are taken, and are no part of what is captured (X.690, 8.1.5).
+    ///
+    /// The octets are encodings in this content's mode, or in BER where the closure changed a mode.
+    ///
+    /// # Errors
+    ///
+    /// The closure's refusal as it is; and a refusal where it leaves failed content, as failed
+    /// content stays; where the source fails; and where there is no memory for the octets. The
+    /// content is then as it was, and open content can still be used.
+    #[tactic(auto, unfolding(crate::specs::Views::of_constructed))]
+    pub fn capture<F>(&mut self, alloc: Global, op: F) -> Result<Captured, DecodeError<S::Error>>
+    where
+        F: FnOnce(
+            &mut Constructed<'_, CaptureSource<'_, LimitedSource<S>>>,
+        ) -> Result<(), DecodeError<S::Error>>,
+        requires callable { CallableOnCapture S.stream self (F.pre op) }
+        requires lawful { LawfulOnCapture S.stream self (F.post op) }
+        ensures moves { Moved S.stream self }
+        ensures captured { CapturedWhat S.stream (F.post op) self result }
+        ensures refused { RefusedCapture S.stream (F.post op) self result }
+        ensures mode { (after S.stream self).mode ≡ (before S.stream self).mode }
+    {
+        let start = self.position();
+        let limit = self.owed();
+        let (result, state, marked) = capture_over(
+            self.source,
+            alloc,
+            limit,
+            self.kind,
+            self.state,
+            self.mode,
+            op,
+        );
+        self.marked = either(self.marked, marked);
+        match result {
+            Ok(octets) => {
+                let mode = label(self.mode, marked);
+                let octets = without_marker(mode, octets, ends(self.state, state));
+                self.state = state;
+                Ok(Captured::new(octets, mode, start))
+            }
+            Err(error) => Err(error),
+        }
+    }
+}

@@ -1,0 +1,50 @@
+//! The end-of-contents octets behind values (X.690, 8.1.5).
+ghost use Rattle.std.specs.Prelude.{◌≡◌, ◌≤◌, ◌↔◌, true, IsTrue, List, ℕ, length, take};
+ghost use Rattle.bcder.specs.Capturing.{EndsBy, EndsIn};
+
+use crate::mode::Mode;
+use crate::plain::{end_at, is_list};
+use bytes::Bytes;
+
+/// Whether the last octets, so many, are end-of-contents octets behind whole values.
+fn ends_by(mode: Mode, octets: &[u8], size: usize) -> bool
+    ensures { IsTrue result ↔ EndsBy mode octets.now size }
+{
+    if octets.len() < size {
+        return false;
+    }
+    let (front, end) = octets.split_at(octets.len() - size);
+    match end_at(mode, end) {
+        Some(rest) => rest.is_empty() && is_list(mode, front),
+        None => false,
+    }
+}
+
+/// How many octets stand before the end-of-contents octets at the end.
+///
+/// These are two octets. Only in BER can they be more, and only where they look like it are the
+/// values before them looked at again.
+fn before_marker(mode: Mode, octets: &[u8]) -> usize
+    requires { (front : List ℕ) × EndsIn mode true octets.now front }
+    ensures fits { result ≤ length octets.now }
+    ensures ends { EndsIn mode true octets.now (take result octets.now) }
+{
+    for size in 3..7 {
+        if ends_by(mode, octets, size) {
+            return octets.len() - size;
+        }
+    }
+    octets.len() - 2
+}
+
+/// The octets without the marker behind them, if there is one. None are copied.
+pub(super) fn without_marker(mode: Mode, mut octets: Bytes, marker: bool) -> Bytes
+    requires { (front : List ℕ) × EndsIn mode marker octets front }
+    ensures { EndsIn mode marker octets result }
+{
+    if marker {
+        let front = before_marker(mode, octets.as_slice());
+        octets.truncate(front);
+    }
+    octets
+}
