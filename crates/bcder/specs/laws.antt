@@ -10,12 +10,9 @@ pub mod Lists
 pub mod Options
 pub mod Preorder
 pub mod Limits
-<<<<<<< HEAD
 pub mod Integers
 pub mod Order
 pub mod Numbers
-=======
 pub mod Written
 pub mod Meanings
 pub mod Joined
->>>>>>> e42906b114161bcec7aab31deb7cb3fc40e6ed76
