@@ -28,3 +28,4 @@ pub mod Nested
 pub mod Repeating
 pub mod Numbers
 pub mod Reading
+pub mod Typed
