@@ -34,3 +34,4 @@ pub mod Enclosing
 pub mod Joining
 pub mod Capturing
 pub mod Markers
+pub mod Typed

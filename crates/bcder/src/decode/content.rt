@@ -16,6 +16,7 @@ mod remaining;
 mod repeat;
 mod sequences;
 mod take;
+mod typed;
 mod values;
 pub(super) mod walk;
 

@@ -5,6 +5,8 @@ ghost use Rattle.bcder.specs.Number.{IsNumber};
 ghost use Rattle.bcder.specs.Integer.{truth};
 ghost use Rattle.bcder.specs.Readers.{HasAll, RefusesAll, ReadBy, ReadOctets, FindNoMemory};
 ghost use Rattle.bcder.specs.Readers.{IsSigned, IsUnsigned, IsTruth, IsNull, Told, Untold};
+ghost use Rattle.bcder.specs.Readers.{IsThis, MeanAnother};
+ghost use Rattle.bcder.specs.Cause.{cause_of, of_content};
 ghost use Rattle.bcder.specs.Views.{of_primitive, octets_before, octets_after, MovedOctets};
 
 use super::Primitive;
@@ -121,7 +123,7 @@ impl<'a, S: Source> Primitive<'a, S> {
 impl<'a, S: Source> Primitive<'a, S> {
     /// Reads all octets that are owed as the number of a type, and takes them.
     #[inline(always)]
-    fn read_number<N: Number>(&mut self) -> Result<N, DecodeError<S::Error>>
+    pub(super) fn read_number<N: Number>(&mut self) -> Result<N, DecodeError<S::Error>>
         ensures moves { MovedOctets S.stream self }
         ensures read { ReadOctets S.stream self (IsNumber N.value N.in_range) result }
     {
@@ -366,5 +368,37 @@ impl<'a, S: Source> Primitive<'a, S> {
         ensures read { ReadOctets S.stream self (IsUnsigned 128) result }
     {
         self.read_number()
+    }
+
+    /// Makes sure that the octets are the INTEGER with this value, and takes them.
+    #[inline(always)]
+    pub(super) fn skip_u8_if(&mut self, expected: u8) -> Result<(), DecodeError<S::Error>>
+        ensures moves { MovedOctets S.stream self }
+        ensures read { ReadBy S.stream self (IsThis 8 expected) (MeanAnother expected) result }
+    {
+        let len = match self.request_all() {
+            Ok(len) => len,
+            Err(error) => return Err(error),
+        };
+        match number_at::<u8>(self.all(len)) {
+            Some(number) => {
+                if number == expected {
+                    self.pass_all(len);
+                    Ok(())
+                } else {
+                    Err(self.another(expected))
+                }
+            }
+            None => Err(self.refusal("no integer of this type")),
+        }
+    }
+
+    /// A refusal of what is not this number.
+    #[cold]
+    fn another(&self, expected: u8) -> DecodeError<S::Error>
+        ensures { cause_of result ≡ of_content (ContentError.ExpectedInteger expected) }
+    {
+        self.source
+            .content_err(ContentError::ExpectedInteger(expected))
     }
 }
