@@ -109,8 +109,8 @@ pub(crate) fn take_name<S: Source>(
 /// What a certificate holds, as far as it is read here.
 #[derive(Clone, Copy)]
 pub struct Certificate {
-    /// Its version, which its parts tell: without the field that says so it is 1, and with
-    /// extensions it is 3.
+    /// Its version, 1 without the field that says so. Unique identifiers come from 2 on, and
+    /// extensions from 3 on.
     pub version: u8,
 
     /// The octets of its serial number.
@@ -167,9 +167,7 @@ impl Certificate {
             |cons|
                 ensures { Moved S.stream cons }
             {
-                let version = cons.take_opt_constructed_if(Tag::CTX_0, |cons| {
-                    cons.take_primitive_if(Tag::INTEGER, |version| version.skip_all())
-                })?;
+                let version = cons.take_opt_constructed_if(Tag::CTX_0, |cons| cons.take_u8())?;
                 let serial = cons.take_primitive_if(Tag::INTEGER, |serial| take_len(serial))?;
                 skip_algorithm(cons)?;
                 let issuer = take_name(cons)?;
@@ -180,7 +178,7 @@ impl Certificate {
                     cons.take_primitive_if(Tag::BIT_STRING, |key| take_len(key))
                 })?;
                 let mut certificate = Certificate {
-                    version: 1,
+                    version: version.unwrap_or(0).saturating_add(1),
                     serial,
                     issuer,
                     validity,
@@ -189,18 +187,19 @@ impl Certificate {
                     extensions: 0,
                     critical: 0,
                 };
-                if version.is_none() {
+                if certificate.version < 2 {
                     return Ok(certificate);
                 }
                 cons.take_opt_primitive_if(Tag::CTX_1, |issuer| issuer.skip_all())?;
                 cons.take_opt_primitive_if(Tag::CTX_2, |subject| subject.skip_all())?;
-                certificate.version = 2;
+                if certificate.version < 3 {
+                    return Ok(certificate);
+                }
                 let extensions = cons.take_opt_constructed_if(
                     Tag::CTX_3,
                     |cons| Extensions::take_from(cons),
                 )?;
                 if let Some(extensions) = extensions {
-                    certificate.version = 3;
                     certificate.extensions = extensions.all;
                     certificate.critical = extensions.critical;
                 }
@@ -234,11 +233,7 @@ impl Extensions {
                         ensures { Moved S.stream cons }
                     {
                         cons.take_primitive_if(Tag::OID, |oid| oid.skip_all())?;
-                        let flag = cons.take_opt_primitive_if(
-                            Tag::BOOLEAN,
-                            |flag| flag.skip_all(),
-                        )?;
-                        if flag.is_some() {
+                        if cons.take_opt_bool()?.unwrap_or(false) {
                             critical = critical.saturating_add(1);
                         }
                         all = all.saturating_add(1);

@@ -47,7 +47,7 @@ impl Signed {
     fn take_parts<S: Source>(cons: &mut Constructed<'_, S>) -> Result<Signed, DecodeError<S::Error>>
         ensures { Moved S.stream cons }
     {
-        cons.take_primitive_if(Tag::INTEGER, |version| version.skip_all())?;
+        cons.take_u8()?;
         let digests = cons.take_set(|cons| count_algorithms(cons))?;
         let message = cons.take_sequence(|cons| {
             cons.take_primitive_if(Tag::OID, |oid| oid.skip_all())?;
@@ -148,7 +148,7 @@ impl Signers {
 fn take_signer<S: Source>(cons: &mut Constructed<'_, S>) -> Result<u64, DecodeError<S::Error>>
     ensures { Moved S.stream cons }
 {
-    cons.take_primitive_if(Tag::INTEGER, |version| version.skip_all())?;
+    cons.take_u8()?;
     skip_signer_name(cons)?;
     skip_algorithm(cons)?;
     let signed = cons.take_opt_constructed_if(Tag::CTX_0, |cons| count_attributes(cons))?;
