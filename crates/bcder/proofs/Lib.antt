@@ -28,4 +28,5 @@ pub mod Nested
 pub mod Repeating
 pub mod Keeping
 pub mod Capturing
+pub mod CapturingValues
 pub mod Markers

@@ -29,3 +29,4 @@ pub mod Changed
 pub mod Repeating
 pub mod Captured
 pub mod Capturing
+pub mod CapturingValues
