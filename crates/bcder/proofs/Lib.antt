@@ -33,5 +33,6 @@ pub mod Writing
 pub mod Enclosing
 pub mod Joining
 pub mod Capturing
+pub mod CapturingValues
 pub mod Markers
 pub mod Typed

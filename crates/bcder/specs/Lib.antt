@@ -38,3 +38,4 @@ pub mod Meaning
 pub mod Joined
 pub mod Encoders
 pub mod Capturing
+pub mod CapturingValues

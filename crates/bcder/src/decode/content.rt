@@ -6,6 +6,7 @@ ghost use Rattle.bcder.specs.Views.{of_constructed, of_primitive, of_content, co
 ghost use Rattle.bcder.specs.Views.{before, after, octets_before, octets_after, Moved, MovedOctets};
 
 mod capture;
+mod capture_values;
 mod decode;
 mod forms;
 mod inside;

@@ -1,0 +1,333 @@
+-- What a capture of the next value, or of all values, holds.
+use Rattle.std.proofs.Common.{◌≡◌, ◌≢◌, ℕ, ◌||◌, Bool, true, false, List, [], ◌∷◌, ◌++◌, length, Option, Some, None, refl, sym, ap, ◌∙◌, subst, append_assoc, append-nil, arith, inl, inr}
+use Rattle.std.specs.Prelude.{Result, Ok, Err, IsOkAnd, IsErrAnd, IsOk, IfOk, IfErr}
+use Rattle.std.specs.Borrow.{MutBor}
+use Rattle.std.proofs.lemmas.List.{append_cancel_right}
+use Rattle.bcder.specs.declared.mode.Mode.{Mode}
+use Rattle.bcder.specs.declared.decode.content.Kind.TheVariants as kind
+use Rattle.bcder.specs.declared.decode.content.State.TheVariants.{Open, Ended, Failed}
+use Rattle.bcder.specs.declared.decode.error.DecodeError.{DecodeError}
+use Rattle.bcder.specs.Cause.{cause_of}
+use Rattle.bcder.specs.Tree.{Tree}
+use Rattle.bcder.specs.Encoding.{IsEncoding}
+use Rattle.bcder.specs.Grammar.{IsOnly}
+use Rattle.bcder.specs.Stream.{Grew}
+use Rattle.bcder.specs.Captured.{Kept, AreWhole}
+use Rattle.bcder.specs.Capturing.{IsCaptureOf, Captures, RefusesCapture, RefusesLeft, by_content, by_source, by_memory}
+use Rattle.bcder.specs.CapturingValues.{RefusesWhere, failed, source, nothing, memory, WantsMemory, CapturesBy, PassesBy, CapturesValue, HasNoValue, CapturesValues, HasOthers, PassesToEnd}
+use Rattle.bcder.specs.Content.{Reading, Form, octets, values, Octets, IndefiniteValues, label, Closes, Moves, Falls, HasMarker, IsAtEnd, of_octets, of_definite, of_indefinite, of_unbounded, EndsBefore, EndsAt, IsDone, IsUsedUp}
+use Rattle.bcder.specs.Decoding.{AnsweredOn, by_closure, left_failed}
+use Rattle.bcder.specs.Walking.{HasValue, PassesValue, ClosesBefore, HasValues, Walks}
+use Rattle.bcder.specs.Walking as walking
+use Rattle.bcder.proofs.Moving.{open_not_ended, open_not_failed}
+use Rattle.bcder.proofs.Entering.{Within}
+use Rattle.bcder.proofs.Walking.{value_not_at_end, value_once, moves_faults, grew_from, walks_refused}
+
+-- ---- the same of content that resembles
+
+-- content that a closure is handed, and that around it
+module _ (c i : Reading) (h : IsCaptureOf c i) where
+  value_of : (t : Tree) (w after : List ℕ) → HasValue c t w after → HasValue i t w after
+  value_of t w after v = record { usable = h.state ∙ v.usable; encodes = rw h.mode v.encodes; rest = h.rest ∙ v.rest }
+
+  pub no_value_of : HasNoValue i → HasNoValue c
+  no_value_of n = record { none = λ t w after v. n.none t w after (value_of t w after v) }
+
+  values_of : HasValues c → HasValues i
+  values_of v = record {
+    trees = v.trees;
+    all = v.all;
+    after = v.after;
+    encode = rw h.mode v.encode;
+    rest = h.rest ∙ v.rest;
+    closes = rw (h.kind, h.mode, h.owed) v.closes;
+  }
+
+  pub others_of : HasOthers i → HasOthers c
+  others_of n = record { usable = sym h.state ∙ n.usable; none = λ v. n.none (values_of v) }
+
+-- what is refused of the content inside is refused of that around it
+where_of : {X : Type 0} (P Q : Type 0) → (P → Q) → (c i j d : Reading) (e : DecodeError X) → i.state ≡ c.state → i.stream.faults ≡ c.stream.faults → d.stream.faults ≡ j.stream.faults → RefusesWhere P i e j → RefusesWhere Q c e d
+where_of P Q f c i j d e s a b (failed x o) = failed (sym s ∙ x) o
+where_of P Q f c i j d e s a b (source k g) = source k (rw (← a, b) g)
+where_of P Q f c i j d e s a b (nothing n o) = nothing (f n) o
+where_of P Q f c i j d e s a b (memory m) = memory m
+
+-- ---- what walking refuses
+
+pub walk_refused : {X : Type 0} (c d : Reading) (e : DecodeError X) → walking.RefusesWalk cause_of c e d → RefusesWhere (HasNoValue c) c e d
+walk_refused c d e (walking.RefusesWalk.failed s o) = failed s o
+walk_refused c d e (walking.RefusesWalk.source k g) = source k g
+walk_refused c d e (walking.RefusesWalk.nothing s n x o) = nothing (record { none = λ t w after v. n.none t w after v.encodes v.rest }) o
+
+pub end_has_none : (c d : Reading) → Within c → EndsAt c d → HasNoValue c
+end_has_none c d w e = record { none = λ t v after h. (value_not_at_end c w t v after h).none d.stream.rest e }
+
+-- ---- a closure whose steps are captured
+
+or_false : (a : Bool) → (a || false) ≡ a
+or_false true = refl
+or_false false = refl
+
+module _ {C X : Type 0} (view : C → Reading) (post : MutBor C → Result (Unit {0}) (DecodeError X) → MutBor C → Type 0) (Q : Reading → Reading → Type 0) (HasNone : Reading → Type 0)
+    (law : (p : MutBor C) (r : Result (Unit {0}) (DecodeError X)) (q : MutBor C) → post p r q → PassesBy Q HasNone (view p.now) r (view q.now))
+    (around : (c i : Reading) → IsCaptureOf c i → HasNone i → HasNone c) (usable : (i j : Reading) → Q i j → j.state ≢ Failed) where
+  did : (i j : Reading) (r : Result (Unit {0}) (DecodeError X)) → AnsweredOn {R = Result (Unit {0}) (DecodeError X)} view post i r j → PassesBy Q HasNone i r j
+  did i j r a = subst (λ z. PassesBy Q HasNone i r z) a.left_is (subst (λ z. PassesBy Q HasNone z r (view a.left.now)) a.handed_is (law a.handed r a.left a.called))
+
+  left_mark : (i j : Reading) (e : DecodeError X) (n : ℕ) → RefusesLeft view post i e j n → j.marked ≡ i.marked
+  left_mark i j e n (by_content (by_closure a) f) = (did i j (Err e) a).marked
+  left_mark i j e n (by_content (left_failed x a s o) f) = (did i j (Ok x) a).marked
+  left_mark i j e n (by_source a u k g) = (did i j (Ok tt) a).marked
+  left_mark i j e n (by_memory a u k f) = (did i j (Ok tt) a).marked
+
+  refused_left : (c i j d : Reading) (e : DecodeError X) → IsCaptureOf c i → RefusesLeft view post i e j d.stream.faults → RefusesWhere (HasNone c) c e d
+  refused_left c i j d e h (by_content (by_closure a) f) = where_of _ _ (around c i h) c i j d e h.state h.faults f (did i j (Err e) a).refused
+  refused_left c i j d e h (by_content (left_failed x a s o) f) = absurd (usable i j (did i j (Ok x) a).passed s)
+  refused_left c i j d e h (by_source a u k g) = source k (subst (λ z. Grew z d.stream.faults) ((did i j (Ok tt) a).no_fault ∙ h.faults) g)
+  refused_left c i j d e h (by_memory a u k f) = memory k
+
+  mark_of : (c d i j : Reading) → i.marked ≡ false → j.marked ≡ i.marked → d.marked ≡ (c.marked || j.marked) → d.marked ≡ c.marked
+  mark_of c d i j f s m = m ∙ ap (λ z. c.marked || z) (s ∙ f) ∙ or_false c.marked
+
+  module _ (P : Reading → Kept → Reading → Type 0) (c d : Reading) (holds : (k : Kept) (h : Captures view post c k d) → Q h.handed h.left → h.left.marked ≡ false → P c k d) where
+    pub captures_by : (r : Result Kept (DecodeError X)) → IfOk r (λ k. Captures view post c k d) → IfErr r (λ e. RefusesCapture view post c e d) → d.mode ≡ c.mode → CapturesBy P HasNone c r d
+    captures_by (Ok k) h n m =
+        let s = did h.handed h.left (Ok tt) h.answered in
+        record {
+          captured = holds k h s.passed (s.marked ∙ h.hands.marked);
+          no_fault = h.faults ∙ s.no_fault ∙ h.hands.faults;
+          refused = tt;
+          as_before = tt;
+          mode = m;
+          marked = mark_of c d h.handed h.left h.hands.marked s.marked h.marked;
+        }
+    captures_by (Err e) h n m = record {
+      captured = tt;
+      no_fault = tt;
+      refused = refused_left c n.handed n.left d e n.hands n.refuses;
+      as_before = record { rest = n.rest; owed = n.owed; state = n.state };
+      mode = m;
+      marked = mark_of c d n.handed n.left n.hands.marked (left_mark n.handed n.left e d.stream.faults n.refuses) n.marked;
+    }
+
+-- ---- one value
+
+closed_by_none : (m : Mode) (c d : Reading) (e : List ℕ) → d.state ≡ Open → Closes m c e d → e ≡ []
+closed_by_none m c d e o (inl h) = h.0
+closed_by_none m c d e o (inr h) = absurd (open_not_ended d.state o h.3)
+
+only_at : (m n : Mode) (t : Tree) (v w x y : List ℕ) → m ≡ n → v ≡ w → x ≡ y → IsOnly m t v x → IsOnly n t w y
+only_at m n t v w x y a b c h = subst (λ z. IsOnly n t w z) c (subst (λ z. IsOnly n t z x) b (subst (λ z. IsOnly z t v x) a h))
+
+pub value_usable : (i j : Reading) → PassesValue i j → j.state ≢ Failed
+value_usable i j h = open_not_failed j.state h.stays
+
+pub holds_value : {C X : Type 0} (view : C → Reading) (post : MutBor C → Result (Unit {0}) (DecodeError X) → MutBor C → Type 0) (c d : Reading) (k : Kept) (h : Captures view post c k d) → PassesValue h.handed h.left → h.left.marked ≡ false → CapturesValue c k d
+holds_value view post c d k h v f =
+    let o : d.state ≡ Open = h.state ∙ v.stays in
+    let z : h.holds.close ≡ [] = closed_by_none k.mode c d h.holds.close o h.holds.closes in
+    let r : c.stream.rest ≡ k.octets ++ d.stream.rest = h.holds.rest ∙ ap (λ y. k.octets ++ (y ++ d.stream.rest)) z in
+    let e : v.value ≡ k.octets = append_cancel_right v.value k.octets d.stream.rest (ap (λ y. v.value ++ y) h.rest ∙ sym v.has.rest ∙ h.hands.rest ∙ r) in
+    record {
+      tree = v.tree;
+      has = record { usable = sym h.hands.state ∙ v.has.usable; encodes = subst (λ y. IsEncoding c.mode v.tree y) e (subst (λ y. IsEncoding y v.tree v.value) h.hands.mode v.has.encodes); rest = r };
+      only = only_at h.handed.mode c.mode v.tree v.value k.octets h.handed.stream.rest c.stream.rest h.hands.mode e h.hands.rest v.only;
+      mode = h.mode ∙ ap (λ z. label c.mode z) f;
+      start = h.start;
+      stays = o;
+    }
+
+-- where it stands in front it is captured, unless the source failed or memory was wanted
+pub exactly_one : {X : Type 0} (c d : Reading) (r : Result Kept (DecodeError X)) → CapturesBy CapturesValue HasNoValue c r d → (Grew c.stream.faults d.stream.faults → ⊥) → (WantsMemory r → ⊥) → (t : Tree) (w after : List ℕ) → HasValue c t w after → IsOkAnd r (λ k. k.octets ≡ w)
+exactly_one c d (Ok k) h g m t w after v = (let s = value_once c h.captured.tree t k.octets w d.stream.rest after h.captured.has v in s.front)
+exactly_one c d (Err e) h g m t w after v = absurd (refuted h.refused)
+  where
+    refuted : RefusesWhere (HasNoValue c) c e d → ⊥
+    refuted (failed s o) = open_not_failed c.state v.usable s
+    refuted (source k x) = g x
+    refuted (nothing n o) = n.none t w after v
+    refuted (memory k) = m k
+
+-- ---- all values
+
+falls_to_none : (o : Option ℕ) (n : ℕ) → Falls o n (Some 0) → o ≡ Some n
+falls_to_none None n f = absurd (f refl)
+falls_to_none (Some m) n f = ap Some (let e : m ≡ n = omega arith in e)
+
+nothing_behind : (v w : List ℕ) → v ++ w ≡ [] → w ≡ []
+nothing_behind [] w e = e
+nothing_behind (b ∷ v) w e = absurd (let l = ap length e in omega arith)
+
+both_empty : (v w : List ℕ) → v ++ w ≡ [] → v ≡ []
+both_empty [] w e = refl
+both_empty (b ∷ v) w e = absurd (let l = ap length e in omega arith)
+
+-- content is at its end where it was passed to it
+ends_of : (c i : Reading) (x : List ℕ) → c.state ≡ i.state → c.kind ≡ i.kind → c.owed ≡ i.owed → c.mode ≡ i.mode → c.stream.rest ≡ i.stream.rest → EndsBefore i x → EndsBefore c x
+ends_of c i x s k o m r (inl e) = inl (s ∙ e)
+ends_of c i x s k o m r (inr e) = inr (s ∙ e.0, at_end e.1)
+  where
+    at_end : IsAtEnd i x → IsAtEnd c x
+    at_end (of_octets q z) = of_octets (k ∙ q) (o ∙ z)
+    at_end (of_definite q z) = of_definite (k ∙ q) (o ∙ z)
+    at_end (of_indefinite q z) = of_indefinite (k ∙ q) (record { marker = z.marker; is_end = rw m z.is_end; rest = r ∙ z.rest })
+    at_end (of_unbounded q z) = of_unbounded (k ∙ q) (r ∙ z)
+
+done_of : (c i : Reading) → c.state ≡ i.state → c.kind ≡ i.kind → c.owed ≡ i.owed → IsDone i → IsDone c
+done_of c i s k o (inl e) = inl (s ∙ e)
+done_of c i s k o (inr e) = inr (s ∙ e.0, subst (λ z. IsUsedUp z c.owed) (sym k) (subst (λ z. IsUsedUp i.kind z) (sym o) e.1))
+
+pub end_usable : (i j : Reading) → PassesToEnd i j → j.state ≢ Failed
+end_usable i j h e = elim h.done [ inl x ↦ (let y : Ended ≡ Failed = sym x ∙ e in cc) | inr x ↦ (let y : Open ≡ Failed = sym x.0 ∙ e in cc) ]
+
+module _ {C X : Type 0} (view : C → Reading) (post : MutBor C → Result (Unit {0}) (DecodeError X) → MutBor C → Type 0) (c d : Reading) (k : Kept) (h : Captures view post c k d) (form : c.kind ≢ Octets) (m : Moves c d) (dm : d.mode ≡ c.mode) (q : PassesToEnd h.handed h.left) (f : h.left.marked ≡ false) where
+  same_mode : k.mode ≡ c.mode
+  same_mode = h.mode ∙ ap (λ z. label c.mode z) f
+
+  same_kind : d.kind ≡ h.left.kind
+  unfolding Moves
+  same_kind = m.kind ∙ sym h.hands.kind ∙ sym h.moves.kind
+
+  left_mode : d.mode ≡ h.left.mode
+  unfolding Moves
+  left_mode = dm ∙ sym h.hands.mode ∙ sym (h.moves.mode f)
+
+  at_the_end : EndsBefore d d.stream.rest
+  at_the_end = subst (λ z. EndsBefore d z) (sym h.rest) (ends_of d h.left h.left.stream.rest h.state same_kind h.owed left_mode h.rest q.ends)
+
+  is_done : IsDone d
+  is_done = done_of d h.left h.state same_kind h.owed q.done
+
+  all_passed : (p : List ℕ) → c.stream.rest ≡ p ++ d.stream.rest → p ≡ k.octets ++ h.holds.close
+  all_passed p e = append_cancel_right p (k.octets ++ h.holds.close) d.stream.rest (sym e ∙ h.holds.rest ∙ sym (append_assoc k.octets h.holds.close d.stream.rest))
+
+  fell : Falls c.owed (length (k.octets ++ h.holds.close)) d.owed
+  unfolding Moves
+  fell = subst (λ p. Falls c.owed (length p) d.owed) (all_passed m.passed m.rest) m.owed
+
+  no_values : c.state ≡ Ended → k.octets ≡ []
+  unfolding Moves
+  no_values e = both_empty k.octets h.holds.close (sym (all_passed m.passed m.rest) ∙ (m.ended e).1)
+
+  -- only content of indefinite length ends by a marker
+  ended_by : c.state ≡ Open → d.state ≡ Ended → c.kind ≡ IndefiniteValues
+  unfolding Moves
+  ended_by o e = elim (m.ends e) [ inl x ↦ absurd (open_not_ended c.state o x) | inr x ↦ x ]
+
+  marked_by : c.state ≡ Open → d.state ≡ Ended → HasMarker c.mode (h.holds.close ++ d.stream.rest) d.stream.rest
+  marked_by o e = elim h.holds.closes [ inl x ↦ absurd (open_not_ended c.state o (sym x.1 ∙ e)) | inr x ↦ record { marker = h.holds.close; is_end = rw (← same_mode) x.0; rest = refl } ]
+
+  used_up : (g : Form) → d.kind ≡ g → g ≢ IndefiniteValues → c.state ≡ Open → c.kind ≡ g → (d.state ≡ Open) × IsUsedUp g d.owed
+  used_up g e n o ck = elim is_done [ inl x ↦ absurd (n (sym ck ∙ ended_by o x)) | inr x ↦ (x.0, subst (λ z. IsUsedUp z d.owed) e x.1) ]
+
+  unmarked_close : d.state ≡ Open → h.holds.close ≡ []
+  unmarked_close o = closed_by_none k.mode c d h.holds.close o h.holds.closes
+
+  nothing_left : d.kind ≡ values kind.Unbounded → d.state ≡ Open → d.stream.rest ≡ []
+  nothing_left e o = elim at_the_end [ inl x ↦ absurd (open_not_ended d.state o x) | inr x ↦ unbounded_end x.1 ]
+    where
+      unbounded_end : IsAtEnd d d.stream.rest → d.stream.rest ≡ []
+      unbounded_end (of_octets q z) = absurd (let y : octets ≡ values kind.Unbounded = sym q ∙ e in cc)
+      unbounded_end (of_definite q z) = absurd (let y : values kind.Definite ≡ values kind.Unbounded = sym q ∙ e in cc)
+      unbounded_end (of_indefinite q z) = absurd (let y : values kind.Indefinite ≡ values kind.Unbounded = sym q ∙ e in cc)
+      unbounded_end (of_unbounded q z) = z
+
+  of_kind : {g : Form} → c.kind ≡ g → d.kind ≡ g
+  unfolding Moves
+  of_kind e = m.kind ∙ e
+
+  closes_before : (g : Form) → c.kind ≡ g → c.state ≡ Open → ClosesBefore g c.mode c.owed k.octets (h.holds.close ++ d.stream.rest)
+  closes_before octets e o = absurd (form e)
+  closes_before (values kind.Definite) e o =
+      let u = used_up (values kind.Definite) (of_kind e) (λ z. cc) o e in
+      let w : Falls c.owed (length (k.octets ++ h.holds.close)) (Some 0) = subst (λ z. Falls c.owed (length (k.octets ++ h.holds.close)) z) u.1 fell in
+      falls_to_none c.owed (length (k.octets ++ h.holds.close)) w ∙ ap (λ z. Some (length z)) (ap (λ z. k.octets ++ z) (unmarked_close u.0) ∙ append-nil k.octets)
+  closes_before (values kind.Indefinite) e o = elim is_done [ inl x ↦ (d.stream.rest, marked_by o x) | inr x ↦ absurd (subst (λ z. IsUsedUp z d.owed) (of_kind e) x.1) ]
+  closes_before (values kind.Unbounded) e o =
+      let u = used_up (values kind.Unbounded) (of_kind e) (λ z. cc) o e in
+      ap (λ z. z ++ d.stream.rest) (unmarked_close u.0) ∙ nothing_left (of_kind e) u.0
+
+  pub holds_values : CapturesValues c k d
+  holds_values = record {
+    whole = subst (λ z. AreWhole z k.octets) same_mode h.holds.whole;
+    close = h.holds.close;
+    rest = h.holds.rest;
+    closes = subst (λ z. Closes z c h.holds.close d) same_mode h.holds.closes;
+    are_all = λ o. closes_before c.kind refl o;
+    are_none = no_values;
+    ends = at_the_end;
+    done = is_done;
+    mode = same_mode;
+    start = h.start;
+  }
+
+-- they are captured where the rest up to the end is encodings, unless the source failed or memory was wanted
+pub exactly_all : {X : Type 0} (c d : Reading) (r : Result Kept (DecodeError X)) → CapturesBy CapturesValues HasOthers c r d → (Grew c.stream.faults d.stream.faults → ⊥) → (WantsMemory r → ⊥) → (HasValues c → c.state ≡ Open → IsOk r) × (c.state ≡ Ended → IsOk r)
+exactly_all c d (Ok k) h g m = (λ v o. refl, λ e. refl)
+exactly_all c d (Err e) h g m = (λ v o. absurd (refuted v o h.refused), λ s. absurd (not_ended s h.refused))
+  where
+    refuted : HasValues c → c.state ≡ Open → RefusesWhere (HasOthers c) c e d → ⊥
+    refuted v o (failed s a) = open_not_failed c.state o s
+    refuted v o (source k x) = g x
+    refuted v o (nothing n a) = n.none v
+    refuted v o (memory k) = m k
+
+    not_ended : c.state ≡ Ended → RefusesWhere (HasOthers c) c e d → ⊥
+    not_ended s (failed x a) = (let y : Ended ≡ Failed = sym s ∙ x in cc)
+    not_ended s (source k x) = g x
+    not_ended s (nothing n a) = open_not_ended c.state n.usable s
+    not_ended s (memory k) = m k
+
+-- ---- a loop that passes all values
+
+-- content that was open stays so while values are passed
+still_open : (i j : Reading) → Walks i j → j.state ≡ Open → i.state ≡ Open
+unfolding Moves
+still_open i j w o = go i.state refl
+  where
+    go : (s : _) → i.state ≡ s → i.state ≡ Open
+    go Open e = e
+    go Ended e = absurd (open_not_ended j.state o ((w.moves.ended e).0))
+    go Failed e = absurd (open_not_failed j.state o (w.moves.failed e))
+
+others_left : {X : Type 0} (e : DecodeError X) (i k : Reading) → i.kind ≢ Octets → i.state ≡ Open → walking.RefusesValues cause_of i e k → RefusesWhere (HasOthers i) i e k
+others_left e i k form o (walking.RefusesValues.failed f a) = failed f a
+others_left e i k form o (walking.RefusesValues.source s f) = source s f
+others_left e i k form o (walking.RefusesValues.broken x n a) = nothing (record { usable = o; none = n }) a
+others_left e i k form o (walking.RefusesValues.short x n a) = absurd (form x)
+
+pub loop_refused : {X : Type 0} (e : DecodeError X) (i j k : Reading) → i.kind ≢ Octets → Walks i j → walking.RefusesWalk cause_of j e k → RefusesWhere (HasOthers i) i e k
+loop_refused e i j k form w (walking.RefusesWalk.failed f a) = failed (w.failed f) a
+loop_refused e i j k form w (walking.RefusesWalk.source s f) = source s (grew_from _ _ _ (moves_faults i j w.moves) f)
+loop_refused e i j k form w (walking.RefusesWalk.nothing s n f a) = others_left e i k form (still_open i j w s) (walks_refused cause_of e i j k form w (walking.RefusesWalk.nothing s n f a))
+
+-- the loop answers the error that it met
+pub pass_refused : {T X : Type 0} (c d : Reading) (r : Result T (DecodeError X)) (e : DecodeError X) → IsErrAnd r (λ x. x ≡ e) → RefusesWhere (HasOthers c) c e d → d.marked ≡ c.marked → PassesBy PassesToEnd HasOthers c r d
+pass_refused c d (Ok x) e h a g = absurd h
+pass_refused c d (Err x) e h a g = record { passed = tt; no_fault = tt; refused = subst (λ y. RefusesWhere (HasOthers c) c y d) (sym h) a; marked = g }
+
+-- content is left at its end where the end was found
+module _ (j k : Reading) (m : Moves j k) (e : EndsAt j k) where
+  none_behind : j.stream.rest ≡ [] → k.stream.rest ≡ []
+  unfolding Moves
+  none_behind z = nothing_behind m.passed k.stream.rest (sym m.rest ∙ z)
+
+  was_unbounded : k.state ≡ Open → k.kind ≡ values kind.Unbounded → j.stream.rest ≡ []
+  unfolding Moves
+  was_unbounded o q = elim e [ inl x ↦ absurd (open_not_ended k.state o ((m.ended x).0)) | inr x ↦ by_form x.1 ]
+    where
+      by_form : IsAtEnd j k.stream.rest → j.stream.rest ≡ []
+      by_form (of_octets z y) = absurd (let x : octets ≡ values kind.Unbounded = sym z ∙ sym m.kind ∙ q in cc)
+      by_form (of_definite z y) = absurd (let x : values kind.Definite ≡ values kind.Unbounded = sym z ∙ sym m.kind ∙ q in cc)
+      by_form (of_indefinite z y) = absurd (let x : values kind.Indefinite ≡ values kind.Unbounded = sym z ∙ sym m.kind ∙ q in cc)
+      by_form (of_unbounded z y) = y
+
+  at_end_here : (g : Form) → k.kind ≡ g → k.state ≡ Open → IsUsedUp g k.owed → IsAtEnd k k.stream.rest
+  at_end_here octets q o u = of_octets q u
+  at_end_here (values kind.Definite) q o u = of_definite q u
+  at_end_here (values kind.Indefinite) q o u = absurd u
+  at_end_here (values kind.Unbounded) q o u = of_unbounded q (none_behind (was_unbounded o q))
+
+  pub to_end : (i : Reading) → IsDone k → PassesToEnd i k
+  to_end i d = record { ends = elim d [ inl x ↦ inl x | inr x ↦ inr (x.0, at_end_here k.kind refl x.0 x.1) ]; done = d }

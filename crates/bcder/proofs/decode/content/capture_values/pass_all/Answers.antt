@@ -1,0 +1,61 @@
+use Rattle.std.proofs.Common.{◌∙◌, arith, refl}
+use Rattle.bcder.specs.Content.{EndsAt, IsDone}
+use Rattle.bcder.specs.Walking.{PassesValue}
+use Rattle.bcder.specs.Views.{of_constructed}
+use Rattle.bcder.proofs.Moving.{moves_refl, moves_trans}
+use Rattle.bcder.proofs.Names.{within_constructed, constructed_form}
+use Rattle.bcder.proofs.Carrying.{carries}
+use Rattle.bcder.proofs.Walking.{walks_refl, walks_value, value_shorter}
+use Rattle.bcder.proofs.Walked.{some_value, none_value}
+use Rattle.bcder.proofs.CapturingValues.{loop_refused, pass_refused, to_end}
+use Rattle.bcder.proofs.decode.content.capture_values.pass_all.Goals as goal
+
+pub loop-init : goal.loop-init
+loop-init g c = record { walks = walks_refl _; no_fault = refl }
+
+pub loop-preserved : goal.loop-preserved
+loop-preserved g c =
+    let i = of_constructed g.S.Source.stream c.args.cons.now in
+    let j = of_constructed g.S.Source.stream c.loop.cons in
+    let k = of_constructed g.S.Source.stream c.walk.new.cons in
+    let p = c.in_ok-walk.ensures.passed in
+    record {
+      walks = walks_value i j k (within_constructed g.S.Source.stream g.met.S.Source.sound c.loop.cons) c.loop.invariant.walks (c.walk.ensures.moves j (moves_refl j)) p.mode p.marked (some_value (PassesValue j k) _ c.if-is_some.ensures p.value);
+      no_fault = p.no_fault ∙ c.loop.invariant.no_fault;
+    }
+
+pub loop-smaller : goal.loop-smaller
+loop-smaller g c =
+    let j = of_constructed g.S.Source.stream c.loop.cons in
+    let k = of_constructed g.S.Source.stream c.walk.new.cons in
+    let h = value_shorter j k (some_value (PassesValue j k) _ c.if-is_some.ensures c.in_ok-walk.ensures.passed.value) in omega (arith, h)
+
+pub returns-in_err-walk-clause-moves : goal.returns-in_err-walk-clause-moves
+returns-in_err-walk-clause-moves g c =
+    let j = of_constructed g.S.Source.stream c.loop.cons in
+    carries _ _ (moves_trans _ _ _ c.loop.invariant.walks.moves (c.walk.ensures.moves j (moves_refl j)))
+
+pub returns-in_err-walk-clause-passed : goal.returns-in_err-walk-clause-passed
+returns-in_err-walk-clause-passed g c =
+    let i = of_constructed g.S.Source.stream c.args.cons.now in
+    let j = of_constructed g.S.Source.stream c.loop.cons in
+    let k = of_constructed g.S.Source.stream c.walk.new.cons in
+    pass_refused i k c.from_residual.result _ c.from_residual.ensures.1 (loop_refused _ i j k (constructed_form g.S.Source.stream c.args.cons.now) c.loop.invariant.walks c.in_err-walk.ensures.passed.refused) (c.in_err-walk.ensures.passed.marked ∙ c.loop.invariant.walks.marked)
+
+pub returns-clause-moves : goal.returns-clause-moves
+returns-clause-moves g c =
+    let j = of_constructed g.S.Source.stream c.loop.cons in
+    carries _ _ (moves_trans _ _ _ c.loop.invariant.walks.moves (c.walk.ensures.moves j (moves_refl j)))
+
+pub returns-clause-passed : goal.returns-clause-passed
+returns-clause-passed g c =
+    let i = of_constructed g.S.Source.stream c.args.cons.now in
+    let j = of_constructed g.S.Source.stream c.loop.cons in
+    let k = of_constructed g.S.Source.stream c.walk.new.cons in
+    let p = c.in_ok-walk.ensures.passed in
+    record {
+      passed = to_end j k (c.walk.ensures.moves j (moves_refl j)) (none_value (EndsAt j k) _ c.if-is_some.ensures p.end) i (none_value (IsDone k) _ c.if-is_some.ensures p.done);
+      no_fault = p.no_fault ∙ c.loop.invariant.no_fault;
+      refused = tt;
+      marked = p.marked ∙ c.loop.invariant.walks.marked;
+    }

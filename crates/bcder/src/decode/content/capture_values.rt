@@ -1,0 +1,76 @@
+//! Capturing the next value, and all values.
+ghost use Rattle.std.specs.Prelude.{◌≡◌};
+ghost use Rattle.bcder.specs.CapturingValues.{CapturedOne, ExactlyOne, CapturedAll, ExactlyAll};
+ghost use Rattle.bcder.specs.CapturingValues.{PassedOne, PassedAll};
+ghost use Rattle.bcder.specs.Views.{Moved};
+
+use super::Constructed;
+use super::walk::walk;
+use crate::captured::Captured;
+use crate::decode::error::DecodeError;
+use crate::decode::source::Source;
+use std::alloc::Global;
+
+/// Passes over the next value, which has to be there.
+#[tactic(auto, using(crate::proofs::moves_refl, crate::proofs::Carrying::carries))]
+fn pass_one<S: Source>(cons: &mut Constructed<'_, S>) -> Result<(), DecodeError<S::Error>>
+    ensures moves { Moved S.stream cons }
+    ensures passed { PassedOne S.stream cons result }
+{
+    match walk(cons) {
+        Ok(Some(())) => Ok(()),
+        Ok(None) => Err(cons.refusal("expected another value")),
+        Err(error) => Err(error),
+    }
+}
+
+/// Passes over all values up to the end of the content, whose marker it takes.
+#[tactic(auto, using(crate::proofs::moves_refl, crate::proofs::Carrying::carries))]
+fn pass_all<S: Source>(cons: &mut Constructed<'_, S>) -> Result<(), DecodeError<S::Error>>
+    ensures moves { Moved S.stream cons }
+    ensures passed { PassedAll S.stream cons result }
+{
+    while walk(cons)?.is_some() {}
+    Ok(())
+}
+
+#[tactic(auto, using(crate::proofs::moves_refl))]
+impl<'a, S: Source> Constructed<'a, S> {
+    /// Captures the next value, which has to be there.
+    ///
+    /// It is captured exactly where an encoding of a value stands in front, in the content's mode
+    /// (X.690, 8.1.1), unless the source fails or memory is wanted; and what is captured is that
+    /// encoding. All headers inside it are looked at.
+    ///
+    /// # Errors
+    ///
+    /// Where no encoding of a value stands in front, as at the end of the content; where an earlier
+    /// value was refused; where the source fails; and where there is no memory for the octets. The
+    /// content is then as it was.
+    pub fn capture_one(&mut self, alloc: Global) -> Result<Captured, DecodeError<S::Error>>
+        ensures moves { Moved S.stream self }
+        ensures captured { CapturedOne S.stream self result }
+        ensures exact { ExactlyOne S.stream self result }
+    {
+        self.capture(alloc, |cons| pass_one(cons))
+    }
+
+    /// Captures all values up to the end of the content, which may be none.
+    ///
+    /// They are captured exactly where the rest up to the end is encodings in the content's mode,
+    /// one after the other (X.690, 8.1.1), unless the source fails or memory is wanted. The content
+    /// is at its end then. Its end-of-contents octets, if any, are taken, and are no part of what
+    /// is captured (8.1.5).
+    ///
+    /// # Errors
+    ///
+    /// Where the rest up to the end isn't encodings; where an earlier value was refused; where the
+    /// source fails; and where there is no memory for the octets. The content is then as it was.
+    pub fn capture_all(&mut self, alloc: Global) -> Result<Captured, DecodeError<S::Error>>
+        ensures moves { Moved S.stream self }
+        ensures captured { CapturedAll S.stream self result }
+        ensures exact { ExactlyAll S.stream self result }
+    {
+        self.capture(alloc, |cons| pass_all(cons))
+    }
+}
