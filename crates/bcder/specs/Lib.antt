@@ -32,3 +32,5 @@ pub mod Target
 pub mod Meaning
 pub mod Joined
 pub mod Encoders
+pub mod Choices
+pub mod Enclosing
