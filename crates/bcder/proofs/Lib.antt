@@ -29,3 +29,4 @@ pub mod Repeating
 pub mod Writing
 pub mod Enclosing
 pub mod Joining
+pub mod Integers

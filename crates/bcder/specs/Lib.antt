@@ -34,3 +34,4 @@ pub mod Joined
 pub mod Encoders
 pub mod Choices
 pub mod Enclosing
+pub mod IntegerOctets

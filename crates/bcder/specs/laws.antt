@@ -13,3 +13,4 @@ pub mod Limits
 pub mod Written
 pub mod Meanings
 pub mod Joined
+pub mod IntegerOctets

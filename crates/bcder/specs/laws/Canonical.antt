@@ -19,7 +19,7 @@ big_endian-lt (b ∷ w) h =
     let p : 256 ^ suc (length w) ≡ 256 * 256 ^ length w = omega arith in
     omega arith
 
-same_digits : (v w : List ℕ) → length v ≡ length w → AreOctets v → AreOctets w → big_endian v ≡ big_endian w → v ≡ w
+pub same_digits : (v w : List ℕ) → length v ≡ length w → AreOctets v → AreOctets w → big_endian v ≡ big_endian w → v ≡ w
 same_digits [] [] l h k e = refl
 same_digits [] (b ∷ w) l h k e = absurd (omega arith)
 same_digits (a ∷ v) [] l h k e = absurd (omega arith)

@@ -8,6 +8,8 @@ ghost use Rattle.bcder.specs.Enclosing.{ContentsSize};
 ghost use Rattle.bcder.specs.Encoders.{SizeOfContents, WritesContents, GathersContents};
 ghost use Rattle.bcder.specs.laws.Meanings.{primitive_lawful};
 
+mod integers;
+mod octets;
 mod plain;
 
 use crate::encode::gather::gather_contents;
