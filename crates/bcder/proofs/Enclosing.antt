@@ -1,13 +1,14 @@
 -- The meaning of a value, from what is inside.
-use Rattle.std.proofs.Common.{◌≡◌, ℕ, ◌+◌, ◌<◌, ◌^◌, List, ◌++◌, Bool, true, length, nat_lt, Ok, Err, refl, sym, ap, ◌∙◌, inr, length-append}
+use Rattle.std.proofs.Common.{◌≡◌, ℕ, ◌+◌, ◌<◌, ◌^◌, List, ◌++◌, Bool, true, false, length, nat_lt, Ok, Err, refl, sym, ap, ◌∙◌, inl, inr, length-append, if◌then◌else◌}
 use Rattle.std.proofs.lemmas.Bool.{lt-ltb}
 use Rattle.bcder.specs.declared.mode.Mode.{Mode}
+use Rattle.bcder.specs.declared.mode.Mode.TheVariants.{Ber, Cer, Der}
 use Rattle.bcder.specs.declared.length.Length.{Length}
 use Rattle.bcder.specs.declared.length.Length.TheVariants.{Definite}
 use Rattle.bcder.specs.Identifier.{Tag, identifier, IsValueTag}
-use Rattle.bcder.specs.Octets.{length_octets, header, definite, constructed_length, closing, enclosed, enclosed_size}
+use Rattle.bcder.specs.Octets.{length_octets, fits_length, header, definite, constructed_length, closing, enclosed, enclosed_size}
 use Rattle.bcder.specs.Encoders.{LengthMeans}
-use Rattle.bcder.specs.Meaning.{Encoded, Meaning, ContentsMeaning, ValueMeans, primitive_encoded, primitive_meaning, constructed_encoded, constructed_meaning, fits_enclosed}
+use Rattle.bcder.specs.Meaning.{Encoded, Meaning, ContentsMeaning, ValueMeans, primitive_encoded, primitive_meaning, constructed_encoded, constructed_meaning, fits_enclosed, enclosed_refusal}
 
 pub primitive_given : (t : Tag) (M : ContentsMeaning → Type 0) (c : List ℕ) → M (Ok c) → length c < 2 ^ 32 → IsValueTag t → ValueMeans t (primitive_meaning t) M (Ok (primitive_encoded t c))
 primitive_given t M c m fits v =
@@ -34,3 +35,28 @@ pub enclosed-length : (mode : Mode) (t : Tag) (b : List ℕ) → length (enclose
 enclosed-length mode t b =
     length-append (header t true (constructed_length mode (length b)) ++ b) (closing mode)
     ∙ ap (λ n. n + length (closing mode)) (length-append (header t true (constructed_length mode (length b))) b)
+
+-- ---- a constructed value that has an encoding
+
+-- what it holds
+pub record Inside (t : Tag) (mode : Mode) (M : Meaning → Type 0) (e : Encoded) : Type 0 where
+  pub values : Encoded
+  pub meant : M (Ok values)
+  pub is : e ≡ constructed_encoded mode t values
+  pub fits : fits_enclosed mode t (length values.octets) ≡ true
+
+inside_at : (t : Tag) (mode : Mode) (M : Meaning → Type 0) (x e : Encoded) (b : Bool) → M (Ok x) → fits_enclosed mode t (length x.octets) ≡ b
+    → Ok e ≡ (if b then Ok (constructed_encoded mode t x) else Err (enclosed_refusal mode)) → Inside t mode M e
+inside_at t mode M x e false meant fits eq = cc
+inside_at t mode M x e true meant fits eq = record { values = x; meant = meant; is = cc; fits = fits }
+
+pub inside_of : (t : Tag) (mode : Mode) (M : Meaning → Type 0) (e : Encoded) → ValueMeans t (constructed_meaning t mode) M (Ok e) → Inside t mode M e
+inside_of t mode M e (inl p) = cc
+inside_of t mode M e (inr (v, (Err d, _, eq))) = cc
+inside_of t mode M e (inr (v, (Ok x, m, eq))) = inside_at t mode M x e (fits_enclosed mode t (length x.octets)) m refl eq
+
+-- its length can be told
+pub length_fits : (mode : Mode) (t : Tag) (n : ℕ) → fits_enclosed mode t n ≡ true → fits_length (constructed_length mode n) ≡ true
+length_fits Ber t n h = h
+length_fits Cer t n h = refl
+length_fits Der t n h = h

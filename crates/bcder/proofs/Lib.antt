@@ -36,3 +36,4 @@ pub mod Capturing
 pub mod CapturingValues
 pub mod Markers
 pub mod Typed
+pub mod Integers

@@ -1,12 +1,12 @@
 -- How writings follow one another.
 use Rattle.std.proofs.Common.{◌≡◌, ◌≢◌, ℕ, List, [], ◌∷◌, ◌++◌, Option, None, Some, Result, Ok, Err, refl, sym, ap, ◌∙◌, subst, append_assoc, append-nil, ◌⊎◌, inl, inr, IsErr, IsErrAnd}
 use Rattle.std.specs.Io.KnownBytes.{Appends, Keeps}
-use Rattle.std.proofs.KnownBytes.{Appends-trans}
+use Rattle.std.proofs.KnownBytes.{Appends-trans, Appends-nil}
 use Rattle.bcder.specs.declared.encode.error.EncodeError.{EncodeError}
 use Rattle.bcder.specs.declared.encode.error.EncodeError.TheVariants.{NoMemory, EndOfValueTag, LengthTooLarge, SizeOverflow, CapturedMode, LongCerBitString}
 use Rattle.bcder.specs.declared.encode.error.WriteError.{WriteError}
 use Rattle.bcder.specs.declared.encode.error.WriteError.TheVariants.{Refused, Target}
-use Rattle.bcder.specs.Encoders.{DoneOf, WroteOf, Writes}
+use Rattle.bcder.specs.Encoders.{RefusesBy, DoneOf, WroteOf, Writes}
 
 pub append_not_nil : (a b : List ℕ) → a ≢ [] → a ++ b ≢ []
 append_not_nil [] b h = absurd (h refl)
@@ -64,6 +64,13 @@ module _ {A : Type 0} (M : Result A EncodeError → Type 0) (one : (m n : Result
   wrote_what octets lacks a old new r m (inr h) = elim (is_no_memory h.error) [
     | inl e ↦ subst (λ x. WroteOf lacks (octets a) old new x) (sym h.answered) (record { done = (e, h.refuses.lacking e, record { front = []; rest = octets a; appends = Keeps-Appends old new h.kept; whole = refl }) })
     | inr ne ↦ absurd (never_refused a h.error m (h.refuses.meant ne))
+  ]
+
+  -- and a refusal is want of memory, before anything is written
+  pub lacked : {lacks : Type 0} (a : A) (w : List ℕ) {old : Option (List ℕ)} {e : EncodeError} → M (Ok a) → RefusesBy M lacks e → WroteOf lacks w old old (Err (Refused e))
+  lacked a w {old} {e} m r = elim (is_no_memory e) [
+    | inl is ↦ record { done = (is, r.lacking is, record { front = []; rest = w; appends = Appends-nil old; whole = refl }) }
+    | inr ne ↦ absurd (never_refused a e m (r.meant ne))
   ]
 
 -- an error that `?` passes on

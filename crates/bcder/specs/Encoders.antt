@@ -1,5 +1,5 @@
 -- What the calls of encoders answer, by what these mean.
-use Rattle.std.specs.Prelude.{◌≡◌, ◌≢◌, ℕ, Bool, true, false, List, length, Result, Ok, Err, Option, None, Some, ◌⊎◌, ◌^◌, ◌<◌, ◌≤◌}
+use Rattle.std.specs.Prelude.{◌≡◌, ◌≢◌, ℕ, Bool, true, false, List, length, Result, Ok, Err, Option, None, Some, ◌⊎◌, ◌^◌, ◌<◌, ◌≤◌, ⊤}
 use Rattle.std.specs.Borrow.{MutBor}
 use Rattle.std.specs.Io.KnownBytes.{Appends, Keeps}
 use denote.Triple.Both.{Both}
@@ -11,7 +11,7 @@ use Rattle.bcder.specs.declared.length.Length.{Length}
 use Rattle.bcder.specs.declared.length.Length.TheVariants.{Definite}
 use Rattle.bcder.specs.Identifier.{Tag, IsValueTag, end_of_contents}
 use Rattle.bcder.specs.Octets.{header, length_octets, fits_length}
-use Rattle.bcder.specs.Meaning.{Encoded, Meaning, ContentsMeaning, octets_of}
+use Rattle.bcder.specs.Meaning.{Encoded, Meaning, ContentsMeaning, IsOne, octets_of}
 use Rattle.bcder.specs.Target.{AppendsFront, AppendsShorter}
 
 -- ---- refusals and sizes
@@ -37,6 +37,10 @@ abbrev pub TellsSum : (Meaning → Type 0) → Type 0 → Result (Option ℕ) En
 TellsSum M lacks (Ok (Some n)) = (e : Encoded) × M (Ok e) × (n ≡ length e.octets)
 TellsSum M lacks (Ok None) = (e : Encoded) × M (Ok e) × (2 ^ 64 ≤ length e.octets)
 TellsSum M lacks (Err e) = RefusesBy M lacks e
+
+-- it is no refusal
+abbrev pub HasEncoding : (Meaning → Type 0) → Type 0
+HasEncoding M = (e : Encoded) × M (Ok e)
 
 -- ---- writing
 
@@ -82,7 +86,14 @@ module _ {W : Type 0} (contents : W → Option (List ℕ)) (target : Both (MutBo
   WritesContents M lacks r = Writes (λ w. w) M lacks (contents target.entry.now) (contents target.exit.now) r
 
   abbrev pub WritesKnown : (Meaning → Type 0) → Type 0 → Result (Unit {0}) WriteError → Type 0
-  WritesKnown M lacks r = WritesEncoding M lacks (contents target.entry.now) (contents target.exit.now) r
+  WritesKnown M lacks r = IsOne M → WritesEncoding M lacks (contents target.entry.now) (contents target.exit.now) r
+
+-- ---- in memory
+
+-- r is what is meant, or its refusal, or want of memory
+abbrev pub GathersContents : (ContentsMeaning → Type 0) → Result (List ℕ) EncodeError → Type 0
+GathersContents M (Ok w) = M (Ok w)
+GathersContents M (Err e) = RefusesBy M ⊤ e
 
 -- ---- lengths and headers alone
 

@@ -39,3 +39,6 @@ pub mod Joined
 pub mod Encoders
 pub mod Capturing
 pub mod CapturingValues
+pub mod Choices
+pub mod Enclosing
+pub mod IntegerOctets

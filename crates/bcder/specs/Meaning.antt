@@ -1,5 +1,5 @@
 -- What an encoder means in a mode: a list of values with the octets that are written for them, or a refusal.
-use Rattle.std.specs.Prelude.{◌≡◌, ℕ, ◌^◌, Bool, false, List, length, nat_lt, Result, Ok, Err, ◌⊎◌, if◌then◌else◌}
+use Rattle.std.specs.Prelude.{◌≡◌, ℕ, ◌^◌, Bool, true, false, List, [], ◌∷◌, length, nat_lt, Result, Ok, Err, ◌⊎◌, if◌then◌else◌}
 use Rattle.bcder.specs.declared.encode.error.EncodeError.{EncodeError}
 use Rattle.bcder.specs.declared.encode.error.EncodeError.TheVariants.{EndOfValueTag, LengthTooLarge, SizeOverflow}
 use Rattle.bcder.specs.declared.mode.Mode.{Mode}
@@ -44,6 +44,15 @@ pub record IsLawfulContents (M : ContentsMeaning → Type 0) : Type 0 where
 -- just these
 abbrev pub Exactly : List ℕ → ContentsMeaning → Type 0
 Exactly w m = m ≡ Ok w
+
+-- these, which are octets
+abbrev pub ExactlyOctets : List ℕ → ContentsMeaning → Type 0
+ExactlyOctets w m = (m ≡ Ok w) × AreOctets w
+
+-- 8.2, 11.1: of a BOOLEAN
+abbrev pub truth_octets : Bool → List ℕ
+truth_octets true = 0xFF ∷ []
+truth_octets false = 0x00 ∷ []
 
 -- ---- one value
 

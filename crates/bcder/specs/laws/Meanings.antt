@@ -1,13 +1,14 @@
 -- Each encoder has one meaning at most, and its octets are an encoding.
-use Rattle.std.specs.Prelude.{◌≡◌, ℕ, ◌^◌, ◌<◌, Bool, true, false, List, length, nat_lt, Ok, Err, refl, if◌then◌else◌}
-use Rattle.std.proofs.Common.{inl, inr, sym, ap, ◌∙◌, subst, ltb-true}
+use Rattle.std.specs.Prelude.{◌≡◌, ℕ, ◌^◌, ◌<◌, Bool, true, false, List, [], length, nat_lt, Ok, Err, refl, if◌then◌else◌}
+use Rattle.std.proofs.Common.{inl, inr, sym, ap, ◌∙◌, subst, ltb-true, arith}
 use Rattle.bcder.specs.declared.encode.error.EncodeError.TheVariants.{LengthTooLarge}
 use Rattle.bcder.specs.declared.mode.Mode.{Mode}
 use Rattle.bcder.specs.Identifier.{Tag, AreOctets, IsValueTag}
 use Rattle.bcder.specs.Octets.{definite, enclosed}
 use Rattle.bcder.specs.Tree.{primitive, constructed}
 use Rattle.bcder.specs.Encoding.{AreEncodings}
-use Rattle.bcder.specs.Meaning.{Encoded, Meaning, ContentsMeaning, IsOne, IsLawful, IsLawfulContents, Exactly, ValueMeans, primitive_encoded, primitive_meaning, constructed_encoded, constructed_meaning, fits_enclosed, enclosed_refusal}
+use Rattle.bcder.specs.Meaning.{Encoded, Meaning, ContentsMeaning, IsOne, IsLawful, IsLawfulContents, Exactly, ExactlyOctets, truth_octets, ValueMeans, primitive_encoded, primitive_meaning, constructed_encoded, constructed_meaning, fits_enclosed, enclosed_refusal}
+use Rattle.bcder.specs.laws.Octets.{AreOctets-nil, AreOctets-cons}
 use Rattle.bcder.specs.laws.Lists.{AreEncodings-one}
 use Rattle.bcder.specs.laws.Written.{primitive_written, constructed_written}
 
@@ -50,3 +51,10 @@ constructed_lawful t {mode} {M} lawful = record { one = record { same = value_sa
 
 pub Exactly_lawful : (w : List ℕ) → AreOctets w → IsLawfulContents (Exactly w)
 Exactly_lawful w o = record { one = record { same = λ m n p q. p ∙ sym q }; octets = λ c p. let same : c ≡ w = cc in subst AreOctets (sym same) o }
+
+pub ExactlyOctets_lawful : (w : List ℕ) → IsLawfulContents (ExactlyOctets w)
+ExactlyOctets_lawful w = record { one = record { same = λ m n p q. p.0 ∙ sym q.0 }; octets = λ c p. let same : c ≡ w = cc in subst AreOctets (sym same) p.1 }
+
+pub truth_octets_are : (b : Bool) → AreOctets (truth_octets b)
+truth_octets_are true = AreOctets-cons 0xFF [] (omega arith) AreOctets-nil
+truth_octets_are false = AreOctets-cons 0x00 [] (omega arith) AreOctets-nil

@@ -1,0 +1,15 @@
+use Rattle.std.proofs.Common.{ap, sym, ◌∙◌}
+use Rattle.bcder.specs.Octets.{enclosed_size}
+use Rattle.bcder.specs.Meaning.{constructed_encoded, fits_enclosed}
+use Rattle.bcder.proofs.Enclosing.{constructed_given, enclosed-length}
+use Rattle.bcder.proofs.encode.values.constructed.ConstructedValues.encoded_len.Goals as goal
+
+pub returns : goal.returns
+returns g c =
+    let mode = c.args.mode in
+    let t = c.args.self.now.tag in
+    let (x, meant, len_is, whole_is, fits, value) = c.in_ok-find_sizes.ensures in (
+      constructed_encoded mode t x,
+      constructed_given t mode _ x meant (ap (fits_enclosed mode t) (sym len_is) ∙ fits) value,
+      whole_is ∙ ap (enclosed_size mode t) len_is ∙ sym (enclosed-length mode t x.octets),
+    )

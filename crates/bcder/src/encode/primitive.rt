@@ -1,0 +1,166 @@
+//! What has an encoding as the contents octets of a primitive value.
+ghost use Rattle.std.specs.Prelude.{◌≡◌, ⊤, ◌<◌, ◌^◌, false, List, ℕ, [], ◌∷◌};
+ghost use Rattle.bcder.specs.declared.mode.Mode.{Mode};
+ghost use Rattle.bcder.specs.Identifier.{Tag as TagValue};
+ghost use Rattle.bcder.specs.Meaning.{ContentsMeaning, IsLawfulContents, ValueMeans};
+ghost use Rattle.bcder.specs.Meaning.{primitive_meaning};
+ghost use Rattle.bcder.specs.Enclosing.{ContentsSize};
+ghost use Rattle.bcder.specs.Encoders.{SizeOfContents, WritesContents, GathersContents};
+ghost use Rattle.bcder.specs.laws.Meanings.{primitive_lawful};
+
+mod integers;
+mod octets;
+mod plain;
+
+use crate::encode::gather::gather_contents;
+use crate::encode::header::put_header;
+use crate::encode::values::Values;
+use crate::encode::{EncodeError, WriteError};
+use crate::length::Length;
+use crate::mode::Mode;
+use crate::tag::Tag;
+use bytes::Bytes;
+use std::alloc::Global;
+use std::io;
+
+/// What has an encoding as the contents octets of a primitive value.
+///
+/// For each mode it means one thing at most: why it has no encoding, or octets. Its calls answer
+/// what it means, each time they are called.
+pub trait PrimitiveContent: Sized {
+    /// The tag that such a value has by itself.
+    ghost own_tag: { TagValue };
+
+    /// What it means in a mode.
+    ghost means: { Self → Mode → ContentsMeaning → Type 0 };
+
+    /// Where memory may lack for an answer.
+    ghost may_lack: { Self → Mode → Type 0 } = { λ _ _. ⊤ };
+
+    /// The tag that such a value has by itself.
+    fn tag() -> Tag
+        ensures { result ≡ own_tag };
+
+    /// How many contents octets there are.
+    ///
+    /// # Errors
+    ///
+    /// Why there is no encoding, or `NoMemory`.
+    fn encoded_len(&self, mode: Mode) -> Result<usize, EncodeError>
+        ensures { SizeOfContents (means self.now mode) (may_lack self.now mode) result };
+
+    /// Writes the contents octets.
+    ///
+    /// # Errors
+    ///
+    /// `Refused` with the error of `encoded_len`, and then nothing was written, or with `NoMemory`
+    /// after a front of the octets; `Target` where the target failed, after a front of the octets
+    /// that isn't all of them.
+    fn write_encoded<W: io::Write>(&self, mode: Mode, target: &mut W) -> Result<(), WriteError>
+        ensures { WritesContents W.contents target
+            (means self.now mode) (may_lack self.now mode) result };
+
+    /// There is one meaning at most, and it is a refusal or octets.
+    ghost lawful: { (x : Self) (mode : Mode) → IsLawfulContents (means x mode) };
+
+    /// The contents octets.
+    ///
+    /// # Errors
+    ///
+    /// Those of `encoded_len`, and `NoMemory` where there is no memory for the octets.
+    final fn to_encoded_bytes(&self, alloc: Global, mode: Mode) -> Result<Bytes, EncodeError>
+        ensures { GathersContents (means self.now mode) result }
+    {
+        gather_contents(self, alloc, mode)
+    }
+
+    /// This as a primitive value with its own tag.
+    final fn encode(self) -> Primitive<Self>
+        ensures { result ≡ record { tag = own_tag; prim = self } }
+    {
+        self.encode_as(Self::tag())
+    }
+
+    /// This as a primitive value with another tag.
+    final fn encode_as(self, tag: Tag) -> Primitive<Self>
+        ensures { result ≡ record { tag = tag; prim = self } }
+    {
+        Primitive { tag, prim: self }
+    }
+
+    /// A reference to this as a primitive value with its own tag.
+    final fn encode_ref(&self) -> Primitive<&Self>
+        ensures { result ≡ record { tag = own_tag; prim = self.entry } }
+    {
+        self.encode_ref_as(Self::tag())
+    }
+
+    /// A reference to this as a primitive value with another tag.
+    final fn encode_ref_as(&self, tag: Tag) -> Primitive<&Self>
+        ensures { result ≡ record { tag = tag; prim = self.entry } }
+    {
+        Primitive { tag, prim: self }
+    }
+}
+
+impl<P: PrimitiveContent> PrimitiveContent for &'_ P {
+    ghost own_tag = { P.own_tag };
+
+    ghost means = { λ x mode. P.means x.now mode };
+
+    ghost may_lack = { λ x mode. P.may_lack x.now mode };
+
+    fn tag() -> Tag {
+        P::tag()
+    }
+
+    fn encoded_len(&self, mode: Mode) -> Result<usize, EncodeError> {
+        (**self).encoded_len(mode)
+    }
+
+    fn write_encoded<W: io::Write>(&self, mode: Mode, target: &mut W) -> Result<(), WriteError> {
+        (**self).write_encoded(mode, target)
+    }
+
+    ghost lawful = { λ x mode. P.lawful x.now mode };
+}
+
+/// One primitive value: a tag, and what its contents octets are.
+#[derive(Clone, Copy, Debug, Drop)]
+pub struct Primitive<P> {
+    tag: Tag,
+    prim: P,
+}
+
+/// How many contents octets the value has, or why it has no encoding.
+fn contents_len<P: PrimitiveContent>(tag: Tag, prim: &P, mode: Mode) -> Result<usize, EncodeError>
+    ensures { ContentsSize tag (P.means prim.now mode) (P.may_lack prim.now mode) result }
+{
+    if !tag.is_value() {
+        return Err(EncodeError::EndOfValueTag);
+    }
+    let len = prim.encoded_len(mode)?;
+    if len > 0xFFFF_FFFF {
+        return Err(EncodeError::LengthTooLarge);
+    }
+    Ok(len)
+}
+
+impl<P: PrimitiveContent> Values for Primitive<P> {
+    ghost means = { λ x mode. ValueMeans x.tag (primitive_meaning x.tag) (P.means x.prim mode) };
+
+    ghost may_lack = { λ x mode. P.may_lack x.prim mode };
+
+    fn encoded_len(&self, mode: Mode) -> Result<usize, EncodeError> {
+        let len = contents_len(self.tag, &self.prim, mode)?;
+        Ok(self.tag.encoded_len() + Length::Definite(len).octet_count() + len)
+    }
+
+    fn write_encoded<W: io::Write>(&self, mode: Mode, target: &mut W) -> Result<(), WriteError> {
+        let len = contents_len(self.tag, &self.prim, mode)?;
+        put_header(target, self.tag, false, Length::Definite(len))?;
+        self.prim.write_encoded(mode, target)
+    }
+
+    ghost lawful = { λ x mode can. primitive_lawful x.tag mode (P.lawful x.prim mode) };
+}

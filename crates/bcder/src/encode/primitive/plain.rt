@@ -1,0 +1,104 @@
+//! Contents octets of booleans, null and octets (X.690, 8.2, 8.7, 8.8, 11.1).
+ghost use Rattle.std.specs.Prelude.{◌≡◌, []};
+ghost use Rattle.bcder.specs.Identifier.{universal};
+ghost use Rattle.bcder.specs.Encoders.{SizeOfContents, WritesContents};
+ghost use Rattle.bcder.specs.Meaning.{Exactly, ExactlyOctets, truth_octets};
+ghost use Rattle.bcder.specs.laws.Octets.{AreOctets-nil};
+ghost use Rattle.bcder.specs.laws.Meanings.{Exactly_lawful, ExactlyOctets_lawful};
+ghost use Rattle.bcder.specs.laws.Meanings.{truth_octets_are};
+
+use super::PrimitiveContent;
+use crate::encode::target::write_all;
+use crate::encode::{EncodeError, WriteError};
+use crate::mode::Mode;
+use crate::tag::Tag;
+use std::io;
+
+/// No octets (8.8).
+impl PrimitiveContent for () {
+    ghost own_tag = { record { class = universal; number = 5 } };
+
+    ghost means = { λ _ _. Exactly [] };
+
+    ghost may_lack = { λ _ _. ⊥ };
+
+    fn tag() -> Tag {
+        Tag::NULL
+    }
+
+    fn encoded_len(&self, _mode: Mode) -> Result<usize, EncodeError> {
+        Ok(0)
+    }
+
+    fn write_encoded<W: io::Write>(&self, _mode: Mode, target: &mut W) -> Result<(), WriteError> {
+        write_all(target, &[])
+    }
+
+    ghost lawful = { λ _ _. Exactly_lawful [] AreOctets-nil };
+}
+
+/// One octet: `FF` for true, `00` for false (8.2, 11.1).
+impl PrimitiveContent for bool {
+    ghost own_tag = { record { class = universal; number = 1 } };
+
+    ghost means = { λ x _. Exactly (truth_octets x) };
+
+    ghost may_lack = { λ _ _. ⊥ };
+
+    fn tag() -> Tag {
+        Tag::BOOLEAN
+    }
+
+    fn encoded_len(&self, _mode: Mode) -> Result<usize, EncodeError> {
+        Ok(1)
+    }
+
+    fn write_encoded<W: io::Write>(&self, _mode: Mode, target: &mut W) -> Result<(), WriteError> {
+        if *self {
+            write_all(target, &[0xFF])
+        } else {
+            write_all(target, &[0x00])
+        }
+    }
+
+    ghost lawful = { λ x _. Exactly_lawful (truth_octets x) (truth_octets_are x) };
+}
+
+/// How many octets there are.
+pub(crate) fn octets_len(octets: &[u8]) -> Result<usize, EncodeError>
+    ensures { SizeOfContents (ExactlyOctets octets.now) ⊥ result }
+{
+    Ok(octets.len())
+}
+
+/// Writes the octets.
+pub(crate) fn write_octets<W: io::Write>(octets: &[u8], target: &mut W) -> Result<(), WriteError>
+    ensures { WritesContents W.contents target (ExactlyOctets octets.now) ⊥ result }
+{
+    write_all(target, octets)
+}
+
+/// These octets (8.7).
+impl PrimitiveContent for &'_ [u8] {
+    ghost own_tag = { record { class = universal; number = 4 } };
+
+    ghost means = { λ x _. ExactlyOctets x.now };
+
+    ghost may_lack = { λ _ _. ⊥ };
+
+    fn tag() -> Tag
+        ensures { result ≡ record { class = universal; number = 4 } }
+    {
+        Tag::OCTET_STRING
+    }
+
+    fn encoded_len(&self, _mode: Mode) -> Result<usize, EncodeError> {
+        octets_len(*self)
+    }
+
+    fn write_encoded<W: io::Write>(&self, _mode: Mode, target: &mut W) -> Result<(), WriteError> {
+        write_octets(*self, target)
+    }
+
+    ghost lawful = { λ x _. ExactlyOctets_lawful x.now };
+}

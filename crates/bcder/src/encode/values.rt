@@ -1,0 +1,100 @@
+//! What has an encoding as a list of values.
+ghost use Rattle.std.specs.Prelude.{◌≡◌, ⊤};
+ghost use Rattle.bcder.specs.declared.mode.Mode.{Mode};
+ghost use Rattle.bcder.specs.Meaning.{Meaning, IsLawful};
+ghost use Rattle.bcder.specs.Encoders.{HasEncoding, SizeOfValues, WritesValues, WritesKnown};
+
+pub(crate) mod choice;
+pub(crate) mod constructed;
+
+use crate::encode::values::constructed::Constructed;
+use crate::encode::{EncodeError, WriteError};
+use crate::mode::Mode;
+use crate::tag::Tag;
+use std::io;
+
+/// What has an encoding as a list of values, one after the other.
+///
+/// For each mode an encoder means one thing at most: why it has no encoding, or a list of values
+/// with octets that are their encoding. Its calls answer what it means, each time they are called.
+pub trait Values {
+    /// What the encoder means in a mode.
+    ghost means: { Self → Mode → Meaning → Type 0 };
+
+    /// Where memory may lack for an answer.
+    ghost may_lack: { Self → Mode → Type 0 } = { λ _ _. ⊤ };
+
+    /// What has to hold of the encoder for it to be asked.
+    ghost can_encode: { Self → Type 0 } = { λ _. ⊤ };
+
+    /// How many octets the encoding has.
+    ///
+    /// # Errors
+    ///
+    /// Why there is no encoding, or `NoMemory`.
+    fn encoded_len(&self, mode: Mode) -> Result<usize, EncodeError>
+        requires { can_encode self.now }
+        ensures { SizeOfValues (means self.now mode) (may_lack self.now mode) result };
+
+    /// Writes the encoding.
+    ///
+    /// # Errors
+    ///
+    /// `Refused` with the error of `encoded_len`, and then nothing was written, or with `NoMemory`
+    /// after a front of the octets; `Target` where the target failed, after a front of the octets
+    /// that isn't all of them.
+    fn write_encoded<W: io::Write>(&self, mode: Mode, target: &mut W) -> Result<(), WriteError>
+        requires { can_encode self.now }
+        ensures { WritesValues W.contents target
+            (means self.now mode) (may_lack self.now mode) result };
+
+    /// Writes the encoding where it is known that there is one, so that an encoder of many parts
+    /// looks for refusals once.
+    ///
+    /// # Errors
+    ///
+    /// `NoMemory` or the target's, as `write_encoded`.
+    #[doc(hidden)]
+    fn write_known<W: io::Write>(&self, mode: Mode, target: &mut W) -> Result<(), WriteError>
+        requires can { can_encode self.now }
+        requires known { HasEncoding (means self.now mode) }
+        ensures { WritesKnown W.contents target
+            (means self.now mode) (may_lack self.now mode) result }
+    {
+        self.write_encoded(mode, target)
+    }
+
+    /// There is one meaning at most, and it is a refusal or an encoding.
+    ghost lawful: { (x : Self) (mode : Mode) → can_encode x → IsLawful mode (means x mode) };
+
+    /// This list of values as the contents of one constructed value with the tag.
+    final fn explicit(self, tag: Tag) -> Constructed<Self>
+    where
+        Self: Sized,
+        ensures { result ≡ record { tag = tag; inner = self } }
+    {
+        Constructed::new(tag, self)
+    }
+}
+
+impl<V: Values> Values for &'_ V {
+    ghost means = { λ x mode. V.means x.now mode };
+
+    ghost may_lack = { λ x mode. V.may_lack x.now mode };
+
+    ghost can_encode = { λ x. V.can_encode x.now };
+
+    fn encoded_len(&self, mode: Mode) -> Result<usize, EncodeError> {
+        (**self).encoded_len(mode)
+    }
+
+    fn write_encoded<W: io::Write>(&self, mode: Mode, target: &mut W) -> Result<(), WriteError> {
+        (**self).write_encoded(mode, target)
+    }
+
+    fn write_known<W: io::Write>(&self, mode: Mode, target: &mut W) -> Result<(), WriteError> {
+        (**self).write_known(mode, target)
+    }
+
+    ghost lawful = { λ x mode can. V.lawful x.now mode can };
+}

@@ -1,0 +1,155 @@
+//! Encoders of values that may be there, and of one of several.
+ghost use Rattle.bcder.specs.Joined.{NoValues};
+ghost use Rattle.bcder.specs.Choices.{OptionMeans, OptionLacks, OptionCan, option_lawful};
+ghost use Rattle.bcder.specs.Choices.{EitherMeans, EitherHolds, either_lawful};
+ghost use Rattle.bcder.specs.Choices.{AnyMeans, AnyHolds, any_lawful};
+ghost use Rattle.bcder.specs.laws.Joined.{NoValues_lawful};
+
+use crate::encode::values::Values;
+use crate::encode::{EncodeError, WriteError};
+use crate::mode::Mode;
+use std::io;
+
+/// No values.
+#[derive(Clone, Copy, Debug)]
+pub struct Nothing;
+
+impl Values for Nothing {
+    ghost means = { λ x mode. NoValues };
+
+    ghost may_lack = { λ x mode. ⊥ };
+
+    fn encoded_len(&self, _mode: Mode) -> Result<usize, EncodeError> {
+        Ok(0)
+    }
+
+    fn write_encoded<W: io::Write>(&self, _mode: Mode, _target: &mut W) -> Result<(), WriteError> {
+        Ok(())
+    }
+
+    ghost lawful = { λ x mode can. NoValues_lawful mode };
+}
+
+/// The values of what is there, and else none.
+impl<V: Values> Values for Option<V> {
+    ghost means = { λ x mode. OptionMeans (λ v. V.means v mode) x };
+
+    ghost may_lack = { λ x mode. OptionLacks (λ v. V.may_lack v mode) x };
+
+    ghost can_encode = { λ x. OptionCan V.can_encode x };
+
+    fn encoded_len(&self, mode: Mode) -> Result<usize, EncodeError> {
+        match self {
+            Some(values) => values.encoded_len(mode),
+            None => Nothing.encoded_len(mode),
+        }
+    }
+
+    fn write_encoded<W: io::Write>(&self, mode: Mode, target: &mut W) -> Result<(), WriteError> {
+        match self {
+            Some(values) => values.write_encoded(mode, target),
+            None => Nothing.write_encoded(mode, target),
+        }
+    }
+
+    fn write_known<W: io::Write>(&self, mode: Mode, target: &mut W) -> Result<(), WriteError> {
+        match self {
+            Some(values) => values.write_known(mode, target),
+            None => Nothing.write_known(mode, target),
+        }
+    }
+
+    ghost lawful = { λ x mode can. option_lawful mode (λ v. V.lawful v mode) x can };
+}
+
+/// One of two encoders.
+#[derive(Clone, Copy, Debug, Drop)]
+pub enum Choice2<L, R> {
+    /// The first choice.
+    One(L),
+
+    /// The second choice.
+    Two(R),
+}
+
+impl<L: Values, R: Values> Values for Choice2<L, R> {
+    ghost means = { λ x mode. EitherMeans (λ v. L.means v mode) (λ v. R.means v mode) x };
+
+    ghost may_lack = { λ x mode. EitherHolds (λ v. L.may_lack v mode) (λ v. R.may_lack v mode) x };
+
+    ghost can_encode = { λ x. EitherHolds L.can_encode R.can_encode x };
+
+    fn encoded_len(&self, mode: Mode) -> Result<usize, EncodeError> {
+        match self {
+            Choice2::One(values) => values.encoded_len(mode),
+            Choice2::Two(values) => values.encoded_len(mode),
+        }
+    }
+
+    fn write_encoded<W: io::Write>(&self, mode: Mode, target: &mut W) -> Result<(), WriteError> {
+        match self {
+            Choice2::One(values) => values.write_encoded(mode, target),
+            Choice2::Two(values) => values.write_encoded(mode, target),
+        }
+    }
+
+    fn write_known<W: io::Write>(&self, mode: Mode, target: &mut W) -> Result<(), WriteError> {
+        match self {
+            Choice2::One(values) => values.write_known(mode, target),
+            Choice2::Two(values) => values.write_known(mode, target),
+        }
+    }
+
+    ghost lawful = { λ x mode can.
+        either_lawful mode (λ v. L.lawful v mode) (λ v. R.lawful v mode) x can };
+}
+
+/// One of three encoders.
+#[derive(Clone, Copy, Debug, Drop)]
+pub enum Choice3<L, C, R> {
+    /// The first choice.
+    One(L),
+
+    /// The second choice.
+    Two(C),
+
+    /// The third choice.
+    Three(R),
+}
+
+impl<L: Values, C: Values, R: Values> Values for Choice3<L, C, R> {
+    ghost means = { λ x mode.
+        AnyMeans (λ v. L.means v mode) (λ v. C.means v mode) (λ v. R.means v mode) x };
+
+    ghost may_lack = { λ x mode.
+        AnyHolds (λ v. L.may_lack v mode) (λ v. C.may_lack v mode) (λ v. R.may_lack v mode) x };
+
+    ghost can_encode = { λ x. AnyHolds L.can_encode C.can_encode R.can_encode x };
+
+    fn encoded_len(&self, mode: Mode) -> Result<usize, EncodeError> {
+        match self {
+            Choice3::One(values) => values.encoded_len(mode),
+            Choice3::Two(values) => values.encoded_len(mode),
+            Choice3::Three(values) => values.encoded_len(mode),
+        }
+    }
+
+    fn write_encoded<W: io::Write>(&self, mode: Mode, target: &mut W) -> Result<(), WriteError> {
+        match self {
+            Choice3::One(values) => values.write_encoded(mode, target),
+            Choice3::Two(values) => values.write_encoded(mode, target),
+            Choice3::Three(values) => values.write_encoded(mode, target),
+        }
+    }
+
+    fn write_known<W: io::Write>(&self, mode: Mode, target: &mut W) -> Result<(), WriteError> {
+        match self {
+            Choice3::One(values) => values.write_known(mode, target),
+            Choice3::Two(values) => values.write_known(mode, target),
+            Choice3::Three(values) => values.write_known(mode, target),
+        }
+    }
+
+    ghost lawful = { λ x mode can. any_lawful mode
+        (λ v. L.lawful v mode) (λ v. C.lawful v mode) (λ v. R.lawful v mode) x can };
+}

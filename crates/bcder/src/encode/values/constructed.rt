@@ -1,0 +1,178 @@
+//! Encoders of constructed values.
+ghost use Rattle.std.specs.Prelude.{◌≡◌, true};
+ghost use Rattle.bcder.specs.Identifier.{sequence_tag, set_tag};
+ghost use Rattle.bcder.specs.Octets.{fits_length, constructed_length, closing};
+ghost use Rattle.bcder.specs.Meaning.{ValueMeans, constructed_meaning};
+ghost use Rattle.bcder.specs.Encoders.{HasEncoding, WroteOctets};
+ghost use Rattle.bcder.specs.Enclosing.{EnclosedSize, InsideSizes, KnownLength, WritesEnclosed};
+ghost use Rattle.bcder.specs.laws.Meanings.{constructed_lawful};
+
+use crate::encode::header::put_header;
+use crate::encode::target::write_all;
+use crate::encode::values::Values;
+use crate::encode::{EncodeError, WriteError};
+use crate::length::Length;
+use crate::mode::Mode;
+use crate::tag::Tag;
+use std::io;
+
+/// One constructed value: a tag, and the values inside it.
+#[derive(Clone, Copy, Debug, Drop)]
+pub struct Constructed<V> {
+    tag: Tag,
+    inner: V,
+}
+
+impl<V> Constructed<V> {
+    /// The value with the tag and the values of `inner` inside it.
+    pub fn new(tag: Tag, inner: V) -> Self
+        ensures { result ≡ record { tag = tag; inner = inner } }
+    {
+        Constructed { tag, inner }
+    }
+}
+
+/// A SEQUENCE of the values.
+pub fn sequence<V>(inner: V) -> Constructed<V>
+    ensures { result ≡ record { tag = sequence_tag; inner = inner } }
+{
+    Constructed::new(Tag::SEQUENCE, inner)
+}
+
+/// A SEQUENCE of the values under another tag.
+pub fn sequence_as<V>(tag: Tag, inner: V) -> Constructed<V>
+    ensures { result ≡ record { tag = tag; inner = inner } }
+{
+    Constructed::new(tag, inner)
+}
+
+/// A SET of the values, in the order that they have.
+pub fn set<V>(inner: V) -> Constructed<V>
+    ensures { result ≡ record { tag = set_tag; inner = inner } }
+{
+    Constructed::new(Tag::SET, inner)
+}
+
+/// A SET of the values under another tag.
+pub fn set_as<V>(tag: Tag, inner: V) -> Constructed<V>
+    ensures { result ≡ record { tag = tag; inner = inner } }
+{
+    Constructed::new(tag, inner)
+}
+
+/// How many octets a constructed value has.
+#[derive(Clone, Copy)]
+struct Sizes {
+    contents: usize,
+    whole: usize,
+}
+
+/// The size of a constructed value with `len` contents octets.
+fn enclosed_size(tag: Tag, mode: Mode, len: usize) -> Result<usize, EncodeError>
+    ensures { EnclosedSize mode tag len result }
+{
+    let identifier = tag.encoded_len();
+    match mode {
+        Mode::Cer => {
+            if len > usize::MAX - 3 - identifier {
+                return Err(EncodeError::SizeOverflow);
+            }
+            Ok(identifier + 1 + len + 2)
+        }
+        Mode::Ber | Mode::Der => {
+            if len > 0xFFFF_FFFF {
+                return Err(EncodeError::LengthTooLarge);
+            }
+            Ok(identifier + Length::Definite(len).octet_count() + len)
+        }
+    }
+}
+
+/// The sizes of a constructed value, or why it has no encoding.
+fn find_sizes<V: Values>(tag: Tag, inner: &V, mode: Mode) -> Result<Sizes, EncodeError>
+    requires { V.can_encode inner.now }
+    ensures { InsideSizes tag mode (V.means inner.now mode) (V.may_lack inner.now mode) result }
+{
+    if !tag.is_value() {
+        return Err(EncodeError::EndOfValueTag);
+    }
+    let contents = inner.encoded_len(mode)?;
+    let whole = enclosed_size(tag, mode, contents)?;
+    Ok(Sizes { contents, whole })
+}
+
+/// What the length octets of a constructed value say (X.690, 9.1, 10.1).
+fn constructed_length(mode: Mode, len: usize) -> Length
+    ensures { result ≡ constructed_length mode len }
+{
+    match mode {
+        Mode::Cer => Length::Indefinite,
+        Mode::Ber | Mode::Der => Length::Definite(len),
+    }
+}
+
+/// The same for values that are known to have an encoding. In CER their size isn't asked for.
+fn known_length<V: Values>(inner: &V, mode: Mode) -> Result<Length, EncodeError>
+    requires can { V.can_encode inner.now }
+    ensures { KnownLength mode (V.means inner.now mode) (V.may_lack inner.now mode) result }
+{
+    match mode {
+        Mode::Cer => Ok(Length::Indefinite),
+        Mode::Ber | Mode::Der => Ok(Length::Definite(inner.encoded_len(mode)?)),
+    }
+}
+
+/// Writes the end-of-contents octets, if the mode has them behind its constructed values.
+fn write_closing<W: io::Write>(mode: Mode, target: &mut W) -> Result<(), WriteError>
+    ensures { WroteOctets W.contents target (closing mode) result }
+{
+    match mode {
+        Mode::Cer => write_all(target, &[0x00, 0x00]),
+        Mode::Ber | Mode::Der => write_all(target, &[]),
+    }
+}
+
+/// Writes the value with this length and these values inside.
+fn write_enclosed<V: Values, W: io::Write>(
+    tag: Tag,
+    len: Length,
+    inner: &V,
+    mode: Mode,
+    target: &mut W,
+) -> Result<(), WriteError>
+    requires fits { fits_length len ≡ true }
+    requires can { V.can_encode inner.now }
+    requires known { HasEncoding (V.means inner.now mode) }
+    ensures { WritesEnclosed W.contents target tag len mode
+        (V.means inner.now mode) (V.may_lack inner.now mode) result }
+{
+    put_header(target, tag, true, len)?;
+    inner.write_known(mode, target)?;
+    write_closing(mode, target)
+}
+
+impl<V: Values> Values for Constructed<V> {
+    ghost means = { λ x mode.
+        ValueMeans x.tag (constructed_meaning x.tag mode) (V.means x.inner mode) };
+
+    ghost may_lack = { λ x mode. V.may_lack x.inner mode };
+
+    ghost can_encode = { λ x. V.can_encode x.inner };
+
+    fn encoded_len(&self, mode: Mode) -> Result<usize, EncodeError> {
+        Ok(find_sizes(self.tag, &self.inner, mode)?.whole)
+    }
+
+    fn write_encoded<W: io::Write>(&self, mode: Mode, target: &mut W) -> Result<(), WriteError> {
+        let sizes = find_sizes(self.tag, &self.inner, mode)?;
+        let len = constructed_length(mode, sizes.contents);
+        write_enclosed(self.tag, len, &self.inner, mode, target)
+    }
+
+    fn write_known<W: io::Write>(&self, mode: Mode, target: &mut W) -> Result<(), WriteError> {
+        let len = known_length(&self.inner, mode)?;
+        write_enclosed(self.tag, len, &self.inner, mode, target)
+    }
+
+    ghost lawful = { λ x mode can. constructed_lawful x.tag (V.lawful x.inner mode can) };
+}
