@@ -28,3 +28,8 @@ pub mod Nested
 pub mod Repeating
 pub mod Numbers
 pub mod Reading
+pub mod Subidentifiers
+pub mod Digits
+pub mod Shown
+pub mod Texts
+pub mod Spelling

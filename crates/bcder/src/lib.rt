@@ -11,10 +11,12 @@ pub mod laws;
 mod length;
 mod memory;
 mod mode;
+pub mod oid;
 #[doc(hidden)]
 pub mod plain;
 mod tag;
 
 pub use memory::NoMemory;
 pub use mode::Mode;
+pub use oid::{ConstOid, Oid};
 pub use tag::Tag;
