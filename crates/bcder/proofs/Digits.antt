@@ -7,7 +7,7 @@ pub number-append : (high : ℕ) (v w : List ℕ) → number_after high (v ++ w)
 number-append high [] w = refl
 number-append high (b ∷ v) w = number-append (128 * high + b % 128) v w
 
-marked-push : (w : List ℕ) (b : ℕ) → AreMarked w → 0x80 ≤ b → b < 0x100 → AreMarked (w ++ b ∷ [])
+pub marked-push : (w : List ℕ) (b : ℕ) → AreMarked w → 0x80 ≤ b → b < 0x100 → AreMarked (w ++ b ∷ [])
 marked-push [] b m l h = (l, h, tt)
 marked-push (c ∷ w) b (lo, hi, m) l h = (lo, hi, marked-push w b m l h)
 

@@ -33,3 +33,7 @@ pub mod Digits
 pub mod Shown
 pub mod Texts
 pub mod Spelling
+pub mod Fewest
+pub mod Held
+pub mod ReadBack
+pub mod Decimal

@@ -1,5 +1,5 @@
 -- Readers of contents octets that did not come.
-use Rattle.std.proofs.Common.{◌≡◌, ℕ, List, Err}
+use Rattle.std.proofs.Common.{◌≡◌, ℕ, List, Result, Err}
 use Rattle.bcder.specs.declared.decode.error.DecodeError.{DecodeError}
 use Rattle.bcder.specs.Content.{Reading}
 use Rattle.bcder.specs.Readers.{RefusesAll, RefusesReading, Reads}

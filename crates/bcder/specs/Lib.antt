@@ -10,6 +10,7 @@ pub mod ObjectIdentifier
 pub mod IdentifierText
 pub mod Components
 pub mod Pushed
+pub mod Identifiers
 pub mod Grammar
 pub mod Reading
 pub mod Classes
