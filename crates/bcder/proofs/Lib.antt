@@ -37,3 +37,12 @@ pub mod CapturingValues
 pub mod Markers
 pub mod Typed
 pub mod Integers
+pub mod Subidentifiers
+pub mod Digits
+pub mod Shown
+pub mod Texts
+pub mod Spelling
+pub mod Fewest
+pub mod Held
+pub mod ReadBack
+pub mod Decimal

@@ -6,6 +6,11 @@ pub mod Encoding
 pub mod Preorder
 pub mod Integer
 pub mod Number
+pub mod ObjectIdentifier
+pub mod IdentifierText
+pub mod Components
+pub mod Pushed
+pub mod Identifiers
 pub mod Grammar
 pub mod Reading
 pub mod Classes

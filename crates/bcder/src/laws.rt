@@ -8,6 +8,7 @@ ghost use Rattle.bcder.specs.Grammar.{OneEncoding, ValueInBer, ListInBer};
 ghost use Rattle.bcder.specs.Grammar.{ValueHasTwo, ListHasTwo, ValueIsOctets, ListIsOctets};
 
 pub mod integers;
+pub mod identifiers;
 pub mod sources;
 
 use crate::tag::Tag;

@@ -13,6 +13,7 @@ pub mod laws;
 mod length;
 mod memory;
 mod mode;
+pub mod oid;
 #[doc(hidden)]
 pub mod plain;
 mod tag;
@@ -20,4 +21,5 @@ mod tag;
 pub use captured::Captured;
 pub use memory::NoMemory;
 pub use mode::Mode;
+pub use oid::{ConstOid, Oid};
 pub use tag::Tag;

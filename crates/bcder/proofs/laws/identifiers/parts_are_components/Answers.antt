@@ -1,0 +1,6 @@
+use Rattle.bcder.specs.ObjectIdentifier.{subidentifiers}
+use Rattle.bcder.proofs.Shown.{values_of_parts}
+use Rattle.bcder.proofs.laws.identifiers.parts_are_components.Goals as goal
+
+pub returns : goal.returns
+returns c w = values_of_parts (subidentifiers w)

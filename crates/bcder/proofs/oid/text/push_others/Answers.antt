@@ -1,0 +1,16 @@
+use Rattle.std.proofs.Common.{◌≡◌, ◌∙◌, [], ◌++◌, ap, rules, append-nil, sym}
+use Rattle.bcder.specs.Pushed.{texts_of, AreSpelled}
+use Rattle.bcder.proofs.Spelling.{pushed_more, spelled_none}
+use Rattle.bcder.proofs.oid.text.push_others.Goals as goal
+
+pub loop-rest-preserved : goal.loop-rest-preserved
+loop-rest-preserved c =
+    let same : c.from.result ≡ c.in-Some-component.number = search rules in
+    pushed_more _ _ _ _ _ (texts_of c.loop-rest.rest) _ _ (ap texts_of c.in-Some.is ∙ c.split_text.ensures) c.in-Some-component.ensures (rw same at c.in_ok-push_subidentifier.ensures) c.loop-rest.invariant
+
+pub returns-clause-ok : goal.returns-clause-ok
+returns-clause-ok c =
+    let (v, d, goes, none) = c.loop-rest.invariant in
+    let left : texts_of c.loop-rest.rest ≡ [] = search rules in
+    let spelled : AreSpelled (texts_of c.loop-rest.rest) [] = rw left spelled_none in
+    (v ++ [], goes [] spelled, d ∙ ap (λ l. c.args.octets.now.items ++ l) (sym (append-nil v)))

@@ -1,0 +1,126 @@
+//! The components of an object identifier (X.690, 8.19.2 to 8.19.4).
+ghost use Rattle.std.specs.Prelude.{◌≡◌, ℕ, ◌^◌, [], ◌∷◌, Some, MatchOption, min};
+ghost use Rattle.bcder.specs.ObjectIdentifier.{number, subidentifiers, parts, part_value};
+ghost use Rattle.bcder.specs.Components.{part_of, parts_left, in_32_bits};
+ghost use Rattle.bcder.specs.IdentifierText.{shown};
+
+use std::fmt;
+
+/// The place of a component: the first two are held by the first subidentifier (8.19.4).
+#[derive(Clone, Copy, Debug, PartialEq, Eq)]
+enum Position {
+    First,
+    Second,
+    Other,
+}
+
+/// A component: its place, and the octets of the subidentifier that holds it. Two are equal where
+/// both are equal, so octets that aren't the fewest make another component of the same number.
+#[derive(Clone, Copy, Debug, PartialEq, Eq)]
+pub struct Component<'a> {
+    position: Position,
+    octets: &'a [u8],
+}
+
+/// What a number is told as that doesn't fit.
+const LARGE: u64 = 1 << 33;
+
+/// The number that the octets of a subidentifier hold, or `LARGE` where it is that or more.
+fn number_to_large(octets: &[u8]) -> u64
+    ensures { result ≡ min (number octets.now) (2 ^ 33) }
+{
+    let mut high = 0u64;
+    for octet in octets {
+        high = 0x80 * high + u64::from(*octet % 0x80);
+        if high >= LARGE {
+            return LARGE;
+        }
+    }
+    high
+}
+
+impl Component<'_> {
+    /// The number, or `None` where it is 2^32 or more.
+    pub fn to_u32(self) -> Option<u32>
+        ensures { result ≡ in_32_bits (part_value (part_of self.entry)) }
+    {
+        let number = number_to_large(self.octets);
+        let value = match self.position {
+            Position::First if number < 40 => 0,
+            Position::First if number < 80 => 1,
+            Position::First => 2,
+            Position::Second if number < 40 => number,
+            Position::Second if number < 80 => number - 40,
+            Position::Second => number - 80,
+            Position::Other => number,
+        };
+        u32::try_from(value).ok()
+    }
+}
+
+/// The number in decimal, or `(very large component)` where it is 2^32 or more.
+impl fmt::Display for Component<'_> {
+    ghost output = { λ component. Some (shown (part_value (part_of component))) };
+
+    fn fmt<W: fmt::Write>(&self, f: &mut fmt::Formatter<W>) -> fmt::Result {
+        match self.to_u32() {
+            Some(number) => write!(f, "{number}"),
+            None => write!(f, "(very large component)"),
+        }
+    }
+}
+
+/// The components of an object identifier, in their order.
+#[derive(Clone, Debug, Drop)]
+pub struct Iter<'a> {
+    position: Position,
+    octets: &'a [u8],
+}
+
+/// The octets of the first subidentifier, and the octets after it.
+fn split_subidentifier(octets: &[u8]) -> Option<(&[u8], &[u8])>
+    ensures { MatchOption result
+        (subidentifiers octets.now ≡ [])
+        (λ r. subidentifiers octets.now ≡ r.0.now ∷ subidentifiers r.1.now) }
+{
+    for (i, octet) in octets.iter().enumerate() {
+        if *octet < 0x80 {
+            return Some(octets.split_at(i + 1));
+        }
+    }
+    None
+}
+
+impl<'a> Iter<'a> {
+    pub(super) fn new(octets: &'a [u8]) -> Iter<'a>
+        ensures { parts_left result ≡ parts octets.now }
+    {
+        Iter {
+            position: Position::First,
+            octets,
+        }
+    }
+}
+
+impl<'a> Iterator for Iter<'a> {
+    ghost use Rattle.std.specs.Iterator.{YieldsFirstBy, item_count};
+    ghost use Rattle.bcder.specs.Components.{part_of, parts_left};
+
+    type Item = Component<'a>;
+
+    ghost next_gives = { YieldsFirstBy part_of parts_left };
+
+    ghost remaining = { item_count parts_left };
+
+    fn next(&mut self) -> Option<Component<'a>> {
+        let (octets, rest) = split_subidentifier(self.octets)?;
+        let position = self.position;
+        if position == Position::First {
+            self.position = Position::Second;
+        } else {
+            self.position = Position::Other;
+            self.octets = rest;
+        }
+        Some(Component { position, octets })
+    }
+}
