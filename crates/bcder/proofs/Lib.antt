@@ -29,3 +29,4 @@ pub mod Repeating
 pub mod Numbers
 pub mod Reading
 pub mod Typed
+pub mod Integers
