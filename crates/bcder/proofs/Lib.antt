@@ -46,3 +46,4 @@ pub mod Fewest
 pub mod Held
 pub mod ReadBack
 pub mod Decimal
+pub mod Telling

@@ -13,7 +13,7 @@ use Rattle.bcder.specs.Cause.{cause_of, of_source, of_content, of_memory, IsRefu
 use Rattle.bcder.specs.Stream.{Stream, Grew}
 use Rattle.bcder.specs.Content.{Reading}
 use Rattle.bcder.specs.Walking.{IsShort}
-use Rattle.bcder.specs.Integer.{truth}
+use Rattle.bcder.specs.Integer.{AreInteger, IsSmallest, truth}
 use Rattle.bcder.specs.Number.{IsNumber}
 use Rattle.bcder.specs.Views.{octets_before, octets_after}
 
@@ -54,6 +54,14 @@ pub data RefusesAll {X : Type 0} (c : Reading) (e : DecodeError X) (d : Reading)
 -- they mean nothing
 abbrev pub MeanNothing : {T X : Type 0} → (List ℕ → T → Type 0) → List ℕ → DecodeError X → Type 0
 MeanNothing Means w e = ((x : _) → Means w x → ⊥) × IsRefusal e
+
+-- they are no integer's, or there was no memory for them
+abbrev pub NoInteger : {X : Type 0} → List ℕ → DecodeError X → Type 0
+NoInteger w e = MeanNothing (λ v z. AreInteger z v) w e ⊎ (cause_of e ≡ of_memory)
+
+-- they are not the smallest of their number, or there was no memory for them
+abbrev pub NotSmallest : {X : Type 0} → List ℕ → DecodeError X → Type 0
+NotSmallest w e = (IsSmallest w → ⊥) × IsRefusal e ⊎ (cause_of e ≡ of_memory)
 
 -- they mean another number of a `u8`, or none
 abbrev pub MeanAnother : {X : Type 0} → ℕ → List ℕ → DecodeError X → Type 0

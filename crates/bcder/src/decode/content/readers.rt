@@ -2,10 +2,10 @@
 ghost use Rattle.std.specs.Prelude.{◌≡◌, ◌≤◌, [], Some, IfOk, IfErr, OnOk};
 ghost use Rattle.std.specs.Int.{w8, w16, w32, w64, w128};
 ghost use Rattle.bcder.specs.Number.{IsNumber};
-ghost use Rattle.bcder.specs.Integer.{truth};
+ghost use Rattle.bcder.specs.Integer.{truth, IsSmallest};
 ghost use Rattle.bcder.specs.Readers.{HasAll, RefusesAll, ReadBy, ReadOctets, FindNoMemory};
 ghost use Rattle.bcder.specs.Readers.{IsSigned, IsUnsigned, IsTruth, IsNull, Told, Untold};
-ghost use Rattle.bcder.specs.Readers.{IsThis, MeanAnother};
+ghost use Rattle.bcder.specs.Readers.{IsThis, MeanAnother, NotSmallest};
 ghost use Rattle.bcder.specs.Cause.{cause_of, of_content};
 ghost use Rattle.bcder.specs.Views.{of_primitive, octets_before, octets_after, MovedOctets};
 
@@ -13,7 +13,7 @@ use super::Primitive;
 use crate::NoMemory;
 use crate::decode::error::{ContentError, DecodeError};
 use crate::decode::source::Source;
-use crate::int::number::{Number, number_at};
+use crate::int::number::{Number, is_smallest, number_at};
 use crate::mode::Mode;
 use bytes::Bytes;
 use std::alloc::Global;
@@ -202,6 +202,27 @@ impl<'a, S: Source> Primitive<'a, S> {
             Ok(len) => len,
             Err(error) => return Err(error),
         };
+        match self.bytes_of_all(alloc, len) {
+            Ok(octets) => {
+                self.pass_all(len);
+                Ok(octets)
+            }
+            Err(_) => Err(DecodeError::no_memory()),
+        }
+    }
+
+    /// Takes all octets where they are an integer's.
+    pub(crate) fn take_integer(&mut self, alloc: Global) -> Result<Bytes, DecodeError<S::Error>>
+        ensures moves { MovedOctets S.stream self }
+        ensures read { ReadBy S.stream self (λ w b. (b ≡ w) × IsSmallest w) NotSmallest result }
+    {
+        let len = match self.request_all() {
+            Ok(len) => len,
+            Err(error) => return Err(error),
+        };
+        if !is_smallest(self.all(len)) {
+            return Err(self.refusal("no integer"));
+        }
         match self.bytes_of_all(alloc, len) {
             Ok(octets) => {
                 self.pass_all(len);
