@@ -2,16 +2,15 @@
 use Rattle.std.proofs.Common.{◌≡◌, ℕ, ◌+◌, ◌<◌, ◌≤◌, ◌^◌, List, [], ◌∷◌, ◌++◌, length, Option, None, Some, Result, Ok, Err, refl, sym, ap, ◌∙◌, subst, inl, inr, arith, length-append}
 use Rattle.std.specs.Option.{SomeIff}
 use Rattle.bcder.specs.declared.encode.error.EncodeError.{EncodeError}
-use Rattle.bcder.specs.Meaning.{Encoded, Meaning, IsLawful, octets_of}
+use Rattle.bcder.specs.Meaning.{Encoded, Meaning, octets_of}
 use Rattle.std.proofs.Common.{IsErr, IsErrAnd, drop_of_length-le, drop, get_or, suc, add-one, drop-cons, append_assoc, append-nil}
 use Rattle.std.specs.Io.KnownBytes.{Appends}
 use Rattle.std.proofs.KnownBytes.{Appends-trans, Appends-nil}
-use Rattle.bcder.specs.declared.mode.Mode.{Mode}
 use Rattle.bcder.specs.declared.encode.error.WriteError.{WriteError}
 use Rattle.bcder.specs.Tree.{Trees, no_trees, ◌∷ₜ◌, ◌+++◌}
-use Rattle.bcder.proofs.Writing.{stops, follows_on, wrote_what, same_octets, lacks_more}
+use Rattle.bcder.proofs.Writing.{stops, follows_on, same_octets}
 use Rattle.bcder.specs.Joined.{nothing, join, Then, NoValues, EachOf, IsSum}
-use Rattle.bcder.specs.Encoders.{TellsSize, TellsSum, WroteOf, Writes, RefusesBy}
+use Rattle.bcder.specs.Encoders.{HasEncoding, TellsSize, TellsSum, WroteOf, WritesEncoding, RefusesBy}
 
 -- what is looked at so far, before whatever comes after it
 abbrev pub after : Encoded → Meaning → Meaning
@@ -87,13 +86,17 @@ so_far_done M None s = (join s.seen nothing, s.leads (Ok nothing) refl, subst (�
 pub written_start : {M : Meaning → Type 0} {a : Option (List ℕ)} → WrittenSoFar M M a a
 written_start {M} {a} = record { splits = λ e m. ([], e, m, refl, Appends-nil a) }
 
-module _ {M : Meaning → Type 0} (N rest : Meaning → Type 0) {old mid new : Option (List ℕ)} {r : Result (Unit {0}) WriteError} (lacks : Type 0) (mode : Mode) (lawful : IsLawful mode N) (s : WrittenSoFar M (Then N rest) old mid) (w : Writes octets_of N lacks mid new r) where
+-- the next part has an encoding
+pub next_known : {M : Meaning → Type 0} (N rest : Meaning → Type 0) {old new : Option (List ℕ)} → WrittenSoFar M (Then N rest) old new → HasEncoding M → HasEncoding N
+next_known N rest s known = let (front, z, (a, b, p, q, joined), whole, appends) = s.splits known.0 known.1 in (a, p)
+
+module _ {M : Meaning → Type 0} (N rest : Meaning → Type 0) {old mid new : Option (List ℕ)} {r : Result (Unit {0}) WriteError} (lacks : Type 0) (s : WrittenSoFar M (Then N rest) old mid) (w : WritesEncoding N lacks mid new r) where
   -- one more part was written
   pub written_next : r ≡ Ok tt → WrittenSoFar M rest old new
   written_next is = record {
     splits = λ e m.
         let (front, z, (a, b, p, q, joined), whole, appends) = s.splits e m in
-        let wrote = wrote_what N lawful.one.same octets_of lacks a mid new r p w in
+        let wrote = w a p in
         let all : WroteOf lacks a.octets mid new (Ok tt) = subst (λ x. WroteOf lacks a.octets mid new x) is wrote in
         (front ++ a.octets, b, q, whole ∙ ap (λ (x : Encoded). front ++ x.octets) joined ∙ sym (append_assoc front a.octets b.octets), Appends-trans old mid new front a.octets appends all.done);
   }
@@ -102,7 +105,7 @@ module _ {M : Meaning → Type 0} (N rest : Meaning → Type 0) {old mid new : O
   pub written_failed : {e : WriteError} → r ≡ Err e → (x : Encoded) → M (Ok x) → WroteOf lacks x.octets old new (Err e)
   written_failed {e} is x m =
       let (front, z, (a, b, p, q, joined), whole, appends) = s.splits x m in
-      let wrote = wrote_what N lawful.one.same octets_of lacks a mid new r p w in
+      let wrote = w a p in
       let failed : WroteOf lacks a.octets mid new (Err e) = subst (λ x. WroteOf lacks a.octets mid new x) is wrote in
       let before : WroteOf ⊥ front old mid (Ok tt) = record { done = appends } in
       same_octets (ap (λ l. front ++ l) (ap octets_of (sym joined)) ∙ sym whole) (follows_on before (stops b.octets failed))
@@ -125,11 +128,3 @@ EachOf_end M xs i h = ap (EachOf M) (drop_of_length-le xs h)
 pub sum_refused : {M : Meaning → Type 0} {L : Type 0} (e : EncodeError) (r : Result (Option ℕ) EncodeError) → IsErr r × IsErrAnd r (λ d. d ≡ e) → RefusesBy M L e → TellsSum M L r
 sum_refused e (Ok o) is h = absurd is.1
 sum_refused {M} {L} e (Err d) is h = subst (RefusesBy M L) (sym is.1) h
-
-wrote_wider : {M N : Meaning → Type 0} {P Q : Type 0} {old new : Option (List ℕ)} {r : Result (Unit {0}) WriteError} → ((m : Meaning) → M m → N m) → (P → Q) → Writes octets_of M P old new r → Writes octets_of N Q old new r
-wrote_wider f l (inl h) = inl (record { what = h.what; meant = f (Ok h.what) h.meant; wrote = lacks_more _ l h.wrote })
-wrote_wider f l (inr h) = inr (record { error = h.error; answered = h.answered; refuses = record { meant = λ ne. f (Err h.error) (h.refuses.meant ne); lacking = λ is. l (h.refuses.lacking is) }; kept = h.kept })
-
--- what is meant by more
-pub answers_wider : {M N : Meaning → Type 0} {P Q : Type 0} {old new : Option (List ℕ)} {r : Result (Unit {0}) WriteError} → ((m : Meaning) → M m → N m) → (P → Q) → Writes octets_of M P old new r → Writes octets_of N Q old new r
-answers_wider = wrote_wider

@@ -85,6 +85,10 @@ module _ {W : Type 0} (contents : W → Option (List ℕ)) (target : Both (MutBo
   abbrev pub WritesContents : (ContentsMeaning → Type 0) → Type 0 → Result (Unit {0}) WriteError → Type 0
   WritesContents M lacks r = Writes (λ w. w) M lacks (contents target.entry.now) (contents target.exit.now) r
 
+  abbrev pub WritesParts : (Meaning → Type 0) → Type 0 → Result (Unit {0}) WriteError → Type 0
+  WritesParts M lacks r = WritesEncoding M lacks (contents target.entry.now) (contents target.exit.now) r
+
+  -- of a relation that holds of one meaning at most
   abbrev pub WritesKnown : (Meaning → Type 0) → Type 0 → Result (Unit {0}) WriteError → Type 0
   WritesKnown M lacks r = IsOne M → WritesEncoding M lacks (contents target.entry.now) (contents target.exit.now) r
 

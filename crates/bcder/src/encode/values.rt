@@ -6,6 +6,9 @@ ghost use Rattle.bcder.specs.Encoders.{HasEncoding, SizeOfValues, WritesValues, 
 
 pub(crate) mod choice;
 pub(crate) mod constructed;
+pub(crate) mod lists;
+mod parts;
+mod tuples;
 
 use crate::encode::values::constructed::Constructed;
 use crate::encode::{EncodeError, WriteError};

@@ -1,0 +1,1045 @@
+//! Tuples of encoders: their values one after the other.
+ghost use Rattle.std.specs.Prelude.{◌⊎◌, ⊤};
+ghost use Rattle.bcder.specs.Joined.{Then, NoValues, Joined};
+ghost use Rattle.bcder.specs.laws.Joined.{Then_lawful, NoValues_lawful, Joined_lawful};
+
+use crate::encode::values::Values;
+use crate::encode::values::parts::{Chain, End, Four, joined_len, write_joined, write_known_parts};
+use crate::encode::{EncodeError, WriteError};
+use crate::mode::Mode;
+use std::io;
+
+impl<A: Values> Values for (A,) {
+    ghost means = { λ x mode. Joined (Then (A.means x.0 mode) NoValues) };
+
+    ghost may_lack = { λ x mode. A.may_lack x.0 mode ⊎ ⊥ };
+
+    ghost can_encode = { λ x. A.can_encode x.0 × ⊤ };
+
+    fn encoded_len(&self, mode: Mode) -> Result<usize, EncodeError> {
+        let (a,) = self;
+        joined_len(
+            &Chain {
+                first: a,
+                rest: End,
+            },
+            mode,
+        )
+    }
+
+    fn write_encoded<W: io::Write>(&self, mode: Mode, target: &mut W) -> Result<(), WriteError> {
+        let (a,) = self;
+        write_joined(
+            &Chain {
+                first: a,
+                rest: End,
+            },
+            mode,
+            target,
+        )
+    }
+
+    fn write_known<W: io::Write>(&self, mode: Mode, target: &mut W) -> Result<(), WriteError> {
+        let (a,) = self;
+        write_known_parts(
+            &Chain {
+                first: a,
+                rest: End,
+            },
+            mode,
+            target,
+        )
+    }
+
+    ghost lawful = { λ x mode can. Joined_lawful (Then_lawful (A.lawful x.0 mode can.0)
+        (NoValues_lawful mode)) };
+}
+
+impl<A: Values, B: Values> Values for (A, B) {
+    ghost means = { λ x mode. Joined (Then (A.means x.0 mode) (Then (B.means x.1 mode) NoValues)) };
+
+    ghost may_lack = { λ x mode. A.may_lack x.0 mode ⊎ (B.may_lack x.1 mode ⊎ ⊥) };
+
+    ghost can_encode = { λ x. A.can_encode x.0 × (B.can_encode x.1 × ⊤) };
+
+    fn encoded_len(&self, mode: Mode) -> Result<usize, EncodeError> {
+        let (a, b) = self;
+        joined_len(
+            &Chain {
+                first: a,
+                rest: Chain {
+                    first: b,
+                    rest: End,
+                },
+            },
+            mode,
+        )
+    }
+
+    fn write_encoded<W: io::Write>(&self, mode: Mode, target: &mut W) -> Result<(), WriteError> {
+        let (a, b) = self;
+        write_joined(
+            &Chain {
+                first: a,
+                rest: Chain {
+                    first: b,
+                    rest: End,
+                },
+            },
+            mode,
+            target,
+        )
+    }
+
+    fn write_known<W: io::Write>(&self, mode: Mode, target: &mut W) -> Result<(), WriteError> {
+        let (a, b) = self;
+        write_known_parts(
+            &Chain {
+                first: a,
+                rest: Chain {
+                    first: b,
+                    rest: End,
+                },
+            },
+            mode,
+            target,
+        )
+    }
+
+    ghost lawful = { λ x mode can. Joined_lawful (Then_lawful (A.lawful x.0 mode can.0)
+        (Then_lawful (B.lawful x.1 mode can.1.0) (NoValues_lawful mode))) };
+}
+
+impl<A: Values, B: Values, C: Values> Values for (A, B, C) {
+    ghost means = { λ x mode. Joined (Then (A.means x.0 mode) (Then (B.means x.1 mode)
+        (Then (C.means x.2 mode) NoValues))) };
+
+    ghost may_lack = { λ x mode. A.may_lack x.0 mode ⊎ (B.may_lack x.1 mode ⊎
+        (C.may_lack x.2 mode ⊎ ⊥)) };
+
+    ghost can_encode = { λ x. A.can_encode x.0 × (B.can_encode x.1 × (C.can_encode x.2 × ⊤)) };
+
+    fn encoded_len(&self, mode: Mode) -> Result<usize, EncodeError> {
+        let (a, b, c) = self;
+        joined_len(
+            &Chain {
+                first: a,
+                rest: Chain {
+                    first: b,
+                    rest: Chain {
+                        first: c,
+                        rest: End,
+                    },
+                },
+            },
+            mode,
+        )
+    }
+
+    fn write_encoded<W: io::Write>(&self, mode: Mode, target: &mut W) -> Result<(), WriteError> {
+        let (a, b, c) = self;
+        write_joined(
+            &Chain {
+                first: a,
+                rest: Chain {
+                    first: b,
+                    rest: Chain {
+                        first: c,
+                        rest: End,
+                    },
+                },
+            },
+            mode,
+            target,
+        )
+    }
+
+    fn write_known<W: io::Write>(&self, mode: Mode, target: &mut W) -> Result<(), WriteError> {
+        let (a, b, c) = self;
+        write_known_parts(
+            &Chain {
+                first: a,
+                rest: Chain {
+                    first: b,
+                    rest: Chain {
+                        first: c,
+                        rest: End,
+                    },
+                },
+            },
+            mode,
+            target,
+        )
+    }
+
+    ghost lawful = { λ x mode can. Joined_lawful (Then_lawful (A.lawful x.0 mode can.0)
+        (Then_lawful (B.lawful x.1 mode can.1.0) (Then_lawful (C.lawful x.2 mode can.1.1.0)
+        (NoValues_lawful mode)))) };
+}
+
+impl<A: Values, B: Values, C: Values, D: Values> Values for (A, B, C, D) {
+    ghost means = { λ x mode. Joined (Then (A.means x.0 mode) (Then (B.means x.1 mode)
+        (Then (C.means x.2 mode) (Then (D.means x.3 mode) NoValues)))) };
+
+    ghost may_lack = { λ x mode. A.may_lack x.0 mode ⊎ (B.may_lack x.1 mode ⊎
+        (C.may_lack x.2 mode ⊎ (D.may_lack x.3 mode ⊎ ⊥))) };
+
+    ghost can_encode = { λ x. A.can_encode x.0 × (B.can_encode x.1 × (C.can_encode x.2 ×
+        (D.can_encode x.3 × ⊤))) };
+
+    fn encoded_len(&self, mode: Mode) -> Result<usize, EncodeError> {
+        let (a, b, c, d) = self;
+        joined_len(
+            &Four {
+                a,
+                b,
+                c,
+                d,
+                rest: End,
+            },
+            mode,
+        )
+    }
+
+    fn write_encoded<W: io::Write>(&self, mode: Mode, target: &mut W) -> Result<(), WriteError> {
+        let (a, b, c, d) = self;
+        write_joined(
+            &Four {
+                a,
+                b,
+                c,
+                d,
+                rest: End,
+            },
+            mode,
+            target,
+        )
+    }
+
+    fn write_known<W: io::Write>(&self, mode: Mode, target: &mut W) -> Result<(), WriteError> {
+        let (a, b, c, d) = self;
+        write_known_parts(
+            &Four {
+                a,
+                b,
+                c,
+                d,
+                rest: End,
+            },
+            mode,
+            target,
+        )
+    }
+
+    ghost lawful = { λ x mode can. Joined_lawful (Then_lawful (A.lawful x.0 mode can.0)
+        (Then_lawful (B.lawful x.1 mode can.1.0) (Then_lawful (C.lawful x.2 mode can.1.1.0)
+        (Then_lawful (D.lawful x.3 mode can.1.1.1.0) (NoValues_lawful mode))))) };
+}
+
+impl<A: Values, B: Values, C: Values, D: Values, E: Values> Values for (A, B, C, D, E) {
+    ghost means = { λ x mode. Joined (Then (A.means x.0 mode) (Then (B.means x.1 mode)
+        (Then (C.means x.2 mode) (Then (D.means x.3 mode) (Then (E.means x.4 mode) NoValues))))) };
+
+    ghost may_lack = { λ x mode. A.may_lack x.0 mode ⊎ (B.may_lack x.1 mode ⊎
+        (C.may_lack x.2 mode ⊎ (D.may_lack x.3 mode ⊎ (E.may_lack x.4 mode ⊎ ⊥)))) };
+
+    ghost can_encode = { λ x. A.can_encode x.0 × (B.can_encode x.1 × (C.can_encode x.2 ×
+        (D.can_encode x.3 × (E.can_encode x.4 × ⊤)))) };
+
+    fn encoded_len(&self, mode: Mode) -> Result<usize, EncodeError> {
+        let (a, b, c, d, e) = self;
+        joined_len(
+            &Four {
+                a,
+                b,
+                c,
+                d,
+                rest: Chain {
+                    first: e,
+                    rest: End,
+                },
+            },
+            mode,
+        )
+    }
+
+    fn write_encoded<W: io::Write>(&self, mode: Mode, target: &mut W) -> Result<(), WriteError> {
+        let (a, b, c, d, e) = self;
+        write_joined(
+            &Four {
+                a,
+                b,
+                c,
+                d,
+                rest: Chain {
+                    first: e,
+                    rest: End,
+                },
+            },
+            mode,
+            target,
+        )
+    }
+
+    fn write_known<W: io::Write>(&self, mode: Mode, target: &mut W) -> Result<(), WriteError> {
+        let (a, b, c, d, e) = self;
+        write_known_parts(
+            &Four {
+                a,
+                b,
+                c,
+                d,
+                rest: Chain {
+                    first: e,
+                    rest: End,
+                },
+            },
+            mode,
+            target,
+        )
+    }
+
+    ghost lawful = { λ x mode can. Joined_lawful (Then_lawful (A.lawful x.0 mode can.0)
+        (Then_lawful (B.lawful x.1 mode can.1.0) (Then_lawful (C.lawful x.2 mode can.1.1.0)
+        (Then_lawful (D.lawful x.3 mode can.1.1.1.0)
+        (Then_lawful (E.lawful x.4 mode can.1.1.1.1.0) (NoValues_lawful mode)))))) };
+}
+
+impl<A: Values, B: Values, C: Values, D: Values, E: Values, F: Values> Values
+    for (A, B, C, D, E, F) {
+    ghost means = { λ x mode. Joined (Then (A.means x.0 mode) (Then (B.means x.1 mode)
+        (Then (C.means x.2 mode) (Then (D.means x.3 mode) (Then (E.means x.4 mode)
+        (Then (F.means x.5 mode) NoValues)))))) };
+
+    ghost may_lack = { λ x mode. A.may_lack x.0 mode ⊎ (B.may_lack x.1 mode ⊎
+        (C.may_lack x.2 mode ⊎ (D.may_lack x.3 mode ⊎ (E.may_lack x.4 mode ⊎
+        (F.may_lack x.5 mode ⊎ ⊥))))) };
+
+    ghost can_encode = { λ x. A.can_encode x.0 × (B.can_encode x.1 × (C.can_encode x.2 ×
+        (D.can_encode x.3 × (E.can_encode x.4 × (F.can_encode x.5 × ⊤))))) };
+
+    fn encoded_len(&self, mode: Mode) -> Result<usize, EncodeError> {
+        let (a, b, c, d, e, f) = self;
+        joined_len(
+            &Four {
+                a,
+                b,
+                c,
+                d,
+                rest: Chain {
+                    first: e,
+                    rest: Chain {
+                        first: f,
+                        rest: End,
+                    },
+                },
+            },
+            mode,
+        )
+    }
+
+    fn write_encoded<W: io::Write>(&self, mode: Mode, target: &mut W) -> Result<(), WriteError> {
+        let (a, b, c, d, e, f) = self;
+        write_joined(
+            &Four {
+                a,
+                b,
+                c,
+                d,
+                rest: Chain {
+                    first: e,
+                    rest: Chain {
+                        first: f,
+                        rest: End,
+                    },
+                },
+            },
+            mode,
+            target,
+        )
+    }
+
+    fn write_known<W: io::Write>(&self, mode: Mode, target: &mut W) -> Result<(), WriteError> {
+        let (a, b, c, d, e, f) = self;
+        write_known_parts(
+            &Four {
+                a,
+                b,
+                c,
+                d,
+                rest: Chain {
+                    first: e,
+                    rest: Chain {
+                        first: f,
+                        rest: End,
+                    },
+                },
+            },
+            mode,
+            target,
+        )
+    }
+
+    ghost lawful = { λ x mode can. Joined_lawful (Then_lawful (A.lawful x.0 mode can.0)
+        (Then_lawful (B.lawful x.1 mode can.1.0) (Then_lawful (C.lawful x.2 mode can.1.1.0)
+        (Then_lawful (D.lawful x.3 mode can.1.1.1.0)
+        (Then_lawful (E.lawful x.4 mode can.1.1.1.1.0)
+        (Then_lawful (F.lawful x.5 mode can.1.1.1.1.1.0) (NoValues_lawful mode))))))) };
+}
+
+impl<A: Values, B: Values, C: Values, D: Values, E: Values, F: Values, G: Values> Values
+    for (A, B, C, D, E, F, G) {
+    ghost means = { λ x mode. Joined (Then (A.means x.0 mode) (Then (B.means x.1 mode)
+        (Then (C.means x.2 mode) (Then (D.means x.3 mode) (Then (E.means x.4 mode)
+        (Then (F.means x.5 mode) (Then (G.means x.6 mode) NoValues))))))) };
+
+    ghost may_lack = { λ x mode. A.may_lack x.0 mode ⊎ (B.may_lack x.1 mode ⊎
+        (C.may_lack x.2 mode ⊎ (D.may_lack x.3 mode ⊎ (E.may_lack x.4 mode ⊎
+        (F.may_lack x.5 mode ⊎ (G.may_lack x.6 mode ⊎ ⊥)))))) };
+
+    ghost can_encode = { λ x. A.can_encode x.0 × (B.can_encode x.1 × (C.can_encode x.2 ×
+        (D.can_encode x.3 × (E.can_encode x.4 × (F.can_encode x.5 × (G.can_encode x.6 × ⊤)))))) };
+
+    fn encoded_len(&self, mode: Mode) -> Result<usize, EncodeError> {
+        let (a, b, c, d, e, f, g) = self;
+        joined_len(
+            &Four {
+                a,
+                b,
+                c,
+                d,
+                rest: Chain {
+                    first: e,
+                    rest: Chain {
+                        first: f,
+                        rest: Chain {
+                            first: g,
+                            rest: End,
+                        },
+                    },
+                },
+            },
+            mode,
+        )
+    }
+
+    fn write_encoded<W: io::Write>(&self, mode: Mode, target: &mut W) -> Result<(), WriteError> {
+        let (a, b, c, d, e, f, g) = self;
+        write_joined(
+            &Four {
+                a,
+                b,
+                c,
+                d,
+                rest: Chain {
+                    first: e,
+                    rest: Chain {
+                        first: f,
+                        rest: Chain {
+                            first: g,
+                            rest: End,
+                        },
+                    },
+                },
+            },
+            mode,
+            target,
+        )
+    }
+
+    fn write_known<W: io::Write>(&self, mode: Mode, target: &mut W) -> Result<(), WriteError> {
+        let (a, b, c, d, e, f, g) = self;
+        write_known_parts(
+            &Four {
+                a,
+                b,
+                c,
+                d,
+                rest: Chain {
+                    first: e,
+                    rest: Chain {
+                        first: f,
+                        rest: Chain {
+                            first: g,
+                            rest: End,
+                        },
+                    },
+                },
+            },
+            mode,
+            target,
+        )
+    }
+
+    ghost lawful = { λ x mode can. Joined_lawful (Then_lawful (A.lawful x.0 mode can.0)
+        (Then_lawful (B.lawful x.1 mode can.1.0) (Then_lawful (C.lawful x.2 mode can.1.1.0)
+        (Then_lawful (D.lawful x.3 mode can.1.1.1.0)
+        (Then_lawful (E.lawful x.4 mode can.1.1.1.1.0)
+        (Then_lawful (F.lawful x.5 mode can.1.1.1.1.1.0)
+        (Then_lawful (G.lawful x.6 mode can.1.1.1.1.1.1.0) (NoValues_lawful mode)))))))) };
+}
+
+impl<A: Values, B: Values, C: Values, D: Values, E: Values, F: Values, G: Values, H: Values> Values
+    for (A, B, C, D, E, F, G, H) {
+    ghost means = { λ x mode. Joined (Then (A.means x.0 mode) (Then (B.means x.1 mode)
+        (Then (C.means x.2 mode) (Then (D.means x.3 mode) (Then (E.means x.4 mode)
+        (Then (F.means x.5 mode) (Then (G.means x.6 mode) (Then (H.means x.7 mode)
+        NoValues)))))))) };
+
+    ghost may_lack = { λ x mode. A.may_lack x.0 mode ⊎ (B.may_lack x.1 mode ⊎
+        (C.may_lack x.2 mode ⊎ (D.may_lack x.3 mode ⊎ (E.may_lack x.4 mode ⊎
+        (F.may_lack x.5 mode ⊎ (G.may_lack x.6 mode ⊎ (H.may_lack x.7 mode ⊎ ⊥))))))) };
+
+    ghost can_encode = { λ x. A.can_encode x.0 × (B.can_encode x.1 × (C.can_encode x.2 ×
+        (D.can_encode x.3 × (E.can_encode x.4 × (F.can_encode x.5 × (G.can_encode x.6 ×
+        (H.can_encode x.7 × ⊤))))))) };
+
+    fn encoded_len(&self, mode: Mode) -> Result<usize, EncodeError> {
+        let (a, b, c, d, e, f, g, h) = self;
+        joined_len(
+            &Four {
+                a,
+                b,
+                c,
+                d,
+                rest: Four {
+                    a: e,
+                    b: f,
+                    c: g,
+                    d: h,
+                    rest: End,
+                },
+            },
+            mode,
+        )
+    }
+
+    fn write_encoded<W: io::Write>(&self, mode: Mode, target: &mut W) -> Result<(), WriteError> {
+        let (a, b, c, d, e, f, g, h) = self;
+        write_joined(
+            &Four {
+                a,
+                b,
+                c,
+                d,
+                rest: Four {
+                    a: e,
+                    b: f,
+                    c: g,
+                    d: h,
+                    rest: End,
+                },
+            },
+            mode,
+            target,
+        )
+    }
+
+    fn write_known<W: io::Write>(&self, mode: Mode, target: &mut W) -> Result<(), WriteError> {
+        let (a, b, c, d, e, f, g, h) = self;
+        write_known_parts(
+            &Four {
+                a,
+                b,
+                c,
+                d,
+                rest: Four {
+                    a: e,
+                    b: f,
+                    c: g,
+                    d: h,
+                    rest: End,
+                },
+            },
+            mode,
+            target,
+        )
+    }
+
+    ghost lawful = { λ x mode can. Joined_lawful (Then_lawful (A.lawful x.0 mode can.0)
+        (Then_lawful (B.lawful x.1 mode can.1.0) (Then_lawful (C.lawful x.2 mode can.1.1.0)
+        (Then_lawful (D.lawful x.3 mode can.1.1.1.0)
+        (Then_lawful (E.lawful x.4 mode can.1.1.1.1.0)
+        (Then_lawful (F.lawful x.5 mode can.1.1.1.1.1.0)
+        (Then_lawful (G.lawful x.6 mode can.1.1.1.1.1.1.0)
+        (Then_lawful (H.lawful x.7 mode can.1.1.1.1.1.1.1.0) (NoValues_lawful mode))))))))) };
+}
+
+impl<
+    A: Values,
+    B: Values,
+    C: Values,
+    D: Values,
+    E: Values,
+    F: Values,
+    G: Values,
+    H: Values,
+    I: Values,
+> Values for (A, B, C, D, E, F, G, H, I) {
+    ghost means = { λ x mode. Joined (Then (A.means x.0 mode) (Then (B.means x.1 mode)
+        (Then (C.means x.2 mode) (Then (D.means x.3 mode) (Then (E.means x.4 mode)
+        (Then (F.means x.5 mode) (Then (G.means x.6 mode) (Then (H.means x.7 mode)
+        (Then (I.means x.8 mode) NoValues))))))))) };
+
+    ghost may_lack = { λ x mode. A.may_lack x.0 mode ⊎ (B.may_lack x.1 mode ⊎
+        (C.may_lack x.2 mode ⊎ (D.may_lack x.3 mode ⊎ (E.may_lack x.4 mode ⊎
+        (F.may_lack x.5 mode ⊎ (G.may_lack x.6 mode ⊎ (H.may_lack x.7 mode ⊎
+        (I.may_lack x.8 mode ⊎ ⊥)))))))) };
+
+    ghost can_encode = { λ x. A.can_encode x.0 × (B.can_encode x.1 × (C.can_encode x.2 ×
+        (D.can_encode x.3 × (E.can_encode x.4 × (F.can_encode x.5 × (G.can_encode x.6 ×
+        (H.can_encode x.7 × (I.can_encode x.8 × ⊤)))))))) };
+
+    fn encoded_len(&self, mode: Mode) -> Result<usize, EncodeError> {
+        let (a, b, c, d, e, f, g, h, i) = self;
+        joined_len(
+            &Four {
+                a,
+                b,
+                c,
+                d,
+                rest: Four {
+                    a: e,
+                    b: f,
+                    c: g,
+                    d: h,
+                    rest: Chain {
+                        first: i,
+                        rest: End,
+                    },
+                },
+            },
+            mode,
+        )
+    }
+
+    fn write_encoded<W: io::Write>(&self, mode: Mode, target: &mut W) -> Result<(), WriteError> {
+        let (a, b, c, d, e, f, g, h, i) = self;
+        write_joined(
+            &Four {
+                a,
+                b,
+                c,
+                d,
+                rest: Four {
+                    a: e,
+                    b: f,
+                    c: g,
+                    d: h,
+                    rest: Chain {
+                        first: i,
+                        rest: End,
+                    },
+                },
+            },
+            mode,
+            target,
+        )
+    }
+
+    fn write_known<W: io::Write>(&self, mode: Mode, target: &mut W) -> Result<(), WriteError> {
+        let (a, b, c, d, e, f, g, h, i) = self;
+        write_known_parts(
+            &Four {
+                a,
+                b,
+                c,
+                d,
+                rest: Four {
+                    a: e,
+                    b: f,
+                    c: g,
+                    d: h,
+                    rest: Chain {
+                        first: i,
+                        rest: End,
+                    },
+                },
+            },
+            mode,
+            target,
+        )
+    }
+
+    ghost lawful = { λ x mode can. Joined_lawful (Then_lawful (A.lawful x.0 mode can.0)
+        (Then_lawful (B.lawful x.1 mode can.1.0) (Then_lawful (C.lawful x.2 mode can.1.1.0)
+        (Then_lawful (D.lawful x.3 mode can.1.1.1.0)
+        (Then_lawful (E.lawful x.4 mode can.1.1.1.1.0)
+        (Then_lawful (F.lawful x.5 mode can.1.1.1.1.1.0)
+        (Then_lawful (G.lawful x.6 mode can.1.1.1.1.1.1.0)
+        (Then_lawful (H.lawful x.7 mode can.1.1.1.1.1.1.1.0)
+        (Then_lawful (I.lawful x.8 mode can.1.1.1.1.1.1.1.1.0) (NoValues_lawful mode)))))))))) };
+}
+
+impl<
+    A: Values,
+    B: Values,
+    C: Values,
+    D: Values,
+    E: Values,
+    F: Values,
+    G: Values,
+    H: Values,
+    I: Values,
+    J: Values,
+> Values for (A, B, C, D, E, F, G, H, I, J) {
+    ghost means = { λ x mode. Joined (Then (A.means x.0 mode) (Then (B.means x.1 mode)
+        (Then (C.means x.2 mode) (Then (D.means x.3 mode) (Then (E.means x.4 mode)
+        (Then (F.means x.5 mode) (Then (G.means x.6 mode) (Then (H.means x.7 mode)
+        (Then (I.means x.8 mode) (Then (J.means x.9 mode) NoValues)))))))))) };
+
+    ghost may_lack = { λ x mode. A.may_lack x.0 mode ⊎ (B.may_lack x.1 mode ⊎
+        (C.may_lack x.2 mode ⊎ (D.may_lack x.3 mode ⊎ (E.may_lack x.4 mode ⊎
+        (F.may_lack x.5 mode ⊎ (G.may_lack x.6 mode ⊎ (H.may_lack x.7 mode ⊎
+        (I.may_lack x.8 mode ⊎ (J.may_lack x.9 mode ⊎ ⊥))))))))) };
+
+    ghost can_encode = { λ x. A.can_encode x.0 × (B.can_encode x.1 × (C.can_encode x.2 ×
+        (D.can_encode x.3 × (E.can_encode x.4 × (F.can_encode x.5 × (G.can_encode x.6 ×
+        (H.can_encode x.7 × (I.can_encode x.8 × (J.can_encode x.9 × ⊤))))))))) };
+
+    fn encoded_len(&self, mode: Mode) -> Result<usize, EncodeError> {
+        let (a, b, c, d, e, f, g, h, i, j) = self;
+        joined_len(
+            &Four {
+                a,
+                b,
+                c,
+                d,
+                rest: Four {
+                    a: e,
+                    b: f,
+                    c: g,
+                    d: h,
+                    rest: Chain {
+                        first: i,
+                        rest: Chain {
+                            first: j,
+                            rest: End,
+                        },
+                    },
+                },
+            },
+            mode,
+        )
+    }
+
+    fn write_encoded<W: io::Write>(&self, mode: Mode, target: &mut W) -> Result<(), WriteError> {
+        let (a, b, c, d, e, f, g, h, i, j) = self;
+        write_joined(
+            &Four {
+                a,
+                b,
+                c,
+                d,
+                rest: Four {
+                    a: e,
+                    b: f,
+                    c: g,
+                    d: h,
+                    rest: Chain {
+                        first: i,
+                        rest: Chain {
+                            first: j,
+                            rest: End,
+                        },
+                    },
+                },
+            },
+            mode,
+            target,
+        )
+    }
+
+    fn write_known<W: io::Write>(&self, mode: Mode, target: &mut W) -> Result<(), WriteError> {
+        let (a, b, c, d, e, f, g, h, i, j) = self;
+        write_known_parts(
+            &Four {
+                a,
+                b,
+                c,
+                d,
+                rest: Four {
+                    a: e,
+                    b: f,
+                    c: g,
+                    d: h,
+                    rest: Chain {
+                        first: i,
+                        rest: Chain {
+                            first: j,
+                            rest: End,
+                        },
+                    },
+                },
+            },
+            mode,
+            target,
+        )
+    }
+
+    ghost lawful = { λ x mode can. Joined_lawful (Then_lawful (A.lawful x.0 mode can.0)
+        (Then_lawful (B.lawful x.1 mode can.1.0) (Then_lawful (C.lawful x.2 mode can.1.1.0)
+        (Then_lawful (D.lawful x.3 mode can.1.1.1.0)
+        (Then_lawful (E.lawful x.4 mode can.1.1.1.1.0)
+        (Then_lawful (F.lawful x.5 mode can.1.1.1.1.1.0)
+        (Then_lawful (G.lawful x.6 mode can.1.1.1.1.1.1.0)
+        (Then_lawful (H.lawful x.7 mode can.1.1.1.1.1.1.1.0)
+        (Then_lawful (I.lawful x.8 mode can.1.1.1.1.1.1.1.1.0)
+        (Then_lawful (J.lawful x.9 mode can.1.1.1.1.1.1.1.1.1.0) (NoValues_lawful mode))))))))))) };
+}
+
+impl<
+    A: Values,
+    B: Values,
+    C: Values,
+    D: Values,
+    E: Values,
+    F: Values,
+    G: Values,
+    H: Values,
+    I: Values,
+    J: Values,
+    K: Values,
+> Values for (A, B, C, D, E, F, G, H, I, J, K) {
+    ghost means = { λ x mode. Joined (Then (A.means x.0 mode) (Then (B.means x.1 mode)
+        (Then (C.means x.2 mode) (Then (D.means x.3 mode) (Then (E.means x.4 mode)
+        (Then (F.means x.5 mode) (Then (G.means x.6 mode) (Then (H.means x.7 mode)
+        (Then (I.means x.8 mode) (Then (J.means x.9 mode) (Then (K.means x.10 mode)
+        NoValues))))))))))) };
+
+    ghost may_lack = { λ x mode. A.may_lack x.0 mode ⊎ (B.may_lack x.1 mode ⊎
+        (C.may_lack x.2 mode ⊎ (D.may_lack x.3 mode ⊎ (E.may_lack x.4 mode ⊎
+        (F.may_lack x.5 mode ⊎ (G.may_lack x.6 mode ⊎ (H.may_lack x.7 mode ⊎
+        (I.may_lack x.8 mode ⊎ (J.may_lack x.9 mode ⊎ (K.may_lack x.10 mode ⊎ ⊥)))))))))) };
+
+    ghost can_encode = { λ x. A.can_encode x.0 × (B.can_encode x.1 × (C.can_encode x.2 ×
+        (D.can_encode x.3 × (E.can_encode x.4 × (F.can_encode x.5 × (G.can_encode x.6 ×
+        (H.can_encode x.7 × (I.can_encode x.8 × (J.can_encode x.9 × (K.can_encode x.10 ×
+        ⊤)))))))))) };
+
+    fn encoded_len(&self, mode: Mode) -> Result<usize, EncodeError> {
+        let (a, b, c, d, e, f, g, h, i, j, k) = self;
+        joined_len(
+            &Four {
+                a,
+                b,
+                c,
+                d,
+                rest: Four {
+                    a: e,
+                    b: f,
+                    c: g,
+                    d: h,
+                    rest: Chain {
+                        first: i,
+                        rest: Chain {
+                            first: j,
+                            rest: Chain {
+                                first: k,
+                                rest: End,
+                            },
+                        },
+                    },
+                },
+            },
+            mode,
+        )
+    }
+
+    fn write_encoded<W: io::Write>(&self, mode: Mode, target: &mut W) -> Result<(), WriteError> {
+        let (a, b, c, d, e, f, g, h, i, j, k) = self;
+        write_joined(
+            &Four {
+                a,
+                b,
+                c,
+                d,
+                rest: Four {
+                    a: e,
+                    b: f,
+                    c: g,
+                    d: h,
+                    rest: Chain {
+                        first: i,
+                        rest: Chain {
+                            first: j,
+                            rest: Chain {
+                                first: k,
+                                rest: End,
+                            },
+                        },
+                    },
+                },
+            },
+            mode,
+            target,
+        )
+    }
+
+    fn write_known<W: io::Write>(&self, mode: Mode, target: &mut W) -> Result<(), WriteError> {
+        let (a, b, c, d, e, f, g, h, i, j, k) = self;
+        write_known_parts(
+            &Four {
+                a,
+                b,
+                c,
+                d,
+                rest: Four {
+                    a: e,
+                    b: f,
+                    c: g,
+                    d: h,
+                    rest: Chain {
+                        first: i,
+                        rest: Chain {
+                            first: j,
+                            rest: Chain {
+                                first: k,
+                                rest: End,
+                            },
+                        },
+                    },
+                },
+            },
+            mode,
+            target,
+        )
+    }
+
+    ghost lawful = { λ x mode can. Joined_lawful (Then_lawful (A.lawful x.0 mode can.0)
+        (Then_lawful (B.lawful x.1 mode can.1.0) (Then_lawful (C.lawful x.2 mode can.1.1.0)
+        (Then_lawful (D.lawful x.3 mode can.1.1.1.0)
+        (Then_lawful (E.lawful x.4 mode can.1.1.1.1.0)
+        (Then_lawful (F.lawful x.5 mode can.1.1.1.1.1.0)
+        (Then_lawful (G.lawful x.6 mode can.1.1.1.1.1.1.0)
+        (Then_lawful (H.lawful x.7 mode can.1.1.1.1.1.1.1.0)
+        (Then_lawful (I.lawful x.8 mode can.1.1.1.1.1.1.1.1.0)
+        (Then_lawful (J.lawful x.9 mode can.1.1.1.1.1.1.1.1.1.0)
+        (Then_lawful (K.lawful x.10 mode can.1.1.1.1.1.1.1.1.1.1.0)
+        (NoValues_lawful mode)))))))))))) };
+}
+
+impl<
+    A: Values,
+    B: Values,
+    C: Values,
+    D: Values,
+    E: Values,
+    F: Values,
+    G: Values,
+    H: Values,
+    I: Values,
+    J: Values,
+    K: Values,
+    L: Values,
+> Values for (A, B, C, D, E, F, G, H, I, J, K, L) {
+    ghost means = { λ x mode. Joined (Then (A.means x.0 mode) (Then (B.means x.1 mode)
+        (Then (C.means x.2 mode) (Then (D.means x.3 mode) (Then (E.means x.4 mode)
+        (Then (F.means x.5 mode) (Then (G.means x.6 mode) (Then (H.means x.7 mode)
+        (Then (I.means x.8 mode) (Then (J.means x.9 mode) (Then (K.means x.10 mode)
+        (Then (L.means x.11 mode) NoValues)))))))))))) };
+
+    ghost may_lack = { λ x mode. A.may_lack x.0 mode ⊎ (B.may_lack x.1 mode ⊎
+        (C.may_lack x.2 mode ⊎ (D.may_lack x.3 mode ⊎ (E.may_lack x.4 mode ⊎
+        (F.may_lack x.5 mode ⊎ (G.may_lack x.6 mode ⊎ (H.may_lack x.7 mode ⊎
+        (I.may_lack x.8 mode ⊎ (J.may_lack x.9 mode ⊎ (K.may_lack x.10 mode ⊎
+        (L.may_lack x.11 mode ⊎ ⊥))))))))))) };
+
+    ghost can_encode = { λ x. A.can_encode x.0 × (B.can_encode x.1 × (C.can_encode x.2 ×
+        (D.can_encode x.3 × (E.can_encode x.4 × (F.can_encode x.5 × (G.can_encode x.6 ×
+        (H.can_encode x.7 × (I.can_encode x.8 × (J.can_encode x.9 × (K.can_encode x.10 ×
+        (L.can_encode x.11 × ⊤))))))))))) };
+
+    fn encoded_len(&self, mode: Mode) -> Result<usize, EncodeError> {
+        let (a, b, c, d, e, f, g, h, i, j, k, l) = self;
+        joined_len(
+            &Four {
+                a,
+                b,
+                c,
+                d,
+                rest: Four {
+                    a: e,
+                    b: f,
+                    c: g,
+                    d: h,
+                    rest: Four {
+                        a: i,
+                        b: j,
+                        c: k,
+                        d: l,
+                        rest: End,
+                    },
+                },
+            },
+            mode,
+        )
+    }
+
+    fn write_encoded<W: io::Write>(&self, mode: Mode, target: &mut W) -> Result<(), WriteError> {
+        let (a, b, c, d, e, f, g, h, i, j, k, l) = self;
+        write_joined(
+            &Four {
+                a,
+                b,
+                c,
+                d,
+                rest: Four {
+                    a: e,
+                    b: f,
+                    c: g,
+                    d: h,
+                    rest: Four {
+                        a: i,
+                        b: j,
+                        c: k,
+                        d: l,
+                        rest: End,
+                    },
+                },
+            },
+            mode,
+            target,
+        )
+    }
+
+    fn write_known<W: io::Write>(&self, mode: Mode, target: &mut W) -> Result<(), WriteError> {
+        let (a, b, c, d, e, f, g, h, i, j, k, l) = self;
+        write_known_parts(
+            &Four {
+                a,
+                b,
+                c,
+                d,
+                rest: Four {
+                    a: e,
+                    b: f,
+                    c: g,
+                    d: h,
+                    rest: Four {
+                        a: i,
+                        b: j,
+                        c: k,
+                        d: l,
+                        rest: End,
+                    },
+                },
+            },
+            mode,
+            target,
+        )
+    }
+
+    ghost lawful = { λ x mode can. Joined_lawful (Then_lawful (A.lawful x.0 mode can.0)
+        (Then_lawful (B.lawful x.1 mode can.1.0) (Then_lawful (C.lawful x.2 mode can.1.1.0)
+        (Then_lawful (D.lawful x.3 mode can.1.1.1.0)
+        (Then_lawful (E.lawful x.4 mode can.1.1.1.1.0)
+        (Then_lawful (F.lawful x.5 mode can.1.1.1.1.1.0)
+        (Then_lawful (G.lawful x.6 mode can.1.1.1.1.1.1.0)
+        (Then_lawful (H.lawful x.7 mode can.1.1.1.1.1.1.1.0)
+        (Then_lawful (I.lawful x.8 mode can.1.1.1.1.1.1.1.1.0)
+        (Then_lawful (J.lawful x.9 mode can.1.1.1.1.1.1.1.1.1.0)
+        (Then_lawful (K.lawful x.10 mode can.1.1.1.1.1.1.1.1.1.1.0)
+        (Then_lawful (L.lawful x.11 mode can.1.1.1.1.1.1.1.1.1.1.1.0)
+        (NoValues_lawful mode))))))))))))) };
+}
