@@ -37,3 +37,5 @@ pub mod Fewest
 pub mod Held
 pub mod ReadBack
 pub mod Decimal
+pub mod Typed
+pub mod Integers

@@ -26,7 +26,7 @@ use Rattle.bcder.proofs.Entering.{Within, header_not_at_end}
 -- ---- an encoding in front
 
 -- what is owed after a header, where an encoding stands there in full
-owed_after : (o : Option ℕ) (len : Length) (h total body : ℕ) → ((n : ℕ) → o ≡ Some n → total ≤ n) → total ≡ h + body → ((n : ℕ) → len ≡ Definite n → n ≤ body) → (q : Option ℕ) × Falls o h q × FitsOwed len q
+pub owed_after : (o : Option ℕ) (len : Length) (h total body : ℕ) → ((n : ℕ) → o ≡ Some n → total ≤ n) → total ≡ h + body → ((n : ℕ) → len ≡ Definite n → n ≤ body) → (q : Option ℕ) × Falls o h q × FitsOwed len q
 owed_after None (Definite n) h total body f e g = (None, refl, refl)
 owed_after None Indefinite h total body f e g = (None, refl, refl)
 owed_after (Some o) (Definite n) h total body f e g = let x : total ≤ o = f o refl in let y : n ≤ body = g n refl in (Some (o - h), omega arith, omega arith)
@@ -263,13 +263,13 @@ module _ (c i : Reading) (after : List ℕ) (f : HasHeader any c after) (g : Han
   short_shape x k n (is_definite ts b a l q y) = (let u : Octets ≡ DefiniteValues = sym k ∙ form_definite f.form f.len (length b) i.kind a l g.form in cc)
   short_shape x k n (is_indefinite ts b e a l q z y) = (let u : Octets ≡ IndefiniteValues = sym k ∙ form_indefinite f.form f.len i.kind l g.form in cc)
 
-  shape_in : (t : Tree) (v x : List ℕ) → IsEncoding c.mode t v → c.stream.rest ≡ v ++ x → Shape c.mode f.form f.len x after
+  pub shape_in : (t : Tree) (v x : List ℕ) → IsEncoding c.mode t v → c.stream.rest ≡ v ++ x → Shape c.mode f.form f.len x after
   shape_in t v x k r = shape c.mode f.tag f.form f.len f.octets after f.is_header t v x k (sym r ∙ f.rest)
 
   broken_front : i.kind ≢ Octets → (HasValues i → ⊥) → NoValue c
   broken_front k n = record { none = λ t v x e r. broken_shape x k n (shape_in t v x e r) }
 
-  short_front : i.kind ≡ Octets → IsShort i → NoValue c
+  pub short_front : i.kind ≡ Octets → IsShort i → NoValue c
   short_front k n = record { none = λ t v x e r. short_shape x k n (shape_in t v x e r) }
 
   not_unbounded : i.kind ≡ UnboundedValues → ⊥
@@ -287,7 +287,7 @@ not_failed_done : (j : Reading) → IsDone j → j.state ≡ Failed → ⊥
 not_failed_done j (inl s) e = (let x : Ended ≡ Failed = sym s ∙ e in cc)
 not_failed_done j (inr s) e = (let x : Open ≡ Failed = sym s.0 ∙ e in cc)
 
-grew_between : (a b c d : ℕ) → a ≤ b → Grew b c → c ≡ d → Grew a d
+pub grew_between : (a b c d : ℕ) → a ≤ b → Grew b c → c ≡ d → Grew a d
 grew_between a b c d h g e = subst (λ x. Grew a x) e (grew_from a b c h g)
 
 module _ {E : Type 0} (why : E → Cause ContentError) (e : E) (c d i j : Reading) (after : List ℕ) (f : HasHeader any c after) (g : Hands c.mode f.form f.len f.owed after i) (b : c.stream.faults ≤ i.stream.faults) (s : j.stream.faults ≡ d.stream.faults) where

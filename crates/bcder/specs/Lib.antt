@@ -28,6 +28,7 @@ pub mod Entering
 pub mod Inside
 pub mod Walking
 pub mod Readers
+pub mod Typed
 pub mod Decoding
 pub mod Begins
 pub mod PeekTag

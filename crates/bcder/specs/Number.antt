@@ -1,5 +1,5 @@
 -- Integers by sign and magnitude: n, or -1 - n where it is negative.
-use Rattle.std.specs.Prelude.{◌≡◌, ℕ, ◌+◌, ◌-◌, ◌*◌, ◌^◌, ◌<◌, Bool, List, [], ◌∷◌, length, ℤ, pos, negsuc, Option, IfSome, IfNone}
+use Rattle.std.specs.Prelude.{◌≡◌, ℕ, ◌+◌, ◌-◌, ◌*◌, ◌^◌, ◌<◌, Bool, List, [], ◌∷◌, length, ℤ, pos, negsuc, Result, MatchResult, Option, IfSome, IfNone}
 use Rattle.std.specs.Int.{complement_if}
 use Rattle.bcder.specs.Length.{big_endian}
 use Rattle.bcder.specs.Integer.{octet, AreInteger}
@@ -18,6 +18,10 @@ HasMagnitude (negsuc n) = n < 2 ^ 128
 pub record IsNumber {T : Type 0} (value : T → ℤ) (InRange : ℤ → Type 0) (w : List ℕ) (x : T) : Type 0 where
   pub integer : AreInteger (value x) w
   pub fits : InRange (value x)
+
+-- an integer is converted to a type, exactly where the type holds it
+abbrev pub ConvertsTo : {T E : Type 0} → (T → ℤ) → (ℤ → Type 0) → ℤ → Result T E → Type 0
+ConvertsTo value InRange z r = MatchResult r (λ x. (value x ≡ z) × InRange z) (λ _. InRange z → ⊥)
 
 -- they are of none
 abbrev pub IsNoNumber : (ℤ → Type 0) → List ℕ → Type 0

@@ -1,5 +1,5 @@
 -- What readers of contents octets say, by what the octets mean.
-use Rattle.std.specs.Prelude.{◌≡◌, ℕ, ℤ, pos, Bool, List, [], length, Option, Some, Result, Ok, Err, IfOk, IfErr, OnOk, OnErr}
+use Rattle.std.specs.Prelude.{◌≡◌, ◌≢◌, ◌⊎◌, ℕ, ℤ, pos, Bool, List, [], length, Option, Some, Result, Ok, Err, IfOk, IfErr, OnOk, OnErr}
 use Rattle.std.specs.Borrow.{MutBor}
 use Rattle.std.specs.Int.{Width, FitsUnsignedBits}
 use Rattle.std.specs.Int.RustNames.{FitsSigned}
@@ -7,12 +7,13 @@ use denote.Triple.Both.{Both}
 use Rattle.bcder.specs.declared.mode.Mode.{Mode}
 use Rattle.bcder.specs.declared.decode.content.Primitive.{Primitive}
 use Rattle.bcder.specs.declared.decode.error.ContentError.{ContentError}
+use Rattle.bcder.specs.declared.decode.error.ContentError.TheVariants.{ExpectedInteger}
 use Rattle.bcder.specs.declared.decode.error.DecodeError.{DecodeError}
 use Rattle.bcder.specs.Cause.{cause_of, of_source, of_content, of_memory, IsRefusal}
 use Rattle.bcder.specs.Stream.{Stream, Grew}
 use Rattle.bcder.specs.Content.{Reading}
 use Rattle.bcder.specs.Walking.{IsShort}
-use Rattle.bcder.specs.Integer.{truth}
+use Rattle.bcder.specs.Integer.{AreInteger, IsSmallest, truth}
 use Rattle.bcder.specs.Number.{IsNumber}
 use Rattle.bcder.specs.Views.{octets_before, octets_after}
 
@@ -34,6 +35,10 @@ IsTruth mode w x = truth mode w ≡ Some x
 abbrev pub IsNull : {T : Type 0} → List ℕ → T → Type 0
 IsNull w x = w ≡ []
 
+-- this number of an unsigned type
+abbrev pub IsThis : {T : Type 0} → ℕ → ℕ → List ℕ → T → Type 0
+IsThis bits n w x = IsUnsigned bits w n
+
 -- ---- reading them
 
 -- the octets that come are all that are owed, and so many
@@ -49,6 +54,18 @@ pub data RefusesAll {X : Type 0} (c : Reading) (e : DecodeError X) (d : Reading)
 -- they mean nothing
 abbrev pub MeanNothing : {T X : Type 0} → (List ℕ → T → Type 0) → List ℕ → DecodeError X → Type 0
 MeanNothing Means w e = ((x : _) → Means w x → ⊥) × IsRefusal e
+
+-- they are no integer's, or there was no memory for them
+abbrev pub NoInteger : {X : Type 0} → List ℕ → DecodeError X → Type 0
+NoInteger w e = MeanNothing (λ v z. AreInteger z v) w e ⊎ (cause_of e ≡ of_memory)
+
+-- they are not the smallest of their number, or there was no memory for them
+abbrev pub NotSmallest : {X : Type 0} → List ℕ → DecodeError X → Type 0
+NotSmallest w e = (IsSmallest w → ⊥) × IsRefusal e ⊎ (cause_of e ≡ of_memory)
+
+-- they mean another number of a `u8`, or none
+abbrev pub MeanAnother : {X : Type 0} → ℕ → List ℕ → DecodeError X → Type 0
+MeanAnother n w e = ((m : ℕ) × IsUnsigned 8 w m × (m ≢ n) × (cause_of e ≡ of_content (ExpectedInteger n))) ⊎ MeanNothing (IsUnsigned 8) w e
 
 -- there was no memory for them
 abbrev pub FindNoMemory : {X : Type 0} → List ℕ → DecodeError X → Type 0

@@ -2,7 +2,7 @@
 mod content;
 mod error;
 mod header;
-mod source;
+pub(crate) mod source;
 mod stop;
 
 pub use content::walk::walk;

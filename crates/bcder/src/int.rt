@@ -1,2 +1,295 @@
-//! Integers (X.690, 8.3).
+//! Integers of any size (X.690, 8.3).
+ghost use Rattle.std.specs.Prelude.{◌≡◌, ◌≢◌, ◌↔◌, ◌<ℤ◌, ◌≤ℤ◌, ◌≤◌, ◌<◌, ◌^◌, ℤ, ℕ, pos, IsTrue};
+ghost use Rattle.std.specs.Prelude.{IfOk, MatchResult, length};
+ghost use Rattle.std.specs.Int.{w8, w16, w32, w64, w128};
+ghost use Rattle.bcder.specs.Identifier.{AreOctets, integer_tag};
+ghost use Rattle.bcder.specs.Integer.{AreInteger, IsSmallest, integer_octets, is_negative};
+ghost use Rattle.bcder.specs.Integer.{integer_order, same_sign_order};
+ghost use Rattle.bcder.specs.Number.{ConvertsTo};
+ghost use Rattle.bcder.specs.Readers.{ReadBy, ReadOctets, IsSigned, MeanNothing, NoInteger};
+ghost use Rattle.bcder.specs.Typed.{TookOneBy};
+ghost use Rattle.bcder.specs.Views.{Moved, MovedOctets};
+
+mod compare;
+mod convert;
 pub(crate) mod number;
+pub(crate) mod octets;
+
+use crate::decode::source::see_octets;
+use crate::decode::{Constructed, DecodeError, Primitive, Source};
+use crate::int::number::{Number, number_at};
+use crate::tag::Tag;
+use bytes::Bytes;
+use std::alloc::{AllocError, Global};
+use std::cmp::Ordering;
+use std::convert::{AsRef, AsSlice};
+use std::error::Error;
+use std::fmt;
+use std::marker::Model;
+
+/// A number that a type doesn't hold.
+#[derive(Clone, Copy, Debug, PartialEq, Eq)]
+pub struct OverflowError;
+
+impl fmt::Display for OverflowError {
+    ghost use Rattle.std.specs.Prelude.{codes, Some};
+
+    ghost output = { λ _. Some (codes "integer out of range") };
+
+    fn fmt<W: fmt::Write>(&self, f: &mut fmt::Formatter<W>) -> fmt::Result {
+        write!(f, "integer out of range")
+    }
+}
+
+impl Error for OverflowError {}
+
+/// An integer of any size, by its contents octets, of which there are no more than are needed
+/// (8.3.2).
+#[derive(Debug, Drop)]
+pub struct Integer {
+    octets: Bytes,
+}
+
+/// The clauses see the number.
+impl Model for Integer {
+    ghost use Rattle.std.specs.Prelude.{ℤ};
+    ghost use Rattle.bcder.specs.Identifier.{AreOctets};
+    ghost use Rattle.bcder.specs.Integer.{number, IsSmallest};
+
+    ghost Value = { ℤ };
+
+    ghost view = { λ a. number a.octets };
+
+    ghost invariant = { λ a. AreOctets a.octets × IsSmallest a.octets };
+}
+
+/// Whether contents octets are those of a negative number.
+fn is_negative_at(octets: &[u8]) -> bool
+    ensures { result ≡ is_negative octets.now }
+{
+    match octets {
+        [] => false,
+        [first, ..] => *first >= 0x80,
+    }
+}
+
+/// Contents octets of integers with one sign, compared as the integers.
+fn same_sign_order(negative: bool, one: &[u8], other: &[u8]) -> Ordering
+    ensures { result ≡ same_sign_order negative one.now other.now }
+{
+    if negative {
+        other.len().cmp(&one.len()).then(one.cmp(other))
+    } else {
+        one.len().cmp(&other.len()).then(one.cmp(other))
+    }
+}
+
+/// Contents octets compared as the integers that they are.
+fn integer_order(one: &[u8], other: &[u8]) -> Ordering
+    ensures { result ≡ integer_order one.now other.now }
+{
+    match (is_negative_at(one), is_negative_at(other)) {
+        (false, false) => same_sign_order(false, one, other),
+        (false, true) => Ordering::Greater,
+        (true, false) => Ordering::Less,
+        (true, true) => same_sign_order(true, one, other),
+    }
+}
+
+impl Integer {
+    /// The integer with these contents octets.
+    fn of(octets: Bytes) -> Integer
+        requires { IsSmallest octets }
+        ensures { AreInteger result octets }
+    {
+        see_octets(octets.as_slice());
+        Integer { octets }
+    }
+
+    /// Takes the next value, which has to be an INTEGER.
+    ///
+    /// # Errors
+    ///
+    /// Those of [`Constructed::take_primitive_if`]; where the contents octets are no integer's; and
+    /// where there is no memory for them.
+    #[tactic(auto, using(crate::proofs::moves_refl))]
+    pub fn take_from<S: Source>(
+        alloc: Global,
+        cons: &mut Constructed<'_, S>,
+    ) -> Result<Integer, DecodeError<S::Error>>
+        ensures moves { Moved S.stream cons }
+        ensures took { TookOneBy S.stream cons integer_tag
+            (λ w z. AreInteger z w) NoInteger result }
+    {
+        cons.take_primitive_if(
+            Tag::INTEGER,
+            |octets| Integer::from_primitive(alloc, octets),
+        )
+    }
+
+    /// Reads all contents octets as an integer, and takes them.
+    ///
+    /// # Errors
+    ///
+    /// Where they are no integer's, where fewer come than are owed, where the source fails, and
+    /// where there is no memory for them. Then none is taken.
+    pub fn from_primitive<S: Source>(
+        alloc: Global,
+        octets: &mut Primitive<'_, S>,
+    ) -> Result<Integer, DecodeError<S::Error>>
+        ensures moves { MovedOctets S.stream octets }
+        ensures read { ReadBy S.stream octets (λ w z. AreInteger z w) NoInteger result }
+    {
+        match octets.take_integer(alloc) {
+            Ok(octets) => Ok(Integer::of(octets)),
+            Err(error) => Err(error),
+        }
+    }
+
+    /// The contents octets (8.3).
+    pub fn into_bytes(self) -> Bytes
+        ensures integer { AreInteger self result }
+        ensures octets { AreOctets result }
+    {
+        self.octets
+    }
+
+    /// The contents octets (8.3).
+    pub fn as_slice(&self) -> &[u8]
+        ensures integer { AreInteger self.now result.now }
+        ensures octets { AreOctets result.now }
+    {
+        self.octets.as_slice()
+    }
+
+    /// Whether the number is 0.
+    pub fn is_zero(&self) -> bool
+        ensures { IsTrue result ↔ (self.now ≡ pos 0) }
+    {
+        match self.as_slice() {
+            [0x00] => true,
+            _ => false,
+        }
+    }
+
+    /// Whether the number is greater than 0.
+    pub fn is_positive(&self) -> bool
+        ensures { IsTrue result ↔ (pos 0 <ℤ self.now) }
+    {
+        !self.is_negative() && !self.is_zero()
+    }
+
+    /// Whether the number is less than 0.
+    pub fn is_negative(&self) -> bool
+        ensures { IsTrue result ↔ (self.now <ℤ pos 0) }
+    {
+        is_negative_at(self.as_slice())
+    }
+
+    /// The value of a type that is the number.
+    fn number<N: Number>(&self) -> Result<N, OverflowError>
+        ensures { ConvertsTo N.value N.in_range self.now result }
+    {
+        match number_at(self.as_slice()) {
+            Some(number) => Ok(number),
+            None => Err(OverflowError),
+        }
+    }
+
+    /// Reads all contents octets as an integer that an `i8` holds, as `Primitive::to_i8` does.
+    ///
+    /// # Errors
+    ///
+    /// Those of `Primitive::to_i8`.
+    pub fn i8_from_primitive<S: Source>(
+        octets: &mut Primitive<'_, S>,
+    ) -> Result<i8, DecodeError<S::Error>>
+        ensures moves { MovedOctets S.stream octets }
+        ensures read { ReadOctets S.stream octets (IsSigned w8) result }
+    {
+        octets.to_i8()
+    }
+
+    /// Reads all contents octets as an integer that an `i16` holds, as `Primitive::to_i16` does.
+    ///
+    /// # Errors
+    ///
+    /// Those of `Primitive::to_i16`.
+    pub fn i16_from_primitive<S: Source>(
+        octets: &mut Primitive<'_, S>,
+    ) -> Result<i16, DecodeError<S::Error>>
+        ensures moves { MovedOctets S.stream octets }
+        ensures read { ReadOctets S.stream octets (IsSigned w16) result }
+    {
+        octets.to_i16()
+    }
+
+    /// Reads all contents octets as an integer that an `i32` holds, as `Primitive::to_i32` does.
+    ///
+    /// # Errors
+    ///
+    /// Those of `Primitive::to_i32`.
+    pub fn i32_from_primitive<S: Source>(
+        octets: &mut Primitive<'_, S>,
+    ) -> Result<i32, DecodeError<S::Error>>
+        ensures moves { MovedOctets S.stream octets }
+        ensures read { ReadOctets S.stream octets (IsSigned w32) result }
+    {
+        octets.to_i32()
+    }
+
+    /// Reads all contents octets as an integer that an `i64` holds, as `Primitive::to_i64` does.
+    ///
+    /// # Errors
+    ///
+    /// Those of `Primitive::to_i64`.
+    pub fn i64_from_primitive<S: Source>(
+        octets: &mut Primitive<'_, S>,
+    ) -> Result<i64, DecodeError<S::Error>>
+        ensures moves { MovedOctets S.stream octets }
+        ensures read { ReadOctets S.stream octets (IsSigned w64) result }
+    {
+        octets.to_i64()
+    }
+
+    /// Reads all contents octets as an integer that an `i128` holds, as `Primitive::to_i128` does.
+    ///
+    /// # Errors
+    ///
+    /// Those of `Primitive::to_i128`.
+    pub fn i128_from_primitive<S: Source>(
+        octets: &mut Primitive<'_, S>,
+    ) -> Result<i128, DecodeError<S::Error>>
+        ensures moves { MovedOctets S.stream octets }
+        ensures read { ReadOctets S.stream octets (IsSigned w128) result }
+    {
+        octets.to_i128()
+    }
+}
+
+/// The clone has the same number.
+impl Clone for Integer {
+    ghost is_clone = { λ x y. y ≡ x };
+
+    fn clone(&self) -> Result<Integer, AllocError> {
+        Ok(Integer {
+            octets: self.octets.clone()?,
+        })
+    }
+}
+
+impl AsSlice<u8> for Integer {
+    ghost items = { integer_octets };
+
+    fn as_slice(&self) -> &[u8] {
+        Integer::as_slice(self)
+    }
+}
+
+impl AsRef<Bytes> for Integer {
+    fn as_ref(&self) -> &Bytes
+        ensures { AreInteger self.now result.now }
+    {
+        &self.octets
+    }
+}

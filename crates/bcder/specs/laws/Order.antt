@@ -61,11 +61,11 @@ int_cmp_pos m n = grind (arith, nat_tests)
 int_cmp_negsuc : (m n : ℕ) → int_cmp (negsuc m) (negsuc n) ≡ nat_cmp n m
 int_cmp_negsuc m n = grind (arith, nat_tests)
 
-leads_tested : (w : List ℕ) → Leads false w → is_negative w ≡ false
+pub leads_tested : (w : List ℕ) → Leads false w → is_negative w ≡ false
 leads_tested [] l = absurd l
 leads_tested (b ∷ w) l = lt-leb 128 b l
 
-leads_tested_negative : (w : List ℕ) → Leads true w → is_negative w ≡ true
+pub leads_tested_negative : (w : List ℕ) → Leads true w → is_negative w ≡ true
 leads_tested_negative [] l = absurd l
 leads_tested_negative (b ∷ w) l = le-leb 128 b l
 

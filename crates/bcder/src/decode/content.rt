@@ -14,6 +14,7 @@ mod remaining;
 mod repeat;
 mod sequences;
 mod take;
+mod typed;
 mod values;
 pub(super) mod walk;
 

@@ -30,7 +30,7 @@ pub(crate) trait Number: Sized {
 
 /// Whether octets are the smallest that tell their number (8.3.1, 8.3.2).
 #[inline(always)]
-fn is_smallest(octets: &[u8]) -> bool
+pub(crate) fn is_smallest(octets: &[u8]) -> bool
     ensures { IsTrue result ↔ IsSmallest octets.now }
 {
     match octets {
@@ -53,7 +53,7 @@ fn is_negative(octets: &[u8]) -> bool
 
 /// An octet, or all its bits turned.
 #[inline(always)]
-fn turned(negative: bool, bits: u8) -> u8
+pub(crate) fn turned(negative: bool, bits: u8) -> u8
     ensures { result ≡ octet negative bits }
 {
     if negative { 255 - bits } else { bits }

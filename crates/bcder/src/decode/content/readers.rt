@@ -2,16 +2,18 @@
 ghost use Rattle.std.specs.Prelude.{◌≡◌, ◌≤◌, [], Some, IfOk, IfErr, OnOk};
 ghost use Rattle.std.specs.Int.{w8, w16, w32, w64, w128};
 ghost use Rattle.bcder.specs.Number.{IsNumber};
-ghost use Rattle.bcder.specs.Integer.{truth};
+ghost use Rattle.bcder.specs.Integer.{truth, IsSmallest};
 ghost use Rattle.bcder.specs.Readers.{HasAll, RefusesAll, ReadBy, ReadOctets, FindNoMemory};
 ghost use Rattle.bcder.specs.Readers.{IsSigned, IsUnsigned, IsTruth, IsNull, Told, Untold};
+ghost use Rattle.bcder.specs.Readers.{IsThis, MeanAnother, NotSmallest};
+ghost use Rattle.bcder.specs.Cause.{cause_of, of_content};
 ghost use Rattle.bcder.specs.Views.{of_primitive, octets_before, octets_after, MovedOctets};
 
 use super::Primitive;
 use crate::NoMemory;
 use crate::decode::error::{ContentError, DecodeError};
 use crate::decode::source::Source;
-use crate::int::number::{Number, number_at};
+use crate::int::number::{Number, is_smallest, number_at};
 use crate::mode::Mode;
 use bytes::Bytes;
 use std::alloc::Global;
@@ -121,7 +123,7 @@ impl<'a, S: Source> Primitive<'a, S> {
 impl<'a, S: Source> Primitive<'a, S> {
     /// Reads all octets that are owed as the number of a type, and takes them.
     #[inline(always)]
-    fn read_number<N: Number>(&mut self) -> Result<N, DecodeError<S::Error>>
+    pub(super) fn read_number<N: Number>(&mut self) -> Result<N, DecodeError<S::Error>>
         ensures moves { MovedOctets S.stream self }
         ensures read { ReadOctets S.stream self (IsNumber N.value N.in_range) result }
     {
@@ -200,6 +202,27 @@ impl<'a, S: Source> Primitive<'a, S> {
             Ok(len) => len,
             Err(error) => return Err(error),
         };
+        match self.bytes_of_all(alloc, len) {
+            Ok(octets) => {
+                self.pass_all(len);
+                Ok(octets)
+            }
+            Err(_) => Err(DecodeError::no_memory()),
+        }
+    }
+
+    /// Takes all octets where they are an integer's.
+    pub(crate) fn take_integer(&mut self, alloc: Global) -> Result<Bytes, DecodeError<S::Error>>
+        ensures moves { MovedOctets S.stream self }
+        ensures read { ReadBy S.stream self (λ w b. (b ≡ w) × IsSmallest w) NotSmallest result }
+    {
+        let len = match self.request_all() {
+            Ok(len) => len,
+            Err(error) => return Err(error),
+        };
+        if !is_smallest(self.all(len)) {
+            return Err(self.refusal("no integer"));
+        }
         match self.bytes_of_all(alloc, len) {
             Ok(octets) => {
                 self.pass_all(len);
@@ -366,5 +389,37 @@ impl<'a, S: Source> Primitive<'a, S> {
         ensures read { ReadOctets S.stream self (IsUnsigned 128) result }
     {
         self.read_number()
+    }
+
+    /// Makes sure that the octets are the INTEGER with this value, and takes them.
+    #[inline(always)]
+    pub(super) fn skip_u8_if(&mut self, expected: u8) -> Result<(), DecodeError<S::Error>>
+        ensures moves { MovedOctets S.stream self }
+        ensures read { ReadBy S.stream self (IsThis 8 expected) (MeanAnother expected) result }
+    {
+        let len = match self.request_all() {
+            Ok(len) => len,
+            Err(error) => return Err(error),
+        };
+        match number_at::<u8>(self.all(len)) {
+            Some(number) => {
+                if number == expected {
+                    self.pass_all(len);
+                    Ok(())
+                } else {
+                    Err(self.another(expected))
+                }
+            }
+            None => Err(self.refusal("no integer of this type")),
+        }
+    }
+
+    /// A refusal of what is not this number.
+    #[cold]
+    fn another(&self, expected: u8) -> DecodeError<S::Error>
+        ensures { cause_of result ≡ of_content (ContentError.ExpectedInteger expected) }
+    {
+        self.source
+            .content_err(ContentError::ExpectedInteger(expected))
     }
 }

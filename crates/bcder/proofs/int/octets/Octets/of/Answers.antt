@@ -1,0 +1,53 @@
+use Rattle.std.proofs.Common.{◌≡◌, ℕ, zero, suc, ◌<◌, ◌≤◌, ◌+◌, ◌-◌, ◌*◌, ◌/◌, ◌%◌, ◌^◌, ◌++◌, ◌∷◌, [], List, length, drop, set, Bool, true, false, nat_lt, refl, sym, ap, ◌∙◌, subst, arith, append_assoc, length-set, append-nil, lit<, add-one, pow-suc}
+use Rattle.std.proofs.lemmas.List.{drop-set}
+use Rattle.bcder.specs.Integer.{AreInteger, octet, octets_within}
+use Rattle.std.specs.Int.{complement_if}
+use Rattle.bcder.specs.laws.Integers.{positive_octets, negative_octets}
+use Rattle.bcder.proofs.int.octets.Octets.of.Goals as goal
+
+more_octets : (k : ℕ) (neg : Bool) (n : ℕ) → 128 ≤ n → octets_within (suc k) neg n ≡ octets_within k neg (n / 256) ++ octet neg (n % 256) ∷ []
+more_octets k neg n h = let test : nat_lt n 128 ≡ false = grind arith in rw test refl
+
+last_octet : (k : ℕ) (neg : Bool) (n : ℕ) → n < 128 → octets_within k neg n ≡ octet neg n ∷ []
+last_octet zero neg n h = let small : n % 256 ≡ n = omega arith in ap (λ d. octet neg d ∷ []) small
+last_octet (suc k) neg n h = let test : nat_lt n 128 ≡ true = grind arith in rw test refl
+
+step : (neg : Bool) (s n d : ℕ) (buf whole : List ℕ) → s < 17 → length buf ≡ 17 → n < 256 ^ s → whole ≡ octets_within s neg n ++ drop (s + 1) buf → 128 ≤ n → d ≡ octet neg (n % 256)
+    → (s - 1 < 17) × (length (set buf s d) ≡ 17) × (n / 256 < 256 ^ (s - 1)) × (whole ≡ octets_within (s - 1) neg (n / 256) ++ drop ((s - 1) + 1) (set buf s d))
+step neg zero n d buf whole fits len below is large digit = absurd (omega arith)
+step neg (suc k) n d buf whole fits len below is large digit =
+    let pred : suc k - 1 ≡ k = omega arith in
+    let inside : suc k < length buf = omega arith in
+    let power : 256 ^ suc k ≡ 256 * 256 ^ k = omega (arith, pow-suc 256 k) in (
+      omega arith,
+      length-set buf (suc k) d ∙ len,
+      rw pred (omega arith),
+      is ∙ ap (λ l. l ++ drop (suc k + 1) buf) (more_octets k neg n large) ∙ append_assoc _ (octet neg (n % 256) ∷ []) (drop (suc k + 1) buf)
+          ∙ ap (λ x. octets_within k neg (n / 256) ++ (x ∷ drop (suc k + 1) buf)) (sym digit)
+          ∙ ap (λ l. octets_within k neg (n / 256) ++ l) (sym (drop-set buf (suc k) d inside))
+          ∙ ap (λ j. octets_within k neg (n / 256) ++ drop j (set buf (suc k) d)) (sym (add-one k))
+          ∙ ap (λ j. octets_within j neg (n / 256) ++ drop (j + 1) (set buf (suc k) d)) (sym pred),
+    )
+
+told_by_sign : (neg : Bool) (n : ℕ) → n < 2 ^ 128 → AreInteger (complement_if neg n) (octets_within 16 neg n)
+told_by_sign false n h = positive_octets 16 n (omega arith)
+told_by_sign true n h = negative_octets 16 n (omega arith)
+
+pub loop-rest-init : goal.loop-rest-init
+loop-rest-init c = (lit< tt, refl, c.ranges.magnitude.fits, sym (append-nil _))
+
+pub loop-rest-preserved : goal.loop-rest-preserved
+loop-rest-preserved c =
+    let (fits, len, below, is) = c.loop-rest.invariant in
+    step c.args.negative c.loop-rest.start c.loop-rest.rest c.turned.result c.loop-rest.buffer _ fits len below is c.loop-rest-test.true c.turned.ensures
+
+pub returns : goal.returns
+returns c =
+    let (fits, len, below, is) = c.loop-rest.invariant in
+    let inside : c.loop-rest.start < length c.loop-rest.buffer = omega arith in
+    subst (AreInteger (complement_if c.args.negative c.args.magnitude))
+    (is
+    ∙ ap (λ l. l ++ drop (c.loop-rest.start + 1) c.loop-rest.buffer) (last_octet c.loop-rest.start c.args.negative c.loop-rest.rest c.loop-rest-test.false)
+    ∙ ap (λ x. x ∷ drop (c.loop-rest.start + 1) c.loop-rest.buffer) (sym c.turned-2.ensures)
+    ∙ sym (drop-set c.loop-rest.buffer c.loop-rest.start c.turned-2.result inside))
+    (told_by_sign c.args.negative c.args.magnitude c.ranges.magnitude.fits)

@@ -1,0 +1,247 @@
+//! Taking booleans, nulls and integers.
+ghost use Rattle.bcder.specs.Identifier.{boolean_tag, integer_tag, null_tag};
+ghost use Rattle.bcder.specs.Number.{IsNumber};
+ghost use Rattle.bcder.specs.Readers.{IsUnsigned, IsTruth, IsNull, IsThis, MeanAnother};
+ghost use Rattle.bcder.specs.Typed.{TookNextAs, TookOneAs, PassedNextAs, TookOneBy, PassedNextBy};
+ghost use Rattle.bcder.specs.Views.{before, Moved};
+
+use super::Constructed;
+use crate::decode::error::DecodeError;
+use crate::decode::source::Source;
+use crate::int::number::Number;
+use crate::tag::Tag;
+
+#[tactic(auto, using(crate::proofs::moves_refl))]
+impl<'a, S: Source> Constructed<'a, S> {
+    /// Takes the next value if it is an INTEGER, as a number of a type.
+    #[inline(always)]
+    fn take_opt_number<N: Number + Drop>(&mut self) -> Result<Option<N>, DecodeError<S::Error>>
+        ensures moves { Moved S.stream self }
+        ensures took { TookNextAs S.stream self integer_tag
+            (IsNumber N.value N.in_range) result }
+    {
+        self.take_opt_primitive_if(Tag::INTEGER, |octets| octets.read_number())
+    }
+
+    /// Takes the next value, which has to be an INTEGER, as a number of a type.
+    #[inline(always)]
+    fn take_number<N: Number + Drop>(&mut self) -> Result<N, DecodeError<S::Error>>
+        ensures moves { Moved S.stream self }
+        ensures took { TookOneAs S.stream self integer_tag
+            (IsNumber N.value N.in_range) result }
+    {
+        self.take_primitive_if(Tag::INTEGER, |octets| octets.read_number())
+    }
+
+    /// Takes the next value, which has to be a BOOLEAN (X.690, 8.2, 11.1).
+    ///
+    /// # Errors
+    ///
+    /// Those of [`take_opt_bool`](Self::take_opt_bool), and `ContentError::ExpectedTag` where that
+    /// answers `None`: the content then stays usable.
+    #[inline(always)]
+    pub fn take_bool(&mut self) -> Result<bool, DecodeError<S::Error>>
+        ensures moves { Moved S.stream self }
+        ensures took { TookOneAs S.stream self boolean_tag
+            (IsTruth (before S.stream self).mode) result }
+    {
+        self.take_primitive_if(Tag::BOOLEAN, |octets| octets.to_bool())
+    }
+
+    /// Takes the next value if it is a BOOLEAN (X.690, 8.2, 11.1), or answers `None` at the end and
+    /// at a value of another tag, which stays.
+    ///
+    /// # Errors
+    ///
+    /// Where a value of the tag stands there whose contents octets are no truth value in the mode,
+    /// or octets that are no value; where an earlier value was refused; where the source fails. The
+    /// content has then failed.
+    #[inline(always)]
+    pub fn take_opt_bool(&mut self) -> Result<Option<bool>, DecodeError<S::Error>>
+        ensures moves { Moved S.stream self }
+        ensures took { TookNextAs S.stream self boolean_tag
+            (IsTruth (before S.stream self).mode) result }
+    {
+        self.take_opt_primitive_if(Tag::BOOLEAN, |octets| octets.to_bool())
+    }
+
+    /// Takes the next value, which has to be a NULL (X.690, 8.8).
+    ///
+    /// # Errors
+    ///
+    /// Those of [`take_opt_null`](Self::take_opt_null), and `ContentError::ExpectedTag` where there
+    /// is none: the content then stays usable.
+    #[inline(always)]
+    pub fn take_null(&mut self) -> Result<(), DecodeError<S::Error>>
+        ensures moves { Moved S.stream self }
+        ensures took { TookOneAs S.stream self null_tag IsNull result }
+    {
+        self.take_primitive_if(Tag::NULL, |octets| octets.to_null())
+    }
+
+    /// Takes the next value if it is a NULL (X.690, 8.8). At the end and at a value of another tag
+    /// nothing is taken.
+    ///
+    /// # Errors
+    ///
+    /// Where a value of the tag stands there with contents octets, or octets that are no value;
+    /// where an earlier value was refused; where the source fails. The content has then failed.
+    #[inline(always)]
+    pub fn take_opt_null(&mut self) -> Result<(), DecodeError<S::Error>>
+        ensures moves { Moved S.stream self }
+        ensures took { PassedNextAs S.stream self null_tag IsNull result }
+    {
+        match self.take_opt_primitive_if(Tag::NULL, |octets| octets.to_null()) {
+            Ok(_) => Ok(()),
+            Err(error) => Err(error),
+        }
+    }
+
+    /// Takes the next value, which has to be an INTEGER (X.690, 8.3) that a `u8` holds.
+    ///
+    /// # Errors
+    ///
+    /// Those of [`take_opt_u8`](Self::take_opt_u8), and `ContentError::ExpectedTag` where that
+    /// answers `None`: the content then stays usable.
+    #[inline(always)]
+    pub fn take_u8(&mut self) -> Result<u8, DecodeError<S::Error>>
+        ensures moves { Moved S.stream self }
+        ensures took { TookOneAs S.stream self integer_tag (IsUnsigned 8) result }
+    {
+        self.take_number()
+    }
+
+    /// Takes the next value if it is an INTEGER (X.690, 8.3) that a `u8` holds, or answers `None`
+    /// at the end and at a value of another tag, which stays.
+    ///
+    /// # Errors
+    ///
+    /// Where a value of the tag stands there whose contents octets are no such integer, or octets
+    /// that are no value; where an earlier value was refused; where the source fails. The content
+    /// has then failed.
+    #[inline(always)]
+    pub fn take_opt_u8(&mut self) -> Result<Option<u8>, DecodeError<S::Error>>
+        ensures moves { Moved S.stream self }
+        ensures took { TookNextAs S.stream self integer_tag (IsUnsigned 8) result }
+    {
+        self.take_opt_number()
+    }
+
+    /// Takes the next value, which has to be an INTEGER (X.690, 8.3) that a `u16` holds.
+    ///
+    /// # Errors
+    ///
+    /// Those of [`take_opt_u16`](Self::take_opt_u16), and `ContentError::ExpectedTag` where that
+    /// answers `None`: the content then stays usable.
+    #[inline(always)]
+    pub fn take_u16(&mut self) -> Result<u16, DecodeError<S::Error>>
+        ensures moves { Moved S.stream self }
+        ensures took { TookOneAs S.stream self integer_tag (IsUnsigned 16) result }
+    {
+        self.take_number()
+    }
+
+    /// Takes the next value if it is an INTEGER (X.690, 8.3) that a `u16` holds, or answers `None`
+    /// at the end and at a value of another tag, which stays.
+    ///
+    /// # Errors
+    ///
+    /// Those of [`take_opt_u8`](Self::take_opt_u8), for this type.
+    #[inline(always)]
+    pub fn take_opt_u16(&mut self) -> Result<Option<u16>, DecodeError<S::Error>>
+        ensures moves { Moved S.stream self }
+        ensures took { TookNextAs S.stream self integer_tag (IsUnsigned 16) result }
+    {
+        self.take_opt_number()
+    }
+
+    /// Takes the next value, which has to be an INTEGER (X.690, 8.3) that a `u32` holds.
+    ///
+    /// # Errors
+    ///
+    /// Those of [`take_opt_u32`](Self::take_opt_u32), and `ContentError::ExpectedTag` where that
+    /// answers `None`: the content then stays usable.
+    #[inline(always)]
+    pub fn take_u32(&mut self) -> Result<u32, DecodeError<S::Error>>
+        ensures moves { Moved S.stream self }
+        ensures took { TookOneAs S.stream self integer_tag (IsUnsigned 32) result }
+    {
+        self.take_number()
+    }
+
+    /// Takes the next value if it is an INTEGER (X.690, 8.3) that a `u32` holds, or answers `None`
+    /// at the end and at a value of another tag, which stays.
+    ///
+    /// # Errors
+    ///
+    /// Those of [`take_opt_u8`](Self::take_opt_u8), for this type.
+    #[inline(always)]
+    pub fn take_opt_u32(&mut self) -> Result<Option<u32>, DecodeError<S::Error>>
+        ensures moves { Moved S.stream self }
+        ensures took { TookNextAs S.stream self integer_tag (IsUnsigned 32) result }
+    {
+        self.take_opt_number()
+    }
+
+    /// Takes the next value, which has to be an INTEGER (X.690, 8.3) that a `u64` holds.
+    ///
+    /// # Errors
+    ///
+    /// Those of [`take_opt_u64`](Self::take_opt_u64), and `ContentError::ExpectedTag` where that
+    /// answers `None`: the content then stays usable.
+    #[inline(always)]
+    pub fn take_u64(&mut self) -> Result<u64, DecodeError<S::Error>>
+        ensures moves { Moved S.stream self }
+        ensures took { TookOneAs S.stream self integer_tag (IsUnsigned 64) result }
+    {
+        self.take_number()
+    }
+
+    /// Takes the next value if it is an INTEGER (X.690, 8.3) that a `u64` holds, or answers `None`
+    /// at the end and at a value of another tag, which stays.
+    ///
+    /// # Errors
+    ///
+    /// Those of [`take_opt_u8`](Self::take_opt_u8), for this type.
+    #[inline(always)]
+    pub fn take_opt_u64(&mut self) -> Result<Option<u64>, DecodeError<S::Error>>
+        ensures moves { Moved S.stream self }
+        ensures took { TookNextAs S.stream self integer_tag (IsUnsigned 64) result }
+    {
+        self.take_opt_number()
+    }
+
+    /// Takes the next value, which has to be the INTEGER with this value.
+    ///
+    /// # Errors
+    ///
+    /// Those of [`skip_opt_u8_if`](Self::skip_opt_u8_if), and `ContentError::ExpectedTag` where
+    /// there is none: the content then stays usable.
+    #[inline(always)]
+    pub fn skip_u8_if(&mut self, expected: u8) -> Result<(), DecodeError<S::Error>>
+        ensures moves { Moved S.stream self }
+        ensures took { TookOneBy S.stream self integer_tag
+            (IsThis 8 expected) (MeanAnother expected) result }
+    {
+        self.take_primitive_if(Tag::INTEGER, |octets| octets.skip_u8_if(expected))
+    }
+
+    /// Takes the next value if it is an INTEGER, which then has to have this value. At the end and
+    /// at a value of another tag nothing is taken.
+    ///
+    /// # Errors
+    ///
+    /// `ContentError::ExpectedInteger` where another integer that a `u8` holds stands there; and
+    /// those of [`take_opt_u8`](Self::take_opt_u8). The content has then failed.
+    #[inline(always)]
+    pub fn skip_opt_u8_if(&mut self, expected: u8) -> Result<(), DecodeError<S::Error>>
+        ensures moves { Moved S.stream self }
+        ensures took { PassedNextBy S.stream self integer_tag
+            (IsThis 8 expected) (MeanAnother expected) result }
+    {
+        match self.take_opt_primitive_if(Tag::INTEGER, |octets| octets.skip_u8_if(expected)) {
+            Ok(_) => Ok(()),
+            Err(error) => Err(error),
+        }
+    }
+}

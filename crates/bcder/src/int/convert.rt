@@ -1,0 +1,296 @@
+//! Conversions between integers and Rust's.
+ghost use Rattle.std.specs.Prelude.{◌≡◌, ℤ, pos, IfOk};
+ghost use Rattle.std.specs.Int.{w8, w16, w32, w64, w128, complement_if, FitsUnsignedBits};
+ghost use Rattle.std.specs.Int.RustNames.{FitsSigned};
+ghost use Rattle.bcder.specs.Number.{ConvertsTo};
+
+use super::octets::Octets;
+use super::{Integer, OverflowError};
+use crate::NoMemory;
+use bytes::Bytes;
+use std::alloc::Global;
+use std::convert::TryFrom;
+
+impl Integer {
+    /// The integer that is `magnitude`, or -1 less it where it is negative.
+    fn from_parts(alloc: Global, negative: bool, magnitude: u128) -> Result<Integer, NoMemory>
+        ensures { IfOk result (λ x. x ≡ complement_if negative magnitude) }
+    {
+        let octets = Octets::of(negative, magnitude);
+        Ok(Integer::of(Bytes::copy_from_slice(alloc, octets.as_slice())?))
+    }
+
+    /// The integer that a `u8` is.
+    pub fn from_u8(alloc: Global, x: u8) -> Result<Integer, NoMemory>
+        ensures { IfOk result (λ z. z ≡ pos x) }
+    {
+        Integer::from_u128(alloc, u128::from(x))
+    }
+
+    /// The integer that a `u16` is.
+    pub fn from_u16(alloc: Global, x: u16) -> Result<Integer, NoMemory>
+        ensures { IfOk result (λ z. z ≡ pos x) }
+    {
+        Integer::from_u128(alloc, u128::from(x))
+    }
+
+    /// The integer that a `u32` is.
+    pub fn from_u32(alloc: Global, x: u32) -> Result<Integer, NoMemory>
+        ensures { IfOk result (λ z. z ≡ pos x) }
+    {
+        Integer::from_u128(alloc, u128::from(x))
+    }
+
+    /// The integer that a `u64` is.
+    pub fn from_u64(alloc: Global, x: u64) -> Result<Integer, NoMemory>
+        ensures { IfOk result (λ z. z ≡ pos x) }
+    {
+        Integer::from_u128(alloc, u128::from(x))
+    }
+
+    /// The integer that a `u128` is.
+    pub fn from_u128(alloc: Global, x: u128) -> Result<Integer, NoMemory>
+        ensures { IfOk result (λ z. z ≡ pos x) }
+    {
+        Integer::from_parts(alloc, false, x)
+    }
+
+    /// The integer that an `i8` is.
+    pub fn from_i8(alloc: Global, x: i8) -> Result<Integer, NoMemory>
+        ensures { IfOk result (λ z. z ≡ x) }
+    {
+        Integer::from_i128(alloc, i128::from(x))
+    }
+
+    /// The integer that an `i16` is.
+    pub fn from_i16(alloc: Global, x: i16) -> Result<Integer, NoMemory>
+        ensures { IfOk result (λ z. z ≡ x) }
+    {
+        Integer::from_i128(alloc, i128::from(x))
+    }
+
+    /// The integer that an `i32` is.
+    pub fn from_i32(alloc: Global, x: i32) -> Result<Integer, NoMemory>
+        ensures { IfOk result (λ z. z ≡ x) }
+    {
+        Integer::from_i128(alloc, i128::from(x))
+    }
+
+    /// The integer that an `i64` is.
+    pub fn from_i64(alloc: Global, x: i64) -> Result<Integer, NoMemory>
+        ensures { IfOk result (λ z. z ≡ x) }
+    {
+        Integer::from_i128(alloc, i128::from(x))
+    }
+
+    /// The integer that an `i128` is.
+    pub fn from_i128(alloc: Global, x: i128) -> Result<Integer, NoMemory>
+        ensures { IfOk result (λ z. z ≡ x) }
+    {
+        if x < 0 {
+            Integer::from_parts(alloc, true, (-1 - x) as u128)
+        } else {
+            Integer::from_parts(alloc, false, x as u128)
+        }
+    }
+}
+
+impl TryFrom<Integer> for i8 {
+    type Error = OverflowError;
+
+    ghost try_from_gives = { λ z r. ConvertsTo (λ x. x) (FitsSigned w8) z r };
+
+    fn try_from(value: Integer) -> Result<i8, OverflowError> {
+        value.number()
+    }
+}
+
+impl TryFrom<&Integer> for i8 {
+    type Error = OverflowError;
+
+    ghost try_from_gives = { λ z r. ConvertsTo (λ x. x) (FitsSigned w8) z.now r };
+
+    fn try_from(value: &Integer) -> Result<i8, OverflowError> {
+        value.number()
+    }
+}
+
+impl TryFrom<Integer> for i16 {
+    type Error = OverflowError;
+
+    ghost try_from_gives = { λ z r. ConvertsTo (λ x. x) (FitsSigned w16) z r };
+
+    fn try_from(value: Integer) -> Result<i16, OverflowError> {
+        value.number()
+    }
+}
+
+impl TryFrom<&Integer> for i16 {
+    type Error = OverflowError;
+
+    ghost try_from_gives = { λ z r. ConvertsTo (λ x. x) (FitsSigned w16) z.now r };
+
+    fn try_from(value: &Integer) -> Result<i16, OverflowError> {
+        value.number()
+    }
+}
+
+impl TryFrom<Integer> for i32 {
+    type Error = OverflowError;
+
+    ghost try_from_gives = { λ z r. ConvertsTo (λ x. x) (FitsSigned w32) z r };
+
+    fn try_from(value: Integer) -> Result<i32, OverflowError> {
+        value.number()
+    }
+}
+
+impl TryFrom<&Integer> for i32 {
+    type Error = OverflowError;
+
+    ghost try_from_gives = { λ z r. ConvertsTo (λ x. x) (FitsSigned w32) z.now r };
+
+    fn try_from(value: &Integer) -> Result<i32, OverflowError> {
+        value.number()
+    }
+}
+
+impl TryFrom<Integer> for i64 {
+    type Error = OverflowError;
+
+    ghost try_from_gives = { λ z r. ConvertsTo (λ x. x) (FitsSigned w64) z r };
+
+    fn try_from(value: Integer) -> Result<i64, OverflowError> {
+        value.number()
+    }
+}
+
+impl TryFrom<&Integer> for i64 {
+    type Error = OverflowError;
+
+    ghost try_from_gives = { λ z r. ConvertsTo (λ x. x) (FitsSigned w64) z.now r };
+
+    fn try_from(value: &Integer) -> Result<i64, OverflowError> {
+        value.number()
+    }
+}
+
+impl TryFrom<Integer> for i128 {
+    type Error = OverflowError;
+
+    ghost try_from_gives = { λ z r. ConvertsTo (λ x. x) (FitsSigned w128) z r };
+
+    fn try_from(value: Integer) -> Result<i128, OverflowError> {
+        value.number()
+    }
+}
+
+impl TryFrom<&Integer> for i128 {
+    type Error = OverflowError;
+
+    ghost try_from_gives = { λ z r. ConvertsTo (λ x. x) (FitsSigned w128) z.now r };
+
+    fn try_from(value: &Integer) -> Result<i128, OverflowError> {
+        value.number()
+    }
+}
+
+impl TryFrom<Integer> for u8 {
+    type Error = OverflowError;
+
+    ghost try_from_gives = { λ z r. ConvertsTo pos (FitsUnsignedBits 8) z r };
+
+    fn try_from(value: Integer) -> Result<u8, OverflowError> {
+        value.number()
+    }
+}
+
+impl TryFrom<&Integer> for u8 {
+    type Error = OverflowError;
+
+    ghost try_from_gives = { λ z r. ConvertsTo pos (FitsUnsignedBits 8) z.now r };
+
+    fn try_from(value: &Integer) -> Result<u8, OverflowError> {
+        value.number()
+    }
+}
+
+impl TryFrom<Integer> for u16 {
+    type Error = OverflowError;
+
+    ghost try_from_gives = { λ z r. ConvertsTo pos (FitsUnsignedBits 16) z r };
+
+    fn try_from(value: Integer) -> Result<u16, OverflowError> {
+        value.number()
+    }
+}
+
+impl TryFrom<&Integer> for u16 {
+    type Error = OverflowError;
+
+    ghost try_from_gives = { λ z r. ConvertsTo pos (FitsUnsignedBits 16) z.now r };
+
+    fn try_from(value: &Integer) -> Result<u16, OverflowError> {
+        value.number()
+    }
+}
+
+impl TryFrom<Integer> for u32 {
+    type Error = OverflowError;
+
+    ghost try_from_gives = { λ z r. ConvertsTo pos (FitsUnsignedBits 32) z r };
+
+    fn try_from(value: Integer) -> Result<u32, OverflowError> {
+        value.number()
+    }
+}
+
+impl TryFrom<&Integer> for u32 {
+    type Error = OverflowError;
+
+    ghost try_from_gives = { λ z r. ConvertsTo pos (FitsUnsignedBits 32) z.now r };
+
+    fn try_from(value: &Integer) -> Result<u32, OverflowError> {
+        value.number()
+    }
+}
+
+impl TryFrom<Integer> for u64 {
+    type Error = OverflowError;
+
+    ghost try_from_gives = { λ z r. ConvertsTo pos (FitsUnsignedBits 64) z r };
+
+    fn try_from(value: Integer) -> Result<u64, OverflowError> {
+        value.number()
+    }
+}
+
+impl TryFrom<&Integer> for u64 {
+    type Error = OverflowError;
+
+    ghost try_from_gives = { λ z r. ConvertsTo pos (FitsUnsignedBits 64) z.now r };
+
+    fn try_from(value: &Integer) -> Result<u64, OverflowError> {
+        value.number()
+    }
+}
+
+impl TryFrom<Integer> for u128 {
+    type Error = OverflowError;
+
+    ghost try_from_gives = { λ z r. ConvertsTo pos (FitsUnsignedBits 128) z r };
+
+    fn try_from(value: Integer) -> Result<u128, OverflowError> {
+        value.number()
+    }
+}
+
+impl TryFrom<&Integer> for u128 {
+    type Error = OverflowError;
+
+    ghost try_from_gives = { λ z r. ConvertsTo pos (FitsUnsignedBits 128) z.now r };
+
+    fn try_from(value: &Integer) -> Result<u128, OverflowError> {
+        value.number()
+    }
+}

@@ -1,0 +1,39 @@
+//! The contents octets of a number.
+ghost use Rattle.std.specs.Prelude.{◌≡◌, ◌<◌, length, drop};
+ghost use Rattle.std.specs.Int.{complement_if};
+ghost use Rattle.bcder.specs.Identifier.{AreOctets};
+ghost use Rattle.bcder.specs.Integer.{AreInteger};
+
+use crate::int::number::turned;
+
+/// The contents octets of a number, at the end of a buffer (X.690, 8.3).
+#[derive(Clone, Copy)]
+pub(crate) struct Octets {
+    buffer: [u8; 17],
+    start: usize,
+    ghost in_buffer: { start < 17 },
+}
+
+impl Octets {
+    /// Those of `magnitude`, or of -1 less it where the number is negative.
+    pub(crate) fn of(negative: bool, magnitude: u128) -> Octets
+        ensures { AreInteger (complement_if negative magnitude) (drop result.start result.buffer) }
+    {
+        let mut buffer = [0u8; 17];
+        let mut start = 16;
+        let mut rest = magnitude;
+        while rest >= 128 {
+            buffer[start] = turned(negative, (rest % 256) as u8);
+            rest /= 256;
+            start -= 1;
+        }
+        buffer[start] = turned(negative, rest as u8);
+        Octets { buffer, start }
+    }
+
+    pub(crate) fn as_slice(&self) -> &[u8]
+        ensures { result.now ≡ drop self.now.start self.now.buffer }
+    {
+        &self.buffer[self.start..]
+    }
+}
