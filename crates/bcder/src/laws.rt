@@ -7,8 +7,8 @@ ghost use Rattle.bcder.specs.Grammar.{OneIdentifier, OneLength, OneEnd, OneFront
 ghost use Rattle.bcder.specs.Grammar.{OneEncoding, ValueInBer, ListInBer};
 ghost use Rattle.bcder.specs.Grammar.{ValueHasTwo, ListHasTwo, ValueIsOctets, ListIsOctets};
 
-pub mod integers;
 pub mod identifiers;
+pub mod integers;
 pub mod sources;
 
 use crate::tag::Tag;
