@@ -29,6 +29,7 @@ pub mod Inside
 pub mod Walking
 pub mod Readers
 pub mod Typed
+pub mod ReadIdentifiers
 pub mod Decoding
 pub mod Begins
 pub mod PeekTag

@@ -1,7 +1,12 @@
 -- The contents octets of object identifiers (ITU-T X.690, 8.19).
 use Rattle.std.specs.Prelude.{◌≡◌, ◌≢◌, ℕ, ◌+◌, ◌-◌, ◌*◌, ◌%◌, ◌<◌, ◌≤◌, List, [], ◌∷◌, ◌++◌, map, slice_index, nat_lt, if◌then◌else◌}
+use Rattle.bcder.specs.Identifier.{Tag, universal}
 use Rattle.bcder.specs.declared.oid.components.Position.{Position}
 use Rattle.bcder.specs.declared.oid.components.Position.TheVariants.{First, Second, Other}
+
+-- X.680, 8.4
+abbrev pub identifier_tag : Tag
+identifier_tag = record { class = universal; number = 6 }
 
 -- ---- 8.19.2: subidentifiers
 

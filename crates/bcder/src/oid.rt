@@ -5,14 +5,20 @@ ghost use Rattle.std.specs.Cmp.Lexicographic.{pointwise, nat_list_eq_equiv};
 ghost use Rattle.std.specs.Cmp.{partial_equiv_from_equiv, on_per, on_equiv};
 ghost use Rattle.std.specs.Cmp.Rules.{hashing};
 ghost use Rattle.std.proofs.Common.{rules};
-ghost use Rattle.bcder.specs.ObjectIdentifier.{parts};
+ghost use Rattle.bcder.specs.ObjectIdentifier.{identifier_tag, IsComplete, parts};
 ghost use Rattle.bcder.specs.Components.{parts_left};
 ghost use Rattle.bcder.specs.IdentifierText.{text_of, IsTextOf, RefusesText};
+ghost use Rattle.bcder.specs.ReadIdentifiers.{HoldIdentifier, IsSame, NoIdentifier};
+ghost use Rattle.bcder.specs.Readers.{ReadBy, ReadOctets};
+ghost use Rattle.bcder.specs.Typed.{TookNextAs, TookNextBy, TookOneAs, TookOneBy};
+ghost use Rattle.bcder.specs.Views.{Moved, MovedOctets};
 
-mod components;
+pub(crate) mod components;
 mod text;
 
+use crate::decode::{Constructed, DecodeError, Primitive, Source};
 use crate::memory::NoMemory;
+use crate::tag::Tag;
 use bytes::Bytes;
 pub use components::{Component, Iter};
 use std::alloc::Global;
@@ -32,6 +38,26 @@ pub struct Oid<T: AsSlice<u8> = Bytes>(pub T);
 pub type ConstOid = Oid<&'static [u8]>;
 
 impl<T: AsSlice<u8>> Oid<T> {
+    /// Passes over the next value, which has to be this OBJECT IDENTIFIER: its contents octets are
+    /// compared where they stand.
+    ///
+    /// # Errors
+    ///
+    /// `ContentError::ExpectedTag` at the end and at a value of another tag: the content then stays
+    /// usable. Where the value is another identifier, where octets are no value, where an earlier
+    /// value was refused, and where the source fails: the content has then failed.
+    #[tactic(auto, using(crate::proofs::moves_refl))]
+    pub fn skip_if<S: Source>(
+        &self,
+        cons: &mut Constructed<'_, S>,
+    ) -> Result<(), DecodeError<S::Error>>
+        ensures moves { Moved S.stream cons }
+        ensures took { TookOneAs S.stream cons identifier_tag (IsSame (T.items self.now.0)) result }
+    {
+        let expected = self.0.as_slice();
+        cons.take_primitive_if(Tag::OID, |octets| octets.skip_same(expected))
+    }
+
     /// The components, in their order.
     pub fn iter(&self) -> Iter<'_>
         ensures { parts_left result ≡ parts (T.items self.now.0) }
@@ -44,6 +70,110 @@ impl<T: AsSlice<u8>> Oid<T> {
         ensures { IsTrue result ↔ (T.items self.now.0 ≡ U.items other.now.0) }
     {
         self.0.as_slice() == other.0.as_slice()
+    }
+}
+
+#[tactic(auto, using(crate::proofs::moves_refl))]
+impl Oid<Bytes> {
+    /// Passes over the next value, which has to be an OBJECT IDENTIFIER.
+    ///
+    /// # Errors
+    ///
+    /// Those of [`skip_opt_in`](Self::skip_opt_in), and `ContentError::ExpectedTag` where that
+    /// answers `None`: the content then stays usable.
+    pub fn skip_in<S: Source>(cons: &mut Constructed<'_, S>) -> Result<(), DecodeError<S::Error>>
+        ensures moves { Moved S.stream cons }
+        ensures took { TookOneAs S.stream cons identifier_tag HoldIdentifier result }
+    {
+        cons.take_primitive_if(Tag::OID, |octets| octets.skip_identifier())
+    }
+
+    /// Passes over the next value if it is an OBJECT IDENTIFIER, or answers `None` at the end and
+    /// at a value of another tag, which stays.
+    ///
+    /// # Errors
+    ///
+    /// Where a value of the tag stands there whose contents octets don't end with a subidentifier,
+    /// or octets that are no value; where an earlier value was refused; where the source fails. The
+    /// content has then failed.
+    pub fn skip_opt_in<S: Source>(
+        cons: &mut Constructed<'_, S>,
+    ) -> Result<Option<()>, DecodeError<S::Error>>
+        ensures moves { Moved S.stream cons }
+        ensures took { TookNextAs S.stream cons identifier_tag HoldIdentifier result }
+    {
+        cons.take_opt_primitive_if(Tag::OID, |octets| octets.skip_identifier())
+    }
+
+    /// Takes the next value, which has to be an OBJECT IDENTIFIER. Its octets are shared with the
+    /// source where that shares them.
+    ///
+    /// # Errors
+    ///
+    /// Those of [`take_opt_from`](Self::take_opt_from), and `ContentError::ExpectedTag` where that
+    /// answers `None`: the content then stays usable.
+    pub fn take_from<S: Source>(
+        alloc: Global,
+        cons: &mut Constructed<'_, S>,
+    ) -> Result<Self, DecodeError<S::Error>>
+        ensures moves { Moved S.stream cons }
+        ensures took { TookOneBy S.stream cons identifier_tag
+            (λ w oid. (oid.0 ≡ w) × IsComplete w) NoIdentifier result }
+    {
+        cons.take_primitive_if(Tag::OID, |octets| Oid::from_primitive(alloc, octets))
+    }
+
+    /// Takes the next value if it is an OBJECT IDENTIFIER, or answers `None` at the end and at a
+    /// value of another tag, which stays.
+    ///
+    /// # Errors
+    ///
+    /// Those of [`skip_opt_in`](Self::skip_opt_in), and where there is no memory for the octets.
+    pub fn take_opt_from<S: Source>(
+        alloc: Global,
+        cons: &mut Constructed<'_, S>,
+    ) -> Result<Option<Self>, DecodeError<S::Error>>
+        ensures moves { Moved S.stream cons }
+        ensures took { TookNextBy S.stream cons identifier_tag
+            (λ w oid. (oid.0 ≡ w) × IsComplete w) NoIdentifier result }
+    {
+        cons.take_opt_primitive_if(Tag::OID, |octets| Oid::from_primitive(alloc, octets))
+    }
+
+    /// Passes over all contents octets, which have to be those of an object identifier.
+    ///
+    /// # Errors
+    ///
+    /// Where they don't end with a subidentifier, where fewer come than are owed, and where the
+    /// source fails. Then none is taken.
+    pub fn skip_primitive<S: Source>(
+        octets: &mut Primitive<'_, S>,
+    ) -> Result<(), DecodeError<S::Error>>
+        ensures moves { MovedOctets S.stream octets }
+        ensures read { ReadOctets S.stream octets HoldIdentifier result }
+    {
+        octets.skip_identifier()
+    }
+
+    /// Takes all contents octets as an object identifier. They are shared with the source where
+    /// that shares them.
+    ///
+    /// # Errors
+    ///
+    /// Those of [`skip_primitive`](Self::skip_primitive), and where there is no memory for the
+    /// octets. Then none is taken.
+    pub fn from_primitive<S: Source>(
+        alloc: Global,
+        octets: &mut Primitive<'_, S>,
+    ) -> Result<Self, DecodeError<S::Error>>
+        ensures moves { MovedOctets S.stream octets }
+        ensures read { ReadBy S.stream octets
+            (λ w oid. (oid.0 ≡ w) × IsComplete w) NoIdentifier result }
+    {
+        match octets.take_identifier(alloc) {
+            Ok(octets) => Ok(Oid(octets)),
+            Err(error) => Err(error),
+        }
     }
 }
 

@@ -1,6 +1,7 @@
 //! The components of an object identifier (X.690, 8.19.2 to 8.19.4).
-ghost use Rattle.std.specs.Prelude.{◌≡◌, ℕ, ◌^◌, [], ◌∷◌, Some, MatchOption, min};
+ghost use Rattle.std.specs.Prelude.{◌≡◌, ℕ, ◌^◌, [], ◌∷◌, Some, MatchOption, min, ◌↔◌, IsTrue};
 ghost use Rattle.bcder.specs.ObjectIdentifier.{number, subidentifiers, parts, part_value};
+ghost use Rattle.bcder.specs.ObjectIdentifier.{IsComplete};
 ghost use Rattle.bcder.specs.Components.{part_of, parts_left, in_32_bits};
 ghost use Rattle.bcder.specs.IdentifierText.{shown};
 
@@ -20,6 +21,17 @@ enum Position {
 pub struct Component<'a> {
     position: Position,
     octets: &'a [u8],
+}
+
+/// Whether octets end with a subidentifier.
+#[inline(always)]
+pub(crate) fn is_complete(octets: &[u8]) -> bool
+    ensures { IsTrue result ↔ IsComplete octets.now }
+{
+    match octets {
+        [] => false,
+        [.., last] => *last < 0x80,
+    }
 }
 
 /// What a number is told as that doesn't fit.

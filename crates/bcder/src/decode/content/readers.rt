@@ -9,6 +9,8 @@ ghost use Rattle.bcder.specs.Readers.{IsThis, MeanAnother, NotSmallest};
 ghost use Rattle.bcder.specs.Cause.{cause_of, of_content};
 ghost use Rattle.bcder.specs.Views.{of_primitive, octets_before, octets_after, MovedOctets};
 
+mod identifier;
+
 use super::Primitive;
 use crate::NoMemory;
 use crate::decode::error::{ContentError, DecodeError};

@@ -1,0 +1,73 @@
+//! Reading the contents octets of an object identifier (X.690, 8.19).
+ghost use Rattle.std.specs.Prelude.{◌≡◌};
+ghost use Rattle.bcder.specs.ObjectIdentifier.{IsComplete};
+ghost use Rattle.bcder.specs.Readers.{ReadBy, ReadOctets};
+ghost use Rattle.bcder.specs.ReadIdentifiers.{HoldIdentifier, IsSame, NoIdentifier};
+ghost use Rattle.bcder.specs.Views.{MovedOctets};
+
+use super::super::Primitive;
+use crate::decode::error::DecodeError;
+use crate::decode::source::Source;
+use crate::oid::components::is_complete;
+use bytes::Bytes;
+use std::alloc::Global;
+
+#[tactic(auto, using(crate::proofs::moves, crate::proofs::Reading::refuses_missing))]
+impl<'a, S: Source> Primitive<'a, S> {
+    /// Takes all octets where they end with a subidentifier.
+    pub(crate) fn take_identifier(&mut self, alloc: Global) -> Result<Bytes, DecodeError<S::Error>>
+        ensures moves { MovedOctets S.stream self }
+        ensures read { ReadBy S.stream self (λ w b. (b ≡ w) × IsComplete w) NoIdentifier result }
+    {
+        let len = match self.request_all() {
+            Ok(len) => len,
+            Err(error) => return Err(error),
+        };
+        if !is_complete(self.all(len)) {
+            return Err(self.refusal("no object identifier"));
+        }
+        match self.bytes_of_all(alloc, len) {
+            Ok(octets) => {
+                self.pass_all(len);
+                Ok(octets)
+            }
+            Err(_) => Err(DecodeError::no_memory()),
+        }
+    }
+
+    /// Passes over all octets where they end with a subidentifier.
+    #[inline(always)]
+    pub(crate) fn skip_identifier(&mut self) -> Result<(), DecodeError<S::Error>>
+        ensures moves { MovedOctets S.stream self }
+        ensures read { ReadOctets S.stream self HoldIdentifier result }
+    {
+        let len = match self.request_all() {
+            Ok(len) => len,
+            Err(error) => return Err(error),
+        };
+        if is_complete(self.all(len)) {
+            self.pass_all(len);
+            Ok(())
+        } else {
+            Err(self.refusal("no object identifier"))
+        }
+    }
+
+    /// Passes over all octets where they are these.
+    #[inline(always)]
+    pub(crate) fn skip_same(&mut self, expected: &[u8]) -> Result<(), DecodeError<S::Error>>
+        ensures moves { MovedOctets S.stream self }
+        ensures read { ReadOctets S.stream self (IsSame expected.now) result }
+    {
+        let len = match self.request_all() {
+            Ok(len) => len,
+            Err(error) => return Err(error),
+        };
+        if self.all(len) == expected {
+            self.pass_all(len);
+            Ok(())
+        } else {
+            Err(self.refusal("another object identifier"))
+        }
+    }
+}
