@@ -26,3 +26,8 @@ pub mod Decoding
 pub mod Insides
 pub mod Nested
 pub mod Repeating
+pub mod Growing
+pub mod Ends
+pub mod Skips
+pub mod Unwinding
+pub mod Running
