@@ -1,7 +1,9 @@
 -- What a run over the values of a value did, step by step.
 use Rattle.std.proofs.Common.{◌≡◌, inl, inr, ℕ, suc, ◌+◌, ◌<◌, ◌≤◌, Bool, true, false, List, [], ◌∷◌, ◌++◌, length, drop, Option, Some, None, Ok, Err, IfSome, refl, sym, ap, subst, ◌∙◌, arith, length-append}
-use Rattle.std.specs.Prelude.{Result, ◌^◌}
-use Rattle.std.proofs.lemmas.List.{length-drop}
+use Rattle.std.specs.Prelude.{Result, ◌^◌, ◌==◌}
+use Rattle.std.proofs.lemmas.List.{length-drop, length-reverse}
+use Rattle.std.proofs.lemmas.Bool.Decides.{nat_tests}
+use Rattle.smallvec.specs.SmallVec.{SmallVec, small_vec_len}
 use Rattle.std.proofs.lemmas.Fn.{FoldsTo-push}
 use Rattle.bcder.specs.declared.mode.Mode.{Mode}
 use Rattle.bcder.specs.declared.length.Length.TheVariants as len
@@ -20,7 +22,7 @@ use Rattle.bcder.specs.Reading.{Header, read_contents, read_list}
 use Rattle.bcder.specs.Stream.{Layer, Stream, Grew, cut, past, limited}
 use Rattle.bcder.specs.Content.{Reading, values, any, Falls, FitsOwed, Enters, EndsAt, Moves, MovesBy, RefusesHeader, failed, source, nothing}
 use Rattle.bcder.specs.Skipping.{Steps, Called, Refused}
-use Rattle.bcder.specs.Stacked.{remain, due, heading, halt_cause, unwound, TopIs, Passes, GoesInto, octets, Leaves, Counts, PassesCalls, IsUnderWay, IsBroken, StaysOut, refused, wanted, failing, few, VisitedBy, Breaks, by_source, by_content, by_closure, by_memory, RanBy}
+use Rattle.bcder.specs.Stacked.{entries, remain, due, heading, halt_cause, unwound, TopIs, Passes, GoesInto, octets, Leaves, Counts, PassesCalls, IsUnderWay, IsBroken, StaysOut, refused, wanted, failing, few, VisitedBy, Breaks, by_source, by_content, by_closure, by_memory, RanBy}
 use Rattle.bcder.specs.Stacked as stacked
 use Rattle.bcder.specs.laws.Complete.{header_size}
 use Rattle.bcder.specs.laws.Limits.{first_kept}
@@ -29,7 +31,7 @@ use Rattle.bcder.proofs.Moving.{Falls-refl, open_not_failed}
 use Rattle.bcder.specs.Content.{NotAtEnd}
 use Rattle.bcder.specs.Walking.{NoValue}
 use Rattle.bcder.proofs.Walking.{no_value_of_nothing, end_of_nothing, moves_faults}
-use Rattle.bcder.proofs.Skips.{source_passes, first_gone, first_broken, IsMet, met, met_gone, met_broken, left, broken, nothing_more, finished, nothing_whole, few_there}
+use Rattle.bcder.proofs.Skips.{calls_on, falls_unwound, source_passes, first_gone, first_broken, IsMet, met, met_gone, met_broken, left, broken, nothing_more, finished, nothing_whole, few_there}
 use Rattle.bcder.proofs.Unwinding.{counts_falls}
 
 -- the closure was called at a header and at headings after it, and these values are open, without a fault
@@ -77,6 +79,13 @@ module _ (t v : Stream) (p q : Option ℕ) (c d : Reading) (cs : c.stream ≡ li
 pub entered_fits : (c d : Reading) (k : Header) (q : Option ℕ) → d.owed ≡ q → Enters c k d → FitsOwed k.len q
 entered_fits c d k q do' e = subst (FitsOwed k.len) do' e.fits
 
+-- the innermost value was left
+pub went_out : (mode : Mode) (h : Header) (s : Stream) (o : Option ℕ) (calls : List Heading) (es fs : List Entry) (t v x : Stream) (p q r : Option ℕ) (c d : Reading) (k : Kind) (cs : c.stream ≡ limited p t) (co : c.owed ≡ p) (ds : d.stream ≡ limited q v) (do' : d.owed ≡ q) → IsUnderWay mode h s o calls es t p → Moves c d → c.kind ≡ values k → TopIs es k → c.state ≡ Open → c.mode ≡ mode → Within c → EndsAt c d → Leaves es q fs r → x ≡ v → IsUnderWay mode h s o calls fs x r
+went_out mode h s o calls es fs t v x p q r c d k cs co ds do' u m ck ti st cm wi e l i =
+    let a = passing t v p q c d cs co ds do' m in
+    subst (λ z. IsUnderWay mode h s o calls fs z r) (sym i)
+    (left mode h s o calls es fs t v p q r a.octets c d k u a.passes a.falls a.layer ck ti st cm co (ap (λ z. z.rest) cs) (ap (λ z. z.rest) ds) (octets_moved t v p q c d cs co ds do' wi) e l)
+
 -- ---- steps of a run
 
 module _ {F : Type 0} (step : Steps F ContentError) (mode : Mode) (h : Header) (s : Stream) (o : Option ℕ) (f : F) where
@@ -116,8 +125,8 @@ module _ {F : Type 0} (step : Steps F ContentError) (mode : Mode) (h : Header) (
       }
 
       -- or not, and the limit was given back
-      pub stayed_out : {X : Type 0} → (e : Halt X) (g' : F) (fs : List Entry) (t' : Stream) (p' r : Option ℕ) → VisitedBy step {T = Unit {0}} k es v q g (Err e) g' fs t' p' → r ≡ unwound fs p' → RanBy step {T = Unit {0}} mode h s o f (Err e) g' t' r
-      stayed_out e g' fs t' p' r z i = record { whole = tt; no_fault = tt; breaks = go z.stays; faults = omega (arith, z.faults, nf, w.no_fault) }
+      stayed_out_of : {X : Type 0} → (e : Halt X) (g' : F) (fs : List Entry) (t' : Stream) (p' r : Option ℕ) → VisitedBy step {T = Unit {0}} k es v q g (Err e) g' fs t' p' → r ≡ unwound fs p' → RanBy step {T = Unit {0}} mode h s o f (Err e) g' t' r
+      stayed_out_of e g' fs t' p' r z i = record { whole = tt; no_fault = tt; breaks = go z.stays; faults = omega (arith, z.faults, nf, w.no_fault) }
         where
           after_it : List Heading
           after_it = w.calls ++ heading k (length es) ∷ []
@@ -135,20 +144,12 @@ module _ {F : Type 0} (step : Steps F ContentError) (mode : Mode) (h : Header) (
           go (failing a j y) = by_source after_it (called a) b j (grew y)
           go (few n a j y l c) = by_content after_it (called a) b (none n y l) c
 
-    -- the innermost value was left
-    pub went_out : (v : Stream) (q r : Option ℕ) (fs : List Entry) (c d : Reading) (k : Kind) (cs : c.stream ≡ limited p t) (co : c.owed ≡ p) (ds : d.stream ≡ limited q v) (do' : d.owed ≡ q) → Moves c d → v.faults ≡ t.faults → c.kind ≡ values k → TopIs es k → c.state ≡ Open → c.mode ≡ mode → Within c → EndsAt c d → Leaves es q fs r → Goes step mode h s o f fs g v r
-    went_out v q r fs c d k cs co ds do' m nf ck ti st cm wi e l =
-        let a = passing t v p q c d cs co ds do' m in
-        record {
-          calls = w.calls;
-          called = w.called;
-          under = left mode h s o w.calls es fs t v p q r a.octets c d k w.under a.passes a.falls a.layer ck ti st cm co (ap (λ x. x.rest) cs) (ap (λ x. x.rest) ds) (octets_moved t v p q c d cs co ds do' wi) e l;
-          no_fault = nf ∙ w.no_fault;
-        }
+      pub stayed_out : {X : Type 0} → (e : Halt X) (g' : F) (fs : List Entry) (t' u' : Stream) (p' r : Option ℕ) → VisitedBy step {T = Unit {0}} k es v q g (Err e) g' fs t' p' → u' ≡ t' → r ≡ unwound fs p' → RanBy step {T = Unit {0}} mode h s o f (Err e) g' u' r
+      stayed_out e g' fs t' u' p' r z y i = subst (λ x. RanBy step {T = Unit {0}} mode h s o f (Err e) g' x r) (sym y) (stayed_out_of e g' fs t' p' r z i)
 
     -- the next header was refused, and the limit was given back
-    pub went_wrong : {X : Type 0} → (e : Stop X) (v : Stream) (q r : Option ℕ) (c d : Reading) (k : Kind) (cs : c.stream ≡ limited p t) (co : c.owed ≡ p) (ds : d.stream ≡ limited q v) (do' : d.owed ≡ q) → Moves c d → 1 ≤ length es → c.kind ≡ values k → TopIs es k → c.state ≡ Open → c.mode ≡ mode → Within c → RefusesHeader stop_cause any c e d → r ≡ unwound es q → RanBy step {T = Unit {0}} mode h s o f (Err (halt.Stopped e)) g v r
-    went_wrong e v q r c d k cs co ds do' m some ck ti st cm wi x i = record { whole = tt; no_fault = tt; breaks = go x; faults = (let y : c.stream.faults ≤ d.stream.faults = moves_faults c d m in omega (arith, w.no_fault, ap (λ z. z.faults) cs, ap (λ z. z.faults) ds)) }
+    pub went_wrong : {X : Type 0} → (e : Stop X) (v x' : Stream) (q r : Option ℕ) (c d : Reading) (k : Kind) (cs : c.stream ≡ limited p t) (co : c.owed ≡ p) (ds : d.stream ≡ limited q v) (do' : d.owed ≡ q) → Moves c d → 1 ≤ length es → c.kind ≡ values k → TopIs es k → c.state ≡ Open → c.mode ≡ mode → Within c → RefusesHeader stop_cause any c e d → x' ≡ v → r ≡ unwound es q → RanBy step {T = Unit {0}} mode h s o f (Err (halt.Stopped e)) g x' r
+    went_wrong e v x' q r c d k cs co ds do' m some ck ti st cm wi x j i = subst (λ z. RanBy step {T = Unit {0}} mode h s o f (Err (halt.Stopped e)) g z r) (sym j) record { whole = tt; no_fault = tt; breaks = go x; faults = (let y : c.stream.faults ≤ d.stream.faults = moves_faults c d m in omega (arith, w.no_fault, ap (λ z. z.faults) cs, ap (λ z. z.faults) ds)) }
       where
         a : Passing t v p q c d cs co ds do'
         a = passing t v p q c d cs co ds do' m
@@ -185,3 +186,28 @@ passes_shorter s w t p = omega (arith, ap length p.rest, length-append w t.rest)
 pub goes_shorter : (h : Header) (es fs : List Entry) (s t : Stream) (o p : Option ℕ) → GoesInto h es s o fs t p → length t.rest + length fs ≤ length s.rest + length es + 1
 goes_shorter h es fs s t o p (octets n a b l e r k i) = omega (arith, ap length e, ap length r, length-drop n s.rest)
 goes_shorter h es fs s t o p (stacked.values a e k i) = omega (arith, ap length e, ap (λ x. length x.rest) k)
+
+-- ---- the stack
+
+pub some_entry : (v : SmallVec Entry) {b : Bool} → b ≡ (small_vec_len v == 0) → b ≡ false → 1 ≤ length (entries v)
+some_entry v e f = let x : 1 ≤ small_vec_len v = grind (arith, nat_tests) in omega (arith, length-reverse v.items)
+
+-- the limit that a visit which halted leaves
+pub out_counts : (mode : Mode) (h : Header) (s : Stream) (o : Option ℕ) (calls : List Heading) (es : List Entry) (k : Header) (v : Stream) (q : Option ℕ) (fs : List Entry) (p outer : Option ℕ) → IsMet mode h s o calls es k v q → fs ≡ es → p ≡ q → outer ≡ o → IfSome outer (λ n. n < 2 ^ 64) → Counts outer (unwound fs p)
+out_counts mode h s o calls es k v q fs p outer m e f i r = rw (e, f) (around_counts mode s outer (calls ++ heading k (length es) ∷ []) v (unwound es q) (subst (λ z. PassesCalls mode s z (calls ++ heading k (length es) ∷ []) v (unwound es q)) (sym i) m.passes) r)
+
+pub wrong_counts : (mode : Mode) (h : Header) (s : Stream) (o : Option ℕ) (calls : List Heading) (es : List Entry) (t v : Stream) (p q outer : Option ℕ) (c d : Reading) (cs : c.stream ≡ limited p t) (co : c.owed ≡ p) (ds : d.stream ≡ limited q v) (do' : d.owed ≡ q) → Moves c d → IsUnderWay mode h s o calls es t p → outer ≡ o → IfSome outer (λ n. n < 2 ^ 64) → Counts outer (unwound es q)
+wrong_counts mode h s o calls es t v p q outer c d cs co ds do' m u i r =
+    let a = passing t v p q c d cs co ds do' m in
+    let b = calls_on mode s o calls t v (unwound es p) (unwound es q) a.octets u.passes a.passes (falls_unwound es p q (length a.octets) a.falls) in
+    around_counts mode s outer calls v (unwound es q) (subst (λ z. PassesCalls mode s z calls v (unwound es q)) (sym i) b) r
+
+pub entered_shorter : (t v : Stream) (p q : Option ℕ) (c d : Reading) (cs : c.stream ≡ limited p t) (co : c.owed ≡ p) (ds : d.stream ≡ limited q v) (do' : d.owed ≡ q) (k : Header) (es fs : List Entry) (t' : Stream) (p' : Option ℕ) → Enters c k d → GoesInto k es v q fs t' p' → length t'.rest + length fs < length t.rest + length es
+entered_shorter t v p q c d cs co ds do' k es fs t' p' e g =
+    let w : Passes t e.octets v = source_passes t v p q e.octets (cut_moved t v p q c d cs co ds do' e.octets e.advances.rest) (kept_moved t v p q c d cs co ds do' e.advances.kept) in
+    omega (arith, passes_shorter t e.octets v w, goes_shorter k es fs v t' q p' g, header_size c.mode k.tag k.form k.len e.octets e.is_header)
+
+pub left_shorter : (t v : Stream) (p q : Option ℕ) (c d : Reading) (cs : c.stream ≡ limited p t) (co : c.owed ≡ p) (ds : d.stream ≡ limited q v) (do' : d.owed ≡ q) → Moves c d → length v.rest ≤ length t.rest
+left_shorter t v p q c d cs co ds do' m =
+    let a = passing t v p q c d cs co ds do' m in
+    omega (arith, passes_shorter t a.octets v a.passes)

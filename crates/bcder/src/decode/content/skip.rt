@@ -147,6 +147,18 @@ fn leave<S>(cons: &mut Constructed<'_, S>, stack: &mut SmallVec<Entry, 4>)
     cons.state = State::Open;
 }
 
+/// How many octets are owed, if there is a limit.
+#[inline(always)]
+fn owed<S>(source: &LimitedSource<S>) -> Option<usize>
+    ensures value { result ≡ source.now.limit }
+    ensures range { IfSome result (λ n. n < 2 ^ 64) }
+{
+    match source.limit() {
+        Some(owed) => Some(owed),
+        None => None,
+    }
+}
+
 /// Gives the limit back that was there before the open values were entered.
 #[inline(never)]
 fn unwind<S>(
@@ -231,7 +243,7 @@ where
     ensures ran { Ran S.stream F.step cons header op result }
     ensures name { cons.new.source.ghost_name ≡ cons.old.source.ghost_name }
 {
-    let outer = cons.source.limit();
+    let outer = owed(cons.source);
     let mut stack: SmallVec<Entry, 4> = SmallVec::new(alloc);
     if let Err(halt) = visit(cons, &mut stack, header, op) {
         return Err(halt);
