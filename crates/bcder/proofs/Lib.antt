@@ -31,3 +31,4 @@ pub mod Ends
 pub mod Skips
 pub mod Unwinding
 pub mod Running
+pub mod Skipped

@@ -15,7 +15,7 @@ use Rattle.bcder.specs.Tree.{Tree}
 use Rattle.bcder.specs.Encoding.{IsHeader}
 use Rattle.bcder.specs.Preorder.{Heading, preorder}
 use Rattle.bcder.specs.Stream.{Stream, Grew}
-use Rattle.bcder.specs.Content.{Reading, EndsBefore, EndsAt, IsDone}
+use Rattle.bcder.specs.Content.{Reading, EndsBefore, EndsAt, IsDone, NotAtEnd}
 use Rattle.bcder.specs.Walking.{HasValue, PassesValue, RefusesWalk}
 use Rattle.bcder.specs.Views.{of_constructed}
 
@@ -65,8 +65,8 @@ pub record WereCalls (c : Reading) (calls : List Heading) (d : Reading) : Type 0
   pub stand : HeadersFrom c.mode calls c.stream.rest
   -- for each, two octets were taken
   pub twice : 2 * length calls + length d.stream.rest ≤ length c.stream.rest
-  -- content that isn't open gets none
-  pub usable : c.state ≢ Open → calls ≡ []
+  -- content that isn't open, or at its end, gets none
+  pub usable : (calls ≡ [] → ⊥) → (c.state ≡ Open) × NotAtEnd c
 
 -- ---- one value
 
