@@ -59,6 +59,7 @@ goes_on mode (Definite out) es x y zero o e = rw (read_list_step mode false x o,
     inner : (t : Tree) (z : List ℕ) (r : Option (Trees × List ℕ)) → option_and_then (λ ts. after (preorders ts.0 (suc (length es))) (ends mode es (cut out y) (lack out y) (past out y).octets)) (option_map {U = Trees × List ℕ} (λ ts. (t ∷ₜ ts.0, ts.1)) r) ≡ after (preorder t (suc (length es))) (option_and_then (λ ts. after (preorders ts.0 (suc (length es))) (ends mode es (cut out y) (lack out y) (past out y).octets)) r)
     inner t z None = refl
     inner t z (Some ts) = sym (two_calls (preorder t (suc (length es))) (preorders ts.0 (suc (length es))) (ends mode es (cut out y) (lack out y) (past out y).octets))
+
     go : (r : Option (Tree × List ℕ)) → option_and_then (λ ts. after (preorders ts.0 (suc (length es))) (ends mode es (cut out y) (lack out y) (past out y).octets)) (option_and_then {U = Trees × List ℕ} (λ t. option_map (λ ts. (t.0 ∷ₜ ts.0, ts.1)) (read_list mode false t.1)) r) ≡ option_and_then (λ t. after (preorder t.0 (suc (length es))) (ends mode (Definite out ∷ es) t.1 0 y)) r
     go None = refl
     go (Some t) = inner t.0 t.1 (read_list mode false t.1)
@@ -72,6 +73,7 @@ goes_on mode Indefinite es x y m o e = rw (read_list_step mode true x o, e) (go 
     inner : (t : Tree) (r : Option (Trees × List ℕ)) → option_and_then (λ ts. after (preorders ts.0 (suc (length es))) (ends mode es ts.1 m y)) (option_map {U = Trees × List ℕ} (λ ts. (t ∷ₜ ts.0, ts.1)) r) ≡ after (preorder t (suc (length es))) (option_and_then (λ ts. after (preorders ts.0 (suc (length es))) (ends mode es ts.1 m y)) r)
     inner t None = refl
     inner t (Some ts) = sym (two_calls (preorder t (suc (length es))) (preorders ts.0 (suc (length es))) (ends mode es ts.1 m y))
+
     go : (r : Option (Tree × List ℕ)) → option_and_then (λ ts. after (preorders ts.0 (suc (length es))) (ends mode es ts.1 m y)) (option_and_then {U = Trees × List ℕ} (λ t. option_map (λ ts. (t.0 ∷ₜ ts.0, ts.1)) (read_list mode true t.1)) r) ≡ option_and_then (λ t. after (preorder t.0 (suc (length es))) (ends mode (Indefinite ∷ es) t.1 m y)) r
     go None = refl
     go (Some t) = inner t.0 (read_list mode true t.1)
@@ -147,14 +149,14 @@ Restores-none z = record { within = append-nil z; missing = refl; behind = refl 
 
 pub Restores-all : (z y : List ℕ) (k : ℕ) → k ≡ length z → Restores (Some k) z y 0
 Restores-all z y k e = record {
-    within = ap (λ n. take n (z ++ y)) e ∙ take_front z y;
-    missing = omega (arith, length-append z y);
-    behind = ap (λ n. drop n (z ++ y)) e ∙ drop_front z y
-  }
+  within = ap (λ n. take n (z ++ y)) e ∙ take_front z y;
+  missing = omega (arith, length-append z y);
+  behind = ap (λ n. drop n (z ++ y)) e ∙ drop_front z y;
+}
 
 pub Restores-short : (z : List ℕ) (k m : ℕ) → k ≡ length z + m → Restores (Some k) z [] m
 Restores-short z k m e = record {
-    within = ap (take k) (append-nil z) ∙ take_all k z (omega arith);
-    missing = omega (arith, length-append z []);
-    behind = ap (drop k) (append-nil z) ∙ drop_all k z (omega arith)
-  }
+  within = ap (take k) (append-nil z) ∙ take_all k z (omega arith);
+  missing = omega (arith, length-append z []);
+  behind = ap (drop k) (append-nil z) ∙ drop_all k z (omega arith);
+}

@@ -105,8 +105,10 @@ module _ {F : Type 0} (step : Steps F ContentError) (mode : Mode) (h : Header) (
     where
       b : IsBroken mode h s o [] t p
       b = first_broken mode h s t o p v.rest v.kept v.limit
+
       called : step f h.tag h.form (length es) (Ok tt) g → Called step f (heading h 0 ∷ []) g
       called a = FoldsTo-push R f [] f (heading h 0) g refl (subst (λ z. step f h.tag h.form (length z) (Ok tt) g) i a)
+
       go : StaysOut step h (length es) s f e g t → Breaks step mode h s o f e g t p
       go (refused x a j) = by_closure [] [] (heading h 0) f x refl refl (subst (λ z. step f h.tag h.form (length z) (Err x) g) i a) b j
       go (wanted a j l k) = absurd (omega (arith, ap length i))
@@ -130,14 +132,19 @@ module _ {F : Type 0} (step : Steps F ContentError) (mode : Mode) (h : Header) (
         where
           after_it : List Heading
           after_it = w.calls ++ heading k (length es) ∷ []
+
           b : IsBroken mode h s o after_it t' r
           b = met_broken mode h s o w.calls es k v q m t' r z.rest z.kept (i ∙ ap (λ y. unwound y p') z.entries ∙ ap (unwound es) z.limit)
+
           called : step g k.tag k.form (length es) (Ok tt) g' → Called step f (heading h 0 ∷ after_it) g'
           called a = FoldsTo-push R f (heading h 0 ∷ w.calls) g (heading k (length es)) g' w.called a
+
           grew : Grew v.faults t'.faults → Grew s.faults t'.faults
           grew y = subst (λ n. Grew n t'.faults) (nf ∙ w.no_fault) y
+
           none : (n : ℕ) → k.len ≡ len.Definite n → length v.rest < n → read_contents (read_list mode) h.tag h.form h.len (cut o s.rest) ≡ None
           none n a l = nothing_whole mode h s o (heading h 0 ∷ w.calls) (due mode es k q v.rest) m.outcome (ap (λ y. stacked.next_to mode es y (stacked.lack q v.rest) (past q v.rest).octets) (few_there mode es k v q n a l))
+
           go : StaysOut step k (length es) v g e g' t' → Breaks step mode h s o f e g' t' r
           go (refused x a j) = by_closure after_it (heading h 0 ∷ w.calls) (heading k (length es)) g x refl w.called a b j
           go (wanted a j l y) = by_memory after_it (heading h 0 ∷ w.calls) (heading k (length es)) refl (called a) j l b y
@@ -153,13 +160,17 @@ module _ {F : Type 0} (step : Steps F ContentError) (mode : Mode) (h : Header) (
       where
         a : Passing t v p q c d cs co ds do'
         a = passing t v p q c d cs co ds do' m
+
         b : IsBroken mode h s o w.calls v r
         b = broken mode h s o w.calls es t v p q r a.octets w.under a.passes a.falls i
+
         grew : Grew c.stream.faults d.stream.faults → Grew s.faults v.faults
         grew y = subst (λ n. Grew n v.faults) (ap (λ z. z.faults) cs ∙ w.no_fault) (subst (λ n. Grew c.stream.faults n) (ap (λ z. z.faults) ds) y)
+
         remains : (es : List Entry) → 1 ≤ length es → TopIs es k → stacked.AreLimited es p → NoValue c → NotAtEnd c → remain mode es p t.rest ≡ None
         remains [] l ti li n j = absurd (omega arith)
         remains (top ∷ fs) l ti li n j = nothing_more mode fs t p c k ck st cm co (ap (λ z. z.rest) cs) (octets_moved t v p q c d cs co ds do' wi) n j top ti li
+
         go : RefusesHeader stop_cause any c e d → Breaks step mode h s o f (halt.Stopped e) g v r
         go (failed y z) = absurd (open_not_failed c.state st y)
         go (source y z) = by_source w.calls w.called b y (grew z)

@@ -176,6 +176,7 @@ module _ (c d e : Reading) (k : Header) (s t : Stream) (o p : Option ℕ) (withi
         passed_of (by_content calls called b n j) = (calls, b.passes)
         passed_of (by_closure calls before last q z is called r b j) = (calls, b.passes)
         passed_of (by_memory calls before last is called a l b j) = (calls, b.passes)
+
         go : (calls : List Heading) × PassesCalls c.mode s o calls t p → Moves c e
         go q = moves_failed c e (x.octets ++ q.1.passed) (advances_whole q.0 q.1 l) (λ z. ea ∙ x.unmarked ∙ z) ends st
 

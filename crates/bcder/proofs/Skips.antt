@@ -353,10 +353,10 @@ met mode h s o calls (top ∷ es) k t v p q w u l a e j f i =
     let b : lack p t.rest ≡ lack q v.rest = ap (lack p) g.rest ∙ lack_falls p q w v.rest f in
     let c : past p t.rest ≡ past q v.rest = sym (first_kept j) in
     let r : remain mode (top ∷ es) p t.rest ≡ due mode (top ∷ es) k q v.rest =
-        goes_on mode top es (cut p t.rest) (past p t.rest).octets (lack p t.rest) a none
-        ∙ ap (λ x. next_to mode (top ∷ es) x (lack p t.rest) (past p t.rest).octets) (from_header mode k (cut p t.rest) (cut q v.rest) a read)
-        ∙ ap (λ x. next_to mode (top ∷ es) (read_contents (read_list mode) k.tag k.form k.len (cut q v.rest)) x (past p t.rest).octets) b
-        ∙ ap (λ (x : Layer). next_to mode (top ∷ es) (read_contents (read_list mode) k.tag k.form k.len (cut q v.rest)) (lack q v.rest) x.octets) c
+    goes_on mode top es (cut p t.rest) (past p t.rest).octets (lack p t.rest) a none
+    ∙ ap (λ x. next_to mode (top ∷ es) x (lack p t.rest) (past p t.rest).octets) (from_header mode k (cut p t.rest) (cut q v.rest) a read)
+    ∙ ap (λ x. next_to mode (top ∷ es) (read_contents (read_list mode) k.tag k.form k.len (cut q v.rest)) x (past p t.rest).octets) b
+    ∙ ap (λ (x : Layer). next_to mode (top ∷ es) (read_contents (read_list mode) k.tag k.form k.len (cut q v.rest)) (lack q v.rest) x.octets) c
     in
     record {
       outcome = u.outcome ∙ ap (after (heading h 0 ∷ calls)) r;
@@ -402,16 +402,19 @@ module _ (mode : Mode) (es : List Entry) (t v : Stream) (p q : Option ℕ) (w : 
   definite_left b e =
       let n = ended q (subst (λ x. Falls x (length w) q) e f) in
       let same : t.rest ≡ v.rest = g.rest ∙ ap (λ x. x ++ v.rest) (empty w n.0) in
-      let z : 0 - length t.rest ≡ 0 = omega arith in
-      (ap (λ x. remain mode (Definite b ∷ es) x t.rest) e ∙ ap (λ m. ends mode (Definite b ∷ es) [] m t.rest) z ∙ definite_ends mode b es t.rest ∙ ap (remain mode es b) same,
-      ap (λ x. unwound es (joined b x)) n.1 ∙ ap (unwound es) (back b))
+      let z : 0 - length t.rest ≡ 0 = omega arith in (
+        ap (λ x. remain mode (Definite b ∷ es) x t.rest) e ∙ ap (λ m. ends mode (Definite b ∷ es) [] m t.rest) z ∙ definite_ends mode b es t.rest ∙ ap (remain mode es b) same,
+        ap (λ x. unwound es (joined b x)) n.1 ∙ ap (unwound es) (back b),
+      )
     where
       ended : (q : Option ℕ) → Falls (Some 0) (length w) q → (length w ≡ 0) × (q ≡ Some 0)
       ended None x = absurd (x refl)
       ended (Some m) x = (omega arith, ap Some (let y : m ≡ 0 = omega arith in y))
+
       empty : (w : List ℕ) → length w ≡ 0 → w ≡ []
       empty [] x = refl
       empty (c ∷ w) x = absurd (omega arith)
+
       back : (b : Option ℕ) → joined b (Some 0) ≡ b
       back None = refl
       back (Some m) = ap Some (let y : m + 0 ≡ m = omega arith in y)

@@ -88,11 +88,7 @@ fn joined(behind: Option<usize>, left: Option<usize>) -> Option<usize>
 
 /// Opens a value whose header was passed over, if there is memory for it.
 #[inline(always)]
-fn open<S>(
-    cons: &mut Constructed<'_, S>,
-    stack: &mut SmallVec<Entry, 4>,
-    len: Length,
-) -> bool
+fn open<S>(cons: &mut Constructed<'_, S>, stack: &mut SmallVec<Entry, 4>, len: Length) -> bool
     ensures entries { result ≡ true
         → entries stack.new ≡ entry_of len (limit_in cons.old) ∷ entries stack.old }
     ensures limit { result ≡ true → limit_in cons.new ≡ limit_inside len (limit_in cons.old) }
@@ -161,11 +157,7 @@ fn owed<S>(source: &LimitedSource<S>) -> Option<usize>
 
 /// Gives the limit back that was there before the open values were entered.
 #[inline(never)]
-fn unwind<S>(
-    source: &mut LimitedSource<S>,
-    stack: &mut SmallVec<Entry, 4>,
-    outer: Option<usize>,
-)
+fn unwind<S>(source: &mut LimitedSource<S>, stack: &mut SmallVec<Entry, 4>, outer: Option<usize>)
     requires { Counts outer (unwound (entries stack.old) source.old.limit) }
     ensures limit { source.new.limit ≡ unwound (entries stack.old) source.old.limit }
     ensures source { source.new.source ≡ source.old.source }

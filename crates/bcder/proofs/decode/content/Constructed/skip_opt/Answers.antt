@@ -96,4 +96,3 @@ pub returns-in-Err-clause-exact : goal.returns-in-Err-clause-exact
 unfolding of_constructed
 returns-in-Err-clause-exact g c =
     λ n. answers_skip cause_of _ _ _ _ _ (within_constructed g.S.Source.stream g.met.S.Source.sound c.args.self.now) n _ (skipped_none cause_of _ (of_constructed g.S.Source.stream c.args.self.now) (of_constructed g.S.Source.stream c.next_header.new.self) c.args.op.now c.next_header.ensures.mode c.next_header.ensures.marked c.stopped.result c.next_header.ensures.moves (walk_stopped stop_cause cause_of _ _ c.stopped.ensures.refused c.stopped.ensures.source _ _ (next_refused stop_cause (of_constructed g.S.Source.stream c.args.self.now) (of_constructed g.S.Source.stream c.next_header.new.self) _ (within_constructed g.S.Source.stream g.met.S.Source.sound c.args.self.now) c.in-Err.ensures.refused)) c.in-Err.ensures.failed)
-
