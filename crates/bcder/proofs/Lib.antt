@@ -47,3 +47,9 @@ pub mod Held
 pub mod ReadBack
 pub mod Decimal
 pub mod Telling
+pub mod Growing
+pub mod Ends
+pub mod Skips
+pub mod Unwinding
+pub mod Running
+pub mod Skipped

@@ -48,3 +48,6 @@ pub mod CapturingValues
 pub mod Choices
 pub mod Enclosing
 pub mod IntegerOctets
+pub mod Growing
+pub mod Skipping
+pub mod Stacked

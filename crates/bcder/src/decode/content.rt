@@ -16,6 +16,7 @@ mod readers;
 mod remaining;
 mod repeat;
 mod sequences;
+mod skip;
 mod take;
 mod typed;
 mod values;
