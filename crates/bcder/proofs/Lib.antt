@@ -26,3 +26,9 @@ pub mod Decoding
 pub mod Insides
 pub mod Nested
 pub mod Repeating
+pub mod Growing
+pub mod Ends
+pub mod Skips
+pub mod Unwinding
+pub mod Running
+pub mod Skipped

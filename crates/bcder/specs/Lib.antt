@@ -27,3 +27,6 @@ pub mod PeekLength
 pub mod Answers
 pub mod Changed
 pub mod Repeating
+pub mod Growing
+pub mod Skipping
+pub mod Stacked

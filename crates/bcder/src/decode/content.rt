@@ -12,6 +12,7 @@ mod octets;
 mod remaining;
 mod repeat;
 mod sequences;
+mod skip;
 mod take;
 mod values;
 pub(super) mod walk;

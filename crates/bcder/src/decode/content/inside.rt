@@ -25,7 +25,7 @@ use crate::tag::Tag;
 
 /// How the end of the values behind a length is known (X.690, 8.1.3.2).
 #[inline(always)]
-fn kind_behind(len: Length) -> Kind
+pub(super) fn kind_behind(len: Length) -> Kind
     ensures { result ≡ kind_behind len }
 {
     match len {
@@ -37,7 +37,7 @@ fn kind_behind(len: Length) -> Kind
 /// Limits the source to the content behind a length, and answers the limit of the content around
 /// it.
 #[inline(always)]
-fn go_inside<S>(source: &mut LimitedSource<S>, len: Length) -> Option<usize>
+pub(super) fn go_inside<S>(source: &mut LimitedSource<S>, len: Length) -> Option<usize>
     ensures outer { result ≡ source.old.limit }
     ensures limit { source.new.limit ≡ limit_inside len source.old.limit }
     ensures source { source.new.source ≡ source.old.source }

@@ -259,6 +259,7 @@ impl<'a, S: Source> Constructed<'a, S> {
         ensures none { FindsNone (before S.stream self) (after S.stream self) any result }
         ensures refused { RefusesNext (before S.stream self) (after S.stream self)
             stop_cause any result }
+        ensures no_fault { MeetsNoFault (before S.stream self) (after S.stream self) result }
         ensures failed { OnErr result (self.new.state ≡ State.Failed) }
         ensures mode { self.new.mode ≡ self.old.mode }
         ensures marked { self.new.marked ≡ self.old.marked }

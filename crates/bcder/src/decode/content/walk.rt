@@ -155,7 +155,7 @@ impl<'a, S: Source> Constructed<'a, S> {
     /// it did. The source is asked once at most, and not where no octets are owed.
     #[tactic(auto, unfolding(crate::specs::Views::of_constructed))]
     #[inline(always)]
-    fn pass_at_hand(&mut self, short: bool) -> Result<bool, Stop<S::Error>>
+    pub(super) fn pass_at_hand(&mut self, short: bool) -> Result<bool, Stop<S::Error>>
         ensures moves { Between S.stream self Moves }
         ensures passed { PassedAtOnce S.stream self result }
     {

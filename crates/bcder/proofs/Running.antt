@@ -1,0 +1,224 @@
+-- What a run over the values of a value did, step by step.
+use Rattle.std.proofs.Common.{◌≡◌, inl, inr, ℕ, suc, ◌+◌, ◌<◌, ◌≤◌, Bool, true, false, List, [], ◌∷◌, ◌++◌, length, drop, Option, Some, None, Ok, Err, IfSome, refl, sym, ap, subst, ◌∙◌, arith, length-append}
+use Rattle.std.specs.Prelude.{Result, ◌^◌, ◌==◌}
+use Rattle.std.proofs.lemmas.List.{length-drop, length-reverse}
+use Rattle.std.proofs.lemmas.Bool.Decides.{nat_tests}
+use Rattle.smallvec.specs.SmallVec.{SmallVec, small_vec_len}
+use Rattle.std.proofs.lemmas.Fn.{FoldsTo-push}
+use Rattle.bcder.specs.declared.mode.Mode.{Mode}
+use Rattle.bcder.specs.declared.length.Length.TheVariants as len
+use Rattle.bcder.specs.declared.decode.content.Kind.{Kind}
+use Rattle.bcder.specs.declared.decode.content.State.TheVariants.{Open}
+use Rattle.bcder.specs.declared.decode.content.skip.Entry.{Entry}
+use Rattle.bcder.specs.declared.decode.content.skip.Halt.{Halt}
+use Rattle.bcder.specs.declared.decode.content.skip.Halt.TheVariants as halt
+use Rattle.bcder.specs.declared.decode.stop.Stop.{Stop}
+use Rattle.bcder.specs.declared.decode.error.ContentError.{ContentError}
+use Rattle.bcder.specs.Cause.{of_source, of_content, of_memory, IsOfContent, stop_cause}
+use Rattle.bcder.specs.Identifier.{AreOctets}
+use Rattle.bcder.specs.Encoding.{IsHeader}
+use Rattle.bcder.specs.Preorder.{Heading}
+use Rattle.bcder.specs.Reading.{Header, read_contents, read_list}
+use Rattle.bcder.specs.Stream.{Layer, Stream, Grew, cut, past, limited}
+use Rattle.bcder.specs.Content.{Reading, values, any, Falls, FitsOwed, Enters, EndsAt, Moves, MovesBy, RefusesHeader, failed, source, nothing}
+use Rattle.bcder.specs.Skipping.{Steps, Called, Refused}
+use Rattle.bcder.specs.Stacked.{entries, remain, due, heading, halt_cause, unwound, TopIs, Passes, GoesInto, octets, Leaves, Counts, PassesCalls, IsUnderWay, IsBroken, StaysOut, refused, wanted, failing, few, VisitedBy, Breaks, by_source, by_content, by_closure, by_memory, RanBy}
+use Rattle.bcder.specs.Stacked as stacked
+use Rattle.bcder.specs.laws.Complete.{header_size}
+use Rattle.bcder.specs.laws.Limits.{first_kept}
+use Rattle.bcder.proofs.Entering.{Within}
+use Rattle.bcder.proofs.Moving.{Falls-refl, open_not_failed}
+use Rattle.bcder.specs.Content.{NotAtEnd}
+use Rattle.bcder.specs.Walking.{NoValue}
+use Rattle.bcder.proofs.Walking.{no_value_of_nothing, end_of_nothing, moves_faults}
+use Rattle.bcder.proofs.Skips.{calls_on, falls_unwound, source_passes, first_gone, first_broken, IsMet, met, met_gone, met_broken, left, broken, nothing_more, finished, nothing_whole, few_there}
+use Rattle.bcder.proofs.Unwinding.{counts_falls}
+
+-- the closure was called at a header and at headings after it, and these values are open, without a fault
+pub record Goes {F : Type 0} (step : Steps F ContentError) (mode : Mode) (h : Header) (s : Stream) (o : Option ℕ) (f : F) (es : List Entry) (g : F) (t : Stream) (p : Option ℕ) : Type 0 where
+  pub calls : List Heading
+  pub called : Called step f (heading h 0 ∷ calls) g
+  pub under : IsUnderWay mode h s o calls es t p
+  pub no_fault : t.faults ≡ s.faults
+
+-- ---- the content around, as content tells it
+
+module _ (t v : Stream) (p q : Option ℕ) (c d : Reading) (cs : c.stream ≡ limited p t) (co : c.owed ≡ p) (ds : d.stream ≡ limited q v) (do' : d.owed ≡ q) where
+  cut_moved : (w : List ℕ) → c.stream.rest ≡ w ++ d.stream.rest → cut p t.rest ≡ w ++ cut q v.rest
+  cut_moved w r = ap (λ x. x.rest) (sym cs) ∙ r ∙ ap (λ x. w ++ x.rest) ds
+
+  kept_moved : d.stream.kept ≡ c.stream.kept → ◌≡◌ {A = List Layer} (past q v.rest ∷ v.kept) (past p t.rest ∷ t.kept)
+  kept_moved k = ap (λ x. x.kept) (sym ds) ∙ k ∙ ap (λ x. x.kept) cs
+
+  falls_moved : (n : ℕ) → Falls c.owed n d.owed → Falls p n q
+  falls_moved n f = subst (λ x. Falls x n q) co (subst (λ x. Falls c.owed n x) do' f)
+
+  pub octets_moved : Within c → AreOctets (cut p t.rest)
+  octets_moved w = subst AreOctets (ap (λ x. x.rest) cs) w.octets
+
+  -- what was passed of content was passed of the source
+  pub record Passing : Type 0 where
+    pub octets : List ℕ
+    pub passes : Passes t octets v
+    pub falls : Falls p (length octets) q
+    pub layer : past q v.rest ≡ past p t.rest
+
+  pub passing : Moves c d → Passing
+  unfolding Moves
+  passing m = record {
+    octets = m.passed;
+    passes = source_passes t v p q m.passed (cut_moved m.passed m.rest) (kept_moved m.kept);
+    falls = falls_moved (length m.passed) m.owed;
+    layer = first_kept (kept_moved m.kept);
+  }
+
+  module _ (mode : Mode) (h : Header) (s : Stream) (o : Option ℕ) (calls : List Heading) (es : List Entry) (cm : c.mode ≡ mode) (within : Within c) (some : 1 ≤ length es) (u : IsUnderWay mode h s o calls es t p) where
+    pub met_entered : (k : Header) → Enters c k d → IsMet mode h s o calls es k v q
+    met_entered k e = met mode h s o calls es k t v p q e.octets u some (octets_moved within) (cut_moved e.octets e.advances.rest) (kept_moved e.advances.kept) (falls_moved (length e.octets) e.advances.owed) (subst (λ m. IsHeader m k.tag k.form k.len e.octets) cm e.is_header)
+
+pub entered_fits : (c d : Reading) (k : Header) (q : Option ℕ) → d.owed ≡ q → Enters c k d → FitsOwed k.len q
+entered_fits c d k q do' e = subst (FitsOwed k.len) do' e.fits
+
+-- the innermost value was left
+pub went_out : (mode : Mode) (h : Header) (s : Stream) (o : Option ℕ) (calls : List Heading) (es fs : List Entry) (t v x : Stream) (p q r : Option ℕ) (c d : Reading) (k : Kind) (cs : c.stream ≡ limited p t) (co : c.owed ≡ p) (ds : d.stream ≡ limited q v) (do' : d.owed ≡ q) → IsUnderWay mode h s o calls es t p → Moves c d → c.kind ≡ values k → TopIs es k → c.state ≡ Open → c.mode ≡ mode → Within c → EndsAt c d → Leaves es q fs r → x ≡ v → IsUnderWay mode h s o calls fs x r
+went_out mode h s o calls es fs t v x p q r c d k cs co ds do' u m ck ti st cm wi e l i =
+    let a = passing t v p q c d cs co ds do' m in
+    subst (λ z. IsUnderWay mode h s o calls fs z r) (sym i)
+    (left mode h s o calls es fs t v p q r a.octets c d k u a.passes a.falls a.layer ck ti st cm co (ap (λ z. z.rest) cs) (ap (λ z. z.rest) ds) (octets_moved t v p q c d cs co ds do' wi) e l)
+
+-- ---- steps of a run
+
+module _ {F : Type 0} (step : Steps F ContentError) (mode : Mode) (h : Header) (s : Stream) (o : Option ℕ) (f : F) where
+  abbrev R : F → Heading → F → Type 0
+  R p k q = step p k.tag k.constructed k.depth (Ok tt) q
+
+  pub began : {X : Type 0} → (x : Unit {0}) (g : F) (es fs : List Entry) (t : Stream) (p : Option ℕ) → es ≡ [] → FitsOwed h.len o → VisitedBy {X = X} step h es s o f (Ok x) g fs t p → Goes step mode h s o f fs g t p
+  began x g es fs t p e w v = record {
+    calls = [];
+    called = FoldsTo-push R f [] f (heading h 0) g refl (subst (λ z. step f h.tag h.form (length z) (Ok tt) g) e v.answered);
+    under = first_gone mode h s t o p fs w (subst (λ z. GoesInto h z s o fs t p) e v.goes);
+    no_fault = v.no_fault;
+  }
+
+  pub not_begun : {X : Type 0} → (e : Halt X) (g : F) (es fs : List Entry) (t : Stream) (p : Option ℕ) → es ≡ [] → VisitedBy step {T = Unit {0}} h es s o f (Err e) g fs t p → RanBy step {T = Unit {0}} mode h s o f (Err e) g t p
+  not_begun e g es fs t p i v = record { whole = tt; no_fault = tt; breaks = go v.stays; faults = v.faults }
+    where
+      b : IsBroken mode h s o [] t p
+      b = first_broken mode h s t o p v.rest v.kept v.limit
+
+      called : step f h.tag h.form (length es) (Ok tt) g → Called step f (heading h 0 ∷ []) g
+      called a = FoldsTo-push R f [] f (heading h 0) g refl (subst (λ z. step f h.tag h.form (length z) (Ok tt) g) i a)
+
+      go : StaysOut step h (length es) s f e g t → Breaks step mode h s o f e g t p
+      go (refused x a j) = by_closure [] [] (heading h 0) f x refl refl (subst (λ z. step f h.tag h.form (length z) (Err x) g) i a) b j
+      go (wanted a j l k) = absurd (omega (arith, ap length i))
+      go (failing a j k) = by_source [] (called a) b j k
+      go (few m a j k l n) = by_content [] (called a) b (few_there mode es h s o m k l) n
+
+  module _ (es : List Entry) (g : F) (t : Stream) (p : Option ℕ) (w : Goes step mode h s o f es g t p) where
+    -- a value inside was gone into
+    module _ (k : Header) (v : Stream) (q : Option ℕ) (m : IsMet mode h s o w.calls es k v q) (nf : v.faults ≡ t.faults) (fits : FitsOwed k.len q) where
+      pub went_in : {X : Type 0} → (x : Unit {0}) (g' : F) (fs : List Entry) (t' : Stream) (p' : Option ℕ) → VisitedBy {X = X} step k es v q g (Ok x) g' fs t' p' → Goes step mode h s o f fs g' t' p'
+      went_in x g' fs t' p' z = record {
+        calls = w.calls ++ heading k (length es) ∷ [];
+        called = FoldsTo-push R f (heading h 0 ∷ w.calls) g (heading k (length es)) g' w.called z.answered;
+        under = met_gone mode h s o w.calls es k v q m fs t' p' fits z.goes;
+        no_fault = z.no_fault ∙ nf ∙ w.no_fault;
+      }
+
+      -- or not, and the limit was given back
+      stayed_out_of : {X : Type 0} → (e : Halt X) (g' : F) (fs : List Entry) (t' : Stream) (p' r : Option ℕ) → VisitedBy step {T = Unit {0}} k es v q g (Err e) g' fs t' p' → r ≡ unwound fs p' → RanBy step {T = Unit {0}} mode h s o f (Err e) g' t' r
+      stayed_out_of e g' fs t' p' r z i = record { whole = tt; no_fault = tt; breaks = go z.stays; faults = omega (arith, z.faults, nf, w.no_fault) }
+        where
+          after_it : List Heading
+          after_it = w.calls ++ heading k (length es) ∷ []
+
+          b : IsBroken mode h s o after_it t' r
+          b = met_broken mode h s o w.calls es k v q m t' r z.rest z.kept (i ∙ ap (λ y. unwound y p') z.entries ∙ ap (unwound es) z.limit)
+
+          called : step g k.tag k.form (length es) (Ok tt) g' → Called step f (heading h 0 ∷ after_it) g'
+          called a = FoldsTo-push R f (heading h 0 ∷ w.calls) g (heading k (length es)) g' w.called a
+
+          grew : Grew v.faults t'.faults → Grew s.faults t'.faults
+          grew y = subst (λ n. Grew n t'.faults) (nf ∙ w.no_fault) y
+
+          none : (n : ℕ) → k.len ≡ len.Definite n → length v.rest < n → read_contents (read_list mode) h.tag h.form h.len (cut o s.rest) ≡ None
+          none n a l = nothing_whole mode h s o (heading h 0 ∷ w.calls) (due mode es k q v.rest) m.outcome (ap (λ y. stacked.next_to mode es y (stacked.lack q v.rest) (past q v.rest).octets) (few_there mode es k v q n a l))
+
+          go : StaysOut step k (length es) v g e g' t' → Breaks step mode h s o f e g' t' r
+          go (refused x a j) = by_closure after_it (heading h 0 ∷ w.calls) (heading k (length es)) g x refl w.called a b j
+          go (wanted a j l y) = by_memory after_it (heading h 0 ∷ w.calls) (heading k (length es)) refl (called a) j l b y
+          go (failing a j y) = by_source after_it (called a) b j (grew y)
+          go (few n a j y l c) = by_content after_it (called a) b (none n y l) c
+
+      pub stayed_out : {X : Type 0} → (e : Halt X) (g' : F) (fs : List Entry) (t' u' : Stream) (p' r : Option ℕ) → VisitedBy step {T = Unit {0}} k es v q g (Err e) g' fs t' p' → u' ≡ t' → r ≡ unwound fs p' → RanBy step {T = Unit {0}} mode h s o f (Err e) g' u' r
+      stayed_out e g' fs t' u' p' r z y i = subst (λ x. RanBy step {T = Unit {0}} mode h s o f (Err e) g' x r) (sym y) (stayed_out_of e g' fs t' p' r z i)
+
+    -- the next header was refused, and the limit was given back
+    pub went_wrong : {X : Type 0} → (e : Stop X) (v x' : Stream) (q r : Option ℕ) (c d : Reading) (k : Kind) (cs : c.stream ≡ limited p t) (co : c.owed ≡ p) (ds : d.stream ≡ limited q v) (do' : d.owed ≡ q) → Moves c d → 1 ≤ length es → c.kind ≡ values k → TopIs es k → c.state ≡ Open → c.mode ≡ mode → Within c → RefusesHeader stop_cause any c e d → x' ≡ v → r ≡ unwound es q → RanBy step {T = Unit {0}} mode h s o f (Err (halt.Stopped e)) g x' r
+    went_wrong e v x' q r c d k cs co ds do' m some ck ti st cm wi x j i = subst (λ z. RanBy step {T = Unit {0}} mode h s o f (Err (halt.Stopped e)) g z r) (sym j) record { whole = tt; no_fault = tt; breaks = go x; faults = (let y : c.stream.faults ≤ d.stream.faults = moves_faults c d m in omega (arith, w.no_fault, ap (λ z. z.faults) cs, ap (λ z. z.faults) ds)) }
+      where
+        a : Passing t v p q c d cs co ds do'
+        a = passing t v p q c d cs co ds do' m
+
+        b : IsBroken mode h s o w.calls v r
+        b = broken mode h s o w.calls es t v p q r a.octets w.under a.passes a.falls i
+
+        grew : Grew c.stream.faults d.stream.faults → Grew s.faults v.faults
+        grew y = subst (λ n. Grew n v.faults) (ap (λ z. z.faults) cs ∙ w.no_fault) (subst (λ n. Grew c.stream.faults n) (ap (λ z. z.faults) ds) y)
+
+        remains : (es : List Entry) → 1 ≤ length es → TopIs es k → stacked.AreLimited es p → NoValue c → NotAtEnd c → remain mode es p t.rest ≡ None
+        remains [] l ti li n j = absurd (omega arith)
+        remains (top ∷ fs) l ti li n j = nothing_more mode fs t p c k ck st cm co (ap (λ z. z.rest) cs) (octets_moved t v p q c d cs co ds do' wi) n j top ti li
+
+        go : RefusesHeader stop_cause any c e d → Breaks step mode h s o f (halt.Stopped e) g v r
+        go (failed y z) = absurd (open_not_failed c.state st y)
+        go (source y z) = by_source w.calls w.called b y (grew z)
+        go (nothing n z) = by_content w.calls w.called b (nothing_whole mode h s o (heading h 0 ∷ w.calls) (remain mode es p t.rest) w.under.outcome (remains es some ti w.under.limits (no_value_of_nothing c wi n) (end_of_nothing c n))) z
+
+  -- all was passed
+  pub went_through : {X : Type 0} → (x : Unit {0}) (es : List Entry) (g : F) (t : Stream) (p : Option ℕ) → es ≡ [] → Goes step mode h s o f es g t p → RanBy {X = X} step mode h s o f (Ok x) g t p
+  went_through x es g t p e w = record {
+    whole = (w.calls, w.called, subst (λ z. IsUnderWay mode h s o w.calls z t p) e w.under);
+    no_fault = w.no_fault;
+    breaks = tt;
+    faults = omega (arith, w.no_fault);
+  }
+
+-- the limit around is one, where there was one
+pub around_counts : (mode : Mode) (s : Stream) (o : Option ℕ) (calls : List Heading) (t : Stream) (p : Option ℕ) → PassesCalls mode s o calls t p → IfSome o (λ n. n < 2 ^ 64) → Counts o p
+around_counts mode s o calls t p c l = counts_falls o p (length c.passed) c.falls l
+
+-- ---- the measure
+
+pub passes_shorter : (s : Stream) (w : List ℕ) (t : Stream) → Passes s w t → length t.rest + length w ≡ length s.rest
+passes_shorter s w t p = omega (arith, ap length p.rest, length-append w t.rest)
+
+pub goes_shorter : (h : Header) (es fs : List Entry) (s t : Stream) (o p : Option ℕ) → GoesInto h es s o fs t p → length t.rest + length fs ≤ length s.rest + length es + 1
+goes_shorter h es fs s t o p (octets n a b l e r k i) = omega (arith, ap length e, ap length r, length-drop n s.rest)
+goes_shorter h es fs s t o p (stacked.values a e k i) = omega (arith, ap length e, ap (λ x. length x.rest) k)
+
+-- ---- the stack
+
+pub some_entry : (v : SmallVec Entry) {b : Bool} → b ≡ (small_vec_len v == 0) → b ≡ false → 1 ≤ length (entries v)
+some_entry v e f = let x : 1 ≤ small_vec_len v = grind (arith, nat_tests) in omega (arith, length-reverse v.items)
+
+-- the limit that a visit which halted leaves
+pub out_counts : (mode : Mode) (h : Header) (s : Stream) (o : Option ℕ) (calls : List Heading) (es : List Entry) (k : Header) (v : Stream) (q : Option ℕ) (fs : List Entry) (p outer : Option ℕ) → IsMet mode h s o calls es k v q → fs ≡ es → p ≡ q → outer ≡ o → IfSome outer (λ n. n < 2 ^ 64) → Counts outer (unwound fs p)
+out_counts mode h s o calls es k v q fs p outer m e f i r = rw (e, f) (around_counts mode s outer (calls ++ heading k (length es) ∷ []) v (unwound es q) (subst (λ z. PassesCalls mode s z (calls ++ heading k (length es) ∷ []) v (unwound es q)) (sym i) m.passes) r)
+
+pub wrong_counts : (mode : Mode) (h : Header) (s : Stream) (o : Option ℕ) (calls : List Heading) (es : List Entry) (t v : Stream) (p q outer : Option ℕ) (c d : Reading) (cs : c.stream ≡ limited p t) (co : c.owed ≡ p) (ds : d.stream ≡ limited q v) (do' : d.owed ≡ q) → Moves c d → IsUnderWay mode h s o calls es t p → outer ≡ o → IfSome outer (λ n. n < 2 ^ 64) → Counts outer (unwound es q)
+wrong_counts mode h s o calls es t v p q outer c d cs co ds do' m u i r =
+    let a = passing t v p q c d cs co ds do' m in
+    let b = calls_on mode s o calls t v (unwound es p) (unwound es q) a.octets u.passes a.passes (falls_unwound es p q (length a.octets) a.falls) in
+    around_counts mode s outer calls v (unwound es q) (subst (λ z. PassesCalls mode s z calls v (unwound es q)) (sym i) b) r
+
+pub entered_shorter : (t v : Stream) (p q : Option ℕ) (c d : Reading) (cs : c.stream ≡ limited p t) (co : c.owed ≡ p) (ds : d.stream ≡ limited q v) (do' : d.owed ≡ q) (k : Header) (es fs : List Entry) (t' : Stream) (p' : Option ℕ) → Enters c k d → GoesInto k es v q fs t' p' → length t'.rest + length fs < length t.rest + length es
+entered_shorter t v p q c d cs co ds do' k es fs t' p' e g =
+    let w : Passes t e.octets v = source_passes t v p q e.octets (cut_moved t v p q c d cs co ds do' e.octets e.advances.rest) (kept_moved t v p q c d cs co ds do' e.advances.kept) in
+    omega (arith, passes_shorter t e.octets v w, goes_shorter k es fs v t' q p' g, header_size c.mode k.tag k.form k.len e.octets e.is_header)
+
+pub left_shorter : (t v : Stream) (p q : Option ℕ) (c d : Reading) (cs : c.stream ≡ limited p t) (co : c.owed ≡ p) (ds : d.stream ≡ limited q v) (do' : d.owed ≡ q) → Moves c d → length v.rest ≤ length t.rest
+left_shorter t v p q c d cs co ds do' m =
+    let a = passing t v p q c d cs co ds do' m in
+    omega (arith, passes_shorter t a.octets v a.passes)

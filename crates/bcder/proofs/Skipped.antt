@@ -1,0 +1,336 @@
+-- What skipping promises of content, by what a run over the content of a value did.
+use Rattle.std.proofs.Common.{◌≡◌, ◌≢◌, inl, inr, ℕ, ◌+◌, ◌*◌, ◌≤◌, Bool, true, false, List, [], ◌∷◌, ◌++◌, length, Option, Some, None, Ok, Err, IfOk, IfErr, IfSome, IfNone, refl, sym, ap, subst, ◌∙◌, arith, append_assoc, append-nil, length-append}
+use Rattle.std.specs.Prelude.{Result, IsOk, IsErrAnd, ◌⊎◌, ◌<◌}
+use Rattle.std.proofs.lemmas.List.{append_cancel_right}
+use Rattle.bcder.specs.declared.mode.Mode.{Mode}
+use Rattle.bcder.specs.declared.decode.content.State.TheVariants.{Open, Ended, Failed}
+use Rattle.bcder.specs.declared.decode.content.skip.Halt.{Halt}
+use Rattle.bcder.specs.declared.decode.content.skip.Halt.TheVariants as halt
+use Rattle.bcder.specs.declared.decode.error.ContentError.{ContentError}
+use Rattle.bcder.specs.declared.decode.error.DecodeError.{DecodeError}
+use Rattle.bcder.specs.Cause.{Cause, cause_of, of_source, of_content, of_memory, IsOfContent, IsRefusal}
+use Rattle.bcder.specs.Identifier.{universal}
+use Rattle.bcder.specs.Tree.{Tree, primitive}
+use Rattle.bcder.specs.Encoding.{IsEncoding}
+use Rattle.bcder.specs.Preorder.{Heading, preorder}
+use Rattle.bcder.specs.Reading.{Header, read_header, read_contents, read_list, read_tree}
+use Rattle.bcder.specs.Stream.{Stream, Grew, cut, past, limited}
+use Rattle.bcder.specs.Content.{Reading, Octets, Resembles, any, Falls, Moves, Advances, Enters, EndsBefore, EndsAt, IsDone, NotAtEnd}
+use Rattle.bcder.specs.Grammar.{IsOnly}
+use Rattle.bcder.specs.Walking.{HasValue, NoValue, PassesValue, RefusesWalk, AnswersNext, HasValues, Walks}
+use Rattle.bcder.specs.Walking as walking
+use Rattle.bcder.specs.Skipping.{Steps, Called, Refused, WereCalls, SkipsValue, RefusesSkip, SkippedBy, AnswersAll, IsShallow, FindsMemory, AnswersSkip, AnswersValue, SkippedValueBy, GoesDeep, RefusesOne, SkippedOneBy, RefusesAll, SkippedAllBy, FoundMemory}
+use Rattle.bcder.specs.Skipping as skipping
+use Rattle.bcder.specs.Stacked.{heading, halt_cause, PassesCalls, IsUnderWay, IsBroken, Breaks, by_source, by_content, by_closure, by_memory, RanBy}
+use Rattle.bcder.specs.laws.Complete.{header_complete, header_size, tree_complete, only_at_front}
+use Rattle.bcder.specs.laws.Sound.{none_is, some_inj}
+use Rattle.bcder.specs.laws.Stands.{Stands, tree_sound}
+use Rattle.bcder.proofs.Ends.{from_header}
+use Rattle.bcder.proofs.Entering.{Within, header_not_at_end, header_entered}
+use Rattle.bcder.proofs.Inner.{layers_eq}
+use Rattle.bcder.proofs.Moving.{moves_value, moves_failed, advances_trans, open_not_ended, open_not_failed}
+use Rattle.bcder.proofs.Skips.{cut_falls, past_falls, finished}
+use Rattle.bcder.proofs.Passing.{looked_passes, looked_ends, looked_open, looked_refused}
+use Rattle.bcder.proofs.Walked.{answers_next}
+use Rattle.bcder.proofs.Walking.{value_not_at_end, value_once, moves_shorter, walks_refused}
+
+-- ---- calls that were made
+
+-- none
+pub no_calls : (c d : Reading) → length d.stream.rest ≤ length c.stream.rest → WereCalls c [] d
+no_calls c d l = (let t : Tree = primitive (record { class = universal; number = 4 }) [] in record {
+  some = (t, preorder t 0, refl);
+  one = λ u w x h. (preorder u 0, refl);
+  stand = refl;
+  twice = omega arith;
+  usable = λ n. absurd (n refl);
+})
+
+same_calls : (c d : Reading) (a b : List Heading) → a ≡ b → WereCalls c a d → WereCalls c b d
+same_calls c d a b e w = subst (λ z. WereCalls c z d) e w
+
+-- ---- a value whose header was passed, and then its content, or not
+
+module _ (c d e : Reading) (k : Header) (s t : Stream) (o p : Option ℕ) (within : Within c) (x : Enters c k d)
+    (ds : d.stream ≡ limited o s) (do' : d.owed ≡ o) (es : e.stream ≡ limited p t) (eo : e.owed ≡ p)
+    (ek : e.kind ≡ d.kind) (em : e.mode ≡ d.mode) (en : e.name ≡ d.name) (ea : e.marked ≡ d.marked) where
+  read_is : read_tree c.mode c.stream.rest ≡ read_contents (read_list c.mode) k.tag k.form k.len (cut o s.rest)
+  read_is = from_header c.mode k c.stream.rest (cut o s.rest) within.octets (ap (read_header c.mode) (x.advances.rest ∙ ap (λ z. x.octets ++ z.rest) ds) ∙ header_complete c.mode k.tag k.form k.len x.octets (cut o s.rest) x.is_header)
+
+  not_at_end : NotAtEnd c
+  not_at_end = header_not_at_end c d.stream.rest within x.usable (header_entered c k d any refl x)
+
+  module _ (calls : List Heading) (g : PassesCalls c.mode s o calls t p) where
+    passed_rest : d.stream.rest ≡ g.passed ++ e.stream.rest
+    passed_rest = ap (λ z. z.rest) ds ∙ ap (cut o) g.passes.rest ∙ cut_falls o p g.passed t.rest g.falls ∙ ap (λ z. g.passed ++ z.rest) (sym es)
+
+    whole_rest : c.stream.rest ≡ (x.octets ++ g.passed) ++ e.stream.rest
+    whole_rest = x.advances.rest ∙ ap (λ z. x.octets ++ z) passed_rest ∙ sym (append_assoc x.octets g.passed e.stream.rest)
+
+    advances_on : s.faults ≤ t.faults → Advances d e g.passed
+    advances_on f = record {
+      rest = passed_rest;
+      owed = subst (λ z. Falls z (length g.passed) e.owed) (sym do') (subst (λ z. Falls o (length g.passed) z) (sym eo) g.falls);
+      kept = ap (λ z. z.kept) es ∙ layers_eq _ _ t.kept s.kept (sym (ap (past o) g.passes.rest ∙ past_falls o p g.passed t.rest g.falls)) g.passes.kept ∙ ap (λ z. z.kept) (sym ds);
+      faults = omega (arith, f, ap (λ z. z.faults) ds, ap (λ z. z.faults) es);
+      kind = ek;
+      mode = em;
+      name = en;
+    }
+
+    -- all octets from the header on
+    pub advances_whole : s.faults ≤ t.faults → Advances c e (x.octets ++ g.passed)
+    advances_whole f = advances_trans c d e x.octets g.passed x.advances (advances_on f)
+
+    -- what calls were made, those of a tree that begins so
+    pub were_calls : (u : Tree) (more : List Heading) → preorder u 0 ≡ (heading k 0 ∷ calls) ++ more → ((v : Tree) (y : List ℕ) → read_contents (read_list c.mode) k.tag k.form k.len (cut o s.rest) ≡ Some (v, y) → (more : List Heading) × (preorder v 0 ≡ (heading k 0 ∷ calls) ++ more)) → WereCalls c (heading k 0 ∷ calls) e
+    were_calls u more is one = record {
+      some = (u, more, is);
+      one = λ v w after h. one v after (sym read_is ∙ ap (read_tree c.mode) h.rest ∙ tree_complete c.mode v w after h.encodes);
+      stand = (d.stream.rest, e.stream.rest, record { len = k.len; header = x.octets; is_header = x.is_header; is = x.advances.rest }, subst (λ z. skipping.HeadersStand c.mode calls z e.stream.rest) (ap (λ z. z.rest) (sym ds)) (subst (λ z. skipping.HeadersStand c.mode calls (cut o s.rest) z) (ap (λ z. z.rest) (sym es)) g.stand));
+      twice = (let a : 2 * length calls ≤ length g.passed = g.twice in let b : 2 ≤ length x.octets = header_size c.mode k.tag k.form k.len x.octets x.is_header in omega (arith, ap length whole_rest, length-append (x.octets ++ g.passed) e.stream.rest, length-append x.octets g.passed));
+      usable = λ n. (x.usable, not_at_end);
+    }
+
+  -- ---- the whole value
+
+  module _ (calls : List Heading) (u : IsUnderWay c.mode k s o calls [] t p) (st : e.state ≡ Open) where
+    front : Stands c.mode (finished c.mode k s o calls t p u).0 c.stream.rest (cut p t.rest)
+    front = tree_sound c.mode c.stream.rest ((finished c.mode k s o calls t p u).0, cut p t.rest) within.octets (read_is ∙ (finished c.mode k s o calls t p u).1)
+
+    front_rest : c.stream.rest ≡ front.front ++ e.stream.rest
+    front_rest = front.is ∙ ap (λ y. front.front ++ y.rest) (sym es)
+
+    passes : PassesValue c e
+    passes = record {
+      tree = (finished c.mode k s o calls t p u).0;
+      value = front.front;
+      has = record { usable = x.usable; encodes = front.is_encoding; rest = front_rest };
+      only = subst (λ y. IsOnly c.mode (finished c.mode k s o calls t p u).0 front.front y) (sym front_rest) (only_at_front c.mode (finished c.mode k s o calls t p u).0 front.front e.stream.rest front.is_encoding);
+      stays = st;
+    }
+
+    pub skips_moves : s.faults ≤ t.faults → Moves c e
+    skips_moves nf =
+        let is : front.front ≡ x.octets ++ u.passes.passed = append_cancel_right front.front (x.octets ++ u.passes.passed) e.stream.rest (sym front_rest ∙ whole_rest calls u.passes) in
+        moves_value c e front.front (finished c.mode k s o calls t p u).0 false (subst (Advances c e) (sym is) (advances_whole calls u.passes nf)) front.is_encoding (λ y. ea ∙ x.unmarked ∙ y) (λ y. absurd (let w : false ≡ true = y in cc)) x.usable st
+
+    skips_calls : WereCalls c (heading k 0 ∷ calls) e
+    skips_calls =
+        let none : preorder (finished c.mode k s o calls t p u).0 0 ≡ (heading k 0 ∷ calls) ++ [] = (finished c.mode k s o calls t p u).2 ∙ sym (append-nil (heading k 0 ∷ calls)) in
+        were_calls calls u.passes (finished c.mode k s o calls t p u).0 [] none (λ v y r. ([], ap (λ w. preorder w 0) (ap (λ q. q.0) (some_inj _ _ (sym r ∙ (finished c.mode k s o calls t p u).1))) ∙ none))
+
+    skips_value : {F : Type 0} (step : Steps F ContentError) (f g : F) → Called step f (heading k 0 ∷ calls) g → SkipsValue step c f g e
+    unfolding passes
+    skips_value step f g called = record {
+      passes = passes;
+      called = subst (λ y. Called step f y g) (sym (finished c.mode k s o calls t p u).2) called;
+      were = same_calls c e (heading k 0 ∷ calls) (preorder (finished c.mode k s o calls t p u).0 0) (sym (finished c.mode k s o calls t p u).2) skips_calls;
+    }
+
+    pub skipped_value : {F T X : Type 0} (why : X → Cause ContentError) (step : Steps F ContentError) (f g : F) (y : T) → t.faults ≡ s.faults → d.stream.faults ≡ c.stream.faults → Called step f (heading k 0 ∷ calls) g → SkippedBy why step c f (Ok (Some y)) g e
+    skipped_value why step f g y nf nd called = record {
+      value = skips_value step f g called;
+      end = tt;
+      done = tt;
+      uncalled = tt;
+      no_fault = ap (λ z. z.faults) es ∙ nf ∙ ap (λ z. z.faults) (sym ds) ∙ nd;
+      refused = tt;
+      failed = tt;
+      mode = em ∙ x.advances.mode;
+      marked = ea ∙ x.unmarked;
+    }
+
+  -- ---- a refusal of it
+
+  broken_calls : (calls : List Heading) → IsBroken c.mode k s o calls t p → WereCalls c (heading k 0 ∷ calls) e
+  broken_calls calls b = were_calls calls b.passes b.some.0 b.some.1 b.some.2 b.one
+
+  nothing_there : read_contents (read_list c.mode) k.tag k.form k.len (cut o s.rest) ≡ None → NoValue c
+  nothing_there n = record { none = λ v w after h r. none_is (v, after) (sym (read_is ∙ n) ∙ ap (read_tree c.mode) r ∙ tree_complete c.mode v w after h) }
+
+  module _ {F X Y : Type 0} (step : Steps F ContentError) (f g : F) (why : Y → Cause ContentError) (h : Halt X) (y : Y) (st : e.state ≡ Failed) (nf : d.stream.faults ≡ c.stream.faults) (ends : c.state ≢ Ended)
+      (hc : IsOfContent (halt_cause h) → IsOfContent (why y)) (hs : halt_cause h ≡ of_source → why y ≡ of_source) (hm : halt_cause h ≡ of_memory → why y ≡ of_memory) (hx : (z : ContentError) → h ≡ halt.Refused z → why y ≡ of_content z) where
+    refused_by : Breaks step c.mode k s o f h g t p → RefusesSkip why step c f y g e
+    refused_by (by_source calls called b j z) = skipping.RefusesSkip.by_content (heading k 0 ∷ calls) called (broken_calls calls b) (walking.RefusesWalk.source (hs j) (subst (λ n. Grew n e.stream.faults) (ap (λ q. q.faults) (sym ds) ∙ nf) (subst (λ n. Grew s.faults n) (ap (λ q. q.faults) (sym es)) z)))
+    refused_by (by_content calls called b n j) = skipping.RefusesSkip.by_content (heading k 0 ∷ calls) called (broken_calls calls b) (walking.RefusesWalk.nothing x.usable (nothing_there n) not_at_end (hc j))
+    refused_by (by_closure calls before last q z is called r b j) = skipping.RefusesSkip.by_closure before last q z called r (same_calls c e (heading k 0 ∷ calls) (before ++ last ∷ []) is (broken_calls calls b)) (hx z j)
+    refused_by (by_memory calls before last is called a l b j) = skipping.RefusesSkip.by_memory before last (subst (λ z. Called step f z g) is called) (same_calls c e (heading k 0 ∷ calls) (before ++ last ∷ []) is (broken_calls calls b)) a l (hm j)
+
+    pub skipped_not : {T : Type 0} → Breaks step c.mode k s o f h g t p → SkippedBy {T = T} why step c f (Err y) g e
+    skipped_not b = record {
+      value = tt;
+      end = tt;
+      done = tt;
+      uncalled = tt;
+      no_fault = tt;
+      refused = refused_by b;
+      failed = st;
+      mode = em ∙ x.advances.mode;
+      marked = ea ∙ x.unmarked;
+    }
+
+    pub breaks_moves : s.faults ≤ t.faults → Breaks step c.mode k s o f h g t p → Moves c e
+    breaks_moves l b = go (passed_of b)
+      where
+        passed_of : Breaks step c.mode k s o f h g t p → (calls : List Heading) × PassesCalls c.mode s o calls t p
+        passed_of (by_source calls called b j z) = (calls, b.passes)
+        passed_of (by_content calls called b n j) = (calls, b.passes)
+        passed_of (by_closure calls before last q z is called r b j) = (calls, b.passes)
+        passed_of (by_memory calls before last is called a l b j) = (calls, b.passes)
+
+        go : (calls : List Heading) × PassesCalls c.mode s o calls t p → Moves c e
+        go q = moves_failed c e (x.octets ++ q.1.passed) (advances_whole q.0 q.1 l) (λ z. ea ∙ x.unmarked ∙ z) ends st
+
+-- ---- no header was passed
+
+module _ {F X : Type 0} (why : X → Cause ContentError) (step : Steps F ContentError) (c d : Reading) (f : F) (mode : d.mode ≡ c.mode) (marked : d.marked ≡ c.marked) where
+  pub skipped_end : {T : Type 0} → EndsAt c d → IsDone d → d.stream.faults ≡ c.stream.faults → SkippedBy {T = T} why step c f (Ok None) f d
+  skipped_end a b n = record { value = tt; end = a; done = b; uncalled = refl; no_fault = n; refused = tt; failed = tt; mode = mode; marked = marked }
+
+  pub skipped_none : {T : Type 0} (e : X) → Moves c d → RefusesWalk why c e d → d.state ≡ Failed → SkippedBy {T = T} why step c f (Err e) f d
+  skipped_none e m r a = record { value = tt; end = tt; done = tt; uncalled = tt; no_fault = tt; refused = skipping.RefusesSkip.by_content [] refl (no_calls c d (moves_shorter c d m)) r; failed = a; mode = mode; marked = marked }
+
+-- ---- exactly where a value stands in front
+
+module _ {F X : Type 0} (why : X → Cause ContentError) (step : Steps F ContentError) (c : Reading) (f g : F) (d : Reading) (within : Within c) (sound : Grew c.stream.faults d.stream.faults → ⊥) where
+  refused_walk : (e : X) (t : Tree) (w after : List ℕ) → HasValue c t w after → RefusesWalk why c e d → ⊥
+  refused_walk e t w after h (walking.RefusesWalk.failed a o) = open_not_failed c.state h.usable a
+  refused_walk e t w after h (walking.RefusesWalk.source a o) = sound o
+  refused_walk e t w after h (walking.RefusesWalk.nothing a n z o) = n.none t w after h.encodes h.rest
+
+  joined_calls : (calls more hs : List Heading) (h : Heading) → hs ≡ (calls ++ h ∷ []) ++ more → hs ≡ calls ++ h ∷ more
+  joined_calls calls more hs h e = e ∙ append_assoc calls (h ∷ []) more
+
+  refused_value : (e : X) (t : Tree) (w after : List ℕ) → HasValue c t w after → AnswersAll step f (preorder t 0) → IsShallow (preorder t 0) ⊎ (why e ≡ of_memory → ⊥) → RefusesSkip why step c f e g d → ⊥
+  refused_value e t w after h a m (skipping.RefusesSkip.by_content calls called were r) = refused_walk e t w after h r
+  refused_value e t w after h a m (skipping.RefusesSkip.by_closure calls k q x called r were j) = (let o = were.one t w after h in a calls o.0 k q g x (joined_calls calls o.0 (preorder t 0) k o.1) called r)
+  refused_value e t w after h a (inl m) (skipping.RefusesSkip.by_memory calls k called were b l j) = (let o = were.one t w after h in let y : k.depth < 4 = m calls o.0 k (joined_calls calls o.0 (preorder t 0) k o.1) b in let z : 4 ≤ k.depth = l in absurd (omega arith))
+  refused_value e t w after h a (inr m) (skipping.RefusesSkip.by_memory calls k called were b l j) = m j
+
+  failed_end : (after : List ℕ) → EndsBefore c after → c.state ≡ Failed → ⊥
+  failed_end after (inl a) b = (let y : Ended ≡ Failed = sym a ∙ b in cc)
+  failed_end after (inr a) b = open_not_failed c.state a.0 b
+
+  not_nothing : (calls : List Heading) (h : Heading) → calls ++ h ∷ [] ≡ [] → ⊥
+  not_nothing [] h e = cc
+  not_nothing (k ∷ calls) h e = cc
+
+  refused_end : (e : X) (after : List ℕ) → EndsBefore c after → RefusesSkip why step c f e g d → ⊥
+  refused_end e after h (skipping.RefusesSkip.by_content calls called were (walking.RefusesWalk.failed a o)) = failed_end after h a
+  refused_end e after h (skipping.RefusesSkip.by_content calls called were (walking.RefusesWalk.source a o)) = sound o
+  refused_end e after h (skipping.RefusesSkip.by_content calls called were (walking.RefusesWalk.nothing a n z o)) = z.none after h
+  refused_end e after h (skipping.RefusesSkip.by_closure calls k q x called r were j) = (let u = were.usable (not_nothing calls k) in u.1.none after h)
+  refused_end e after h (skipping.RefusesSkip.by_memory calls k called were b l j) = (let u = were.usable (not_nothing calls k) in u.1.none after h)
+
+  pub answers_skip : {T : Type 0} (r : Result (Option T) X) → SkippedBy why step c f r g d → AnswersSkip why step c f r d
+  answers_skip (Ok None) s = record {
+    found = λ t w after h a m. absurd (let z = value_not_at_end c within t w after h in z.none d.stream.rest s.end);
+    ended = λ after h. refl;
+  }
+  answers_skip (Ok (Some x)) s = record {
+    found = λ t w after h a m. (refl, (let y = value_once c s.value.passes.tree t s.value.passes.value w d.stream.rest after s.value.passes.has h in y.rest));
+    ended = λ after h. absurd (let z = value_not_at_end c within s.value.passes.tree s.value.passes.value d.stream.rest s.value.passes.has in z.none after h);
+  }
+  answers_skip (Err e) s = record {
+    found = λ t w after h a m. absurd (refused_value e t w after h a m s.refused);
+    ended = λ after h. absurd (refused_end e after h s.refused);
+  }
+
+-- ---- a value that has to be there
+
+module _ {F S : Type 0} (step : Steps F ContentError) (c : Reading) (f g : F) (d : Reading) where
+  pub value_some : {T U : Type 0} (x : T) (y : U) → SkippedBy {T = T} {X = DecodeError S} cause_of step c f (Ok (Some x)) g d → SkippedValueBy {S = S} step c f (Ok y) g d
+  value_some x y s = record { value = s.value; no_fault = s.no_fault; refused = tt; mode = s.mode; marked = s.marked }
+
+  pub value_none : {T U : Type 0} (e : DecodeError S) → IsRefusal e → SkippedBy {T = T} {X = DecodeError S} cause_of step c f (Ok None) g d → SkippedValueBy {T = U} {S = S} step c f (Err e) g d
+  value_none e r s = record { value = tt; no_fault = tt; refused = inl (record { missing = (s.end, s.done); marked = s.marked; no_fault = s.no_fault }, r, s.uncalled); mode = s.mode; marked = s.marked }
+
+  pub value_refused : {T U : Type 0} (e : DecodeError S) → SkippedBy {T = T} {X = DecodeError S} cause_of step c f (Err e) g d → SkippedValueBy {T = U} {S = S} step c f (Err e) g d
+  value_refused e s = record { value = tt; no_fault = tt; refused = inr (s.failed, s.refused); mode = s.mode; marked = s.marked }
+
+-- where one is there, it is passed
+module _ {F S T U : Type 0} (step : Steps F ContentError) (c : Reading) (f : F) (d : Reading) where
+  pub exact_some : (x : T) (y : U) → AnswersSkip {X = DecodeError S} cause_of step c f (Ok (Some x)) d → AnswersValue {X = DecodeError S} cause_of step c f (Ok y) d
+  exact_some x y s = record { found = λ t w after h n m. (s.found t w after h n (inr (λ z. z))).1 }
+
+  pub exact_none : (e : DecodeError S) → AnswersSkip {T = T} {X = DecodeError S} cause_of step c f (Ok None) d → AnswersValue {T = U} {X = DecodeError S} cause_of step c f (Err e) d
+  exact_none e s = record { found = λ t w after h n m. absurd (let x : false ≡ true = (s.found t w after h n (inr (λ z. z))).0 in cc) }
+
+  pub exact_refused : (e : DecodeError S) → AnswersSkip {T = T} {X = DecodeError S} cause_of step c f (Err e) d → AnswersValue {T = U} {X = DecodeError S} cause_of step c f (Err e) d
+  exact_refused e s = record { found = λ t w after h n m. absurd (s.found t w after h n m).0 }
+
+-- ---- without a closure
+
+module _ {F X : Type 0} (why : X → Cause ContentError) (step : Steps F ContentError) (c : Reading) (f g : F) (d : Reading) where
+  refused_one : ((q : F) (h : Heading) (x : ContentError) (p : F) → Refused step q h x p → ⊥) → (e : X) → RefusesSkip why step c f e g d → RefusesOne why c e d
+  refused_one n e (skipping.RefusesSkip.by_content calls called were r) = skipping.RefusesOne.by_walk r
+  refused_one n e (skipping.RefusesSkip.by_closure calls h q x called r were j) = absurd (n q h x g r)
+  refused_one n e (skipping.RefusesSkip.by_memory calls h called were b l j) = skipping.RefusesOne.by_depth (record { calls = calls; last = h; were = were; constructed = b; deep = l }) j
+
+  -- a closure that never refuses
+  pub skipped_one : {T : Type 0} (r : Result (Option T) X) → ((q : F) (h : Heading) (x : ContentError) (p : F) → Refused step q h x p → ⊥) → SkippedBy why step c f r g d → SkippedOneBy why c r d
+  skipped_one (Ok None) n s = record { value = tt; end = s.end; done = s.done; no_fault = s.no_fault; refused = tt; failed = tt; mode = s.mode; marked = s.marked }
+  skipped_one (Ok (Some x)) n s = record { value = s.value.passes; end = tt; done = tt; no_fault = s.no_fault; refused = tt; failed = tt; mode = s.mode; marked = s.marked }
+  skipped_one (Err e) n s = record { value = tt; end = tt; done = tt; no_fault = tt; refused = refused_one n e s.refused; failed = s.failed; mode = s.mode; marked = s.marked }
+
+module _ {X : Type 0} (why : X → Cause ContentError) (c d e : Reading) where
+  -- a value that was passed at once
+  pub one_at_once : {T : Type 0} (x : T) → PassesValue c d → d.stream.faults ≡ c.stream.faults → d.mode ≡ c.mode → d.marked ≡ c.marked → SkippedOneBy {X = X} why c (Ok (Some x)) d
+  one_at_once x p n m k = record { value = p; end = tt; done = tt; no_fault = n; refused = tt; failed = tt; mode = m; marked = k }
+
+  pub one_failing : {T : Type 0} (y : X) → why y ≡ of_source → Grew c.stream.faults d.stream.faults → d.state ≡ Failed → d.mode ≡ c.mode → d.marked ≡ c.marked → SkippedOneBy {T = T} why c (Err y) d
+  one_failing y j n s m k = record { value = tt; end = tt; done = tt; no_fault = tt; refused = skipping.RefusesOne.by_walk (walking.RefusesWalk.source j n); failed = s; mode = m; marked = k }
+
+  -- content that was only looked at before
+  looked_calls : Resembles c d → (calls : List Heading) → WereCalls d calls e → WereCalls c calls e
+  looked_calls s calls w = record {
+    some = w.some;
+    one = λ t v after h. w.one t v after (record { usable = s.state ∙ h.usable; encodes = subst (λ m. IsEncoding m t v) (sym s.mode) h.encodes; rest = s.rest ∙ h.rest });
+    stand = subst (λ m. skipping.HeadersFrom m calls c.stream.rest) s.mode (subst (λ z. skipping.HeadersFrom d.mode calls z) s.rest w.stand);
+    twice = (let y : 2 * length calls + length e.stream.rest ≤ length d.stream.rest = w.twice in omega (arith, ap length s.rest));
+    usable = λ n. (sym s.state ∙ (w.usable n).0, looked_open c d s (w.usable n).1);
+  }
+
+  looked_one : Resembles c d → d.stream.faults ≡ c.stream.faults → (y : X) → RefusesOne why d y e → RefusesOne why c y e
+  looked_one s f y (skipping.RefusesOne.by_walk r) = skipping.RefusesOne.by_walk (looked_refused why c d e s f y r)
+  looked_one s f y (skipping.RefusesOne.by_depth g j) = skipping.RefusesOne.by_depth (record { calls = g.calls; last = g.last; were = looked_calls s (g.calls ++ g.last ∷ []) g.were; constructed = g.constructed; deep = g.deep }) j
+
+  pub looked_skipped : {T : Type 0} (r : Result (Option T) X) → Resembles c d → d.stream.faults ≡ c.stream.faults → SkippedOneBy why d r e → SkippedOneBy why c r e
+  looked_skipped (Ok None) s f p = record { value = tt; end = looked_ends c d e.stream.rest s p.end; done = p.done; no_fault = p.no_fault ∙ f; refused = tt; failed = tt; mode = p.mode ∙ s.mode; marked = p.marked ∙ s.marked }
+  looked_skipped (Ok (Some x)) s f p = record { value = looked_passes c d e s p.value; end = tt; done = tt; no_fault = p.no_fault ∙ f; refused = tt; failed = tt; mode = p.mode ∙ s.mode; marked = p.marked ∙ s.marked }
+  looked_skipped (Err x) s f p = record { value = tt; end = tt; done = tt; no_fault = tt; refused = looked_one s f x p.refused; failed = p.failed; mode = p.mode ∙ s.mode; marked = p.marked ∙ s.marked }
+
+-- where memory was found, refusals are those of a walk
+walk_of_one : {S : Type 0} (c d : Reading) (e : DecodeError S) → (cause_of e ≡ of_memory → ⊥) → RefusesOne cause_of c e d → RefusesWalk cause_of c e d
+walk_of_one c d e n (skipping.RefusesOne.by_walk r) = r
+walk_of_one c d e n (skipping.RefusesOne.by_depth g j) = absurd (n j)
+
+pub one_exact : {S T : Type 0} (c d : Reading) (r : Result (Option T) (DecodeError S)) → Within c → SkippedOneBy cause_of c r d → FoundMemory r → (Grew c.stream.faults d.stream.faults → ⊥) → AnswersNext c r d
+one_exact c d (Ok None) w s m n = answers_next cause_of c d (Ok None) w tt s.end tt n
+one_exact c d (Ok (Some x)) w s m n = answers_next cause_of c d (Ok (Some x)) w s.value tt tt n
+one_exact c d (Err e) w s m n = answers_next cause_of c d (Err e) w tt tt (walk_of_one c d e m s.refused) n
+
+-- ---- all values
+
+pub all_refused : {X : Type 0} (why : X → Cause ContentError) (e : X) (i j k : Reading) → i.kind ≢ Octets → Walks i j → RefusesOne why j e k → RefusesAll why i e k
+all_refused why e i j k o w (skipping.RefusesOne.by_walk r) = skipping.RefusesAll.by_values (walks_refused why e i j k o w r)
+all_refused why e i j k o w (skipping.RefusesOne.by_depth g h) = skipping.RefusesAll.by_depth j w g h
+
+pub all_err : {T X : Type 0} (why : X → Cause ContentError) (c d : Reading) (r : Result T X) (e : X) → IsErrAnd r (λ x. x ≡ e) → RefusesAll why c e d → d.state ≡ Failed → d.mode ≡ c.mode → d.marked ≡ c.marked → SkippedAllBy why c r d
+all_err why c d (Ok x) e h a f m g = absurd h
+all_err why c d (Err x) e h a f m g = record { all = tt; done = tt; no_fault = tt; refused = subst (λ y. RefusesAll why c y d) (sym h) a; failed = f; mode = m; marked = g }
+
+octets_no_values : (c : Reading) → c.kind ≡ Octets → HasValues c → ⊥
+octets_no_values c k h = (let x : ⊥ = subst (λ z. walking.ClosesBefore z c.mode c.owed h.all h.after) k h.closes in x)
+
+pub all_exact : {S T : Type 0} (c d : Reading) (r : Result T (DecodeError S)) → SkippedAllBy cause_of c r d → (Grew c.stream.faults d.stream.faults → ⊥) → FoundMemory r → c.state ≡ Open → HasValues c → IsOk r
+all_exact c d (Ok x) s n m o h = refl
+all_exact c d (Err e) s n m o h = absurd (go s.refused)
+  where
+    go : RefusesAll cause_of c e d → ⊥
+    go (skipping.RefusesAll.by_values (walking.RefusesValues.failed a b)) = open_not_failed c.state o a
+    go (skipping.RefusesAll.by_values (walking.RefusesValues.source a b)) = n b
+    go (skipping.RefusesAll.by_values (walking.RefusesValues.broken a b z)) = b h
+    go (skipping.RefusesAll.by_values (walking.RefusesValues.short a b z)) = octets_no_values c a h
+    go (skipping.RefusesAll.by_depth j w g z) = m z

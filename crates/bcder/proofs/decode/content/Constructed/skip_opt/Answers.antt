@@ -1,0 +1,98 @@
+use Rattle.std.proofs.Common.{◌≡◌, ◌∙◌, sym, ap, refl, arith, Ok, Err, Some, None}
+use Rattle.bcder.specs.Cause.{cause_of, stop_cause}
+use Rattle.bcder.specs.Peek.{header}
+use Rattle.bcder.specs.Stacked.{source_of, limit_in}
+use Rattle.bcder.specs.Views.{of_constructed}
+use Rattle.bcder.proofs.Carrying.{carries}
+use Rattle.bcder.proofs.Names.{within_constructed}
+use Rattle.bcder.proofs.Moving.{open_not_ended}
+use Rattle.bcder.proofs.Skipped.{skips_moves, skipped_value, breaks_moves, skipped_not, skipped_end, skipped_none, answers_skip}
+use Rattle.bcder.proofs.Stepping.{next_refused}
+use Rattle.bcder.proofs.Stopping.{walk_stopped}
+use Rattle.bcder.proofs.Taking.{allowed_entered}
+use Rattle.bcder.proofs.Running.{entered_fits}
+use Rattle.bcder.proofs.decode.content.Constructed.skip_opt.Goals as goal
+
+pub skip_content-requires-clause-allowed : goal.skip_content-requires-clause-allowed
+unfolding of_constructed
+skip_content-requires-clause-allowed g c =
+    let e = rw c.in-Ok-Some.field-0-is at c.in-Ok-Some.ensures.entered in
+    allowed_entered (of_constructed g.S.Source.stream c.args.self.now) (header c.in-Ok-Some.header) (of_constructed g.S.Source.stream c.next_header.new.self) e.1
+
+pub skip_content-requires-clause-fits : goal.skip_content-requires-clause-fits
+unfolding of_constructed
+skip_content-requires-clause-fits g c =
+    let e = rw c.in-Ok-Some.field-0-is at c.in-Ok-Some.ensures.entered in
+    entered_fits (of_constructed g.S.Source.stream c.args.self.now) (of_constructed g.S.Source.stream c.next_header.new.self) (header c.in-Ok-Some.header) _ refl e.1
+
+pub returns-in-Ok-clause-moves : goal.returns-in-Ok-clause-moves
+unfolding of_constructed
+returns-in-Ok-clause-moves g c =
+    let e = rw c.in-Ok-Some.field-0-is at c.in-Ok-Some.ensures.entered in
+    let r = rw c.next_header.ensures.mode at c.in-Ok.ensures.whole in
+    carries _ _ (skips_moves (of_constructed g.S.Source.stream c.args.self.now) (of_constructed g.S.Source.stream c.next_header.new.self) _ (header c.in-Ok-Some.header) (source_of g.S.Source.stream c.next_header.new.self) (g.S.Source.stream c.skip_content.new.source.source) (limit_in c.next_header.new.self) c.skip_content.new.source.limit (within_constructed g.S.Source.stream g.met.S.Source.sound c.args.self.now) e.1 refl refl refl refl refl refl refl refl r.0 r.2 refl c.skip_content.ensures.faults)
+
+pub returns-in-Ok-clause-skipped : goal.returns-in-Ok-clause-skipped
+unfolding of_constructed
+returns-in-Ok-clause-skipped g c =
+    let e = rw c.in-Ok-Some.field-0-is at c.in-Ok-Some.ensures.entered in
+    let r = rw c.next_header.ensures.mode at c.in-Ok.ensures.whole in
+    skipped_value (of_constructed g.S.Source.stream c.args.self.now) (of_constructed g.S.Source.stream c.next_header.new.self) _ (header c.in-Ok-Some.header) (source_of g.S.Source.stream c.next_header.new.self) (g.S.Source.stream c.skip_content.new.source.source) (limit_in c.next_header.new.self) c.skip_content.new.source.limit (within_constructed g.S.Source.stream g.met.S.Source.sound c.args.self.now) e.1 refl refl refl refl refl refl refl refl r.0 r.2 refl cause_of _ c.args.op.now c.skip_content.new.op _ c.in-Ok.ensures.no_fault c.in-Ok-Some.ensures.no_fault r.1
+
+pub returns-in-Ok-clause-exact : goal.returns-in-Ok-clause-exact
+unfolding of_constructed
+returns-in-Ok-clause-exact g c =
+    let e = rw c.in-Ok-Some.field-0-is at c.in-Ok-Some.ensures.entered in
+    let r = rw c.next_header.ensures.mode at c.in-Ok.ensures.whole in
+    λ n. answers_skip cause_of _ _ _ _ _ (within_constructed g.S.Source.stream g.met.S.Source.sound c.args.self.now) n _ (skipped_value (of_constructed g.S.Source.stream c.args.self.now) (of_constructed g.S.Source.stream c.next_header.new.self) _ (header c.in-Ok-Some.header) (source_of g.S.Source.stream c.next_header.new.self) (g.S.Source.stream c.skip_content.new.source.source) (limit_in c.next_header.new.self) c.skip_content.new.source.limit (within_constructed g.S.Source.stream g.met.S.Source.sound c.args.self.now) e.1 refl refl refl refl refl refl refl refl r.0 r.2 refl cause_of _ c.args.op.now c.skip_content.new.op _ c.in-Ok.ensures.no_fault c.in-Ok-Some.ensures.no_fault r.1)
+
+pub returns-in-Err-skip_content-clause-moves : goal.returns-in-Err-skip_content-clause-moves
+unfolding of_constructed
+returns-in-Err-skip_content-clause-moves g c =
+    let e = rw c.in-Ok-Some.field-0-is at c.in-Ok-Some.ensures.entered in
+    let b = rw c.next_header.ensures.mode at c.in-Err-skip_content.ensures.breaks in
+    carries _ _ (breaks_moves (of_constructed g.S.Source.stream c.args.self.now) (of_constructed g.S.Source.stream c.next_header.new.self) _ (header c.in-Ok-Some.header) (source_of g.S.Source.stream c.next_header.new.self) (g.S.Source.stream c.skip_content.new.source.source) (limit_in c.next_header.new.self) c.skip_content.new.source.limit (within_constructed g.S.Source.stream g.met.S.Source.sound c.args.self.now) e.1 refl refl refl refl refl refl refl refl _ c.args.op.now c.skip_content.new.op cause_of c.in-Err-skip_content.halt c.halted.result e.1.opened c.in-Ok-Some.ensures.no_fault (open_not_ended _ e.1.usable) c.halted.ensures.content c.halted.ensures.source c.halted.ensures.memory c.halted.ensures.closure c.skip_content.ensures.faults b)
+
+pub returns-in-Err-skip_content-clause-skipped : goal.returns-in-Err-skip_content-clause-skipped
+unfolding of_constructed
+returns-in-Err-skip_content-clause-skipped g c =
+    let e = rw c.in-Ok-Some.field-0-is at c.in-Ok-Some.ensures.entered in
+    let b = rw c.next_header.ensures.mode at c.in-Err-skip_content.ensures.breaks in
+    skipped_not (of_constructed g.S.Source.stream c.args.self.now) (of_constructed g.S.Source.stream c.next_header.new.self) _ (header c.in-Ok-Some.header) (source_of g.S.Source.stream c.next_header.new.self) (g.S.Source.stream c.skip_content.new.source.source) (limit_in c.next_header.new.self) c.skip_content.new.source.limit (within_constructed g.S.Source.stream g.met.S.Source.sound c.args.self.now) e.1 refl refl refl refl refl refl refl refl _ c.args.op.now c.skip_content.new.op cause_of c.in-Err-skip_content.halt c.halted.result e.1.opened c.in-Ok-Some.ensures.no_fault (open_not_ended _ e.1.usable) c.halted.ensures.content c.halted.ensures.source c.halted.ensures.memory c.halted.ensures.closure b
+
+pub returns-in-Err-skip_content-clause-exact : goal.returns-in-Err-skip_content-clause-exact
+unfolding of_constructed
+returns-in-Err-skip_content-clause-exact g c =
+    let e = rw c.in-Ok-Some.field-0-is at c.in-Ok-Some.ensures.entered in
+    let b = rw c.next_header.ensures.mode at c.in-Err-skip_content.ensures.breaks in
+    λ n. answers_skip cause_of _ _ _ _ _ (within_constructed g.S.Source.stream g.met.S.Source.sound c.args.self.now) n _ (skipped_not (of_constructed g.S.Source.stream c.args.self.now) (of_constructed g.S.Source.stream c.next_header.new.self) _ (header c.in-Ok-Some.header) (source_of g.S.Source.stream c.next_header.new.self) (g.S.Source.stream c.skip_content.new.source.source) (limit_in c.next_header.new.self) c.skip_content.new.source.limit (within_constructed g.S.Source.stream g.met.S.Source.sound c.args.self.now) e.1 refl refl refl refl refl refl refl refl _ c.args.op.now c.skip_content.new.op cause_of c.in-Err-skip_content.halt c.halted.result e.1.opened c.in-Ok-Some.ensures.no_fault (open_not_ended _ e.1.usable) c.halted.ensures.content c.halted.ensures.source c.halted.ensures.memory c.halted.ensures.closure b)
+
+pub returns-in-Ok-None-clause-moves : goal.returns-in-Ok-None-clause-moves
+returns-in-Ok-None-clause-moves g c =
+    carries _ _ c.next_header.ensures.moves
+
+pub returns-in-Ok-None-clause-skipped : goal.returns-in-Ok-None-clause-skipped
+unfolding of_constructed
+returns-in-Ok-None-clause-skipped g c =
+    let n = rw c.in-Ok-None.field-0-is at c.in-Ok-None.ensures.none in
+    skipped_end cause_of _ (of_constructed g.S.Source.stream c.args.self.now) (of_constructed g.S.Source.stream c.next_header.new.self) c.args.op.now c.next_header.ensures.mode c.next_header.ensures.marked n.missing.0 n.missing.1 n.no_fault
+
+pub returns-in-Ok-None-clause-exact : goal.returns-in-Ok-None-clause-exact
+unfolding of_constructed
+returns-in-Ok-None-clause-exact g c =
+    let n = rw c.in-Ok-None.field-0-is at c.in-Ok-None.ensures.none in
+    λ z. answers_skip cause_of _ _ _ _ _ (within_constructed g.S.Source.stream g.met.S.Source.sound c.args.self.now) z _ (skipped_end cause_of _ (of_constructed g.S.Source.stream c.args.self.now) (of_constructed g.S.Source.stream c.next_header.new.self) c.args.op.now c.next_header.ensures.mode c.next_header.ensures.marked n.missing.0 n.missing.1 n.no_fault)
+
+pub returns-in-Err-clause-moves : goal.returns-in-Err-clause-moves
+returns-in-Err-clause-moves g c =
+    carries _ _ c.next_header.ensures.moves
+
+pub returns-in-Err-clause-skipped : goal.returns-in-Err-clause-skipped
+unfolding of_constructed
+returns-in-Err-clause-skipped g c =
+    skipped_none cause_of _ (of_constructed g.S.Source.stream c.args.self.now) (of_constructed g.S.Source.stream c.next_header.new.self) c.args.op.now c.next_header.ensures.mode c.next_header.ensures.marked c.stopped.result c.next_header.ensures.moves (walk_stopped stop_cause cause_of _ _ c.stopped.ensures.refused c.stopped.ensures.source _ _ (next_refused stop_cause (of_constructed g.S.Source.stream c.args.self.now) (of_constructed g.S.Source.stream c.next_header.new.self) _ (within_constructed g.S.Source.stream g.met.S.Source.sound c.args.self.now) c.in-Err.ensures.refused)) c.in-Err.ensures.failed
+
+pub returns-in-Err-clause-exact : goal.returns-in-Err-clause-exact
+unfolding of_constructed
+returns-in-Err-clause-exact g c =
+    λ n. answers_skip cause_of _ _ _ _ _ (within_constructed g.S.Source.stream g.met.S.Source.sound c.args.self.now) n _ (skipped_none cause_of _ (of_constructed g.S.Source.stream c.args.self.now) (of_constructed g.S.Source.stream c.next_header.new.self) c.args.op.now c.next_header.ensures.mode c.next_header.ensures.marked c.stopped.result c.next_header.ensures.moves (walk_stopped stop_cause cause_of _ _ c.stopped.ensures.refused c.stopped.ensures.source _ _ (next_refused stop_cause (of_constructed g.S.Source.stream c.args.self.now) (of_constructed g.S.Source.stream c.next_header.new.self) _ (within_constructed g.S.Source.stream g.met.S.Source.sound c.args.self.now) c.in-Err.ensures.refused)) c.in-Err.ensures.failed)

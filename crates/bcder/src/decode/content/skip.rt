@@ -1,0 +1,423 @@
+//! Passing over values with a stack of limits, and a closure that is told of each.
+ghost use Rattle.std.specs.Prelude.{◌≡◌, ◌+◌, ◌^◌, ◌<◌, ◌≤◌, ◌∷◌, true, false, IfSome, OnOk};
+ghost use Rattle.smallvec.specs.SmallVec.{small_vec_len};
+ghost use Rattle.bcder.specs.Cause.{cause_of, of_content, of_memory, of_source, IsOfContent};
+ghost use Rattle.bcder.specs.Cause.{IsRefusal};
+ghost use Rattle.bcder.specs.Content.{FitsOwed, Moves};
+ghost use Rattle.bcder.specs.Encoding.{may_have};
+ghost use Rattle.bcder.specs.Inside.{kind_behind, limit_inside};
+ghost use Rattle.bcder.specs.Stacked.{Counts, Leaves, Ran, RanOverSource, TopIs, Visited, entries};
+ghost use Rattle.bcder.specs.Skipping.{ExactlyAll, ExactlySkipped, ExactlyValue, FoundMemory};
+ghost use Rattle.bcder.specs.Skipping.{SkippedAll, SkippedNext, SkippedOne, SkippedValue};
+ghost use Rattle.bcder.specs.Stacked.{entry_of, halt_cause, joined, limit_in, unwound};
+ghost use Rattle.bcder.specs.Stream.{limit_left};
+ghost use Rattle.bcder.specs.Views.{after, before, Moved};
+ghost use Rattle.bcder.specs.Walking.{ExactlyNext};
+
+use super::inside::{go_inside, kind_behind};
+use super::{Constructed, Kind, State};
+use crate::decode::error::{ContentError, DecodeError};
+use crate::decode::header::Header;
+use crate::decode::source::{LimitedSource, Source};
+use crate::decode::stop::Stop;
+use crate::length::Length;
+use crate::mode::Mode;
+use crate::tag::Tag;
+use smallvec::SmallVec;
+use std::alloc::Global;
+
+/// How an open value ends.
+#[derive(Clone, Copy)]
+enum Entry {
+    /// Where nothing is owed any more. So many octets are owed behind it, if there is a limit.
+    Definite(Option<usize>),
+
+    /// By end-of-contents octets.
+    Indefinite,
+}
+
+impl Default for Entry {
+    fn default() -> Entry {
+        Entry::Indefinite
+    }
+}
+
+/// Why passing over a value halted.
+enum Halt<E> {
+    /// A step over content stopped.
+    Stopped(Stop<E>),
+
+    /// The closure refused a header.
+    Refused(ContentError),
+
+    /// There was no memory for another open value.
+    NoMemory,
+}
+
+/// What is owed behind a value of so many octets.
+#[inline(always)]
+fn owed_behind(owed: Option<usize>, len: usize) -> Option<usize>
+    ensures { result ≡ limit_left owed len }
+{
+    match owed {
+        Some(owed) => Some(owed.saturating_sub(len)),
+        None => None,
+    }
+}
+
+/// How a value of this length ends, where so much is owed behind its header.
+#[inline(always)]
+fn entry_of(len: Length, owed: Option<usize>) -> Entry
+    ensures { result ≡ entry_of len owed }
+{
+    match len {
+        Length::Definite(len) => Entry::Definite(owed_behind(owed, len)),
+        Length::Indefinite => Entry::Indefinite,
+    }
+}
+
+/// What is owed in all where so much is owed behind a value and so much in it.
+#[inline(always)]
+fn joined(behind: Option<usize>, left: Option<usize>) -> Option<usize>
+    requires { IfSome (joined behind left) (λ n. n < 2 ^ 64) }
+    ensures { result ≡ joined behind left }
+{
+    match (behind, left) {
+        (Some(behind), Some(left)) => Some(behind + left),
+        _ => None,
+    }
+}
+
+/// Opens a value whose header was passed over, if there is memory for it.
+#[inline(always)]
+fn open<S>(cons: &mut Constructed<'_, S>, stack: &mut SmallVec<Entry, 4>, len: Length) -> bool
+    ensures entries { result ≡ true
+        → entries stack.new ≡ entry_of len (limit_in cons.old) ∷ entries stack.old }
+    ensures limit { result ≡ true → limit_in cons.new ≡ limit_inside len (limit_in cons.old) }
+    ensures kind { result ≡ true → cons.new.kind ≡ kind_behind len }
+    ensures full { result ≡ false → stack.old.capacity ≤ small_vec_len stack.old }
+    ensures same_entries { result ≡ false → stack.new ≡ stack.old }
+    ensures same_limit { result ≡ false → limit_in cons.new ≡ limit_in cons.old }
+    ensures capacity { stack.old.capacity ≤ stack.new.capacity }
+    ensures source { cons.new.source.now.source ≡ cons.old.source.now.source }
+    ensures name { cons.new.source.ghost_name ≡ cons.old.source.ghost_name }
+    ensures mode { cons.new.mode ≡ cons.old.mode }
+    ensures marked { cons.new.marked ≡ cons.old.marked }
+{
+    if stack.push(entry_of(len, cons.source.limit())).is_err() {
+        return false;
+    }
+    go_inside(cons.source, len);
+    cons.kind = kind_behind(len);
+    true
+}
+
+/// How the end of the innermost open value is known.
+#[inline(always)]
+fn kind_of_top(stack: &SmallVec<Entry, 4>) -> Kind
+    ensures { TopIs (entries stack.now) result }
+{
+    match stack.as_slice().last() {
+        Some(Entry::Indefinite) => Kind::Indefinite,
+        _ => Kind::Definite,
+    }
+}
+
+/// Goes on behind the innermost open value, which ended.
+#[inline(always)]
+fn leave<S>(cons: &mut Constructed<'_, S>, stack: &mut SmallVec<Entry, 4>)
+    requires { 0 < small_vec_len stack.old }
+    ensures leaves { Leaves (entries stack.old) (limit_in cons.old)
+        (entries stack.new) (limit_in cons.new) }
+    ensures fewer { small_vec_len stack.new + 1 ≡ small_vec_len stack.old }
+    ensures capacity { stack.new.capacity ≡ stack.old.capacity }
+    ensures kind { TopIs (entries stack.new) cons.new.kind }
+    ensures state { cons.new.state ≡ State.Open }
+    ensures source { cons.new.source.now.source ≡ cons.old.source.now.source }
+    ensures name { cons.new.source.ghost_name ≡ cons.old.source.ghost_name }
+    ensures mode { cons.new.mode ≡ cons.old.mode }
+    ensures marked { cons.new.marked ≡ cons.old.marked }
+{
+    if let Some(Entry::Definite(behind)) = stack.pop() {
+        cons.source.set_limit(behind);
+    }
+    cons.kind = kind_of_top(stack);
+    cons.state = State::Open;
+}
+
+/// How many octets are owed, if there is a limit.
+#[inline(always)]
+fn owed<S>(source: &LimitedSource<S>) -> Option<usize>
+    ensures value { result ≡ source.now.limit }
+    ensures range { IfSome result (λ n. n < 2 ^ 64) }
+{
+    match source.limit() {
+        Some(owed) => Some(owed),
+        None => None,
+    }
+}
+
+/// Gives the limit back that was there before the open values were entered.
+#[inline(never)]
+fn unwind<S>(source: &mut LimitedSource<S>, stack: &mut SmallVec<Entry, 4>, outer: Option<usize>)
+    requires { Counts outer (unwound (entries stack.old) source.old.limit) }
+    ensures limit { source.new.limit ≡ unwound (entries stack.old) source.old.limit }
+    ensures source { source.new.source ≡ source.old.source }
+{
+    if outer.is_none() {
+        source.set_limit(None);
+        return;
+    }
+    while let Some(entry) = stack.pop() {
+        match entry {
+            Entry::Definite(behind) => source.set_limit(joined(behind, source.limit())),
+            Entry::Indefinite => {}
+        }
+    }
+}
+
+/// Calls the closure at a header that was passed over, and goes into its content.
+#[inline(always)]
+fn visit<S: Source, F>(
+    cons: &mut Constructed<'_, S>,
+    stack: &mut SmallVec<Entry, 4>,
+    header: Header,
+    op: &mut F,
+) -> Result<(), Halt<S::Error>>
+where
+    F: FnMut(Tag, bool, usize) -> Result<(), ContentError>,
+    requires callable { F.IsAlwaysCallable op.old }
+    requires allowed { may_have cons.old.mode header.constructed header.len ≡ true }
+    requires fits { FitsOwed header.len (limit_in cons.old) }
+    requires inline { 4 ≤ stack.old.capacity }
+    ensures callable { F.IsAlwaysCallable op.new }
+    ensures visited { Visited S.stream F.step cons stack header op result }
+    ensures inline { 4 ≤ stack.new.capacity }
+    ensures kind { OnOk result
+        (TopIs (entries stack.old) cons.old.kind → TopIs (entries stack.new) cons.new.kind) }
+    ensures state { OnOk result (cons.new.state ≡ State.Open) }
+    ensures name { cons.new.source.ghost_name ≡ cons.old.source.ghost_name }
+    ensures mode { cons.new.mode ≡ cons.old.mode }
+    ensures marked { cons.new.marked ≡ cons.old.marked }
+{
+    if let Err(error) = op(header.tag, header.constructed, stack.len()) {
+        return Err(Halt::Refused(error));
+    }
+    if header.constructed {
+        if open(cons, stack, header.len) {
+            cons.state = State::Open;
+            return Ok(());
+        }
+        return Err(Halt::NoMemory);
+    }
+    match header.len {
+        Length::Definite(len) => match cons.source.skip_owed(len) {
+            Ok(()) => {
+                cons.state = State::Open;
+                Ok(())
+            }
+            Err(stop) => Err(Halt::Stopped(stop)),
+        },
+        Length::Indefinite => Err(Halt::NoMemory),
+    }
+}
+
+/// Passes over the content of a value whose header was passed over.
+fn run<S: Source, F>(
+    cons: &mut Constructed<'_, S>,
+    alloc: Global,
+    header: Header,
+    op: &mut F,
+) -> Result<(), Halt<S::Error>>
+where
+    F: FnMut(Tag, bool, usize) -> Result<(), ContentError>,
+    requires callable { F.IsAlwaysCallable op.old }
+    requires allowed { may_have cons.old.mode header.constructed header.len ≡ true }
+    requires fits { FitsOwed header.len (limit_in cons.old) }
+    ensures ran { Ran S.stream F.step cons header op result }
+    ensures name { cons.new.source.ghost_name ≡ cons.old.source.ghost_name }
+{
+    let outer = owed(cons.source);
+    let mut stack: SmallVec<Entry, 4> = SmallVec::new(alloc);
+    if let Err(halt) = visit(cons, &mut stack, header, op) {
+        return Err(halt);
+    }
+    while !stack.is_empty() {
+        match cons.next_header() {
+            Ok(Some(header)) => {
+                if let Err(halt) = visit(cons, &mut stack, header, op) {
+                    unwind(cons.source, &mut stack, outer);
+                    return Err(halt);
+                }
+            }
+            Ok(None) => leave(cons, &mut stack),
+            Err(stop) => {
+                unwind(cons.source, &mut stack, outer);
+                return Err(Halt::Stopped(stop));
+            }
+        }
+    }
+    Ok(())
+}
+
+/// The same over a source.
+#[inline(never)]
+fn skip_content<S: Source, F>(
+    source: &mut LimitedSource<S>,
+    mode: Mode,
+    alloc: Global,
+    header: Header,
+    op: &mut F,
+) -> Result<(), Halt<S::Error>>
+where
+    F: FnMut(Tag, bool, usize) -> Result<(), ContentError>,
+    requires callable { F.IsAlwaysCallable op.old }
+    requires allowed { may_have mode header.constructed header.len ≡ true }
+    requires fits { FitsOwed header.len source.old.limit }
+    ensures { RanOverSource S.stream F.step source mode header op result }
+{
+    let start = source.pos();
+    let mut cons = Constructed {
+        source: &mut *source,
+        kind: Kind::Definite,
+        state: State::Failed,
+        mode,
+        marked: false,
+        start,
+    };
+    run(&mut cons, alloc, header, op)
+}
+
+impl<'a, S: Source> Constructed<'a, S> {
+    /// The error that a halt is, at the present position.
+    #[cold]
+    fn halted(&self, halt: Halt<S::Error>) -> DecodeError<S::Error>
+        ensures content { IsOfContent (halt_cause halt) → IsRefusal result }
+        ensures source { halt_cause halt ≡ of_source → cause_of result ≡ of_source }
+        ensures memory { halt_cause halt ≡ of_memory → cause_of result ≡ of_memory }
+        ensures closure { (x : _) → halt ≡ Halt.Refused x → cause_of result ≡ of_content x }
+    {
+        match halt {
+            Halt::Stopped(stop) => self.stopped(stop),
+            Halt::Refused(error) => self.source.content_err(error),
+            Halt::NoMemory => DecodeError::no_memory(),
+        }
+    }
+
+    /// Passes over the next value, or answers `None` at the end of the content, whose marker it
+    /// takes.
+    ///
+    /// The closure is called with the tag, the form (true for constructed) and the depth of the
+    /// value and of each value inside it, before those inside it. It is called once the header was
+    /// read and is allowed, and before anything of the contents octets is looked at; it isn't
+    /// called for end-of-contents octets. Its refusal ends the skip and is answered as it is.
+    ///
+    /// A value is passed exactly where its encoding stands in front, in the content's mode (X.690,
+    /// 8.1.1), and the closure answers `Ok` each time. Of primitive values the contents octets
+    /// aren't looked at. Values may be nested to any depth: each level beyond four that are open at
+    /// a time takes memory, no level takes a level of calls.
+    ///
+    /// # Errors
+    ///
+    /// Where neither the encoding of a value nor the end stands in front; where the closure
+    /// refuses; where an earlier value was refused; where the source fails; where there is no
+    /// memory for an open value. The content has then failed, and every later take refuses.
+    #[inline(always)]
+    pub fn skip_opt<F>(
+        &mut self,
+        alloc: Global,
+        op: &mut F,
+    ) -> Result<Option<()>, DecodeError<S::Error>>
+    where
+        F: FnMut(Tag, bool, usize) -> Result<(), ContentError>,
+        requires { F.IsAlwaysCallable op.old }
+        ensures moves { Moved S.stream self }
+        ensures skipped { SkippedNext S.stream F.step self op result }
+        ensures exact { ExactlySkipped S.stream F.step self op result }
+    {
+        match self.next_header() {
+            Ok(Some(header)) => match skip_content(self.source, self.mode, alloc, header, op) {
+                Ok(()) => {
+                    self.state = State::Open;
+                    Ok(Some(()))
+                }
+                Err(halt) => Err(self.halted(halt)),
+            },
+            Ok(None) => Ok(None),
+            Err(stop) => Err(self.stopped(stop)),
+        }
+    }
+
+    /// Passes over the next value, which has to be there.
+    ///
+    /// The closure is called as that of [`skip_opt`](Self::skip_opt) is.
+    ///
+    /// # Errors
+    ///
+    /// Those of `skip_opt`, and at the end of the content, which then stays usable.
+    #[inline(always)]
+    pub fn skip<F>(&mut self, alloc: Global, op: &mut F) -> Result<(), DecodeError<S::Error>>
+    where
+        F: FnMut(Tag, bool, usize) -> Result<(), ContentError>,
+        requires { F.IsAlwaysCallable op.old }
+        ensures moves { Moved S.stream self }
+        ensures skipped { SkippedValue S.stream F.step self op result }
+        ensures exact { ExactlyValue S.stream F.step self op result }
+    {
+        match self.skip_opt(alloc, op) {
+            Ok(Some(())) => Ok(()),
+            Ok(None) => Err(self.refusal("no value at the end of the content")),
+            Err(error) => Err(error),
+        }
+    }
+
+    /// As `skip_one`, by the stack alone.
+    #[inline(never)]
+    fn skip_any(&mut self, alloc: Global) -> Result<Option<()>, DecodeError<S::Error>>
+        ensures moves { Moves (before S.stream self) (after S.stream self) }
+        ensures skipped { SkippedOne S.stream self result }
+    {
+        let mut all = |_tag: Tag, _constructed: bool, _depth: usize| -> Result<(), ContentError> {
+            Ok(())
+        };
+        self.skip_opt(alloc, &mut all)
+    }
+
+    /// Passes over the next value, or answers `None` at the end of the content, whose marker it
+    /// takes.
+    ///
+    /// A value is passed as [`skip_opt`](Self::skip_opt) passes it with a closure that always
+    /// answers `Ok`.
+    ///
+    /// # Errors
+    ///
+    /// Where neither the encoding of a value nor the end stands in front; where an earlier value
+    /// was refused; where the source fails; where there is no memory for a value that is open at a
+    /// depth of four or more. The content has then failed.
+    #[inline(always)]
+    pub fn skip_one(&mut self, alloc: Global) -> Result<Option<()>, DecodeError<S::Error>>
+        ensures moves { Moved S.stream self }
+        ensures skipped { SkippedOne S.stream self result }
+        ensures exact { FoundMemory result → ExactlyNext S.stream self result }
+    {
+        match self.pass_at_hand(true) {
+            Ok(true) => Ok(Some(())),
+            Ok(false) => self.skip_any(alloc),
+            Err(stop) => Err(self.stopped(stop)),
+        }
+    }
+
+    /// Passes over all values up to the end of the content, whose marker it takes.
+    ///
+    /// # Errors
+    ///
+    /// Those of [`skip_one`](Self::skip_one).
+    pub fn skip_all(&mut self, alloc: Global) -> Result<(), DecodeError<S::Error>>
+        ensures moves { Moved S.stream self }
+        ensures skipped { SkippedAll S.stream self result }
+        ensures exact { ExactlyAll S.stream self result }
+    {
+        while self.skip_one(alloc)?.is_some() {}
+        Ok(())
+    }
+}
