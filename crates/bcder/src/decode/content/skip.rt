@@ -26,6 +26,10 @@ use crate::tag::Tag;
 use smallvec::SmallVec;
 use std::alloc::Global;
 
+/// How many octets of a value the plain reader looks at. It calls itself for values inside values,
+/// which is no deeper than half of that.
+const PLAIN: usize = 4096;
+
 /// How an open value ends.
 #[derive(Clone, Copy)]
 enum Entry {
@@ -373,7 +377,7 @@ impl<'a, S: Source> Constructed<'a, S> {
 
     /// As `skip_one`, by the stack alone.
     #[inline(never)]
-    fn skip_any(&mut self, alloc: Global) -> Result<Option<()>, DecodeError<S::Error>>
+    fn skip_stacked(&mut self, alloc: Global) -> Result<Option<()>, DecodeError<S::Error>>
         ensures moves { Moves (before S.stream self) (after S.stream self) }
         ensures skipped { SkippedOne S.stream self result }
     {
@@ -381,6 +385,19 @@ impl<'a, S: Source> Constructed<'a, S> {
             Ok(())
         };
         self.skip_opt(alloc, &mut all)
+    }
+
+    /// As `skip_one`, whatever stands in front.
+    #[inline(never)]
+    fn skip_any(&mut self, alloc: Global) -> Result<Option<()>, DecodeError<S::Error>>
+        ensures moves { Moves (before S.stream self) (after S.stream self) }
+        ensures skipped { SkippedOne S.stream self result }
+    {
+        match self.pass_at_hand(false, PLAIN) {
+            Ok(true) => Ok(Some(())),
+            Ok(false) => self.skip_stacked(alloc),
+            Err(stop) => Err(self.stopped(stop)),
+        }
     }
 
     /// Passes over the next value, or answers `None` at the end of the content, whose marker it
@@ -400,7 +417,7 @@ impl<'a, S: Source> Constructed<'a, S> {
         ensures skipped { SkippedOne S.stream self result }
         ensures exact { FoundMemory result → ExactlyNext S.stream self result }
     {
-        match self.pass_at_hand(true) {
+        match self.pass_at_hand(true, usize::MAX) {
             Ok(true) => Ok(Some(())),
             Ok(false) => self.skip_any(alloc),
             Err(stop) => Err(self.stopped(stop)),
