@@ -1,6 +1,7 @@
 //! Passing over values with a stack of limits, and a closure that is told of each.
 ghost use Rattle.std.specs.Prelude.{◌≡◌, ◌+◌, ◌^◌, ◌<◌, ◌≤◌, ◌∷◌, true, false, IfSome, OnOk};
 ghost use Rattle.smallvec.specs.SmallVec.{small_vec_len};
+ghost use Rattle.bcder.specs.declared.mode.Mode.{Mode as ModeValue};
 ghost use Rattle.bcder.specs.Cause.{cause_of, of_content, of_memory, of_source, IsOfContent};
 ghost use Rattle.bcder.specs.Cause.{IsRefusal};
 ghost use Rattle.bcder.specs.Content.{FitsOwed, Moves};
@@ -292,6 +293,56 @@ where
     run(&mut cons, alloc, header, op)
 }
 
+/// The same of a primitive value, which needs no stack.
+#[inline(always)]
+fn skip_octets<S: Source, F>(
+    source: &mut LimitedSource<S>,
+    header: Header,
+    op: &mut F,
+) -> Result<(), Halt<S::Error>>
+where
+    F: FnMut(Tag, bool, usize) -> Result<(), ContentError>,
+    requires callable { F.IsAlwaysCallable op.old }
+    requires primitive { header.constructed ≡ false }
+    requires definite { header.len ≡ Length.Indefinite → ⊥ }
+    requires fits { FitsOwed header.len source.old.limit }
+    ensures { (mode : ModeValue) → RanOverSource S.stream F.step source mode header op result }
+{
+    if let Err(error) = op(header.tag, header.constructed, 0) {
+        return Err(Halt::Refused(error));
+    }
+    match header.len {
+        Length::Definite(len) => match source.skip_owed(len) {
+            Ok(()) => Ok(()),
+            Err(stop) => Err(Halt::Stopped(stop)),
+        },
+        Length::Indefinite => Err(Halt::NoMemory),
+    }
+}
+
+/// Passes over the content of a value whose header was passed over, in the way that its form needs.
+#[inline(always)]
+fn skip_behind<S: Source, F>(
+    source: &mut LimitedSource<S>,
+    mode: Mode,
+    alloc: Global,
+    header: Header,
+    op: &mut F,
+) -> Result<(), Halt<S::Error>>
+where
+    F: FnMut(Tag, bool, usize) -> Result<(), ContentError>,
+    requires callable { F.IsAlwaysCallable op.old }
+    requires allowed { may_have mode header.constructed header.len ≡ true }
+    requires fits { FitsOwed header.len source.old.limit }
+    ensures { RanOverSource S.stream F.step source mode header op result }
+{
+    if header.constructed {
+        skip_content(source, mode, alloc, header, op)
+    } else {
+        skip_octets(source, header, op)
+    }
+}
+
 impl<'a, S: Source> Constructed<'a, S> {
     /// The error that a halt is, at the present position.
     #[cold]
@@ -340,7 +391,7 @@ impl<'a, S: Source> Constructed<'a, S> {
         ensures exact { ExactlySkipped S.stream F.step self op result }
     {
         match self.next_header() {
-            Ok(Some(header)) => match skip_content(self.source, self.mode, alloc, header, op) {
+            Ok(Some(header)) => match skip_behind(self.source, self.mode, alloc, header, op) {
                 Ok(()) => {
                     self.state = State::Open;
                     Ok(Some(()))
