@@ -101,18 +101,18 @@ looked_at_end c d after s (of_definite k o) = of_definite (sym s.kind ∙ k) (sy
 looked_at_end c d after s (of_indefinite k m) = of_indefinite (sym s.kind ∙ k) (looked_marked c d after s m)
 looked_at_end c d after s (of_unbounded k e) = of_unbounded (sym s.kind ∙ k) (sym s.rest ∙ e)
 
-looked_ends : (c d : Reading) (after : List ℕ) → Resembles c d → EndsBefore d after → EndsBefore c after
+pub looked_ends : (c d : Reading) (after : List ℕ) → Resembles c d → EndsBefore d after → EndsBefore c after
 looked_ends c d after s (inl e) = inl (sym s.state ∙ e)
 looked_ends c d after s (inr e) = inr (sym s.state ∙ e.0, looked_at_end c d after s e.1)
 
 looked_nothing : (c d : Reading) → Resembles c d → NoValue d → NoValue c
 looked_nothing c d s n = record { none = λ t w after k r. n.none t w after (subst (λ m. IsEncoding m t w) (sym s.mode) k) (s.rest ∙ r) }
 
-looked_open : (c d : Reading) → Resembles c d → NotAtEnd d → NotAtEnd c
+pub looked_open : (c d : Reading) → Resembles c d → NotAtEnd d → NotAtEnd c
 looked_open c d s n = record { none = λ after e. n.none after (looked_ends d c after (resembles_sym c d s) e) }
 
 module _ {E : Type 0} (why : E → Cause ContentError) (c d e : Reading) (s : Resembles c d) (f : d.stream.faults ≡ c.stream.faults) where
-  looked_refused : (x : E) → walking.RefusesWalk why d x e → walking.RefusesWalk why c x e
+  pub looked_refused : (x : E) → walking.RefusesWalk why d x e → walking.RefusesWalk why c x e
   looked_refused x (walking.RefusesWalk.failed h o) = walking.RefusesWalk.failed (sym s.state ∙ h) o
   looked_refused x (walking.RefusesWalk.source h g) = walking.RefusesWalk.source h (subst (λ z. Grew z e.stream.faults) f g)
   looked_refused x (walking.RefusesWalk.nothing h n q o) = walking.RefusesWalk.nothing (sym s.state ∙ h) (looked_nothing c d s n) (looked_open c d s q) o

@@ -1,6 +1,6 @@
 -- What skipping promises of content, by what a run over the content of a value did.
 use Rattle.std.proofs.Common.{◌≡◌, ◌≢◌, inl, inr, ℕ, ◌+◌, ◌*◌, ◌≤◌, Bool, true, false, List, [], ◌∷◌, ◌++◌, length, Option, Some, None, Ok, Err, IfOk, IfErr, IfSome, IfNone, refl, sym, ap, subst, ◌∙◌, arith, append_assoc, append-nil, length-append}
-use Rattle.std.specs.Prelude.{Result, IsErrAnd, ◌⊎◌, ◌<◌}
+use Rattle.std.specs.Prelude.{Result, IsOk, IsErrAnd, ◌⊎◌, ◌<◌}
 use Rattle.std.proofs.lemmas.List.{append_cancel_right}
 use Rattle.bcder.specs.declared.mode.Mode.{Mode}
 use Rattle.bcder.specs.declared.decode.content.State.TheVariants.{Open, Ended, Failed}
@@ -8,18 +8,18 @@ use Rattle.bcder.specs.declared.decode.content.skip.Halt.{Halt}
 use Rattle.bcder.specs.declared.decode.content.skip.Halt.TheVariants as halt
 use Rattle.bcder.specs.declared.decode.error.ContentError.{ContentError}
 use Rattle.bcder.specs.declared.decode.error.DecodeError.{DecodeError}
-use Rattle.bcder.specs.Cause.{Cause, cause_of, of_source, of_content, of_memory, IsOfContent}
+use Rattle.bcder.specs.Cause.{Cause, cause_of, of_source, of_content, of_memory, IsOfContent, IsRefusal}
 use Rattle.bcder.specs.Identifier.{universal}
 use Rattle.bcder.specs.Tree.{Tree, primitive}
 use Rattle.bcder.specs.Encoding.{IsEncoding}
 use Rattle.bcder.specs.Preorder.{Heading, preorder}
 use Rattle.bcder.specs.Reading.{Header, read_header, read_contents, read_list, read_tree}
 use Rattle.bcder.specs.Stream.{Stream, Grew, cut, past, limited}
-use Rattle.bcder.specs.Content.{Reading, any, Falls, Moves, Advances, Enters, EndsBefore, EndsAt, IsDone, NotAtEnd}
+use Rattle.bcder.specs.Content.{Reading, Octets, Resembles, any, Falls, Moves, Advances, Enters, EndsBefore, EndsAt, IsDone, NotAtEnd}
 use Rattle.bcder.specs.Grammar.{IsOnly}
-use Rattle.bcder.specs.Walking.{HasValue, NoValue, PassesValue, RefusesWalk}
+use Rattle.bcder.specs.Walking.{HasValue, NoValue, PassesValue, RefusesWalk, AnswersNext, HasValues, Walks}
 use Rattle.bcder.specs.Walking as walking
-use Rattle.bcder.specs.Skipping.{Steps, Called, Refused, WereCalls, SkipsValue, RefusesSkip, SkippedBy, AnswersAll, IsShallow, FindsMemory, AnswersSkip}
+use Rattle.bcder.specs.Skipping.{Steps, Called, Refused, WereCalls, SkipsValue, RefusesSkip, SkippedBy, AnswersAll, IsShallow, FindsMemory, AnswersSkip, AnswersValue, SkippedValueBy, GoesDeep, RefusesOne, SkippedOneBy, RefusesAll, SkippedAllBy, FoundMemory}
 use Rattle.bcder.specs.Skipping as skipping
 use Rattle.bcder.specs.Stacked.{heading, halt_cause, PassesCalls, IsUnderWay, IsBroken, Breaks, by_source, by_content, by_closure, by_memory, RanBy}
 use Rattle.bcder.specs.laws.Complete.{header_complete, header_size, tree_complete, only_at_front}
@@ -30,7 +30,9 @@ use Rattle.bcder.proofs.Entering.{Within, header_not_at_end, header_entered}
 use Rattle.bcder.proofs.Inner.{layers_eq}
 use Rattle.bcder.proofs.Moving.{moves_value, moves_failed, advances_trans, open_not_ended, open_not_failed}
 use Rattle.bcder.proofs.Skips.{cut_falls, past_falls, finished}
-use Rattle.bcder.proofs.Walking.{value_not_at_end, value_once, moves_shorter}
+use Rattle.bcder.proofs.Passing.{looked_passes, looked_ends, looked_open, looked_refused}
+use Rattle.bcder.proofs.Walked.{answers_next}
+use Rattle.bcder.proofs.Walking.{value_not_at_end, value_once, moves_shorter, walks_refused}
 
 -- ---- calls that were made
 
@@ -234,3 +236,101 @@ module _ {F X : Type 0} (why : X → Cause ContentError) (step : Steps F Content
     found = λ t w after h a m. absurd (refused_value e t w after h a m s.refused);
     ended = λ after h. absurd (refused_end e after h s.refused);
   }
+
+-- ---- a value that has to be there
+
+module _ {F S : Type 0} (step : Steps F ContentError) (c : Reading) (f g : F) (d : Reading) where
+  pub value_some : {T U : Type 0} (x : T) (y : U) → SkippedBy {T = T} {X = DecodeError S} cause_of step c f (Ok (Some x)) g d → SkippedValueBy {S = S} step c f (Ok y) g d
+  value_some x y s = record { value = s.value; no_fault = s.no_fault; refused = tt; mode = s.mode; marked = s.marked }
+
+  pub value_none : {T U : Type 0} (e : DecodeError S) → IsRefusal e → SkippedBy {T = T} {X = DecodeError S} cause_of step c f (Ok None) g d → SkippedValueBy {T = U} {S = S} step c f (Err e) g d
+  value_none e r s = record { value = tt; no_fault = tt; refused = inl (record { missing = (s.end, s.done); marked = s.marked; no_fault = s.no_fault }, r, s.uncalled); mode = s.mode; marked = s.marked }
+
+  pub value_refused : {T U : Type 0} (e : DecodeError S) → SkippedBy {T = T} {X = DecodeError S} cause_of step c f (Err e) g d → SkippedValueBy {T = U} {S = S} step c f (Err e) g d
+  value_refused e s = record { value = tt; no_fault = tt; refused = inr (s.failed, s.refused); mode = s.mode; marked = s.marked }
+
+-- where one is there, it is passed
+module _ {F S T U : Type 0} (step : Steps F ContentError) (c : Reading) (f : F) (d : Reading) where
+  pub exact_some : (x : T) (y : U) → AnswersSkip {X = DecodeError S} cause_of step c f (Ok (Some x)) d → AnswersValue {X = DecodeError S} cause_of step c f (Ok y) d
+  exact_some x y s = record { found = λ t w after h n m. (s.found t w after h n (inr (λ z. z))).1 }
+
+  pub exact_none : (e : DecodeError S) → AnswersSkip {T = T} {X = DecodeError S} cause_of step c f (Ok None) d → AnswersValue {T = U} {X = DecodeError S} cause_of step c f (Err e) d
+  exact_none e s = record { found = λ t w after h n m. absurd (let x : false ≡ true = (s.found t w after h n (inr (λ z. z))).0 in cc) }
+
+  pub exact_refused : (e : DecodeError S) → AnswersSkip {T = T} {X = DecodeError S} cause_of step c f (Err e) d → AnswersValue {T = U} {X = DecodeError S} cause_of step c f (Err e) d
+  exact_refused e s = record { found = λ t w after h n m. absurd (s.found t w after h n m).0 }
+
+-- ---- without a closure
+
+module _ {F X : Type 0} (why : X → Cause ContentError) (step : Steps F ContentError) (c : Reading) (f g : F) (d : Reading) where
+  refused_one : ((q : F) (h : Heading) (x : ContentError) (p : F) → Refused step q h x p → ⊥) → (e : X) → RefusesSkip why step c f e g d → RefusesOne why c e d
+  refused_one n e (skipping.RefusesSkip.by_content calls called were r) = skipping.RefusesOne.by_walk r
+  refused_one n e (skipping.RefusesSkip.by_closure calls h q x called r were j) = absurd (n q h x g r)
+  refused_one n e (skipping.RefusesSkip.by_memory calls h called were b l j) = skipping.RefusesOne.by_depth (record { calls = calls; last = h; were = were; constructed = b; deep = l }) j
+
+  -- a closure that never refuses
+  pub skipped_one : {T : Type 0} (r : Result (Option T) X) → ((q : F) (h : Heading) (x : ContentError) (p : F) → Refused step q h x p → ⊥) → SkippedBy why step c f r g d → SkippedOneBy why c r d
+  skipped_one (Ok None) n s = record { value = tt; end = s.end; done = s.done; no_fault = s.no_fault; refused = tt; failed = tt; mode = s.mode; marked = s.marked }
+  skipped_one (Ok (Some x)) n s = record { value = s.value.passes; end = tt; done = tt; no_fault = s.no_fault; refused = tt; failed = tt; mode = s.mode; marked = s.marked }
+  skipped_one (Err e) n s = record { value = tt; end = tt; done = tt; no_fault = tt; refused = refused_one n e s.refused; failed = s.failed; mode = s.mode; marked = s.marked }
+
+module _ {X : Type 0} (why : X → Cause ContentError) (c d e : Reading) where
+  -- a value that was passed at once
+  pub one_at_once : {T : Type 0} (x : T) → PassesValue c d → d.stream.faults ≡ c.stream.faults → d.mode ≡ c.mode → d.marked ≡ c.marked → SkippedOneBy {X = X} why c (Ok (Some x)) d
+  one_at_once x p n m k = record { value = p; end = tt; done = tt; no_fault = n; refused = tt; failed = tt; mode = m; marked = k }
+
+  pub one_failing : {T : Type 0} (y : X) → why y ≡ of_source → Grew c.stream.faults d.stream.faults → d.state ≡ Failed → d.mode ≡ c.mode → d.marked ≡ c.marked → SkippedOneBy {T = T} why c (Err y) d
+  one_failing y j n s m k = record { value = tt; end = tt; done = tt; no_fault = tt; refused = skipping.RefusesOne.by_walk (walking.RefusesWalk.source j n); failed = s; mode = m; marked = k }
+
+  -- content that was only looked at before
+  looked_calls : Resembles c d → (calls : List Heading) → WereCalls d calls e → WereCalls c calls e
+  looked_calls s calls w = record {
+    some = w.some;
+    one = λ t v after h. w.one t v after (record { usable = s.state ∙ h.usable; encodes = subst (λ m. IsEncoding m t v) (sym s.mode) h.encodes; rest = s.rest ∙ h.rest });
+    stand = subst (λ m. skipping.HeadersFrom m calls c.stream.rest) s.mode (subst (λ z. skipping.HeadersFrom d.mode calls z) s.rest w.stand);
+    twice = (let y : 2 * length calls + length e.stream.rest ≤ length d.stream.rest = w.twice in omega (arith, ap length s.rest));
+    usable = λ n. (sym s.state ∙ (w.usable n).0, looked_open c d s (w.usable n).1);
+  }
+
+  looked_one : Resembles c d → d.stream.faults ≡ c.stream.faults → (y : X) → RefusesOne why d y e → RefusesOne why c y e
+  looked_one s f y (skipping.RefusesOne.by_walk r) = skipping.RefusesOne.by_walk (looked_refused why c d e s f y r)
+  looked_one s f y (skipping.RefusesOne.by_depth g j) = skipping.RefusesOne.by_depth (record { calls = g.calls; last = g.last; were = looked_calls s (g.calls ++ g.last ∷ []) g.were; constructed = g.constructed; deep = g.deep }) j
+
+  pub looked_skipped : {T : Type 0} (r : Result (Option T) X) → Resembles c d → d.stream.faults ≡ c.stream.faults → SkippedOneBy why d r e → SkippedOneBy why c r e
+  looked_skipped (Ok None) s f p = record { value = tt; end = looked_ends c d e.stream.rest s p.end; done = p.done; no_fault = p.no_fault ∙ f; refused = tt; failed = tt; mode = p.mode ∙ s.mode; marked = p.marked ∙ s.marked }
+  looked_skipped (Ok (Some x)) s f p = record { value = looked_passes c d e s p.value; end = tt; done = tt; no_fault = p.no_fault ∙ f; refused = tt; failed = tt; mode = p.mode ∙ s.mode; marked = p.marked ∙ s.marked }
+  looked_skipped (Err x) s f p = record { value = tt; end = tt; done = tt; no_fault = tt; refused = looked_one s f x p.refused; failed = p.failed; mode = p.mode ∙ s.mode; marked = p.marked ∙ s.marked }
+
+-- where memory was found, refusals are those of a walk
+walk_of_one : {S : Type 0} (c d : Reading) (e : DecodeError S) → (cause_of e ≡ of_memory → ⊥) → RefusesOne cause_of c e d → RefusesWalk cause_of c e d
+walk_of_one c d e n (skipping.RefusesOne.by_walk r) = r
+walk_of_one c d e n (skipping.RefusesOne.by_depth g j) = absurd (n j)
+
+pub one_exact : {S T : Type 0} (c d : Reading) (r : Result (Option T) (DecodeError S)) → Within c → SkippedOneBy cause_of c r d → FoundMemory r → (Grew c.stream.faults d.stream.faults → ⊥) → AnswersNext c r d
+one_exact c d (Ok None) w s m n = answers_next cause_of c d (Ok None) w tt s.end tt n
+one_exact c d (Ok (Some x)) w s m n = answers_next cause_of c d (Ok (Some x)) w s.value tt tt n
+one_exact c d (Err e) w s m n = answers_next cause_of c d (Err e) w tt tt (walk_of_one c d e m s.refused) n
+
+-- ---- all values
+
+pub all_refused : {X : Type 0} (why : X → Cause ContentError) (e : X) (i j k : Reading) → i.kind ≢ Octets → Walks i j → RefusesOne why j e k → RefusesAll why i e k
+all_refused why e i j k o w (skipping.RefusesOne.by_walk r) = skipping.RefusesAll.by_values (walks_refused why e i j k o w r)
+all_refused why e i j k o w (skipping.RefusesOne.by_depth g h) = skipping.RefusesAll.by_depth j w g h
+
+pub all_err : {T X : Type 0} (why : X → Cause ContentError) (c d : Reading) (r : Result T X) (e : X) → IsErrAnd r (λ x. x ≡ e) → RefusesAll why c e d → d.state ≡ Failed → d.mode ≡ c.mode → d.marked ≡ c.marked → SkippedAllBy why c r d
+all_err why c d (Ok x) e h a f m g = absurd h
+all_err why c d (Err x) e h a f m g = record { all = tt; done = tt; no_fault = tt; refused = subst (λ y. RefusesAll why c y d) (sym h) a; failed = f; mode = m; marked = g }
+
+octets_no_values : (c : Reading) → c.kind ≡ Octets → HasValues c → ⊥
+octets_no_values c k h = (let x : ⊥ = subst (λ z. walking.ClosesBefore z c.mode c.owed h.all h.after) k h.closes in x)
+
+pub all_exact : {S T : Type 0} (c d : Reading) (r : Result T (DecodeError S)) → SkippedAllBy cause_of c r d → (Grew c.stream.faults d.stream.faults → ⊥) → FoundMemory r → c.state ≡ Open → HasValues c → IsOk r
+all_exact c d (Ok x) s n m o h = refl
+all_exact c d (Err e) s n m o h = absurd (go s.refused)
+  where
+    go : RefusesAll cause_of c e d → ⊥
+    go (skipping.RefusesAll.by_values (walking.RefusesValues.failed a b)) = open_not_failed c.state o a
+    go (skipping.RefusesAll.by_values (walking.RefusesValues.source a b)) = n b
+    go (skipping.RefusesAll.by_values (walking.RefusesValues.broken a b z)) = b h
+    go (skipping.RefusesAll.by_values (walking.RefusesValues.short a b z)) = octets_no_values c a h
+    go (skipping.RefusesAll.by_depth j w g z) = m z

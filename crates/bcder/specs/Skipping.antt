@@ -1,6 +1,6 @@
 -- Passing over values while a closure is told of each: the calls that it gets, and what a call that does so promises.
 use Rattle.std.specs.Borrow.{MutBor}
-use Rattle.std.specs.Prelude.{◌≡◌, ◌≢◌, ◌⊎◌, ℕ, ◌+◌, ◌*◌, ◌<◌, ◌≤◌, Bool, true, false, List, [], ◌∷◌, ◌++◌, length, Option, Some, None, Result, Ok, Err, IsOkAnd, IsErrAnd, IfOk, IfErr, OnOk, OnErr, IfSome, IfNone, IsTrue, is_some, is_none}
+use Rattle.std.specs.Prelude.{◌≡◌, ◌≢◌, ◌⊎◌, ℕ, ◌+◌, ◌*◌, ◌<◌, ◌≤◌, Bool, true, false, List, [], ◌∷◌, ◌++◌, length, Option, Some, None, Result, Ok, Err, IsOk, IsOkAnd, IsErrAnd, IfOk, IfErr, OnOk, OnErr, IfSome, IfNone, IsTrue, is_some, is_none}
 use Rattle.std.specs.List.{FoldsTo}
 use denote.Triple.Both.{Both}
 use Rattle.bcder.specs.declared.mode.Mode.{Mode}
@@ -9,14 +9,15 @@ use Rattle.bcder.specs.declared.decode.content.State.TheVariants.{Open, Failed}
 use Rattle.bcder.specs.declared.decode.content.Constructed.{Constructed}
 use Rattle.bcder.specs.declared.decode.error.ContentError.{ContentError}
 use Rattle.bcder.specs.declared.decode.error.DecodeError.{DecodeError}
-use Rattle.bcder.specs.Cause.{Cause, cause_of, of_content, of_memory}
+use Rattle.bcder.specs.Cause.{Cause, cause_of, of_content, of_memory, IsRefusal}
 use Rattle.bcder.specs.Identifier.{Tag}
 use Rattle.bcder.specs.Tree.{Tree}
 use Rattle.bcder.specs.Encoding.{IsHeader}
 use Rattle.bcder.specs.Preorder.{Heading, preorder}
 use Rattle.bcder.specs.Stream.{Stream, Grew}
-use Rattle.bcder.specs.Content.{Reading, EndsBefore, EndsAt, IsDone, NotAtEnd}
-use Rattle.bcder.specs.Walking.{HasValue, PassesValue, RefusesWalk}
+use Rattle.bcder.specs.Content.{any, Reading, EndsBefore, EndsAt, IsDone, NotAtEnd}
+use Rattle.bcder.specs.Walking.{HasValue, PassesValue, RefusesWalk, HasValues, Walks, RefusesValues}
+use Rattle.bcder.specs.Takes.{HasNone}
 use Rattle.bcder.specs.Views.{of_constructed}
 
 -- ---- headers of values
@@ -119,6 +120,66 @@ pub record AnswersSkip {F T X : Type 0} (why : X → Cause ContentError) (step :
   pub found : (t : Tree) (w after : List ℕ) → HasValue c t w after → AnswersAll step f (preorder t 0) → FindsMemory why (preorder t 0) r → IsOkAnd r (λ o. IsTrue (is_some o)) × (d.stream.rest ≡ after)
   pub ended : (after : List ℕ) → EndsBefore c after → IsOkAnd r (λ o. IsTrue (is_none o))
 
+-- a call passed over the next value, which had to be there, or refused
+pub record SkippedValueBy {F T S : Type 0} (step : Steps F ContentError) (c : Reading) (f : F) (r : Result T (DecodeError S)) (g : F) (d : Reading) : Type 0 where
+  pub value : OnOk r (SkipsValue step c f g d)
+  pub no_fault : OnOk r (d.stream.faults ≡ c.stream.faults)
+  -- there was none, the closure wasn't called, and content stays usable; or content has failed
+  pub refused : IfErr r (λ e. HasNone any c d × IsRefusal e × (g ≡ f) ⊎ (d.state ≡ Failed) × RefusesSkip cause_of step c f e g d)
+  pub mode : d.mode ≡ c.mode
+  pub marked : d.marked ≡ c.marked
+
+-- what is answered where a value stands in front
+pub record AnswersValue {F T X : Type 0} (why : X → Cause ContentError) (step : Steps F ContentError) (c : Reading) (f : F) (r : Result T X) (d : Reading) : Type 0 where
+  pub found : (t : Tree) (w after : List ℕ) → HasValue c t w after → AnswersAll step f (preorder t 0) → FindsMemory why (preorder t 0) r → IsOkAnd r (λ _. d.stream.rest ≡ after)
+
+-- ---- without a closure
+
+-- the header of a constructed value at a depth of four or more was met
+pub record GoesDeep (c d : Reading) : Type 0 where
+  pub calls : List Heading
+  pub last : Heading
+  pub were : WereCalls c (calls ++ last ∷ []) d
+  pub constructed : last.constructed ≡ true
+  pub deep : 4 ≤ last.depth
+
+-- why no value of c was passed, and e was answered; `why` tells its cause
+pub data RefusesOne {X : Type 0} (why : X → Cause ContentError) (c : Reading) (e : X) (d : Reading) : Type 0 where
+  by_walk : RefusesWalk why c e d → RefusesOne why c e d
+  by_depth : GoesDeep c d → why e ≡ of_memory → RefusesOne why c e d
+
+-- a call passed over the next value, or found the end, or refused; `why` tells the cause of its error
+pub record SkippedOneBy {T X : Type 0} (why : X → Cause ContentError) (c : Reading) (r : Result (Option T) X) (d : Reading) : Type 0 where
+  pub value : IfOk r (λ o. IfSome o (λ _. PassesValue c d))
+  pub end : IfOk r (λ o. IfNone o (EndsAt c d))
+  pub done : IfOk r (λ o. IfNone o (IsDone d))
+  pub no_fault : OnOk r (d.stream.faults ≡ c.stream.faults)
+  pub refused : IfErr r (λ e. RefusesOne why c e d)
+  pub failed : OnErr r (d.state ≡ Failed)
+  pub mode : d.mode ≡ c.mode
+  pub marked : d.marked ≡ c.marked
+
+-- why values weren't passed up to the end of c, and e was answered; `why` tells its cause
+pub data RefusesAll {X : Type 0} (why : X → Cause ContentError) (c : Reading) (e : X) (d : Reading) : Type 0 where
+  by_values : RefusesValues why c e d → RefusesAll why c e d
+  -- some values were passed, and then a deep one met
+  by_depth : (j : Reading) → Walks c j → GoesDeep j d → why e ≡ of_memory → RefusesAll why c e d
+
+-- a call passed over all values up to the end, or refused; `why` tells the cause of its error
+pub record SkippedAllBy {T X : Type 0} (why : X → Cause ContentError) (c : Reading) (r : Result T X) (d : Reading) : Type 0 where
+  -- the rest up to the end was encodings, and content is at its end
+  pub all : OnOk r (c.state ≡ Open → HasValues c)
+  pub done : OnOk r (IsDone d)
+  pub no_fault : OnOk r (d.stream.faults ≡ c.stream.faults)
+  pub refused : IfErr r (λ e. RefusesAll why c e d)
+  pub failed : OnErr r (d.state ≡ Failed)
+  pub mode : d.mode ≡ c.mode
+  pub marked : d.marked ≡ c.marked
+
+-- want of memory was not answered
+abbrev pub FoundMemory : {T X : Type 0} → Result T (DecodeError X) → Type 0
+FoundMemory r = IsErrAnd r (λ e. cause_of e ≡ of_memory) → ⊥
+
 -- ---- the same of parameters
 
 module _ {S F : Type 0} (stream : S → Stream) (step : Steps F ContentError) (c : Both (MutBor (Constructed S)) (MutBor (Constructed S))) (op : Both (MutBor F) (MutBor F)) where
@@ -129,3 +190,22 @@ module _ {S F : Type 0} (stream : S → Stream) (step : Steps F ContentError) (c
   -- unless the source failed, Some is answered exactly where a value stands in front at whose headings the closure answers Ok, and None exactly at the end
   abbrev pub ExactlySkipped : {T X : Type 0} → Result (Option T) (DecodeError X) → Type 0
   ExactlySkipped r = (Grew (of_constructed stream c.entry.now).stream.faults (of_constructed stream c.exit.now).stream.faults → ⊥) → AnswersSkip cause_of step (of_constructed stream c.entry.now) op.entry.now r (of_constructed stream c.exit.now)
+
+  -- what a call that passes over a value that has to be there promises
+  abbrev pub SkippedValue : {T X : Type 0} → Result T (DecodeError X) → Type 0
+  SkippedValue r = SkippedValueBy step (of_constructed stream c.entry.now) op.entry.now r op.exit.now (of_constructed stream c.exit.now)
+
+  -- unless the source failed, Ok is answered exactly where a value stands in front at whose headings the closure answers Ok
+  abbrev pub ExactlyValue : {T X : Type 0} → Result T (DecodeError X) → Type 0
+  ExactlyValue r = (Grew (of_constructed stream c.entry.now).stream.faults (of_constructed stream c.exit.now).stream.faults → ⊥) → AnswersValue cause_of step (of_constructed stream c.entry.now) op.entry.now r (of_constructed stream c.exit.now)
+
+module _ {S : Type 0} (stream : S → Stream) (c : Both (MutBor (Constructed S)) (MutBor (Constructed S))) where
+  abbrev pub SkippedOne : {T X : Type 0} → Result (Option T) (DecodeError X) → Type 0
+  SkippedOne r = SkippedOneBy cause_of (of_constructed stream c.entry.now) r (of_constructed stream c.exit.now)
+
+  abbrev pub SkippedAll : {T X : Type 0} → Result T (DecodeError X) → Type 0
+  SkippedAll r = SkippedAllBy cause_of (of_constructed stream c.entry.now) r (of_constructed stream c.exit.now)
+
+  -- unless the source failed or memory was wanted, Ok is answered exactly where values go on up to the end
+  abbrev pub ExactlyAll : {T X : Type 0} → Result T (DecodeError X) → Type 0
+  ExactlyAll r = (Grew (of_constructed stream c.entry.now).stream.faults (of_constructed stream c.exit.now).stream.faults → ⊥) → FoundMemory r → (of_constructed stream c.entry.now).state ≡ Open → HasValues (of_constructed stream c.entry.now) → IsOk r

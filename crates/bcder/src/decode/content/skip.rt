@@ -1,16 +1,19 @@
 //! Passing over values with a stack of limits, and a closure that is told of each.
 ghost use Rattle.std.specs.Prelude.{◌≡◌, ◌+◌, ◌^◌, ◌<◌, ◌≤◌, ◌∷◌, true, false, IfSome, OnOk};
 ghost use Rattle.smallvec.specs.SmallVec.{small_vec_len};
+ghost use Rattle.bcder.specs.declared.mode.Mode.{Mode as ModeValue};
 ghost use Rattle.bcder.specs.Cause.{cause_of, of_content, of_memory, of_source, IsOfContent};
 ghost use Rattle.bcder.specs.Cause.{IsRefusal};
-ghost use Rattle.bcder.specs.Content.{FitsOwed};
+ghost use Rattle.bcder.specs.Content.{FitsOwed, Moves};
 ghost use Rattle.bcder.specs.Encoding.{may_have};
 ghost use Rattle.bcder.specs.Inside.{kind_behind, limit_inside};
 ghost use Rattle.bcder.specs.Stacked.{Counts, Leaves, Ran, RanOverSource, TopIs, Visited, entries};
-ghost use Rattle.bcder.specs.Skipping.{ExactlySkipped, SkippedNext};
+ghost use Rattle.bcder.specs.Skipping.{ExactlyAll, ExactlySkipped, ExactlyValue, FoundMemory};
+ghost use Rattle.bcder.specs.Skipping.{SkippedAll, SkippedNext, SkippedOne, SkippedValue};
 ghost use Rattle.bcder.specs.Stacked.{entry_of, halt_cause, joined, limit_in, unwound};
 ghost use Rattle.bcder.specs.Stream.{limit_left};
-ghost use Rattle.bcder.specs.Views.{Moved};
+ghost use Rattle.bcder.specs.Views.{after, before, Moved};
+ghost use Rattle.bcder.specs.Walking.{ExactlyNext};
 
 use super::inside::{go_inside, kind_behind};
 use super::{Constructed, Kind, State};
@@ -23,6 +26,10 @@ use crate::mode::Mode;
 use crate::tag::Tag;
 use smallvec::SmallVec;
 use std::alloc::Global;
+
+/// How many octets of a value the plain reader looks at. It calls itself for values inside values,
+/// which is no deeper than half of that.
+const PLAIN: usize = 4096;
 
 /// How an open value ends.
 #[derive(Clone, Copy)]
@@ -286,6 +293,56 @@ where
     run(&mut cons, alloc, header, op)
 }
 
+/// The same of a primitive value, which needs no stack.
+#[inline(always)]
+fn skip_octets<S: Source, F>(
+    source: &mut LimitedSource<S>,
+    header: Header,
+    op: &mut F,
+) -> Result<(), Halt<S::Error>>
+where
+    F: FnMut(Tag, bool, usize) -> Result<(), ContentError>,
+    requires callable { F.IsAlwaysCallable op.old }
+    requires primitive { header.constructed ≡ false }
+    requires definite { header.len ≡ Length.Indefinite → ⊥ }
+    requires fits { FitsOwed header.len source.old.limit }
+    ensures { (mode : ModeValue) → RanOverSource S.stream F.step source mode header op result }
+{
+    if let Err(error) = op(header.tag, header.constructed, 0) {
+        return Err(Halt::Refused(error));
+    }
+    match header.len {
+        Length::Definite(len) => match source.skip_owed(len) {
+            Ok(()) => Ok(()),
+            Err(stop) => Err(Halt::Stopped(stop)),
+        },
+        Length::Indefinite => Err(Halt::NoMemory),
+    }
+}
+
+/// Passes over the content of a value whose header was passed over, in the way that its form needs.
+#[inline(always)]
+fn skip_behind<S: Source, F>(
+    source: &mut LimitedSource<S>,
+    mode: Mode,
+    alloc: Global,
+    header: Header,
+    op: &mut F,
+) -> Result<(), Halt<S::Error>>
+where
+    F: FnMut(Tag, bool, usize) -> Result<(), ContentError>,
+    requires callable { F.IsAlwaysCallable op.old }
+    requires allowed { may_have mode header.constructed header.len ≡ true }
+    requires fits { FitsOwed header.len source.old.limit }
+    ensures { RanOverSource S.stream F.step source mode header op result }
+{
+    if header.constructed {
+        skip_content(source, mode, alloc, header, op)
+    } else {
+        skip_octets(source, header, op)
+    }
+}
+
 impl<'a, S: Source> Constructed<'a, S> {
     /// The error that a halt is, at the present position.
     #[cold]
@@ -334,7 +391,7 @@ impl<'a, S: Source> Constructed<'a, S> {
         ensures exact { ExactlySkipped S.stream F.step self op result }
     {
         match self.next_header() {
-            Ok(Some(header)) => match skip_content(self.source, self.mode, alloc, header, op) {
+            Ok(Some(header)) => match skip_behind(self.source, self.mode, alloc, header, op) {
                 Ok(()) => {
                     self.state = State::Open;
                     Ok(Some(()))
@@ -344,5 +401,91 @@ impl<'a, S: Source> Constructed<'a, S> {
             Ok(None) => Ok(None),
             Err(stop) => Err(self.stopped(stop)),
         }
+    }
+
+    /// Passes over the next value, which has to be there.
+    ///
+    /// The closure is called as that of [`skip_opt`](Self::skip_opt) is.
+    ///
+    /// # Errors
+    ///
+    /// Those of `skip_opt`, and at the end of the content, which then stays usable.
+    #[inline(always)]
+    pub fn skip<F>(&mut self, alloc: Global, op: &mut F) -> Result<(), DecodeError<S::Error>>
+    where
+        F: FnMut(Tag, bool, usize) -> Result<(), ContentError>,
+        requires { F.IsAlwaysCallable op.old }
+        ensures moves { Moved S.stream self }
+        ensures skipped { SkippedValue S.stream F.step self op result }
+        ensures exact { ExactlyValue S.stream F.step self op result }
+    {
+        match self.skip_opt(alloc, op) {
+            Ok(Some(())) => Ok(()),
+            Ok(None) => Err(self.refusal("no value at the end of the content")),
+            Err(error) => Err(error),
+        }
+    }
+
+    /// As `skip_one`, by the stack alone.
+    #[inline(never)]
+    fn skip_stacked(&mut self, alloc: Global) -> Result<Option<()>, DecodeError<S::Error>>
+        ensures moves { Moves (before S.stream self) (after S.stream self) }
+        ensures skipped { SkippedOne S.stream self result }
+    {
+        let mut all = |_tag: Tag, _constructed: bool, _depth: usize| -> Result<(), ContentError> {
+            Ok(())
+        };
+        self.skip_opt(alloc, &mut all)
+    }
+
+    /// As `skip_one`, whatever stands in front.
+    #[inline(never)]
+    fn skip_any(&mut self, alloc: Global) -> Result<Option<()>, DecodeError<S::Error>>
+        ensures moves { Moves (before S.stream self) (after S.stream self) }
+        ensures skipped { SkippedOne S.stream self result }
+    {
+        match self.pass_at_hand(false, PLAIN) {
+            Ok(true) => Ok(Some(())),
+            Ok(false) => self.skip_stacked(alloc),
+            Err(stop) => Err(self.stopped(stop)),
+        }
+    }
+
+    /// Passes over the next value, or answers `None` at the end of the content, whose marker it
+    /// takes.
+    ///
+    /// A value is passed as [`skip_opt`](Self::skip_opt) passes it with a closure that always
+    /// answers `Ok`.
+    ///
+    /// # Errors
+    ///
+    /// Where neither the encoding of a value nor the end stands in front; where an earlier value
+    /// was refused; where the source fails; where there is no memory for a value that is open at a
+    /// depth of four or more. The content has then failed.
+    #[inline(always)]
+    pub fn skip_one(&mut self, alloc: Global) -> Result<Option<()>, DecodeError<S::Error>>
+        ensures moves { Moved S.stream self }
+        ensures skipped { SkippedOne S.stream self result }
+        ensures exact { FoundMemory result → ExactlyNext S.stream self result }
+    {
+        match self.pass_at_hand(true, usize::MAX) {
+            Ok(true) => Ok(Some(())),
+            Ok(false) => self.skip_any(alloc),
+            Err(stop) => Err(self.stopped(stop)),
+        }
+    }
+
+    /// Passes over all values up to the end of the content, whose marker it takes.
+    ///
+    /// # Errors
+    ///
+    /// Those of [`skip_one`](Self::skip_one).
+    pub fn skip_all(&mut self, alloc: Global) -> Result<(), DecodeError<S::Error>>
+        ensures moves { Moved S.stream self }
+        ensures skipped { SkippedAll S.stream self result }
+        ensures exact { ExactlyAll S.stream self result }
+    {
+        while self.skip_one(alloc)?.is_some() {}
+        Ok(())
     }
 }

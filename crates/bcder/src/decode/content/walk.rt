@@ -91,12 +91,14 @@ fn whole_size(mode: Mode, octets: &[u8], short: bool) -> Option<usize>
 }
 
 /// The same of the value at the front of a source, of which nothing is taken. It asks for two
-/// octets, as the header of a value has at least. An error is the source's own.
+/// octets, as the header of a value has at least, and looks at no more than `most`. An error is the
+/// source's own.
 #[inline(always)]
 fn size_at_hand<S: Source>(
     source: &mut S,
     mode: Mode,
     short: bool,
+    most: usize,
 ) -> Result<Option<usize>, S::Error>
     ensures whole { IfOk result (λ o.
         IfSome o (λ n. BeginsWhole mode (S.stream source.new).rest n)) }
@@ -109,7 +111,7 @@ fn size_at_hand<S: Source>(
     ensures kept { (S.stream source.new).kept ≡ (S.stream source.old).kept }
 {
     let found = source.request(2)?;
-    Ok(whole_size(mode, &source.slice()[..found], short))
+    Ok(whole_size(mode, &source.slice()[..found.min(most)], short))
 }
 
 impl<'a, S: Source> Constructed<'a, S> {
@@ -136,10 +138,11 @@ impl<'a, S: Source> Constructed<'a, S> {
         self.source.advance(size);
     }
 
-    /// How many octets the next value has, if all of them are at hand. Nothing is taken.
+    /// How many octets the next value has, if all of them are at hand and are no more than `most`.
+    /// Nothing is taken.
     #[tactic(auto, unfolding(crate::specs::Views::of_constructed))]
     #[inline(always)]
-    fn look_at_whole(&mut self, short: bool) -> Result<Option<usize>, S::Error>
+    fn look_at_whole(&mut self, short: bool, most: usize) -> Result<Option<usize>, S::Error>
         ensures same { Between S.stream self Resembles }
         ensures whole { IfOk result (λ o. IfSome o (λ n.
             BeginsWhole self.old.mode (limited_stream S.stream self.new.source.now).rest n)) }
@@ -148,14 +151,14 @@ impl<'a, S: Source> Constructed<'a, S> {
         ensures no_fault { OnOk result (NoFault S.stream self) }
         ensures fault { OnErr result (Fault S.stream self) }
     {
-        size_at_hand(self.source, self.mode, short)
+        size_at_hand(self.source, self.mode, short, most)
     }
 
-    /// Passes over the next value in one go where all of its octets are at hand, and says whether
-    /// it did. The source is asked once at most, and not where no octets are owed.
+    /// Passes over the next value in one go where all of its octets are at hand and are no more
+    /// than `most`, and says whether it did. The source is asked once at most, and not where no octets are owed.
     #[tactic(auto, unfolding(crate::specs::Views::of_constructed))]
     #[inline(always)]
-    fn pass_at_hand(&mut self, short: bool) -> Result<bool, Stop<S::Error>>
+    pub(super) fn pass_at_hand(&mut self, short: bool, most: usize) -> Result<bool, Stop<S::Error>>
         ensures moves { Between S.stream self Moves }
         ensures passed { PassedAtOnce S.stream self result }
     {
@@ -167,7 +170,7 @@ impl<'a, S: Source> Constructed<'a, S> {
                 return Ok(false);
             }
         }
-        match self.look_at_whole(short) {
+        match self.look_at_whole(short, most) {
             Ok(Some(size)) => {
                 self.pass_over(size);
                 Ok(true)
@@ -241,7 +244,7 @@ fn walk_next<S: Source>(cons: &mut Constructed<'_, S>) -> Result<Option<()>, Sto
     ensures moves { Between S.stream cons Moves }
     ensures passed { PassedStep S.stream cons result }
 {
-    match cons.pass_at_hand(true) {
+    match cons.pass_at_hand(true, usize::MAX) {
         Ok(true) => Ok(Some(())),
         Ok(false) => walk_any(cons),
         Err(stop) => Err(stop),
@@ -254,7 +257,7 @@ fn walk_any<S: Source>(cons: &mut Constructed<'_, S>) -> Result<Option<()>, Stop
     ensures moves { Between S.stream cons Moves }
     ensures passed { PassedStep S.stream cons result }
 {
-    match cons.pass_at_hand(false) {
+    match cons.pass_at_hand(false, usize::MAX) {
         Ok(true) => Ok(Some(())),
         Ok(false) => step(cons),
         Err(stop) => Err(stop),

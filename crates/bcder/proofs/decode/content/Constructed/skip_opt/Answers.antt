@@ -13,15 +13,15 @@ use Rattle.bcder.proofs.Taking.{allowed_entered}
 use Rattle.bcder.proofs.Running.{entered_fits}
 use Rattle.bcder.proofs.decode.content.Constructed.skip_opt.Goals as goal
 
-pub skip_content-requires-clause-allowed : goal.skip_content-requires-clause-allowed
+pub skip_behind-requires-clause-allowed : goal.skip_behind-requires-clause-allowed
 unfolding of_constructed
-skip_content-requires-clause-allowed g c =
+skip_behind-requires-clause-allowed g c =
     let e = rw c.in-Ok-Some.field-0-is at c.in-Ok-Some.ensures.entered in
     allowed_entered (of_constructed g.S.Source.stream c.args.self.now) (header c.in-Ok-Some.header) (of_constructed g.S.Source.stream c.next_header.new.self) e.1
 
-pub skip_content-requires-clause-fits : goal.skip_content-requires-clause-fits
+pub skip_behind-requires-clause-fits : goal.skip_behind-requires-clause-fits
 unfolding of_constructed
-skip_content-requires-clause-fits g c =
+skip_behind-requires-clause-fits g c =
     let e = rw c.in-Ok-Some.field-0-is at c.in-Ok-Some.ensures.entered in
     entered_fits (of_constructed g.S.Source.stream c.args.self.now) (of_constructed g.S.Source.stream c.next_header.new.self) (header c.in-Ok-Some.header) _ refl e.1
 
@@ -30,42 +30,42 @@ unfolding of_constructed
 returns-in-Ok-clause-moves g c =
     let e = rw c.in-Ok-Some.field-0-is at c.in-Ok-Some.ensures.entered in
     let r = rw c.next_header.ensures.mode at c.in-Ok.ensures.whole in
-    carries _ _ (skips_moves (of_constructed g.S.Source.stream c.args.self.now) (of_constructed g.S.Source.stream c.next_header.new.self) _ (header c.in-Ok-Some.header) (source_of g.S.Source.stream c.next_header.new.self) (g.S.Source.stream c.skip_content.new.source.source) (limit_in c.next_header.new.self) c.skip_content.new.source.limit (within_constructed g.S.Source.stream g.met.S.Source.sound c.args.self.now) e.1 refl refl refl refl refl refl refl refl r.0 r.2 refl c.skip_content.ensures.faults)
+    carries _ _ (skips_moves (of_constructed g.S.Source.stream c.args.self.now) (of_constructed g.S.Source.stream c.next_header.new.self) _ (header c.in-Ok-Some.header) (source_of g.S.Source.stream c.next_header.new.self) (g.S.Source.stream c.skip_behind.new.source.source) (limit_in c.next_header.new.self) c.skip_behind.new.source.limit (within_constructed g.S.Source.stream g.met.S.Source.sound c.args.self.now) e.1 refl refl refl refl refl refl refl refl r.0 r.2 refl c.skip_behind.ensures.faults)
 
 pub returns-in-Ok-clause-skipped : goal.returns-in-Ok-clause-skipped
 unfolding of_constructed
 returns-in-Ok-clause-skipped g c =
     let e = rw c.in-Ok-Some.field-0-is at c.in-Ok-Some.ensures.entered in
     let r = rw c.next_header.ensures.mode at c.in-Ok.ensures.whole in
-    skipped_value (of_constructed g.S.Source.stream c.args.self.now) (of_constructed g.S.Source.stream c.next_header.new.self) _ (header c.in-Ok-Some.header) (source_of g.S.Source.stream c.next_header.new.self) (g.S.Source.stream c.skip_content.new.source.source) (limit_in c.next_header.new.self) c.skip_content.new.source.limit (within_constructed g.S.Source.stream g.met.S.Source.sound c.args.self.now) e.1 refl refl refl refl refl refl refl refl r.0 r.2 refl cause_of _ c.args.op.now c.skip_content.new.op _ c.in-Ok.ensures.no_fault c.in-Ok-Some.ensures.no_fault r.1
+    skipped_value (of_constructed g.S.Source.stream c.args.self.now) (of_constructed g.S.Source.stream c.next_header.new.self) _ (header c.in-Ok-Some.header) (source_of g.S.Source.stream c.next_header.new.self) (g.S.Source.stream c.skip_behind.new.source.source) (limit_in c.next_header.new.self) c.skip_behind.new.source.limit (within_constructed g.S.Source.stream g.met.S.Source.sound c.args.self.now) e.1 refl refl refl refl refl refl refl refl r.0 r.2 refl cause_of _ c.args.op.now c.skip_behind.new.op _ c.in-Ok.ensures.no_fault c.in-Ok-Some.ensures.no_fault r.1
 
 pub returns-in-Ok-clause-exact : goal.returns-in-Ok-clause-exact
 unfolding of_constructed
 returns-in-Ok-clause-exact g c =
     let e = rw c.in-Ok-Some.field-0-is at c.in-Ok-Some.ensures.entered in
     let r = rw c.next_header.ensures.mode at c.in-Ok.ensures.whole in
-    λ n. answers_skip cause_of _ _ _ _ _ (within_constructed g.S.Source.stream g.met.S.Source.sound c.args.self.now) n _ (skipped_value (of_constructed g.S.Source.stream c.args.self.now) (of_constructed g.S.Source.stream c.next_header.new.self) _ (header c.in-Ok-Some.header) (source_of g.S.Source.stream c.next_header.new.self) (g.S.Source.stream c.skip_content.new.source.source) (limit_in c.next_header.new.self) c.skip_content.new.source.limit (within_constructed g.S.Source.stream g.met.S.Source.sound c.args.self.now) e.1 refl refl refl refl refl refl refl refl r.0 r.2 refl cause_of _ c.args.op.now c.skip_content.new.op _ c.in-Ok.ensures.no_fault c.in-Ok-Some.ensures.no_fault r.1)
+    λ n. answers_skip cause_of _ _ _ _ _ (within_constructed g.S.Source.stream g.met.S.Source.sound c.args.self.now) n _ (skipped_value (of_constructed g.S.Source.stream c.args.self.now) (of_constructed g.S.Source.stream c.next_header.new.self) _ (header c.in-Ok-Some.header) (source_of g.S.Source.stream c.next_header.new.self) (g.S.Source.stream c.skip_behind.new.source.source) (limit_in c.next_header.new.self) c.skip_behind.new.source.limit (within_constructed g.S.Source.stream g.met.S.Source.sound c.args.self.now) e.1 refl refl refl refl refl refl refl refl r.0 r.2 refl cause_of _ c.args.op.now c.skip_behind.new.op _ c.in-Ok.ensures.no_fault c.in-Ok-Some.ensures.no_fault r.1)
 
-pub returns-in-Err-skip_content-clause-moves : goal.returns-in-Err-skip_content-clause-moves
+pub returns-in-Err-skip_behind-clause-moves : goal.returns-in-Err-skip_behind-clause-moves
 unfolding of_constructed
-returns-in-Err-skip_content-clause-moves g c =
+returns-in-Err-skip_behind-clause-moves g c =
     let e = rw c.in-Ok-Some.field-0-is at c.in-Ok-Some.ensures.entered in
-    let b = rw c.next_header.ensures.mode at c.in-Err-skip_content.ensures.breaks in
-    carries _ _ (breaks_moves (of_constructed g.S.Source.stream c.args.self.now) (of_constructed g.S.Source.stream c.next_header.new.self) _ (header c.in-Ok-Some.header) (source_of g.S.Source.stream c.next_header.new.self) (g.S.Source.stream c.skip_content.new.source.source) (limit_in c.next_header.new.self) c.skip_content.new.source.limit (within_constructed g.S.Source.stream g.met.S.Source.sound c.args.self.now) e.1 refl refl refl refl refl refl refl refl _ c.args.op.now c.skip_content.new.op cause_of c.in-Err-skip_content.halt c.halted.result e.1.opened c.in-Ok-Some.ensures.no_fault (open_not_ended _ e.1.usable) c.halted.ensures.content c.halted.ensures.source c.halted.ensures.memory c.halted.ensures.closure c.skip_content.ensures.faults b)
+    let b = rw c.next_header.ensures.mode at c.in-Err-skip_behind.ensures.breaks in
+    carries _ _ (breaks_moves (of_constructed g.S.Source.stream c.args.self.now) (of_constructed g.S.Source.stream c.next_header.new.self) _ (header c.in-Ok-Some.header) (source_of g.S.Source.stream c.next_header.new.self) (g.S.Source.stream c.skip_behind.new.source.source) (limit_in c.next_header.new.self) c.skip_behind.new.source.limit (within_constructed g.S.Source.stream g.met.S.Source.sound c.args.self.now) e.1 refl refl refl refl refl refl refl refl _ c.args.op.now c.skip_behind.new.op cause_of c.in-Err-skip_behind.halt c.halted.result e.1.opened c.in-Ok-Some.ensures.no_fault (open_not_ended _ e.1.usable) c.halted.ensures.content c.halted.ensures.source c.halted.ensures.memory c.halted.ensures.closure c.skip_behind.ensures.faults b)
 
-pub returns-in-Err-skip_content-clause-skipped : goal.returns-in-Err-skip_content-clause-skipped
+pub returns-in-Err-skip_behind-clause-skipped : goal.returns-in-Err-skip_behind-clause-skipped
 unfolding of_constructed
-returns-in-Err-skip_content-clause-skipped g c =
+returns-in-Err-skip_behind-clause-skipped g c =
     let e = rw c.in-Ok-Some.field-0-is at c.in-Ok-Some.ensures.entered in
-    let b = rw c.next_header.ensures.mode at c.in-Err-skip_content.ensures.breaks in
-    skipped_not (of_constructed g.S.Source.stream c.args.self.now) (of_constructed g.S.Source.stream c.next_header.new.self) _ (header c.in-Ok-Some.header) (source_of g.S.Source.stream c.next_header.new.self) (g.S.Source.stream c.skip_content.new.source.source) (limit_in c.next_header.new.self) c.skip_content.new.source.limit (within_constructed g.S.Source.stream g.met.S.Source.sound c.args.self.now) e.1 refl refl refl refl refl refl refl refl _ c.args.op.now c.skip_content.new.op cause_of c.in-Err-skip_content.halt c.halted.result e.1.opened c.in-Ok-Some.ensures.no_fault (open_not_ended _ e.1.usable) c.halted.ensures.content c.halted.ensures.source c.halted.ensures.memory c.halted.ensures.closure b
+    let b = rw c.next_header.ensures.mode at c.in-Err-skip_behind.ensures.breaks in
+    skipped_not (of_constructed g.S.Source.stream c.args.self.now) (of_constructed g.S.Source.stream c.next_header.new.self) _ (header c.in-Ok-Some.header) (source_of g.S.Source.stream c.next_header.new.self) (g.S.Source.stream c.skip_behind.new.source.source) (limit_in c.next_header.new.self) c.skip_behind.new.source.limit (within_constructed g.S.Source.stream g.met.S.Source.sound c.args.self.now) e.1 refl refl refl refl refl refl refl refl _ c.args.op.now c.skip_behind.new.op cause_of c.in-Err-skip_behind.halt c.halted.result e.1.opened c.in-Ok-Some.ensures.no_fault (open_not_ended _ e.1.usable) c.halted.ensures.content c.halted.ensures.source c.halted.ensures.memory c.halted.ensures.closure b
 
-pub returns-in-Err-skip_content-clause-exact : goal.returns-in-Err-skip_content-clause-exact
+pub returns-in-Err-skip_behind-clause-exact : goal.returns-in-Err-skip_behind-clause-exact
 unfolding of_constructed
-returns-in-Err-skip_content-clause-exact g c =
+returns-in-Err-skip_behind-clause-exact g c =
     let e = rw c.in-Ok-Some.field-0-is at c.in-Ok-Some.ensures.entered in
-    let b = rw c.next_header.ensures.mode at c.in-Err-skip_content.ensures.breaks in
-    λ n. answers_skip cause_of _ _ _ _ _ (within_constructed g.S.Source.stream g.met.S.Source.sound c.args.self.now) n _ (skipped_not (of_constructed g.S.Source.stream c.args.self.now) (of_constructed g.S.Source.stream c.next_header.new.self) _ (header c.in-Ok-Some.header) (source_of g.S.Source.stream c.next_header.new.self) (g.S.Source.stream c.skip_content.new.source.source) (limit_in c.next_header.new.self) c.skip_content.new.source.limit (within_constructed g.S.Source.stream g.met.S.Source.sound c.args.self.now) e.1 refl refl refl refl refl refl refl refl _ c.args.op.now c.skip_content.new.op cause_of c.in-Err-skip_content.halt c.halted.result e.1.opened c.in-Ok-Some.ensures.no_fault (open_not_ended _ e.1.usable) c.halted.ensures.content c.halted.ensures.source c.halted.ensures.memory c.halted.ensures.closure b)
+    let b = rw c.next_header.ensures.mode at c.in-Err-skip_behind.ensures.breaks in
+    λ n. answers_skip cause_of _ _ _ _ _ (within_constructed g.S.Source.stream g.met.S.Source.sound c.args.self.now) n _ (skipped_not (of_constructed g.S.Source.stream c.args.self.now) (of_constructed g.S.Source.stream c.next_header.new.self) _ (header c.in-Ok-Some.header) (source_of g.S.Source.stream c.next_header.new.self) (g.S.Source.stream c.skip_behind.new.source.source) (limit_in c.next_header.new.self) c.skip_behind.new.source.limit (within_constructed g.S.Source.stream g.met.S.Source.sound c.args.self.now) e.1 refl refl refl refl refl refl refl refl _ c.args.op.now c.skip_behind.new.op cause_of c.in-Err-skip_behind.halt c.halted.result e.1.opened c.in-Ok-Some.ensures.no_fault (open_not_ended _ e.1.usable) c.halted.ensures.content c.halted.ensures.source c.halted.ensures.memory c.halted.ensures.closure b)
 
 pub returns-in-Ok-None-clause-moves : goal.returns-in-Ok-None-clause-moves
 returns-in-Ok-None-clause-moves g c =

@@ -1,0 +1,84 @@
+use Rattle.std.proofs.Common.{◌≡◌, ◌∙◌, ◌+◌, ◌≤◌, length, refl, arith}
+use Rattle.bcder.specs.Cause.{cause_of}
+use Rattle.bcder.specs.Content.{EndsAt, IsDone}
+use Rattle.bcder.specs.Walking.{PassesValue}
+use Rattle.bcder.specs.Views.{of_constructed}
+use Rattle.bcder.proofs.Carrying.{carries}
+use Rattle.bcder.proofs.Moving.{moves_refl, moves_trans}
+use Rattle.bcder.proofs.Names.{within_constructed, constructed_form}
+use Rattle.bcder.proofs.Skipped.{all_refused, all_err, all_exact}
+use Rattle.bcder.proofs.Walked.{some_value, none_value}
+use Rattle.bcder.proofs.Walking.{walks_refl, walks_value, walks_all, value_shorter}
+use Rattle.bcder.proofs.decode.content.Constructed.skip_all.Goals as goal
+
+pub loop-init : goal.loop-init
+loop-init g c = record { walks = walks_refl _; no_fault = refl }
+
+pub returns-in_err-skip_one-clause-moves : goal.returns-in_err-skip_one-clause-moves
+returns-in_err-skip_one-clause-moves g c =
+    let i = of_constructed g.S.Source.stream c.args.self.now in
+    let j = of_constructed g.S.Source.stream c.loop.self in
+    let k = of_constructed g.S.Source.stream c.skip_one.new.self in
+    carries i k (moves_trans i j k c.loop.invariant.walks.moves (c.skip_one.ensures.moves j (moves_refl j)))
+
+pub returns-in_err-skip_one-clause-skipped : goal.returns-in_err-skip_one-clause-skipped
+returns-in_err-skip_one-clause-skipped g c =
+    let i = of_constructed g.S.Source.stream c.args.self.now in
+    let j = of_constructed g.S.Source.stream c.loop.self in
+    let k = of_constructed g.S.Source.stream c.skip_one.new.self in
+    all_err cause_of i k c.from_residual.result _ c.from_residual.ensures.1
+    (all_refused cause_of _ i j k (constructed_form g.S.Source.stream c.args.self.now) c.loop.invariant.walks c.in_err-skip_one.ensures.skipped.refused)
+    c.in_err-skip_one.ensures.skipped.failed
+    (c.skip_one.ensures.skipped.mode ∙ c.loop.invariant.walks.mode)
+    (c.skip_one.ensures.skipped.marked ∙ c.loop.invariant.walks.marked)
+
+pub returns-in_err-skip_one-clause-exact : goal.returns-in_err-skip_one-clause-exact
+returns-in_err-skip_one-clause-exact g c =
+    let i = of_constructed g.S.Source.stream c.args.self.now in
+    let j = of_constructed g.S.Source.stream c.loop.self in
+    let k = of_constructed g.S.Source.stream c.skip_one.new.self in
+    λ n m o h. all_exact i k _ (all_err cause_of i k c.from_residual.result _ c.from_residual.ensures.1
+    (all_refused cause_of _ i j k (constructed_form g.S.Source.stream c.args.self.now) c.loop.invariant.walks c.in_err-skip_one.ensures.skipped.refused)
+    c.in_err-skip_one.ensures.skipped.failed
+    (c.skip_one.ensures.skipped.mode ∙ c.loop.invariant.walks.mode)
+    (c.skip_one.ensures.skipped.marked ∙ c.loop.invariant.walks.marked)) n m o h
+
+pub loop-smaller : goal.loop-smaller
+loop-smaller g c =
+    let j = of_constructed g.S.Source.stream c.loop.self in
+    let k = of_constructed g.S.Source.stream c.skip_one.new.self in
+    let h = value_shorter j k (some_value (PassesValue j k) _ c.if-is_some.ensures c.in_ok-skip_one.ensures.skipped.value) in omega (arith, h)
+
+pub loop-preserved : goal.loop-preserved
+loop-preserved g c =
+    let i = of_constructed g.S.Source.stream c.args.self.now in
+    let j = of_constructed g.S.Source.stream c.loop.self in
+    let k = of_constructed g.S.Source.stream c.skip_one.new.self in
+    record {
+      walks =
+          walks_value i j k (within_constructed g.S.Source.stream g.met.S.Source.sound c.loop.self) c.loop.invariant.walks (c.skip_one.ensures.moves j (moves_refl j)) c.skip_one.ensures.skipped.mode c.skip_one.ensures.skipped.marked
+          (some_value (PassesValue j k) _ c.if-is_some.ensures c.in_ok-skip_one.ensures.skipped.value);
+      no_fault = c.in_ok-skip_one.ensures.skipped.no_fault ∙ c.loop.invariant.no_fault;
+    }
+
+pub returns-clause-moves : goal.returns-clause-moves
+returns-clause-moves g c =
+    let i = of_constructed g.S.Source.stream c.args.self.now in
+    let j = of_constructed g.S.Source.stream c.loop.self in
+    let k = of_constructed g.S.Source.stream c.skip_one.new.self in
+    carries i k (moves_trans i j k c.loop.invariant.walks.moves (c.skip_one.ensures.moves j (moves_refl j)))
+
+pub returns-clause-skipped : goal.returns-clause-skipped
+returns-clause-skipped g c =
+    let i = of_constructed g.S.Source.stream c.args.self.now in
+    let j = of_constructed g.S.Source.stream c.loop.self in
+    let k = of_constructed g.S.Source.stream c.skip_one.new.self in
+    record {
+      all = λ s. walks_all i j k (constructed_form g.S.Source.stream c.args.self.now) c.loop.invariant.walks (none_value (EndsAt j k) _ c.if-is_some.ensures c.in_ok-skip_one.ensures.skipped.end) s;
+      done = none_value (IsDone k) _ c.if-is_some.ensures c.in_ok-skip_one.ensures.skipped.done;
+      no_fault = c.in_ok-skip_one.ensures.skipped.no_fault ∙ c.loop.invariant.no_fault;
+      refused = tt;
+      failed = tt;
+      mode = c.skip_one.ensures.skipped.mode ∙ c.loop.invariant.walks.mode;
+      marked = c.skip_one.ensures.skipped.marked ∙ c.loop.invariant.walks.marked;
+    }

@@ -1,0 +1,13 @@
+use Rattle.std.proofs.Common.{◌≡◌, length}
+use Rattle.bcder.specs.Walking.{Walks}
+use Rattle.bcder.specs.Views.{of_constructed}
+use Rattle.bcder.proofs.decode.content.Constructed.skip_all.Given as goal
+
+abbrev pub invariant-loop : goal.invariant-loop
+invariant-loop g l = record {
+  walks : Walks (of_constructed g.S.Source.stream l.fn.self) (of_constructed g.S.Source.stream l.self);
+  no_fault : (of_constructed g.S.Source.stream l.self).stream.faults ≡ (of_constructed g.S.Source.stream l.fn.self).stream.faults;
+}
+
+abbrev pub decreases-loop : goal.decreases-loop
+decreases-loop g l = length (of_constructed g.S.Source.stream l.self).stream.rest

@@ -1,0 +1,11 @@
+use Rattle.bcder.specs.Cause.{cause_of}
+use Rattle.bcder.specs.Views.{of_constructed}
+use Rattle.bcder.proofs.Moving.{moves_trans}
+use Rattle.bcder.proofs.Skipped.{looked_skipped}
+use Rattle.bcder.proofs.decode.content.Constructed.skip_any.Goals as goal
+
+pub returns-in-Ok-false-clause-moves : goal.returns-in-Ok-false-clause-moves
+returns-in-Ok-false-clause-moves g c = moves_trans _ _ _ c.pass_at_hand.ensures.moves c.skip_stacked.ensures.moves
+
+pub returns-in-Ok-false-clause-skipped : goal.returns-in-Ok-false-clause-skipped
+returns-in-Ok-false-clause-skipped g c = looked_skipped cause_of (of_constructed g.S.Source.stream c.args.self.now) (of_constructed g.S.Source.stream c.pass_at_hand.new.self) (of_constructed g.S.Source.stream c.skip_stacked.new.self) _ (c.in-Ok-false.ensures.passed.same c.in-Ok-false.field-0-test) c.in-Ok-false.ensures.passed.no_fault c.skip_stacked.ensures.skipped
