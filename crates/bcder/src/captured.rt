@@ -168,7 +168,7 @@ impl AsSlice<u8> for Captured {
     ghost items = { λ c. c.octets };
 
     fn as_slice(&self) -> &[u8] {
-        self.octets.as_slice()
+        Captured::as_slice(self)
     }
 }
 
@@ -200,7 +200,7 @@ impl Clone for Captured {
 impl fmt::Debug for Captured {
     fn fmt<W: fmt::Write>(&self, f: &mut fmt::Formatter<W>) -> fmt::Result {
         write!(f, "[ ")?;
-        for (index, octet) in self.octets.as_slice().iter().enumerate() {
+        for (index, octet) in self.as_slice().iter().enumerate() {
             write!(f, "{octet:02x} ")?;
             if index % 4 == 3 {
                 write!(f, " ")?;

@@ -28,11 +28,16 @@ pub fn number(field: &str) -> Result<usize, Error> {
 /// The words for the modes.
 const MODES: [(&str, Mode); 3] = [("ber", Mode::Ber), ("cer", Mode::Cer), ("der", Mode::Der)];
 
+/// A mode.
+pub fn mode_of(word: &str) -> Result<Mode, Malformed> {
+    find(&MODES, word)
+}
+
 /// Modes, which are separated by commas.
 pub fn modes_of(alloc: Global, field: &str) -> Result<Vec<Mode>, Error> {
     let mut modes = Vec::new(alloc);
     for word in field.split(',') {
-        modes.push(find(&MODES, word)?)?;
+        modes.push(mode_of(word)?)?;
     }
     Ok(modes)
 }

@@ -11,6 +11,7 @@
 #![tactic(auto, using(bcder::proofs::Moving::moves_refl))]
 
 mod calls;
+mod captures;
 mod fields;
 mod malformed;
 mod positions;
@@ -70,6 +71,32 @@ fn replay_takes(rt: &HostRuntime) -> Result<(), Error> {
     print(rt, "octets left", counts.left)
 }
 
+/// Replays `captures.tsv`, and captures the values of `walk.tsv`.
+fn replay_captures(rt: &HostRuntime) -> Result<(), Error> {
+    let text = fs::read_to_string(rt, "captures.tsv")?;
+    let mut tallies = captures::Tallies::default();
+    for line in text.lines() {
+        if !is_comment(line) {
+            let before = tallies.differ();
+            captures::compare_line(rt.alloc(), line, &mut tallies)?;
+            if tallies.differ() != before {
+                println!(rt; "differs: {line}")?;
+            }
+        }
+    }
+    print(rt, "captures", tallies.captures)?;
+    print(rt, "steps beside captures", tallies.others)?;
+    print(rt, "octets left of captures", tallies.left)?;
+    let text = fs::read_to_string(rt, "walk.tsv")?;
+    let mut tally = Tally::default();
+    for line in text.lines() {
+        if !is_comment(line) {
+            captures::compare_walked(rt.alloc(), line, &mut tally)?;
+        }
+    }
+    print(rt, "capture_one", tally)
+}
+
 /// Replays `positions.tsv`.
 fn replay_positions(rt: &HostRuntime) -> Result<(), Error> {
     let text = fs::read_to_string(rt, "positions.tsv")?;
@@ -116,6 +143,7 @@ fn print(rt: &HostRuntime, what: &str, tally: Tally) -> Result<(), Error> {
 fn main(rt: HostRuntime) -> Result<(), Error> {
     replay_walks(&rt)?;
     replay_takes(&rt)?;
+    replay_captures(&rt)?;
     replay_positions(&rt)?;
     replay_tags(&rt)
 }

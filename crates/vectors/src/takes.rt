@@ -15,7 +15,7 @@ use rows::sip::Sip;
 use std::alloc::{AllocError, Global};
 
 /// The refusal of a closure: no call answers it by itself.
-const OWN: u8 = 200;
+pub const OWN: u8 = 200;
 
 /// Passes over the values, two at most.
 fn pass_values<S: Source>(cons: &mut Constructed<'_, S>) -> Result<(), DecodeError<S::Error>>

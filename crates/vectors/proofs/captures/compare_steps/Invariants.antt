@@ -1,0 +1,6 @@
+use Rattle.bcder.specs.Content.{Carries}
+use Rattle.bcder.specs.Views.{of_constructed}
+use Rattle.vectors.proofs.captures.compare_steps.Given as goal
+
+abbrev pub invariant-loop-step : goal.invariant-loop-step
+invariant-loop-step g l = Carries (of_constructed g.S.Source.stream l.fn.cons) (of_constructed g.S.Source.stream l.cons)

@@ -1,0 +1,462 @@
+//! Capturing: what is captured and by which rules, what is refused, and what stands then.
+ghost use Rattle.bcder.specs.Views.{Moved};
+
+use crate::calls::{Answer, answer_of};
+use crate::fields::{find, mode_of, modes_of, next, number, octets_of};
+use crate::malformed::Malformed;
+use crate::takes::{OWN, error_kind};
+use crate::tally::Tally;
+use anyhow::Error;
+use bcder::decode::{
+    BytesSource, Constructed, ContentError, DecodeError, SliceSource, Source, walk,
+};
+use bcder::{Captured, Mode, Tag};
+use bytes::Bytes;
+use rows::sip::Sip;
+use std::alloc::Global;
+
+/// A call on content, or on what `enter` entered.
+#[derive(Clone, Copy, Debug, PartialEq, Eq)]
+enum Call {
+    One,
+    All,
+
+    /// `capture` with a closure that passes over the next value.
+    Walk,
+
+    /// `capture` with a closure that passes over nothing.
+    Nothing,
+
+    /// `capture` with a closure that sets the Basic Encoding Rules and passes over the next value.
+    Ber,
+
+    /// The same, which then refuses.
+    BerRefuse,
+
+    /// `capture` with a closure that passes over the next value and then refuses.
+    Refuse,
+
+    /// `capture` with a closure that takes a value, which it refuses, and drops that refusal.
+    Drop,
+
+    /// `capture` with a closure that captures the next value.
+    Nested,
+
+    /// `walk`, which is no capture.
+    Pass,
+
+    /// `take_primitive_if` of an INTEGER, which is no capture.
+    Integer,
+
+    /// `take_sequence` with a closure that does the steps inside.
+    Enter,
+}
+
+/// The words for the calls.
+const CALLS: [(&str, Call); 12] = [
+    ("capture_one", Call::One),
+    ("capture_all", Call::All),
+    ("capture_walk", Call::Walk),
+    ("capture_nothing", Call::Nothing),
+    ("capture_ber", Call::Ber),
+    ("capture_ber_refuse", Call::BerRefuse),
+    ("capture_refuse", Call::Refuse),
+    ("capture_drop", Call::Drop),
+    ("capture_nested", Call::Nested),
+    ("walk", Call::Pass),
+    ("integer", Call::Integer),
+    ("enter", Call::Enter),
+];
+
+/// A call, and its answer: octets with their rules, if these aren't those of the row.
+#[derive(Drop)]
+struct Step {
+    call: Call,
+    answer: Answer,
+    octets: Vec<u8>,
+    label: Option<Mode>,
+}
+
+/// A step, as `CALL=ANSWER`, `CALL:OCTETS=ANSWER` or `CALL:OCTETS:MODE=ANSWER`.
+fn step_of(alloc: Global, text: &str) -> Result<Step, Error> {
+    let (what, answer) = text.split_once('=').ok_or(Malformed)?;
+    let mut words = what.split(':');
+    let call = find(&CALLS, next(&mut words)?)?;
+    let octets = octets_of(alloc, words.next().unwrap_or("-"))?;
+    let label = match words.next() {
+        Some(word) => Some(mode_of(word)?),
+        None => None,
+    };
+    let answer = answer_of(answer)?;
+    Ok(Step {
+        call,
+        answer,
+        octets,
+        label,
+    })
+}
+
+/// The steps of a field, which are separated by spaces, or none for `-`.
+fn steps_of(alloc: Global, field: &str) -> Result<Vec<Step>, Error> {
+    let mut steps = Vec::new(alloc);
+    if field == "-" {
+        return Ok(steps);
+    }
+    for text in field.split(' ') {
+        steps.push(step_of(alloc, text)?)?;
+    }
+    Ok(steps)
+}
+
+/// Passes over the next value, if there is one.
+fn pass<S: Source>(cons: &mut Constructed<'_, S>) -> Result<(), DecodeError<S::Error>>
+    ensures { Moved S.stream cons }
+{
+    walk(cons)?;
+    Ok(())
+}
+
+/// Passes over the next value by other rules.
+#[tactic(auto, using(bcder::proofs::Moving::moves_refl, bcder::proofs::Carrying::carries))]
+fn pass_ber<S: Source>(cons: &mut Constructed<'_, S>) -> Result<(), DecodeError<S::Error>>
+    ensures { Moved S.stream cons }
+{
+    cons.set_mode(Mode::Ber);
+    pass(cons)
+}
+
+/// Refuses.
+fn refuse<S: Source>(cons: &Constructed<'_, S>) -> DecodeError<S::Error> {
+    cons.content_err(ContentError::ExpectedInteger(OWN))
+}
+
+/// Passes over the next value, and refuses then.
+#[tactic(auto, using(bcder::proofs::Moving::moves_refl, bcder::proofs::Carrying::carries))]
+fn pass_and_refuse<S: Source>(
+    cons: &mut Constructed<'_, S>,
+    other: bool,
+) -> Result<(), DecodeError<S::Error>>
+    ensures { Moved S.stream cons }
+{
+    if other {
+        pass_ber(cons)?;
+    } else {
+        pass(cons)?;
+    }
+    Err(refuse(cons))
+}
+
+/// Takes a value, whose octets it leaves, and drops the refusal of that.
+#[tactic(auto, using(bcder::proofs::Moving::moves_refl, bcder::proofs::Carrying::carries))]
+fn drop_refusal<S: Source>(cons: &mut Constructed<'_, S>)
+    ensures { Moved S.stream cons }
+{
+    let _ = cons.take_value(|_tag, _content| Ok(()));
+}
+
+/// Captures the next value, and gives it up.
+#[tactic(auto, using(bcder::proofs::Moving::moves_refl, bcder::proofs::Carrying::carries))]
+fn capture_inside<S: Source>(
+    cons: &mut Constructed<'_, S>,
+    alloc: Global,
+) -> Result<(), DecodeError<S::Error>>
+    ensures { Moved S.stream cons }
+{
+    cons.capture_one(alloc)?;
+    Ok(())
+}
+
+/// What a capture answers.
+#[tactic(auto, using(bcder::proofs::Moving::moves_refl, bcder::proofs::Carrying::carries))]
+fn capture<S: Source>(
+    cons: &mut Constructed<'_, S>,
+    alloc: Global,
+    call: Call,
+) -> Result<Captured, DecodeError<S::Error>>
+    ensures { Moved S.stream cons }
+{
+    match call {
+        Call::One => cons.capture_one(alloc),
+        Call::All => cons.capture_all(alloc),
+        Call::Walk => cons.capture(alloc, |inner| pass(inner)),
+        Call::Ber => cons.capture(alloc, |inner| pass_ber(inner)),
+        Call::BerRefuse => cons.capture(alloc, |inner| pass_and_refuse(inner, true)),
+        Call::Refuse => cons.capture(alloc, |inner| pass_and_refuse(inner, false)),
+        Call::Nested => cons.capture(alloc, |inner| capture_inside(inner, alloc)),
+        Call::Drop => cons.capture(alloc, |inner| {
+            drop_refusal(inner);
+            Ok(())
+        }),
+        _ => cons.capture(alloc, |_inner| Ok(())),
+    }
+}
+
+/// The rules by which captured values are decoded.
+#[tactic(auto, using(bcder::proofs::Moving::moves_refl))]
+fn label_of(captured: Captured) -> Option<Mode> {
+    captured.decode(|cons| Ok(cons.mode())).ok()
+}
+
+/// Whether a capture answers as the step says.
+#[tactic(auto, using(bcder::proofs::Moving::moves_refl, bcder::proofs::Carrying::carries))]
+fn captures<S: Source>(
+    cons: &mut Constructed<'_, S>,
+    alloc: Global,
+    step: &Step,
+    mode: Mode,
+) -> bool
+    ensures { Moved S.stream cons }
+{
+    match capture(cons, alloc, step.call) {
+        Ok(captured) => {
+            step.answer == Answer::Taken
+                && captured.as_slice() == step.octets.as_slice()
+                && label_of(captured) == Some(step.label.unwrap_or(mode))
+        }
+        Err(error) => step.answer == error_kind(&error, Tag::END_OF_VALUE),
+    }
+}
+
+/// Whether a step that captures nothing answers as it says.
+#[tactic(auto, using(bcder::proofs::Moving::moves_refl, bcder::proofs::Carrying::carries))]
+fn passes<S: Source>(cons: &mut Constructed<'_, S>, step: &Step) -> bool
+    ensures { Moved S.stream cons }
+{
+    let answer = match step.call {
+        Call::Integer => match cons.take_primitive_if(Tag::INTEGER, |octets| octets.skip_all()) {
+            Ok(()) => Answer::Taken,
+            Err(error) => error_kind(&error, Tag::INTEGER),
+        },
+        _ => match walk(cons) {
+            Ok(Some(())) => Answer::Taken,
+            Ok(None) => Answer::Absent,
+            Err(error) => error_kind(&error, Tag::END_OF_VALUE),
+        },
+    };
+    answer == step.answer
+}
+
+/// Steps on octets in some modes.
+#[derive(Drop)]
+struct Row {
+    modes: Vec<Mode>,
+    octets: Vec<u8>,
+
+    /// On the content that `enter` enters.
+    inside: Vec<Step>,
+
+    /// At top level.
+    outside: Vec<Step>,
+
+    /// How `decode` refuses, if it does, or how many octets are left.
+    left: Result<usize, Answer>,
+}
+
+/// What was compared: captures, other steps, and what `decode` answers and leaves.
+#[derive(Clone, Copy, Debug, Default)]
+pub struct Tallies {
+    pub captures: Tally,
+    pub others: Tally,
+    pub left: Tally,
+}
+
+impl Tallies {
+    /// How many answers differ in all.
+    pub fn differ(&self) -> u64 {
+        let mut all = self.captures;
+        all.join(self.others);
+        all.join(self.left);
+        all.differ
+    }
+}
+
+/// Does a step, and compares its answer. The content keeps its rules.
+#[tactic(auto, using(bcder::proofs::Moving::moves_refl, bcder::proofs::Carrying::carries))]
+fn compare_step<S: Source>(
+    cons: &mut Constructed<'_, S>,
+    alloc: Global,
+    step: &Step,
+    mode: Mode,
+    tallies: &mut Tallies,
+)
+    ensures { Moved S.stream cons }
+{
+    match step.call {
+        Call::Integer | Call::Pass => tallies.others.count(passes(cons, step)),
+        _ => tallies.captures.count(captures(cons, alloc, step, mode)),
+    }
+    tallies.others.count(cons.mode() == mode);
+}
+
+/// Does the steps, and compares their answers.
+fn compare_steps<S: Source>(
+    cons: &mut Constructed<'_, S>,
+    alloc: Global,
+    steps: &[Step],
+    mode: Mode,
+    tallies: &mut Tallies,
+)
+    ensures { Moved S.stream cons }
+{
+    for step in steps {
+        compare_step(cons, alloc, step, mode, tallies);
+    }
+}
+
+/// Enters a sequence, and does the steps there.
+fn enter<S: Source>(
+    cons: &mut Constructed<'_, S>,
+    alloc: Global,
+    row: &Row,
+    mode: Mode,
+    tallies: &mut Tallies,
+) -> Answer
+    ensures { Moved S.stream cons }
+{
+    let entered = cons.take_sequence(
+        |inner|
+            ensures { Moved S.stream inner }
+        {
+            compare_steps(inner, alloc, &row.inside, mode, tallies);
+            Ok(())
+        },
+    );
+    match entered {
+        Ok(()) => Answer::Taken,
+        Err(error) => error_kind(&error, Tag::SEQUENCE),
+    }
+}
+
+/// Does the steps at top level, and compares their answers.
+fn compare_outside<S: Source>(
+    cons: &mut Constructed<'_, S>,
+    alloc: Global,
+    row: &Row,
+    mode: Mode,
+    tallies: &mut Tallies,
+)
+    ensures { Moved S.stream cons }
+{
+    for step in &row.outside {
+        if step.call == Call::Enter {
+            let answer = enter(cons, alloc, row, mode, tallies);
+            tallies.others.count(answer == step.answer);
+        } else {
+            compare_step(cons, alloc, step, mode, tallies);
+        }
+    }
+}
+
+/// Decodes the octets of a row from a source over them.
+fn compare_over<S: Source>(
+    source: &mut S,
+    alloc: Global,
+    row: &Row,
+    mode: Mode,
+    tallies: &mut Tallies,
+) {
+    let decoded = mode.decode_lent(source, |cons| {
+        compare_outside(cons, alloc, row, mode, tallies);
+        Ok(())
+    });
+    let same = match decoded {
+        Ok(()) => {
+            let found = source.request(row.octets.len());
+            row.left
+                .is_ok_and(|left| found.is_ok_and(|found| found == left))
+        }
+        Err(error) => row
+            .left
+            .is_err_and(|answer| answer == error_kind(&error, Tag::END_OF_VALUE)),
+    };
+    tallies.left.count(same);
+}
+
+/// How many octets are left, or how `decode` refuses.
+fn left_of(field: &str) -> Result<Result<usize, Answer>, Error> {
+    match answer_of(field) {
+        Ok(answer) => Ok(Err(answer)),
+        Err(_) => Ok(Ok(number(field)?)),
+    }
+}
+
+fn row_of(alloc: Global, line: &str) -> Result<Row, Error> {
+    let mut fields = line.split('\t');
+    let modes = modes_of(alloc, next(&mut fields)?)?;
+    let octets = octets_of(alloc, next(&mut fields)?)?;
+    let inside = steps_of(alloc, next(&mut fields)?)?;
+    let outside = steps_of(alloc, next(&mut fields)?)?;
+    let left = left_of(next(&mut fields)?)?;
+    Ok(Row {
+        modes,
+        octets,
+        inside,
+        outside,
+        left,
+    })
+}
+
+/// Does the steps of a line in its modes, over three sources, and compares their answers.
+pub fn compare_line(alloc: Global, line: &str, tallies: &mut Tallies) -> Result<(), Error> {
+    let row = row_of(alloc, line)?;
+    for mode in &row.modes {
+        compare_over(
+            &mut SliceSource::new(&row.octets),
+            alloc,
+            &row,
+            *mode,
+            tallies,
+        );
+        let shared = Bytes::copy_from_slice(alloc, &row.octets)?;
+        compare_over(&mut BytesSource::new(shared), alloc, &row, *mode, tallies);
+        let sipped = row.octets.clone()?;
+        compare_over(&mut Sip::new(sipped, 0), alloc, &row, *mode, tallies);
+    }
+    Ok(())
+}
+
+/// How many octets `capture_one` captures of content.
+#[tactic(auto, using(bcder::proofs::Moving::moves_refl, bcder::proofs::Carrying::carries))]
+fn size_of_one<S: Source>(cons: &mut Constructed<'_, S>, alloc: Global) -> Option<usize>
+    ensures { Moved S.stream cons }
+{
+    match cons.capture_one(alloc) {
+        Ok(captured) => Some(captured.as_slice().len()),
+        Err(_) => None,
+    }
+}
+
+/// Whether `capture_one` captures so many octets, or none and leaves all, of so many in a source.
+fn is_size<S: Source>(
+    source: &mut S,
+    alloc: Global,
+    mode: Mode,
+    count: usize,
+    wanted: Option<usize>,
+) -> bool {
+    let found = mode.decode_lent(source, |cons| Ok(size_of_one(cons, alloc)));
+    let left = source.request(count);
+    found.is_ok_and(|found| found == wanted)
+        && left.is_ok_and(|left| count.checked_sub(left) == Some(wanted.unwrap_or(0)))
+}
+
+/// Compares what `capture_one` captures with a line of `walk.tsv`, over three sources.
+pub fn compare_walked(alloc: Global, line: &str, tally: &mut Tally) -> Result<(), Error> {
+    let mut fields = line.split('\t');
+    let octets = octets_of(alloc, next(&mut fields)?)?;
+    let count = octets.len();
+    for mode in [Mode::Ber, Mode::Cer, Mode::Der] {
+        let wanted = match next(&mut fields)? {
+            "-" => None,
+            field => Some(number(field)?),
+        };
+        let mut slice = SliceSource::new(&octets);
+        tally.count(is_size(&mut slice, alloc, mode, count, wanted));
+        let shared = Bytes::copy_from_slice(alloc, &octets)?;
+        let mut shared = BytesSource::new(shared);
+        tally.count(is_size(&mut shared, alloc, mode, count, wanted));
+        let mut sip = Sip::new(octets.clone()?, 0);
+        tally.count(is_size(&mut sip, alloc, mode, count, wanted));
+    }
+    Ok(())
+}
