@@ -6,6 +6,7 @@ pub mod Encoding
 pub mod Preorder
 pub mod Integer
 pub mod Number
+pub mod Unsigned
 pub mod Grammar
 pub mod Reading
 pub mod Classes
@@ -31,3 +32,4 @@ pub mod PeekLength
 pub mod Answers
 pub mod Changed
 pub mod Repeating
+pub mod Alone

@@ -15,6 +15,7 @@ mod mode;
 pub mod plain;
 mod tag;
 
+pub use int::{Integer, Unsigned};
 pub use memory::NoMemory;
 pub use mode::Mode;
 pub use tag::Tag;
