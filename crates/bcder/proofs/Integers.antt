@@ -9,6 +9,7 @@ use Rattle.std.specs.Cmp.{signed_Decides}
 use Rattle.std.specs.Cmp.Lexicographic.{pointwise, same_text, nat_list_eq_equiv}
 use Rattle.std.proofs.lemmas.Int.{ints}
 use Rattle.std.proofs.lemmas.Bool.{cases_lt}
+use Rattle.std.proofs.lemmas.Bool.Decides.{nat_tests}
 use Rattle.bcder.specs.Length.{big_endian}
 use Rattle.bcder.specs.Unsigned.{BeginsAboveZero, BeginsWithZeros}
 use Rattle.bcder.specs.Identifier.{AreOctets}
@@ -83,3 +84,8 @@ zeros_found w i l z e f = record { within = omega arith; number = e; last = f; n
 
 pub zeros_all : (w : List ℕ) (i : ℕ) → i ≡ length w → big_endian (drop i w) ≡ big_endian w → (0 < i → drop (i - 1) w ≡ 0 ∷ drop i w) → BeginsWithZeros w i
 zeros_all w i l e f = record { within = omega arith; number = e; last = f; next = subst BeginsAboveZero (sym (drop_all i w (omega arith))) tt }
+
+-- ---- the same of unsigned numbers
+
+pub int_eq_pos : (x y : ℕ) → int_eq (pos x) (pos y) ≡ nat_eq x y
+int_eq_pos x y = grind (arith, nat_tests)

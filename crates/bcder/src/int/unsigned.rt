@@ -63,7 +63,7 @@ fn is_signed(octets: &[u8]) -> bool
 
 impl Unsigned {
     /// The integer, which isn't negative.
-    fn new(integer: Integer) -> Unsigned
+    pub(super) fn new(integer: Integer) -> Unsigned
         requires { integer ≡ pos (unsigned_abs integer) }
         ensures { integer ≡ pos result }
     {
@@ -220,6 +220,13 @@ impl Unsigned {
         ensures { IsTrue result ↔ (self.now ≡ 0) }
     {
         self.integer.is_zero()
+    }
+
+    /// The same as an integer.
+    pub(super) fn integer(&self) -> &Integer
+        ensures { result.now ≡ pos self.now }
+    {
+        &self.integer
     }
 
     /// The value of a type that is the number.
