@@ -1,14 +1,20 @@
 -- What contents octets tell of their integer.
-use Rattle.std.proofs.Common.{◌≡◌, ℕ, suc, zero, Bool, true, false, IsTrue, ◌↔◌, List, [], ◌∷◌, length, refl, sym, ap, ◌∙◌, arith, subst}
+use Rattle.std.proofs.Common.{◌≡◌, ◌≢◌, ◌<◌, ◌+◌, ◌-◌, ℕ, suc, zero, Bool, true, false, IsTrue, ◌↔◌, List, [], ◌∷◌, length, drop, get_or, add-one, refl, sym, ap, ◌∙◌, arith, subst, inl, inr}
+use Rattle.std.proofs.Math.Seq.{drop-cons}
+use Rattle.std.proofs.lemmas.List.{drop_all}
 use Rattle.std.specs.Prelude.{ℤ, pos, negsuc, ◌<ℤ◌}
 use Rattle.std.specs.Prelude.{nat_eq}
 use Rattle.std.specs.Ordering.{int_eq}
 use Rattle.std.specs.Cmp.{signed_Decides}
 use Rattle.std.specs.Cmp.Lexicographic.{pointwise, same_text, nat_list_eq_equiv}
 use Rattle.std.proofs.lemmas.Int.{ints}
+use Rattle.std.proofs.lemmas.Bool.{cases_lt}
+use Rattle.std.proofs.lemmas.Bool.Decides.{nat_tests}
+use Rattle.bcder.specs.Length.{big_endian}
+use Rattle.bcder.specs.Unsigned.{BeginsAboveZero, BeginsWithZeros}
 use Rattle.bcder.specs.Identifier.{AreOctets}
-use Rattle.bcder.specs.Integer.{AreInteger, number, is_negative}
-use Rattle.bcder.specs.laws.Integers.{Told, positive, negative, told_by, one_integer, AreOctets-nil, AreOctets-cons}
+use Rattle.bcder.specs.Integer.{AreInteger, IsSmallest, Leads, number, is_negative}
+use Rattle.bcder.specs.laws.Integers.{Told, positive, negative, told_by, number_positive, one_integer, AreOctets-nil, AreOctets-cons}
 use Rattle.bcder.specs.laws.Order.{leads_tested, leads_tested_negative}
 
 pub negative_told : (z : ℤ) (w : List ℕ) (b : Bool) → AreOctets w → AreInteger z w → b ≡ is_negative w → IsTrue b ↔ (z <ℤ pos 0)
@@ -35,3 +41,51 @@ octets_equal x y v w false o p a c e = go (int_eq x y) refl
         let z : x ≡ y = (signed_Decides x y).0 f in
         let same : v ≡ w = one_integer x v w o p a (subst (λ k. AreInteger k w) (sym z) c) in
         e ∙ ap (λ k. pointwise nat_eq v k) (sym same) ∙ nat_list_eq_equiv.refl v
+
+-- ---- unsigned numbers
+
+pub plain_smallest : (w : List ℕ) → BeginsAboveZero w → Leads false w → IsSmallest w
+plain_smallest [] b l = absurd l
+plain_smallest (a ∷ []) b l = tt
+plain_smallest (a ∷ c ∷ w) b l = (λ e. absurd (b e), λ e. absurd (omega (arith, l, e)))
+
+pub padded_smallest : (w : List ℕ) → (Leads false w → ⊥) → IsSmallest (0 ∷ w)
+padded_smallest [] n = tt
+padded_smallest (b ∷ w) n = (λ _. elim (cases_lt b 128) [ inl l ↦ absurd (n l) | inr l ↦ l ], λ e. absurd (omega (arith, e)))
+
+pub leads_number : (w : List ℕ) → Leads false w → number w ≡ pos (big_endian w)
+leads_number w l = number_positive w (big_endian w) l refl
+
+pub unsigned_leads : (n : ℕ) (w : List ℕ) → AreOctets w → AreInteger (pos n) w → Leads false w
+unsigned_leads n w o a = by_told (pos n) refl (told_by (pos n) w o a)
+  where
+    by_told : (x : ℤ) → x ≡ pos n → Told w x → Leads false w
+    by_told (pos m) e (positive _ l s v) = l
+    by_told (negsuc m) e (negative _ l s v) = cc
+
+pub leads_both : (w : List ℕ) → Leads true w → Leads false w → ⊥
+leads_both [] a b = a
+leads_both (c ∷ w) a b = omega (arith, a, b)
+
+-- ---- zeros in front
+
+behind_zero : (w : List ℕ) → big_endian (0 ∷ w) ≡ big_endian w
+behind_zero w = omega arith
+
+pub zeros_more : (w : List ℕ) (i : ℕ) → i < length w → get_or w i 0 ≡ 0 → big_endian (drop i w) ≡ big_endian w → (big_endian (drop (i + 1) w) ≡ big_endian w) × (0 < i + 1 → drop (i + 1 - 1) w ≡ 0 ∷ drop (i + 1) w)
+zeros_more w i l z e =
+    let c : drop i w ≡ 0 ∷ drop (i + 1) w = rw add-one (drop-cons w i 0 l ∙ ap (λ b. b ∷ drop (suc i) w) z) in
+    let p : i + 1 - 1 ≡ i = omega arith in
+    let z : big_endian (drop i w) ≡ big_endian (drop (i + 1) w) = ap big_endian c ∙ behind_zero (drop (i + 1) w) in
+    (sym z ∙ e, λ _. rw p c)
+
+pub zeros_found : (w : List ℕ) (i : ℕ) → i < length w → get_or w i 0 ≢ 0 → big_endian (drop i w) ≡ big_endian w → (0 < i → drop (i - 1) w ≡ 0 ∷ drop i w) → BeginsWithZeros w i
+zeros_found w i l z e f = record { within = omega arith; number = e; last = f; next = subst BeginsAboveZero (sym (drop-cons w i 0 l)) z }
+
+pub zeros_all : (w : List ℕ) (i : ℕ) → i ≡ length w → big_endian (drop i w) ≡ big_endian w → (0 < i → drop (i - 1) w ≡ 0 ∷ drop i w) → BeginsWithZeros w i
+zeros_all w i l e f = record { within = omega arith; number = e; last = f; next = subst BeginsAboveZero (sym (drop_all i w (omega arith))) tt }
+
+-- ---- the same of unsigned numbers
+
+pub int_eq_pos : (x y : ℕ) → int_eq (pos x) (pos y) ≡ nat_eq x y
+int_eq_pos x y = grind (arith, nat_tests)

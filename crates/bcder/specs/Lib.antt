@@ -11,6 +11,7 @@ pub mod IdentifierText
 pub mod Components
 pub mod Pushed
 pub mod Identifiers
+pub mod Unsigned
 pub mod Grammar
 pub mod Reading
 pub mod Classes
@@ -51,3 +52,4 @@ pub mod IntegerOctets
 pub mod Growing
 pub mod Skipping
 pub mod Stacked
+pub mod Alone

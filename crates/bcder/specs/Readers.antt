@@ -1,21 +1,22 @@
 -- What readers of contents octets say, by what the octets mean.
-use Rattle.std.specs.Prelude.{◌≡◌, ◌≢◌, ◌⊎◌, ℕ, ℤ, pos, Bool, List, [], length, Option, Some, Result, Ok, Err, IfOk, IfErr, OnOk, OnErr}
+use Rattle.std.specs.Prelude.{◌≡◌, ◌≢◌, ◌⊎◌, ℕ, ℤ, pos, Bool, false, List, [], length, Option, Some, Result, Ok, Err, IfOk, IfErr, OnOk, OnErr, IsErrAnd}
 use Rattle.std.specs.Borrow.{MutBor}
 use Rattle.std.specs.Int.{Width, FitsUnsignedBits}
 use Rattle.std.specs.Int.RustNames.{FitsSigned}
 use denote.Triple.Both.{Both}
 use Rattle.bcder.specs.declared.mode.Mode.{Mode}
 use Rattle.bcder.specs.declared.decode.content.Primitive.{Primitive}
+use Rattle.bcder.specs.declared.decode.content.Content.{Content}
 use Rattle.bcder.specs.declared.decode.error.ContentError.{ContentError}
 use Rattle.bcder.specs.declared.decode.error.ContentError.TheVariants.{ExpectedInteger}
 use Rattle.bcder.specs.declared.decode.error.DecodeError.{DecodeError}
 use Rattle.bcder.specs.Cause.{cause_of, of_source, of_content, of_memory, IsRefusal}
 use Rattle.bcder.specs.Stream.{Stream, Grew}
-use Rattle.bcder.specs.Content.{Reading}
+use Rattle.bcder.specs.Content.{Reading, Octets}
 use Rattle.bcder.specs.Walking.{IsShort}
-use Rattle.bcder.specs.Integer.{AreInteger, IsSmallest, truth}
+use Rattle.bcder.specs.Integer.{AreInteger, IsSmallest, Leads, truth}
 use Rattle.bcder.specs.Number.{IsNumber}
-use Rattle.bcder.specs.Views.{octets_before, octets_after}
+use Rattle.bcder.specs.Views.{octets_before, octets_after, content_before, content_after}
 
 -- ---- what contents octets mean
 
@@ -63,6 +64,10 @@ NoInteger w e = MeanNothing (λ v z. AreInteger z v) w e ⊎ (cause_of e ≡ of_
 abbrev pub NotSmallest : {X : Type 0} → List ℕ → DecodeError X → Type 0
 NotSmallest w e = (IsSmallest w → ⊥) × IsRefusal e ⊎ (cause_of e ≡ of_memory)
 
+-- the same of an integer that isn't negative
+abbrev pub NoUnsigned : {X : Type 0} → List ℕ → DecodeError X → Type 0
+NoUnsigned w e = MeanNothing (λ v n. AreInteger (pos n) v) w e ⊎ (cause_of e ≡ of_memory)
+
 -- they mean another number of a `u8`, or none
 abbrev pub MeanAnother : {X : Type 0} → ℕ → List ℕ → DecodeError X → Type 0
 MeanAnother n w e = ((m : ℕ) × IsUnsigned 8 w m × (m ≢ n) × (cause_of e ≡ of_content (ExpectedInteger n))) ⊎ MeanNothing (IsUnsigned 8) w e
@@ -102,6 +107,17 @@ module _ {S T X : Type 0} (stream : S → Stream) (c : Both (MutBor (Primitive S
   ReadOctets Means r = ReadBy Means (MeanNothing Means) r
 
 -- ---- octets that are lent to a closure
+
+-- the same of content of either form: that of a constructed value is refused, and left as it is
+module _ {S T X : Type 0} (stream : S → Stream) (c : Both (MutBor (Content S)) (MutBor (Content S))) where
+  abbrev pub ReadContentBy : (List ℕ → T → Type 0) → (List ℕ → DecodeError X → Type 0) → Result T (DecodeError X) → Type 0
+  ReadContentBy Means Refuses r = (content_before stream c).kind ≡ Octets → Reads Means Refuses (content_before stream c) r (content_after stream c)
+
+  abbrev pub ReadContent : (List ℕ → T → Type 0) → Result T (DecodeError X) → Type 0
+  ReadContent Means r = ReadContentBy Means (MeanNothing Means) r
+
+  abbrev pub RefusedValues : Result T (DecodeError X) → Type 0
+  RefusedValues r = (content_before stream c).kind ≢ Octets → IsErrAnd r IsRefusal × (content_after stream c ≡ content_before stream c)
 
 -- a closure that is lent octets answered x
 abbrev pub Told : {B T : Type 0} → (B → List ℕ) → (B → Result T ContentError → Type 0) → List ℕ → T → Type 0

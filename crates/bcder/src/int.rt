@@ -12,36 +12,22 @@ ghost use Rattle.bcder.specs.Views.{Moved, MovedOctets};
 
 mod compare;
 mod convert;
+mod error;
 pub(crate) mod number;
 pub(crate) mod octets;
+mod unsigned;
 
 use crate::decode::source::see_octets;
 use crate::decode::{Constructed, DecodeError, Primitive, Source};
 use crate::int::number::{Number, number_at};
 use crate::tag::Tag;
 use bytes::Bytes;
+pub use error::{IntegerError, InvalidInteger, OverflowError};
 use std::alloc::{AllocError, Global};
 use std::cmp::Ordering;
 use std::convert::{AsRef, AsSlice};
-use std::error::Error;
-use std::fmt;
 use std::marker::Model;
-
-/// A number that a type doesn't hold.
-#[derive(Clone, Copy, Debug, PartialEq, Eq)]
-pub struct OverflowError;
-
-impl fmt::Display for OverflowError {
-    ghost use Rattle.std.specs.Prelude.{codes, Some};
-
-    ghost output = { λ _. Some (codes "integer out of range") };
-
-    fn fmt<W: fmt::Write>(&self, f: &mut fmt::Formatter<W>) -> fmt::Result {
-        write!(f, "integer out of range")
-    }
-}
-
-impl Error for OverflowError {}
+pub use unsigned::Unsigned;
 
 /// An integer of any size, by its contents octets, of which there are no more than are needed
 /// (8.3.2).
@@ -187,7 +173,7 @@ impl Integer {
     }
 
     /// The value of a type that is the number.
-    fn number<N: Number>(&self) -> Result<N, OverflowError>
+    pub(super) fn number<N: Number>(&self) -> Result<N, OverflowError>
         ensures { ConvertsTo N.value N.in_range self.now result }
     {
         match number_at(self.as_slice()) {

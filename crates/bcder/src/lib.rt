@@ -19,6 +19,7 @@ pub mod plain;
 mod tag;
 
 pub use captured::Captured;
+pub use int::{Integer, Unsigned};
 pub use memory::NoMemory;
 pub use mode::Mode;
 pub use oid::{ConstOid, Oid};

@@ -55,7 +55,7 @@ same_length_order (a ∷ v) (b ∷ w) l o p =
     same_place : (x y m n : ℕ) → x ≡ y → nat_cmp m n ≡ nat_cmp (x + m) (y + n)
     same_place x y m n e = grind (arith, nat_tests)
 
-int_cmp_pos : (m n : ℕ) → int_cmp (pos m) (pos n) ≡ nat_cmp m n
+pub int_cmp_pos : (m n : ℕ) → int_cmp (pos m) (pos n) ≡ nat_cmp m n
 int_cmp_pos m n = grind (arith, nat_tests)
 
 int_cmp_negsuc : (m n : ℕ) → int_cmp (negsuc m) (negsuc n) ≡ nat_cmp n m

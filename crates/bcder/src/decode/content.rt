@@ -7,7 +7,9 @@ ghost use Rattle.bcder.specs.Views.{before, after, octets_before, octets_after, 
 
 mod capture;
 mod capture_values;
+mod alone;
 mod decode;
+mod either;
 mod forms;
 mod inside;
 mod marker;

@@ -1,13 +1,14 @@
 //! Integers are equal, in order and hashed by their numbers.
-ghost use Rattle.std.specs.Prelude.{Some};
+ghost use Rattle.std.specs.Prelude.{Some, pos, nat_eq};
 ghost use Rattle.std.specs.Cmp.{partial_equiv_from_equiv, int_eq_equiv, int_cmp_total, signed_po};
+ghost use Rattle.std.specs.Cmp.{nat_eq_equiv, nat_cmp_total, unsigned_po};
 ghost use Rattle.std.specs.Cmp.Rules.{comparing, hashing};
 ghost use Rattle.std.specs.Hash as fed;
-ghost use Rattle.std.specs.Ordering.{int_cmp, int_eq};
+ghost use Rattle.std.specs.Ordering.{int_cmp, int_eq, nat_cmp};
 ghost use Rattle.std.proofs.Common.{rules};
 ghost use Rattle.bcder.specs.Integer.{integer_octets};
 
-use super::{Integer, integer_order};
+use super::{Integer, Unsigned, integer_order};
 use std::cmp::Ordering;
 use std::hash::{Hash, Hasher};
 
@@ -56,5 +57,53 @@ impl Hash for Integer {
 
     fn hash<H: Hasher>(&self, state: &mut H) {
         self.as_slice().hash(state);
+    }
+}
+
+impl PartialEq for Unsigned {
+    ghost eq = { nat_eq };
+
+    ghost laws = { partial_equiv_from_equiv nat_eq_equiv };
+
+    fn eq(&self, other: &Unsigned) -> bool {
+        self.integer() == other.integer()
+    }
+}
+
+impl Eq for Unsigned {
+    ghost laws = { nat_eq_equiv };
+}
+
+impl PartialOrd for Unsigned {
+    ghost partial_cmp = { λ x y. Some (nat_cmp x y) };
+
+    ghost laws = { unsigned_po };
+
+    fn partial_cmp(&self, other: &Unsigned) -> Option<Ordering> {
+        Some(self.cmp(other))
+    }
+}
+
+impl Ord for Unsigned {
+    ghost cmp = { nat_cmp };
+
+    ghost total = { nat_cmp_total };
+
+    ghost matches_partial_cmp = { Prim.search (comparing, rules) };
+
+    ghost matches_eq = { Prim.search (comparing, rules) };
+
+    fn cmp(&self, other: &Unsigned) -> Ordering {
+        self.integer().cmp(other.integer())
+    }
+}
+
+impl Hash for Unsigned {
+    ghost hash_input = { λ n. fed.slice fed.u8 (integer_octets (pos n)) };
+
+    ghost respects_eq = { Prim.search (hashing, rules) };
+
+    fn hash<H: Hasher>(&self, state: &mut H) {
+        self.integer().hash(state);
     }
 }

@@ -5,7 +5,7 @@ ghost use Rattle.std.specs.Int.RustNames.{FitsSigned};
 ghost use Rattle.bcder.specs.Number.{ConvertsTo};
 
 use super::octets::Octets;
-use super::{Integer, OverflowError};
+use super::{Integer, OverflowError, Unsigned};
 use crate::NoMemory;
 use bytes::Bytes;
 use std::alloc::Global;
@@ -92,6 +92,43 @@ impl Integer {
         } else {
             Integer::from_parts(alloc, false, x as u128)
         }
+    }
+}
+
+impl Unsigned {
+    /// The integer that a `u8` is.
+    pub fn from_u8(alloc: Global, x: u8) -> Result<Unsigned, NoMemory>
+        ensures { IfOk result (λ n. n ≡ x) }
+    {
+        Ok(Unsigned::new(Integer::from_u8(alloc, x)?))
+    }
+
+    /// The integer that a `u16` is.
+    pub fn from_u16(alloc: Global, x: u16) -> Result<Unsigned, NoMemory>
+        ensures { IfOk result (λ n. n ≡ x) }
+    {
+        Ok(Unsigned::new(Integer::from_u16(alloc, x)?))
+    }
+
+    /// The integer that a `u32` is.
+    pub fn from_u32(alloc: Global, x: u32) -> Result<Unsigned, NoMemory>
+        ensures { IfOk result (λ n. n ≡ x) }
+    {
+        Ok(Unsigned::new(Integer::from_u32(alloc, x)?))
+    }
+
+    /// The integer that a `u64` is.
+    pub fn from_u64(alloc: Global, x: u64) -> Result<Unsigned, NoMemory>
+        ensures { IfOk result (λ n. n ≡ x) }
+    {
+        Ok(Unsigned::new(Integer::from_u64(alloc, x)?))
+    }
+
+    /// The integer that a `u128` is.
+    pub fn from_u128(alloc: Global, x: u128) -> Result<Unsigned, NoMemory>
+        ensures { IfOk result (λ n. n ≡ x) }
+    {
+        Ok(Unsigned::new(Integer::from_u128(alloc, x)?))
     }
 }
 
@@ -291,6 +328,206 @@ impl TryFrom<&Integer> for u128 {
     ghost try_from_gives = { λ z r. ConvertsTo pos (FitsUnsignedBits 128) z.now r };
 
     fn try_from(value: &Integer) -> Result<u128, OverflowError> {
+        value.number()
+    }
+}
+
+impl TryFrom<Unsigned> for i8 {
+    type Error = OverflowError;
+
+    ghost try_from_gives = { λ n r. ConvertsTo (λ x. x) (FitsSigned w8) (pos n) r };
+
+    fn try_from(value: Unsigned) -> Result<i8, OverflowError> {
+        value.number()
+    }
+}
+
+impl TryFrom<&Unsigned> for i8 {
+    type Error = OverflowError;
+
+    ghost try_from_gives = { λ n r. ConvertsTo (λ x. x) (FitsSigned w8) (pos n.now) r };
+
+    fn try_from(value: &Unsigned) -> Result<i8, OverflowError> {
+        value.number()
+    }
+}
+
+impl TryFrom<Unsigned> for i16 {
+    type Error = OverflowError;
+
+    ghost try_from_gives = { λ n r. ConvertsTo (λ x. x) (FitsSigned w16) (pos n) r };
+
+    fn try_from(value: Unsigned) -> Result<i16, OverflowError> {
+        value.number()
+    }
+}
+
+impl TryFrom<&Unsigned> for i16 {
+    type Error = OverflowError;
+
+    ghost try_from_gives = { λ n r. ConvertsTo (λ x. x) (FitsSigned w16) (pos n.now) r };
+
+    fn try_from(value: &Unsigned) -> Result<i16, OverflowError> {
+        value.number()
+    }
+}
+
+impl TryFrom<Unsigned> for i32 {
+    type Error = OverflowError;
+
+    ghost try_from_gives = { λ n r. ConvertsTo (λ x. x) (FitsSigned w32) (pos n) r };
+
+    fn try_from(value: Unsigned) -> Result<i32, OverflowError> {
+        value.number()
+    }
+}
+
+impl TryFrom<&Unsigned> for i32 {
+    type Error = OverflowError;
+
+    ghost try_from_gives = { λ n r. ConvertsTo (λ x. x) (FitsSigned w32) (pos n.now) r };
+
+    fn try_from(value: &Unsigned) -> Result<i32, OverflowError> {
+        value.number()
+    }
+}
+
+impl TryFrom<Unsigned> for i64 {
+    type Error = OverflowError;
+
+    ghost try_from_gives = { λ n r. ConvertsTo (λ x. x) (FitsSigned w64) (pos n) r };
+
+    fn try_from(value: Unsigned) -> Result<i64, OverflowError> {
+        value.number()
+    }
+}
+
+impl TryFrom<&Unsigned> for i64 {
+    type Error = OverflowError;
+
+    ghost try_from_gives = { λ n r. ConvertsTo (λ x. x) (FitsSigned w64) (pos n.now) r };
+
+    fn try_from(value: &Unsigned) -> Result<i64, OverflowError> {
+        value.number()
+    }
+}
+
+impl TryFrom<Unsigned> for i128 {
+    type Error = OverflowError;
+
+    ghost try_from_gives = { λ n r. ConvertsTo (λ x. x) (FitsSigned w128) (pos n) r };
+
+    fn try_from(value: Unsigned) -> Result<i128, OverflowError> {
+        value.number()
+    }
+}
+
+impl TryFrom<&Unsigned> for i128 {
+    type Error = OverflowError;
+
+    ghost try_from_gives = { λ n r. ConvertsTo (λ x. x) (FitsSigned w128) (pos n.now) r };
+
+    fn try_from(value: &Unsigned) -> Result<i128, OverflowError> {
+        value.number()
+    }
+}
+
+impl TryFrom<Unsigned> for u8 {
+    type Error = OverflowError;
+
+    ghost try_from_gives = { λ n r. ConvertsTo pos (FitsUnsignedBits 8) (pos n) r };
+
+    fn try_from(value: Unsigned) -> Result<u8, OverflowError> {
+        value.number()
+    }
+}
+
+impl TryFrom<&Unsigned> for u8 {
+    type Error = OverflowError;
+
+    ghost try_from_gives = { λ n r. ConvertsTo pos (FitsUnsignedBits 8) (pos n.now) r };
+
+    fn try_from(value: &Unsigned) -> Result<u8, OverflowError> {
+        value.number()
+    }
+}
+
+impl TryFrom<Unsigned> for u16 {
+    type Error = OverflowError;
+
+    ghost try_from_gives = { λ n r. ConvertsTo pos (FitsUnsignedBits 16) (pos n) r };
+
+    fn try_from(value: Unsigned) -> Result<u16, OverflowError> {
+        value.number()
+    }
+}
+
+impl TryFrom<&Unsigned> for u16 {
+    type Error = OverflowError;
+
+    ghost try_from_gives = { λ n r. ConvertsTo pos (FitsUnsignedBits 16) (pos n.now) r };
+
+    fn try_from(value: &Unsigned) -> Result<u16, OverflowError> {
+        value.number()
+    }
+}
+
+impl TryFrom<Unsigned> for u32 {
+    type Error = OverflowError;
+
+    ghost try_from_gives = { λ n r. ConvertsTo pos (FitsUnsignedBits 32) (pos n) r };
+
+    fn try_from(value: Unsigned) -> Result<u32, OverflowError> {
+        value.number()
+    }
+}
+
+impl TryFrom<&Unsigned> for u32 {
+    type Error = OverflowError;
+
+    ghost try_from_gives = { λ n r. ConvertsTo pos (FitsUnsignedBits 32) (pos n.now) r };
+
+    fn try_from(value: &Unsigned) -> Result<u32, OverflowError> {
+        value.number()
+    }
+}
+
+impl TryFrom<Unsigned> for u64 {
+    type Error = OverflowError;
+
+    ghost try_from_gives = { λ n r. ConvertsTo pos (FitsUnsignedBits 64) (pos n) r };
+
+    fn try_from(value: Unsigned) -> Result<u64, OverflowError> {
+        value.number()
+    }
+}
+
+impl TryFrom<&Unsigned> for u64 {
+    type Error = OverflowError;
+
+    ghost try_from_gives = { λ n r. ConvertsTo pos (FitsUnsignedBits 64) (pos n.now) r };
+
+    fn try_from(value: &Unsigned) -> Result<u64, OverflowError> {
+        value.number()
+    }
+}
+
+impl TryFrom<Unsigned> for u128 {
+    type Error = OverflowError;
+
+    ghost try_from_gives = { λ n r. ConvertsTo pos (FitsUnsignedBits 128) (pos n) r };
+
+    fn try_from(value: Unsigned) -> Result<u128, OverflowError> {
+        value.number()
+    }
+}
+
+impl TryFrom<&Unsigned> for u128 {
+    type Error = OverflowError;
+
+    ghost try_from_gives = { λ n r. ConvertsTo pos (FitsUnsignedBits 128) (pos n.now) r };
+
+    fn try_from(value: &Unsigned) -> Result<u128, OverflowError> {
         value.number()
     }
 }

@@ -1,5 +1,5 @@
 //! The numbers that contents octets of INTEGER values are (X.690, 8.3), as values of Rust's types.
-ghost use Rattle.std.specs.Prelude.{◌≡◌, ◌∷◌, [], ◌≤◌, ◌<◌, ◌↔◌, ℤ, pos, IfSome, IfNone, IsTrue, length};
+ghost use Rattle.std.specs.Prelude.{◌≡◌, ◌∷◌, [], ◌≤◌, ◌<◌, ◌↔◌, ℤ, ℕ, false, pos, IfSome, IfNone, IsTrue, length};
 ghost use Rattle.std.specs.Int.{complement_if, w8, w16, w32, w64, w128, FitsUnsignedBits};
 ghost use Rattle.std.specs.Int.RustNames.{FitsSigned};
 ghost use Rattle.bcder.specs.Integer.{AreInteger, IsSmallest, Leads, octet};
@@ -49,6 +49,14 @@ fn is_negative(octets: &[u8]) -> bool
     ensures { Leads result octets.now }
 {
     octets[0] >= 0x80
+}
+
+/// Whether octets are contents octets of an integer that isn't negative.
+pub(crate) fn is_unsigned(octets: &[u8]) -> bool
+    ensures yes { IsTrue result → IsSmallest octets.now × Leads false octets.now }
+    ensures no { result ≡ false → (n : ℕ) → AreInteger (pos n) octets.now → ⊥ }
+{
+    is_smallest(octets) && !is_negative(octets)
 }
 
 /// An octet, or all its bits turned.

@@ -1,12 +1,14 @@
 //! Reading the contents octets of a primitive value as what they mean.
-ghost use Rattle.std.specs.Prelude.{◌≡◌, ◌≤◌, [], Some, IfOk, IfErr, OnOk};
+ghost use Rattle.std.specs.Prelude.{◌≡◌, ◌≤◌, [], false, Some, IfOk, IfErr, OnOk};
 ghost use Rattle.std.specs.Int.{w8, w16, w32, w64, w128};
 ghost use Rattle.bcder.specs.Number.{IsNumber};
-ghost use Rattle.bcder.specs.Integer.{truth, IsSmallest};
+ghost use Rattle.bcder.specs.Integer.{truth, IsSmallest, Leads};
 ghost use Rattle.bcder.specs.Readers.{HasAll, RefusesAll, ReadBy, ReadOctets, FindNoMemory};
 ghost use Rattle.bcder.specs.Readers.{IsSigned, IsUnsigned, IsTruth, IsNull, Told, Untold};
-ghost use Rattle.bcder.specs.Readers.{IsThis, MeanAnother, NotSmallest};
+ghost use Rattle.bcder.specs.Readers.{IsThis, MeanAnother, NotSmallest, NoUnsigned};
 ghost use Rattle.bcder.specs.Cause.{cause_of, of_content};
+ghost use Rattle.bcder.specs.Stream.{borrowed, limited};
+ghost use Rattle.bcder.specs.laws.Limits.{borrowed_sound, limited_sound};
 ghost use Rattle.bcder.specs.Views.{of_primitive, octets_before, octets_after, MovedOctets};
 
 mod identifier;
@@ -14,8 +16,8 @@ mod identifier;
 use super::Primitive;
 use crate::NoMemory;
 use crate::decode::error::{ContentError, DecodeError};
-use crate::decode::source::Source;
-use crate::int::number::{Number, is_smallest, number_at};
+use crate::decode::source::{Pos, Source};
+use crate::int::number::{Number, is_smallest, is_unsigned, number_at};
 use crate::mode::Mode;
 use bytes::Bytes;
 use std::alloc::Global;
@@ -234,6 +236,28 @@ impl<'a, S: Source> Primitive<'a, S> {
         }
     }
 
+    /// Takes all octets where they are those of an integer that isn't negative.
+    pub(crate) fn take_unsigned(&mut self, alloc: Global) -> Result<Bytes, DecodeError<S::Error>>
+        ensures moves { MovedOctets S.stream self }
+        ensures read { ReadBy S.stream self
+            (λ w b. (b ≡ w) × IsSmallest w × Leads false w) NoUnsigned result }
+    {
+        let len = match self.request_all() {
+            Ok(len) => len,
+            Err(error) => return Err(error),
+        };
+        if !is_unsigned(self.all(len)) {
+            return Err(self.refusal("no integer that isn't negative"));
+        }
+        match self.bytes_of_all(alloc, len) {
+            Ok(octets) => {
+                self.pass_all(len);
+                Ok(octets)
+            }
+            Err(_) => Err(DecodeError::no_memory()),
+        }
+    }
+
     /// Lends all octets to the closure, and takes them where it answers.
     ///
     /// # Errors
@@ -423,5 +447,41 @@ impl<'a, S: Source> Primitive<'a, S> {
     {
         self.source
             .content_err(ContentError::ExpectedInteger(expected))
+    }
+}
+
+/// A primitive value's octets are a source: those that are owed and come.
+impl<'a, S: Source> Source for Primitive<'a, S> {
+    type Error = S::Error;
+
+    ghost stream = { λ p. borrowed p.source.ghost_name
+        (limited p.source.now.limit (S.stream p.source.now.source)) };
+
+    ghost sound = { λ p. borrowed_sound p.source.ghost_name
+        (limited p.source.now.limit (S.stream p.source.now.source))
+        (limited_sound p.source.now.limit (S.stream p.source.now.source)
+        (S.sound p.source.now.source)) };
+
+    fn pos(&self) -> Pos {
+        self.source.pos()
+    }
+
+    fn request(&mut self, len: usize) -> Result<usize, S::Error> {
+        self.source.request(len)
+    }
+
+    fn slice(&self) -> &[u8] {
+        self.source.slice()
+    }
+
+    /// The available octets from `start` to before `end`, as a value of their own.
+    ///
+    /// It answers `NoMemory` where there is no memory for them.
+    fn bytes(&self, alloc: Global, start: usize, end: usize) -> Result<Bytes, NoMemory> {
+        self.source.bytes(alloc, start, end)
+    }
+
+    fn advance(&mut self, len: usize) {
+        self.source.advance(len)
     }
 }

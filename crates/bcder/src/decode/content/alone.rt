@@ -1,0 +1,117 @@
+//! Octets read as the contents octets of a primitive value.
+ghost use Rattle.std.specs.Prelude.{◌≡◌, ◌≢◌, false, IsTrue, Some, IfOk, IfErr, length};
+ghost use Rattle.bcder.specs.Alone.{AnsweredAlone, RefusedAlone, RanAlone, IsAllOctets};
+ghost use Rattle.bcder.specs.Calls.{MayBeCalledOn, IsLawfulOn, IsOver};
+ghost use Rattle.bcder.specs.Content.{Octets, Moves};
+ghost use Rattle.bcder.specs.Stream.{limited, at_hand};
+ghost use Rattle.bcder.specs.Views.{of_primitive, limited_stream, octets_before, octets_after};
+
+use super::Primitive;
+use crate::decode::error::DecodeError;
+use crate::decode::source::{LimitedSource, SliceSource, Source};
+use crate::mode::Mode;
+use std::convert::Infallible;
+
+impl<'a, S: Source> Primitive<'a, S> {
+    /// Whether no octets are owed any more.
+    #[tactic(auto, unfolding(crate::specs::Views::of_primitive))]
+    fn is_used_up(&self) -> bool
+        ensures yes { IsTrue result → (of_primitive S.stream self.now).owed ≡ Some 0 }
+        ensures no { result ≡ false → (of_primitive S.stream self.now).owed ≢ Some 0 }
+    {
+        match self.source.limit() {
+            Some(0) => true,
+            _ => false,
+        }
+    }
+}
+
+/// Calls the closure on contents octets, of which then none are left.
+#[tactic(auto, using(crate::proofs::moves_refl))]
+fn run<S: Source, F, T: Drop>(
+    octets: &mut Primitive<'_, S>,
+    op: F,
+) -> Result<T, DecodeError<S::Error>>
+where
+    F: FnOnce(&mut Primitive<'_, S>) -> Result<T, DecodeError<S::Error>>,
+    requires callable { MayBeCalledOn (of_primitive S.stream)
+        (λ i. i ≡ of_primitive S.stream octets.old) (F.pre op) }
+    requires lawful { IsLawfulOn (of_primitive S.stream)
+        (λ i. i ≡ of_primitive S.stream octets.old) (F.post op) }
+    ensures moves { Moves (octets_before S.stream octets) (octets_after S.stream octets) }
+    ensures ok { IfOk result (λ x.
+        AnsweredAlone (of_primitive S.stream) (F.post op)
+        (octets_before S.stream octets) x (octets_after S.stream octets)) }
+    ensures refused { IfErr result (λ e.
+        RefusedAlone (of_primitive S.stream) (F.post op)
+        (octets_before S.stream octets) e (octets_after S.stream octets)) }
+{
+    match op(octets) {
+        Ok(value) => {
+            if octets.is_used_up() {
+                return Ok(value);
+            }
+            Err(octets.refusal("octets left in a primitive value"))
+        }
+        Err(error) => Err(error),
+    }
+}
+
+/// Calls the closure on all octets up to the limit of a source.
+#[tactic(auto, unfolding(crate::specs::Views::of_primitive))]
+fn run_over<S: Source, F, T: Drop>(
+    source: &mut LimitedSource<S>,
+    len: usize,
+    mode: Mode,
+    op: F,
+) -> Result<T, DecodeError<S::Error>>
+where
+    F: FnOnce(&mut Primitive<'_, S>) -> Result<T, DecodeError<S::Error>>,
+    requires limit { source.old.limit ≡ Some len }
+    requires callable { MayBeCalledOn (of_primitive S.stream)
+        (IsOver (limited_stream S.stream source.old) (Some len) Octets mode) (F.pre op) }
+    requires lawful { IsLawfulOn (of_primitive S.stream)
+        (IsOver (limited_stream S.stream source.old) (Some len) Octets mode) (F.post op) }
+    ensures { RanAlone (of_primitive S.stream) (F.post op)
+        (S.stream source.old.source) len mode result }
+{
+    let start = source.pos();
+    let mut octets = Primitive {
+        source: &mut *source,
+        mode,
+        marked: false,
+        start,
+    };
+    run(&mut octets, op)
+}
+
+impl Primitive<'static, SliceSource<'static>> {
+    ghost use Rattle.std.specs.Prelude.{length};
+
+    /// Hands octets to the closure, as the contents octets of a primitive value in a mode.
+    ///
+    /// The closure has to take all of them. Its answer is answered.
+    ///
+    /// # Errors
+    ///
+    /// The closure's refusal as it is; and a refusal where it leaves octets.
+    pub fn decode_slice<'b, F, T: Drop>(
+        octets: &'b [u8],
+        mode: Mode,
+        op: F,
+    ) -> Result<T, DecodeError<Infallible>>
+    where
+        F: FnOnce(&mut Primitive<'_, SliceSource<'b>>) -> Result<T, DecodeError<Infallible>>,
+        requires callable { MayBeCalledOn (of_primitive ⟦<SliceSource<'b> as Source>⟧.stream)
+            (IsAllOctets octets.now mode) (F.pre op) }
+        requires lawful { IsLawfulOn (of_primitive ⟦<SliceSource<'b> as Source>⟧.stream)
+            (IsAllOctets octets.now mode) (F.post op) }
+        ensures { RanAlone (of_primitive ⟦<SliceSource<'b> as Source>⟧.stream) (F.post op)
+            (at_hand octets.now) (length octets.now) mode result }
+    {
+        let len = octets.len();
+        let mut source = LimitedSource::new(SliceSource::new(octets));
+        source.set_limit(Some(len));
+        run_over(&mut source, len, mode, op)
+    }
+}

@@ -1,0 +1,121 @@
+//! Reading primitive content as a number or null, by a closure that takes content of either form.
+ghost use Rattle.bcder.specs.Number.{IsNumber};
+ghost use Rattle.bcder.specs.Readers.{ReadContent, ReadContentBy, RefusedValues, IsUnsigned};
+ghost use Rattle.bcder.specs.Readers.{IsNull, IsThis, MeanAnother};
+ghost use Rattle.bcder.specs.Views.{MovedContent};
+
+use super::Content;
+use crate::decode::error::DecodeError;
+use crate::decode::source::Source;
+use crate::int::number::Number;
+
+#[tactic(auto, using(crate::proofs::moves_refl))]
+impl<'a, S: Source> Content<'a, S> {
+    /// Reads all octets as the number of a type, and takes them.
+    #[inline(always)]
+    fn read_number<N: Number + Drop>(&mut self) -> Result<N, DecodeError<S::Error>>
+        ensures moves { MovedContent S.stream self }
+        ensures read { ReadContent S.stream self (IsNumber N.value N.in_range) result }
+        ensures form { RefusedValues S.stream self result }
+    {
+        match self {
+            Content::Primitive(octets) => octets.read_number(),
+            Content::Constructed(values) => Err(values.refusal("expected a primitive value")),
+        }
+    }
+
+    /// Reads all octets as the INTEGER (X.690, 8.3) with this value, and takes them.
+    ///
+    /// # Errors
+    ///
+    /// `ContentError::ExpectedInteger` where they are another integer that a `u8` holds; and those
+    /// of [`to_u8`](Self::to_u8).
+    pub fn skip_u8_if(&mut self, expected: u8) -> Result<(), DecodeError<S::Error>>
+        ensures moves { MovedContent S.stream self }
+        ensures read { ReadContentBy S.stream self
+            (IsThis 8 expected) (MeanAnother expected) result }
+        ensures form { RefusedValues S.stream self result }
+    {
+        match self {
+            Content::Primitive(octets) => octets.skip_u8_if(expected),
+            Content::Constructed(values) => Err(values.refusal("expected a primitive value")),
+        }
+    }
+
+    /// Makes sure that this is the content of a NULL (X.690, 8.8): primitive, and without octets.
+    ///
+    /// # Errors
+    ///
+    /// Where octets are owed, and where the content is that of a constructed value, which then stays
+    /// as it is.
+    pub fn to_null(&mut self) -> Result<(), DecodeError<S::Error>>
+        ensures moves { MovedContent S.stream self }
+        ensures read { ReadContent S.stream self IsNull result }
+        ensures form { RefusedValues S.stream self result }
+    {
+        match self {
+            Content::Primitive(octets) => octets.to_null(),
+            Content::Constructed(values) => Err(values.refusal("expected a primitive value")),
+        }
+    }
+
+    /// Reads all octets as an INTEGER (X.690, 8.3) that a `u8` holds, and takes them.
+    ///
+    /// # Errors
+    ///
+    /// Those of [`Primitive::to_u8`](super::Primitive::to_u8), and where the content is that of a
+    /// constructed value, which then stays as it is.
+    #[inline(always)]
+    pub fn to_u8(&mut self) -> Result<u8, DecodeError<S::Error>>
+        ensures moves { MovedContent S.stream self }
+        ensures read { ReadContent S.stream self (IsUnsigned 8) result }
+        ensures form { RefusedValues S.stream self result }
+    {
+        self.read_number()
+    }
+
+    /// Reads all octets as an INTEGER (X.690, 8.3) that a `u16` holds, and takes them.
+    ///
+    /// # Errors
+    ///
+    /// Those of [`Primitive::to_u16`](super::Primitive::to_u16), and where the content is that of a
+    /// constructed value, which then stays as it is.
+    #[inline(always)]
+    pub fn to_u16(&mut self) -> Result<u16, DecodeError<S::Error>>
+        ensures moves { MovedContent S.stream self }
+        ensures read { ReadContent S.stream self (IsUnsigned 16) result }
+        ensures form { RefusedValues S.stream self result }
+    {
+        self.read_number()
+    }
+
+    /// Reads all octets as an INTEGER (X.690, 8.3) that a `u32` holds, and takes them.
+    ///
+    /// # Errors
+    ///
+    /// Those of [`Primitive::to_u32`](super::Primitive::to_u32), and where the content is that of a
+    /// constructed value, which then stays as it is.
+    #[inline(always)]
+    pub fn to_u32(&mut self) -> Result<u32, DecodeError<S::Error>>
+        ensures moves { MovedContent S.stream self }
+        ensures read { ReadContent S.stream self (IsUnsigned 32) result }
+        ensures form { RefusedValues S.stream self result }
+    {
+        self.read_number()
+    }
+
+    /// Reads all octets as an INTEGER (X.690, 8.3) that a `u64` holds, and takes them.
+    ///
+    /// # Errors
+    ///
+    /// Those of [`Primitive::to_u64`](super::Primitive::to_u64), and where the content is that of a
+    /// constructed value, which then stays as it is.
+    #[inline(always)]
+    pub fn to_u64(&mut self) -> Result<u64, DecodeError<S::Error>>
+        ensures moves { MovedContent S.stream self }
+        ensures read { ReadContent S.stream self (IsUnsigned 64) result }
+        ensures form { RefusedValues S.stream self result }
+    {
+        self.read_number()
+    }
+}

@@ -1,0 +1,352 @@
+//! Integers of any size that aren't negative.
+ghost use Rattle.std.specs.Prelude.{◌≡◌, ◌≢◌, ◌↔◌, ℤ, ℕ, pos, [], false, IsTrue};
+ghost use Rattle.std.specs.Prelude.{IfOk, IfErr, unsigned_abs};
+ghost use Rattle.bcder.specs.Identifier.{AreOctets, integer_tag};
+ghost use Rattle.bcder.specs.Integer.{AreInteger, IsSmallest, Leads, integer_octets};
+ghost use Rattle.bcder.specs.Length.{big_endian};
+ghost use Rattle.bcder.specs.Number.{ConvertsTo};
+ghost use Rattle.bcder.specs.Readers.{ReadBy, ReadOctets, IsUnsigned, NoUnsigned};
+ghost use Rattle.bcder.specs.Typed.{TookOneBy};
+ghost use Rattle.bcder.specs.Unsigned.{BeginsWithZeros, MatchIntegerError};
+ghost use Rattle.bcder.specs.Views.{Moved, MovedOctets};
+
+use super::{Integer, IntegerError, InvalidInteger, OverflowError};
+use crate::decode::{Constructed, DecodeError, Primitive, Source};
+use crate::int::number::Number;
+use crate::tag::Tag;
+use bytes::Bytes;
+use std::alloc::{AllocError, Global};
+use std::convert::{AsRef, AsSlice};
+use std::marker::Model;
+
+/// An integer of any size that isn't negative, by its contents octets, of which there are no more
+/// than are needed (X.690, 8.3.2).
+#[derive(Debug, Drop)]
+pub struct Unsigned {
+    integer: Integer,
+}
+
+/// The clauses see the number.
+impl Model for Unsigned {
+    ghost use Rattle.std.specs.Prelude.{◌≡◌, ℕ, pos, unsigned_abs};
+
+    ghost Value = { ℕ };
+
+    ghost view = { λ a. unsigned_abs a.integer };
+
+    ghost invariant = { λ a. a.integer ≡ pos (unsigned_abs a.integer) };
+}
+
+/// How many octets of 0 stand in front.
+fn leading_zeros(octets: &[u8]) -> usize
+    ensures { BeginsWithZeros octets.now result }
+{
+    let mut count = 0;
+    for octet in octets {
+        if *octet != 0 {
+            return count;
+        }
+        count += 1;
+    }
+    count
+}
+
+/// Whether octets begin as those of a number that isn't negative.
+fn is_signed(octets: &[u8]) -> bool
+    ensures { IsTrue result ↔ Leads false octets.now }
+{
+    match octets {
+        [] => false,
+        [first, ..] => *first < 0x80,
+    }
+}
+
+impl Unsigned {
+    /// The integer, which isn't negative.
+    pub(super) fn new(integer: Integer) -> Unsigned
+        requires { integer ≡ pos (unsigned_abs integer) }
+        ensures { integer ≡ pos result }
+    {
+        Unsigned { integer }
+    }
+
+    /// The integer with these contents octets.
+    fn of(octets: Bytes) -> Unsigned
+        requires smallest { IsSmallest octets }
+        requires sign { Leads false octets }
+        ensures integer { AreInteger (pos result) octets }
+        ensures number { result ≡ big_endian octets }
+    {
+        Unsigned::new(Integer::of(octets))
+    }
+
+    /// The integer that octets are, the most significant first. Octets of 0 in front don't matter.
+    ///
+    /// # Errors
+    ///
+    /// `Invalid` where there are no octets, and where there is no memory.
+    pub fn from_slice(alloc: Global, octets: &[u8]) -> Result<Unsigned, IntegerError>
+        ensures ok { IfOk result (λ x. x ≡ big_endian octets.now) }
+        ensures err { IfErr result (λ e.
+            MatchIntegerError e (octets.now ≡ []) (octets.now ≢ [])) }
+    {
+        if octets.is_empty() {
+            return Err(IntegerError::Invalid(InvalidInteger));
+        }
+        let digits = octets.split_at(leading_zeros(octets)).1;
+        if is_signed(digits) {
+            Unsigned::copied(alloc, digits)
+        } else {
+            Unsigned::padded(alloc, digits)
+        }
+    }
+
+    /// The integer with a copy of these contents octets.
+    fn copied(alloc: Global, digits: &[u8]) -> Result<Unsigned, IntegerError>
+        requires smallest { IsSmallest digits.now }
+        requires sign { Leads false digits.now }
+        ensures ok { IfOk result (λ x. x ≡ big_endian digits.now) }
+        ensures err { IfErr result (λ e. e ≡ IntegerError.NoMemory) }
+    {
+        match Bytes::copy_from_slice(alloc, digits) {
+            Ok(octets) => Ok(Unsigned::of(octets)),
+            Err(_) => Err(IntegerError::NoMemory),
+        }
+    }
+
+    /// The integer with a copy of these octets behind one of 0.
+    fn padded(alloc: Global, digits: &[u8]) -> Result<Unsigned, IntegerError>
+        requires { Leads false digits.now → ⊥ }
+        ensures ok { IfOk result (λ x. x ≡ big_endian digits.now) }
+        ensures err { IfErr result (λ e. e ≡ IntegerError.NoMemory) }
+    {
+        let mut all = Vec::new(alloc);
+        if all.push(0).is_err() {
+            return Err(IntegerError::NoMemory);
+        }
+        if all.extend_from_slice(digits).is_err() {
+            return Err(IntegerError::NoMemory);
+        }
+        match Bytes::from_vec(all) {
+            Ok(octets) => Ok(Unsigned::of(octets)),
+            Err(_) => Err(IntegerError::NoMemory),
+        }
+    }
+
+    /// The integer that octets are, the most significant first. Octets of 0 in front don't matter.
+    /// The octets are shared where they need none in front.
+    ///
+    /// # Errors
+    ///
+    /// Those of [`from_slice`](Self::from_slice).
+    pub fn from_bytes(alloc: Global, octets: Bytes) -> Result<Unsigned, IntegerError>
+        ensures ok { IfOk result (λ x. x ≡ big_endian octets) }
+        ensures err { IfErr result (λ e. MatchIntegerError e (octets ≡ []) (octets ≢ [])) }
+    {
+        let mut kept = octets;
+        if kept.is_empty() {
+            return Err(IntegerError::Invalid(InvalidInteger));
+        }
+        let zeros = leading_zeros(kept.as_slice());
+        if is_signed(kept.as_slice().split_at(zeros).1) {
+            kept.advance(zeros);
+            return Ok(Unsigned::of(kept));
+        }
+        if zeros > 0 {
+            kept.advance(zeros - 1);
+            return Ok(Unsigned::of(kept));
+        }
+        Unsigned::padded(alloc, kept.as_slice())
+    }
+
+    /// Takes the next value, which has to be an INTEGER that isn't negative.
+    ///
+    /// # Errors
+    ///
+    /// Those of [`Constructed::take_primitive_if`]; where the contents octets are no such integer's;
+    /// and where there is no memory for them.
+    #[tactic(auto, using(crate::proofs::moves_refl))]
+    pub fn take_from<S: Source>(
+        alloc: Global,
+        cons: &mut Constructed<'_, S>,
+    ) -> Result<Unsigned, DecodeError<S::Error>>
+        ensures moves { Moved S.stream cons }
+        ensures took { TookOneBy S.stream cons integer_tag
+            (λ w n. AreInteger (pos n) w) NoUnsigned result }
+    {
+        cons.take_primitive_if(
+            Tag::INTEGER,
+            |octets| Unsigned::from_primitive(alloc, octets),
+        )
+    }
+
+    /// Reads all contents octets as an integer that isn't negative, and takes them.
+    ///
+    /// # Errors
+    ///
+    /// Where they are no such integer's, where fewer come than are owed, where the source fails, and
+    /// where there is no memory for them. Then none is taken.
+    pub fn from_primitive<S: Source>(
+        alloc: Global,
+        octets: &mut Primitive<'_, S>,
+    ) -> Result<Unsigned, DecodeError<S::Error>>
+        ensures moves { MovedOctets S.stream octets }
+        ensures read { ReadBy S.stream octets (λ w n. AreInteger (pos n) w) NoUnsigned result }
+    {
+        match octets.take_unsigned(alloc) {
+            Ok(octets) => Ok(Unsigned::of(octets)),
+            Err(error) => Err(error),
+        }
+    }
+
+    /// The contents octets (X.690, 8.3).
+    pub fn into_bytes(self) -> Bytes
+        ensures integer { AreInteger (pos self) result }
+        ensures octets { AreOctets result }
+    {
+        self.integer.into_bytes()
+    }
+
+    /// The contents octets (X.690, 8.3).
+    pub fn as_slice(&self) -> &[u8]
+        ensures integer { AreInteger (pos self.now) result.now }
+        ensures octets { AreOctets result.now }
+    {
+        self.integer.as_slice()
+    }
+
+    /// Whether the number is 0.
+    pub fn is_zero(&self) -> bool
+        ensures { IsTrue result ↔ (self.now ≡ 0) }
+    {
+        self.integer.is_zero()
+    }
+
+    /// The same as an integer.
+    pub(super) fn integer(&self) -> &Integer
+        ensures { result.now ≡ pos self.now }
+    {
+        &self.integer
+    }
+
+    /// The value of a type that is the number.
+    pub(super) fn number<N: Number>(&self) -> Result<N, OverflowError>
+        ensures { ConvertsTo N.value N.in_range (pos self.now) result }
+    {
+        self.integer.number()
+    }
+
+    /// Reads all contents octets as an integer that a `u8` holds, as `Primitive::to_u8` does.
+    ///
+    /// # Errors
+    ///
+    /// Those of `Primitive::to_u8`.
+    pub fn u8_from_primitive<S: Source>(
+        octets: &mut Primitive<'_, S>,
+    ) -> Result<u8, DecodeError<S::Error>>
+        ensures moves { MovedOctets S.stream octets }
+        ensures read { ReadOctets S.stream octets (IsUnsigned 8) result }
+    {
+        octets.to_u8()
+    }
+
+    /// Reads all contents octets as an integer that a `u16` holds, as `Primitive::to_u16` does.
+    ///
+    /// # Errors
+    ///
+    /// Those of `Primitive::to_u16`.
+    pub fn u16_from_primitive<S: Source>(
+        octets: &mut Primitive<'_, S>,
+    ) -> Result<u16, DecodeError<S::Error>>
+        ensures moves { MovedOctets S.stream octets }
+        ensures read { ReadOctets S.stream octets (IsUnsigned 16) result }
+    {
+        octets.to_u16()
+    }
+
+    /// Reads all contents octets as an integer that a `u32` holds, as `Primitive::to_u32` does.
+    ///
+    /// # Errors
+    ///
+    /// Those of `Primitive::to_u32`.
+    pub fn u32_from_primitive<S: Source>(
+        octets: &mut Primitive<'_, S>,
+    ) -> Result<u32, DecodeError<S::Error>>
+        ensures moves { MovedOctets S.stream octets }
+        ensures read { ReadOctets S.stream octets (IsUnsigned 32) result }
+    {
+        octets.to_u32()
+    }
+
+    /// Reads all contents octets as an integer that a `u64` holds, as `Primitive::to_u64` does.
+    ///
+    /// # Errors
+    ///
+    /// Those of `Primitive::to_u64`.
+    pub fn u64_from_primitive<S: Source>(
+        octets: &mut Primitive<'_, S>,
+    ) -> Result<u64, DecodeError<S::Error>>
+        ensures moves { MovedOctets S.stream octets }
+        ensures read { ReadOctets S.stream octets (IsUnsigned 64) result }
+    {
+        octets.to_u64()
+    }
+
+    /// Reads all contents octets as an integer that a `u128` holds, as `Primitive::to_u128` does.
+    ///
+    /// # Errors
+    ///
+    /// Those of `Primitive::to_u128`.
+    pub fn u128_from_primitive<S: Source>(
+        octets: &mut Primitive<'_, S>,
+    ) -> Result<u128, DecodeError<S::Error>>
+        ensures moves { MovedOctets S.stream octets }
+        ensures read { ReadOctets S.stream octets (IsUnsigned 128) result }
+    {
+        octets.to_u128()
+    }
+}
+
+/// The clone has the same number.
+impl Clone for Unsigned {
+    ghost is_clone = { λ x y. y ≡ x };
+
+    fn clone(&self) -> Result<Unsigned, AllocError> {
+        Ok(Unsigned {
+            integer: self.integer.clone()?,
+        })
+    }
+}
+
+impl AsSlice<u8> for Unsigned {
+    ghost items = { λ n. integer_octets (pos n) };
+
+    fn as_slice(&self) -> &[u8] {
+        AsSlice::as_slice(&self.integer)
+    }
+}
+
+impl AsRef<Integer> for Unsigned {
+    fn as_ref(&self) -> &Integer
+        ensures { result.now ≡ pos self.now }
+    {
+        &self.integer
+    }
+}
+
+impl AsRef<Bytes> for Unsigned {
+    fn as_ref(&self) -> &Bytes
+        ensures { AreInteger (pos self.now) result.now }
+    {
+        AsRef::as_ref(&self.integer)
+    }
+}
+
+impl Integer {
+    /// Whether it is the same number.
+    pub fn eq_unsigned(&self, other: &Unsigned) -> bool
+        ensures { IsTrue result ↔ (self.now ≡ pos other.now) }
+    {
+        self.as_slice() == other.as_slice()
+    }
+}
