@@ -35,3 +35,4 @@ pub mod Encoders
 pub mod Choices
 pub mod Enclosing
 pub mod IntegerOctets
+pub mod Slices
