@@ -36,3 +36,4 @@ pub mod Choices
 pub mod Enclosing
 pub mod IntegerOctets
 pub mod Slices
+pub mod Written
