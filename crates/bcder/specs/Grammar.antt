@@ -1,5 +1,5 @@
 -- Laws of the encodings. Each is the contract of a function of `src/laws.rt`.
-use Rattle.std.specs.Prelude.{◌≡◌, ◌≢◌, ◌≤◌, ◌*◌, ℕ, Bool, List, ◌++◌, length, take}
+use Rattle.std.specs.Prelude.{◌≡◌, ◌≢◌, ◌↔◌, ◌≤◌, ◌*◌, ℕ, Bool, List, ◌++◌, length, take}
 use Rattle.bcder.specs.declared.mode.Mode.{Mode}
 use Rattle.bcder.specs.declared.mode.Mode.TheVariants.{Ber}
 use Rattle.bcder.specs.declared.length.Length.{Length}
@@ -42,6 +42,10 @@ OneList = (mode : Mode) (ts us : Trees) (w : List ℕ) → AreEncodings mode ts 
 -- in CER and DER a list of values is at most one octet list
 abbrev pub OneEncoding : Type 0
 OneEncoding = (mode : Mode) → mode ≢ Ber → (ts : Trees) (v w : List ℕ) → AreEncodings mode ts v → AreEncodings mode ts w → v ≡ w
+
+-- in CER and DER two lists that have encodings are the same exactly where these are
+abbrev pub SameWhereEncodingsAre : Type 0
+SameWhereEncodingsAre = (mode : Mode) → mode ≢ Ber → (ts us : Trees) (v w : List ℕ) → AreEncodings mode ts v → AreEncodings mode us w → (ts ≡ us) ↔ (v ≡ w)
 
 -- what is an encoding in CER or DER is one in BER
 abbrev pub ValueInBer : Type 0

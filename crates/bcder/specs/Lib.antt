@@ -53,3 +53,5 @@ pub mod Growing
 pub mod Skipping
 pub mod Stacked
 pub mod Alone
+pub mod Slices
+pub mod Written

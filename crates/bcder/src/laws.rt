@@ -9,6 +9,7 @@ ghost use Rattle.bcder.specs.Grammar.{ValueHasTwo, ListHasTwo, ValueIsOctets, Li
 
 pub mod identifiers;
 pub mod integers;
+pub mod encoders;
 pub mod sources;
 
 use crate::tag::Tag;

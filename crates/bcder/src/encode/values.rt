@@ -7,7 +7,9 @@ ghost use Rattle.bcder.specs.Encoders.{HasEncoding, SizeOfValues, WritesValues, 
 pub(crate) mod choice;
 pub(crate) mod constructed;
 pub(crate) mod lists;
+pub(crate) mod mapped;
 mod parts;
+pub(crate) mod slice;
 mod tuples;
 
 use crate::encode::values::constructed::Constructed;

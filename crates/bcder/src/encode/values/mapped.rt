@@ -1,0 +1,154 @@
+//! The items of a slice, each encoded as what a closure gives for it.
+ghost use Rattle.std.specs.Prelude.{◌≡◌, All, Any};
+ghost use Rattle.bcder.specs.Encoders.{HasEncoding, SizeOfValues, WritesParts};
+ghost use Rattle.bcder.specs.Joined.{EachOf, Joined};
+ghost use Rattle.bcder.specs.Slices.{TakesItem, Gives, ItemMeans, ItemLacks, MayMap, item_lawful};
+ghost use Rattle.bcder.specs.laws.Joined.{EachOf_lawful, Joined_lawful};
+
+use crate::encode::values::Values;
+use crate::encode::values::parts::{Parts, add_len, joined_len, write_joined, write_known_parts};
+use crate::encode::{EncodeError, WriteError};
+use crate::mode::Mode;
+use std::convert::AsSlice;
+use std::io;
+use std::marker::PhantomData;
+
+/// The items of a slice, each encoded as what a closure gives for it.
+///
+/// It may be asked where the closure may be called on every item and gives each item one meaning.
+/// Of a closure that states nothing that is known from its body.
+#[derive(Drop)]
+pub struct Slice<T, F, U, V> {
+    value: T,
+    f: F,
+    marker: PhantomData<(U, V)>,
+}
+
+impl<T: AsSlice<U>, F: Fn(&U) -> V, U, V: Values> Slice<T, F, U, V> {
+    /// The items of `value`, each encoded as what `f` gives for it.
+    pub fn new(value: T, f: F) -> Self
+        ensures value { result.value ≡ value }
+        ensures closure { result.f ≡ f }
+    {
+        Slice {
+            value,
+            f,
+            marker: PhantomData,
+        }
+    }
+}
+
+/// What the closure gives for an item.
+fn call_on<U, V, F: Fn(&U) -> V>(f: &F, item: &U) -> V
+    requires { TakesItem F.Fn f.now item.now }
+    ensures { Gives F.Fn f.now item.now result }
+{
+    f(item)
+}
+
+/// The size of an item, or why it has no encoding.
+fn item_len<U, V: Values + Drop, F: Fn(&U) -> V>(
+    f: &F,
+    item: &U,
+    mode: Mode,
+) -> Result<usize, EncodeError>
+    requires { MayMap F.Fn f.now V.can_encode V.means item.now }
+    ensures { SizeOfValues (ItemMeans F.Fn f.now V.means mode item.now)
+        (ItemLacks F.Fn f.now V.may_lack mode item.now) result }
+{
+    let value = call_on(f, item);
+    value.encoded_len(mode)
+}
+
+/// Writes an item that is known to have an encoding.
+fn write_item<U, V: Values + Drop, F: Fn(&U) -> V, W: io::Write>(
+    f: &F,
+    item: &U,
+    mode: Mode,
+    target: &mut W,
+) -> Result<(), WriteError>
+    requires may { MayMap F.Fn f.now V.can_encode V.means item.now }
+    requires known { HasEncoding (ItemMeans F.Fn f.now V.means mode item.now) }
+    ensures { WritesParts W.contents target (ItemMeans F.Fn f.now V.means mode item.now)
+        (ItemLacks F.Fn f.now V.may_lack mode item.now) result }
+{
+    let value = call_on(f, item);
+    value.write_known(mode, target)
+}
+
+/// The items and the closure.
+#[derive(Drop)]
+struct Mapped<'a, F, U, V> {
+    items: &'a [U],
+    f: &'a F,
+    marker: PhantomData<V>,
+}
+
+impl<'a, F: Fn(&U) -> V, U, V: Values + Drop> Parts for Mapped<'a, F, U, V> {
+    ghost all = { λ x mode. EachOf (ItemMeans F.Fn x.f.now V.means mode) x.items.now };
+
+    ghost may_lack = { λ x mode. Any (ItemLacks F.Fn x.f.now V.may_lack mode) x.items.now };
+
+    ghost can_encode = { λ x. All (MayMap F.Fn x.f.now V.can_encode V.means) x.items.now };
+
+    fn parts_len(&self, mode: Mode) -> Result<Option<usize>, EncodeError> {
+        let mut sum = Some(0usize);
+        for item in self.items {
+            let len = item_len(self.f, item, mode)?;
+            sum = add_len(sum, len);
+        }
+        Ok(sum)
+    }
+
+    fn write_parts<W: io::Write>(&self, mode: Mode, target: &mut W) -> Result<(), WriteError> {
+        for item in self.items {
+            write_item(self.f, item, mode, target)?;
+        }
+        Ok(())
+    }
+
+    ghost all_lawful = { λ x mode can.
+        EachOf_lawful mode (item_lawful F.Fn x.f.now mode (λ v. V.lawful v mode)) x.items.now can };
+}
+
+impl<T: AsSlice<U>, F: Fn(&U) -> V, U, V: Values + Drop> Values for Slice<T, F, U, V> {
+    ghost means = { λ x mode.
+        Joined (EachOf (ItemMeans F.Fn x.f V.means mode) (T.items x.value)) };
+
+    ghost may_lack = { λ x mode. Any (ItemLacks F.Fn x.f V.may_lack mode) (T.items x.value) };
+
+    ghost can_encode = { λ x. All (MayMap F.Fn x.f V.can_encode V.means) (T.items x.value) };
+
+    fn encoded_len(&self, mode: Mode) -> Result<usize, EncodeError> {
+        let items = self.value.as_slice();
+        let parts = Mapped {
+            items,
+            f: &self.f,
+            marker: PhantomData,
+        };
+        joined_len(&parts, mode)
+    }
+
+    fn write_encoded<W: io::Write>(&self, mode: Mode, target: &mut W) -> Result<(), WriteError> {
+        let items = self.value.as_slice();
+        let parts = Mapped {
+            items,
+            f: &self.f,
+            marker: PhantomData,
+        };
+        write_joined(&parts, mode, target)
+    }
+
+    fn write_known<W: io::Write>(&self, mode: Mode, target: &mut W) -> Result<(), WriteError> {
+        let items = self.value.as_slice();
+        let parts = Mapped {
+            items,
+            f: &self.f,
+            marker: PhantomData,
+        };
+        write_known_parts(&parts, mode, target)
+    }
+
+    ghost lawful = { λ x mode can. Joined_lawful (EachOf_lawful mode
+        (item_lawful F.Fn x.f mode (λ v. V.lawful v mode)) (T.items x.value) can) };
+}

@@ -1,0 +1,32 @@
+//! What follows from the laws of encoders.
+ghost use Rattle.bcder.specs.Grammar.{SameWhereEncodingsAre};
+ghost use Rattle.bcder.specs.IntegerOctets.{IntegerIsWritten, OneInteger};
+ghost use Rattle.bcder.specs.Meaning.{IsOne};
+ghost use Rattle.bcder.specs.Written.{WritesEncodings, WritesTheOnlyOne};
+
+use crate::encode::Values;
+use crate::mode::Mode;
+
+/// An encoder means one thing at most in a mode. Where that is no refusal, what it writes is an
+/// encoding of its values, and in CER and DER the only one (X.690, 9.1, 10.1).
+pub fn what_is_written_is_an_encoding<V: Values>(values: &V, mode: Mode)
+    requires { V.can_encode values.now }
+    ensures one { IsOne (V.means values.now mode) }
+    ensures encoding { WritesEncodings mode (V.means values.now mode) }
+    ensures only { WritesTheOnlyOne mode (V.means values.now mode) }
+{
+    let _values = values;
+    let _mode = mode;
+}
+
+/// In CER and DER two lists of values that have encodings are the same exactly where these are.
+pub fn values_are_the_same_where_encodings_are()
+    ensures { SameWhereEncodingsAre }
+{}
+
+/// What is written of an integer of at most 128 bits are short octets that are this number
+/// (X.690, 8.3.2, 8.3.3), and no other short octets are.
+pub fn integers_have_one_short_form()
+    ensures written { IntegerIsWritten }
+    ensures one { OneInteger }
+{}

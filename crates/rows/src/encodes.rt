@@ -1,0 +1,390 @@
+//! What encoders write: octets from worked examples, sizes, and refusals.
+use crate::asserts::{holds, same};
+use bcder::encode::{
+    Choice2, Choice3, EncodeError, Nothing, PrimitiveContent, Values, WriteError, sequence,
+    sequence_as, set, set_as, slice, total_encoded_len, write_header,
+};
+use bcder::{Mode, Tag};
+use std::alloc::Global;
+use std::io;
+use std::io::{Error, ErrorKind, Write};
+use std::process::Abort;
+use std::test::Fail;
+
+/// The values are written as these octets, and their size is told.
+fn writes<V: Values>(
+    rt: &impl Abort,
+    alloc: Global,
+    values: &V,
+    mode: Mode,
+    wanted: &[u8],
+) -> Result<(), Fail>
+    requires { V.can_encode values.now }
+{
+    let mut target = Vec::new(alloc);
+    holds(rt, values.write_encoded(mode, &mut target).is_ok());
+    holds(rt, target.as_slice() == wanted);
+    same(rt, values.encoded_len(mode), Ok(wanted.len()));
+    Ok(())
+}
+
+/// The same octets in each mode.
+fn writes_always<V: Values>(
+    rt: &impl Abort,
+    alloc: Global,
+    values: &V,
+    wanted: &[u8],
+) -> Result<(), Fail>
+    requires { V.can_encode values.now }
+{
+    writes(rt, alloc, values, Mode::Ber, wanted)?;
+    writes(rt, alloc, values, Mode::Cer, wanted)?;
+    writes(rt, alloc, values, Mode::Der, wanted)
+}
+
+/// The values are refused for this reason, and nothing is written.
+fn refuses<V: Values>(
+    rt: &impl Abort,
+    alloc: Global,
+    values: &V,
+    mode: Mode,
+    wanted: EncodeError,
+) -> Result<(), Fail>
+    requires { V.can_encode values.now }
+{
+    let mut target = Vec::new(alloc);
+    match values.write_encoded(mode, &mut target) {
+        Err(WriteError::Refused(error)) => same(rt, error, wanted),
+        _ => holds(rt, false),
+    }
+    holds(rt, target.is_empty());
+    same(rt, values.encoded_len(mode), Err(wanted));
+    Ok(())
+}
+
+#[test]
+fn four_numbers(rt: HostRuntime) -> Result<(), Fail> {
+    let values = (0u8.encode(), 1u8.encode(), 2u8.encode(), 3u8.encode());
+    let wanted = [
+        0x02, 0x01, 0x00, 0x02, 0x01, 0x01, 0x02, 0x01, 0x02, 0x02, 0x01, 0x03,
+    ];
+    writes_always(&rt, rt.alloc(), &values, &wanted)
+}
+
+#[test]
+fn a_sequence(rt: HostRuntime) -> Result<(), Fail> {
+    let values = sequence((true.encode(), 5u8.encode()));
+    let definite = [0x30, 0x06, 0x01, 0x01, 0xFF, 0x02, 0x01, 0x05];
+    let indefinite = [0x30, 0x80, 0x01, 0x01, 0xFF, 0x02, 0x01, 0x05, 0x00, 0x00];
+    writes(&rt, rt.alloc(), &values, Mode::Der, &definite)?;
+    writes(&rt, rt.alloc(), &values, Mode::Ber, &definite)?;
+    writes(&rt, rt.alloc(), &values, Mode::Cer, &indefinite)
+}
+
+#[test]
+fn what_is_not_there(rt: HostRuntime) -> Result<(), Fail> {
+    let values = sequence((None::<Nothing>, Nothing, 7u16.encode_as(Tag::CTX_0)));
+    let indefinite = [0x30, 0x80, 0x80, 0x01, 0x07, 0x00, 0x00];
+    writes(
+        &rt,
+        rt.alloc(),
+        &values,
+        Mode::Der,
+        &[0x30, 0x03, 0x80, 0x01, 0x07],
+    )?;
+    writes(&rt, rt.alloc(), &values, Mode::Cer, &indefinite)
+}
+
+#[test]
+fn explicit_tags(rt: HostRuntime) -> Result<(), Fail> {
+    let values = 5u8.encode().explicit(Tag::CTX_1);
+    let indefinite = [0xA1, 0x80, 0x02, 0x01, 0x05, 0x00, 0x00];
+    writes(
+        &rt,
+        rt.alloc(),
+        &values,
+        Mode::Der,
+        &[0xA1, 0x03, 0x02, 0x01, 0x05],
+    )?;
+    writes(&rt, rt.alloc(), &values, Mode::Cer, &indefinite)
+}
+
+#[test]
+fn sets_and_other_tags(rt: HostRuntime) -> Result<(), Fail> {
+    let values = (
+        set(().encode()),
+        set_as(Tag::CTX_0, false.encode()),
+        sequence_as(Tag::CTX_2, Nothing),
+    );
+    let wanted = [
+        0x31, 0x02, 0x05, 0x00, 0xA0, 0x03, 0x01, 0x01, 0x00, 0xA2, 0x00,
+    ];
+    writes(&rt, rt.alloc(), &values, Mode::Der, &wanted)
+}
+
+#[test]
+fn items_through_a_closure(rt: HostRuntime) -> Result<(), Fail> {
+    let values = slice([1u8, 2, 3], |x: &u8| (*x).encode());
+    let wanted = [0x02, 0x01, 0x01, 0x02, 0x01, 0x02, 0x02, 0x01, 0x03];
+    writes_always(&rt, rt.alloc(), &values, &wanted)
+}
+
+#[test]
+fn lists_and_choices(rt: HostRuntime) -> Result<(), Fail> {
+    type Either = Choice2<bcder::encode::Primitive<u8>, Nothing>;
+    let mut list: Vec<Either> = Vec::new(rt.alloc());
+    list.push(Choice2::One(5u8.encode()))?;
+    list.push(Choice2::Two(Nothing))?;
+    list.push(Choice2::One(6u8.encode()))?;
+    let wanted = [0x02, 0x01, 0x05, 0x02, 0x01, 0x06];
+    writes_always(&rt, rt.alloc(), &list.as_slice(), &wanted)?;
+    let third: Choice3<Nothing, Nothing, Vec<Either>> = Choice3::Three(list);
+    writes_always(&rt, rt.alloc(), &&third, &wanted)
+}
+
+#[test]
+fn octets_and_references(rt: HostRuntime) -> Result<(), Fail> {
+    let octets: &[u8] = &[0x61, 0x62];
+    writes_always(&rt, rt.alloc(), &octets.encode(), &[0x04, 0x02, 0x61, 0x62])?;
+    writes_always(
+        &rt,
+        rt.alloc(),
+        &octets.encode_ref(),
+        &[0x04, 0x02, 0x61, 0x62],
+    )?;
+    let number = 300u16;
+    writes_always(
+        &rt,
+        rt.alloc(),
+        &number.encode_ref_as(Tag::CTX_3),
+        &[0x83, 0x02, 0x01, 0x2C],
+    )?;
+    let bytes = number.to_encoded_bytes(rt.alloc(), Mode::Der);
+    match bytes {
+        Ok(bytes) => holds(&rt, bytes.as_slice() == [0x01, 0x2C].as_slice()),
+        Err(_) => holds(&rt, false),
+    }
+    Ok(())
+}
+
+/// A number is written with these contents octets under the tag INTEGER.
+fn integer<P: PrimitiveContent + Drop>(
+    rt: &impl Abort,
+    alloc: Global,
+    number: P,
+    wanted: &[u8],
+) -> Result<(), Fail> {
+    match number.to_encoded_bytes(alloc, Mode::Der) {
+        Ok(bytes) => holds(rt, bytes.as_slice() == wanted),
+        Err(_) => holds(rt, false),
+    }
+    Ok(())
+}
+
+#[test]
+fn unsigned_integers(rt: HostRuntime) -> Result<(), Fail> {
+    integer(&rt, rt.alloc(), 0u32, &[0x00])?;
+    integer(&rt, rt.alloc(), 0x12u32, &[0x12])?;
+    integer(&rt, rt.alloc(), 0x1234u32, &[0x12, 0x34])?;
+    integer(&rt, rt.alloc(), 0x123400u32, &[0x12, 0x34, 0x00])?;
+    integer(&rt, rt.alloc(), 0x12345678u32, &[0x12, 0x34, 0x56, 0x78])?;
+    integer(
+        &rt,
+        rt.alloc(),
+        0xA2345678u32,
+        &[0x00, 0xA2, 0x34, 0x56, 0x78],
+    )
+}
+
+#[test]
+fn signed_integers(rt: HostRuntime) -> Result<(), Fail> {
+    integer(&rt, rt.alloc(), 0xF2i32, &[0x00, 0xF2])?;
+    integer(&rt, rt.alloc(), 0xF234i32, &[0x00, 0xF2, 0x34])?;
+    integer(&rt, rt.alloc(), 0xF23400i32, &[0x00, 0xF2, 0x34, 0x00])?;
+    integer(&rt, rt.alloc(), -1i32, &[0xFF])?;
+    integer(&rt, rt.alloc(), -0xF0i32, &[0xFF, 0x10])?;
+    integer(&rt, rt.alloc(), -0xF000i32, &[0xFF, 0x10, 0x00])?;
+    integer(&rt, rt.alloc(), -1200000i32, &[0xED, 0xB0, 0x80])
+}
+
+#[test]
+fn small_and_large_integers(rt: HostRuntime) -> Result<(), Fail> {
+    integer(&rt, rt.alloc(), -32769i64, &[0xFF, 0x7F, 0xFF])?;
+    integer(&rt, rt.alloc(), -32768i16, &[0x80, 0x00])?;
+    integer(&rt, rt.alloc(), -129i16, &[0xFF, 0x7F])?;
+    integer(&rt, rt.alloc(), -128i8, &[0x80])?;
+    integer(&rt, rt.alloc(), 128u8, &[0x00, 0x80])?;
+    integer(&rt, rt.alloc(), -12000i32, &[0xD1, 0x20])
+}
+
+#[test]
+fn the_largest_integers(rt: HostRuntime) -> Result<(), Fail> {
+    let mut least = [0u8; 16];
+    least[0] = 0x80;
+    integer(&rt, rt.alloc(), i128::MIN, &least)?;
+    let mut most = [0xFFu8; 17];
+    most[0] = 0;
+    integer(&rt, rt.alloc(), u128::MAX, &most)?;
+    integer(
+        &rt,
+        rt.alloc(),
+        u64::MAX,
+        &[0, 0xFF, 0xFF, 0xFF, 0xFF, 0xFF, 0xFF, 0xFF, 0xFF],
+    )
+}
+
+#[test]
+fn headers(rt: HostRuntime) -> Result<(), Fail> {
+    same(
+        &rt,
+        total_encoded_len(Tag::OCTET_STRING, 4294967295),
+        Ok(4294967301),
+    );
+    same(
+        &rt,
+        total_encoded_len(Tag::OCTET_STRING, 4294967296),
+        Err(EncodeError::LengthTooLarge),
+    );
+    same(
+        &rt,
+        total_encoded_len(Tag::END_OF_VALUE, 0),
+        Err(EncodeError::EndOfValueTag),
+    );
+    let mut target = Vec::new(rt.alloc());
+    holds(
+        &rt,
+        write_header(&mut target, Tag::SEQUENCE, true, 256).is_ok(),
+    );
+    holds(
+        &rt,
+        write_header(&mut target, Tag::DATE, false, 4294967295).is_ok(),
+    );
+    let wanted = [
+        0x30, 0x82, 0x01, 0x00, 0x1F, 0x1F, 0x84, 0xFF, 0xFF, 0xFF, 0xFF,
+    ];
+    holds(&rt, target.as_slice() == wanted.as_slice());
+    Ok(())
+}
+
+/// The tag is written as these identifier octets.
+fn identifier(rt: &impl Abort, alloc: Global, tag: Tag, form: bool, wanted: &[u8]) {
+    let mut target = Vec::new(alloc);
+    holds(rt, tag.write_encoded(form, &mut target).is_ok());
+    holds(rt, target.as_slice() == wanted);
+    same(rt, tag.encoded_len(), wanted.len());
+}
+
+#[test]
+fn tags(rt: HostRuntime) {
+    identifier(&rt, rt.alloc(), Tag::TIME_OF_DAY, false, &[0x1F, 0x20]);
+    identifier(
+        &rt,
+        rt.alloc(),
+        Tag::private(2097151),
+        false,
+        &[0xDF, 0xFF, 0xFF, 0x7F],
+    );
+    identifier(
+        &rt,
+        rt.alloc(),
+        Tag::application(16383),
+        true,
+        &[0x7F, 0xFF, 0x7F],
+    );
+    identifier(&rt, rt.alloc(), Tag::ctx(30), true, &[0xBE]);
+    identifier(&rt, rt.alloc(), Tag::END_OF_VALUE, false, &[0x00]);
+}
+
+#[test]
+fn refusals(rt: HostRuntime) -> Result<(), Fail> {
+    let end = true.encode_as(Tag::END_OF_VALUE);
+    refuses(&rt, rt.alloc(), &end, Mode::Ber, EncodeError::EndOfValueTag)?;
+    let inside = sequence((5u8.encode(), end));
+    refuses(
+        &rt,
+        rt.alloc(),
+        &inside,
+        Mode::Der,
+        EncodeError::EndOfValueTag,
+    )?;
+    let outside = sequence_as(Tag::END_OF_VALUE, Nothing);
+    refuses(
+        &rt,
+        rt.alloc(),
+        &outside,
+        Mode::Cer,
+        EncodeError::EndOfValueTag,
+    )
+}
+
+/// Takes one octet a call, and fails when `left` is used up.
+#[derive(Drop)]
+struct OneByOne {
+    taken: Vec<u8>,
+    left: usize,
+}
+
+impl Write for OneByOne {
+    ghost use Rattle.std.specs.Prelude.{Some};
+
+    ghost contents = { λ w. Some w.taken.items };
+
+    fn write(&mut self, buf: &[u8]) -> io::Result<usize> {
+        if buf.is_empty() {
+            return Ok(0);
+        }
+        if self.left == 0 {
+            return Err(Error::from(ErrorKind::Interrupted));
+        }
+        self.taken.push(buf[0])?;
+        self.left -= 1;
+        Ok(1)
+    }
+
+    fn flush(&mut self) -> io::Result<()> {
+        Ok(())
+    }
+}
+
+#[test]
+fn up_to_the_failure(rt: HostRuntime) -> Result<(), Fail> {
+    let whole = [0x30, 0x06, 0x02, 0x01, 0xFF, 0x02, 0x01, 0x05];
+    for n in 0..9usize {
+        let mut target = OneByOne {
+            taken: Vec::new(rt.alloc()),
+            left: n,
+        };
+        let values = sequence(((-1i8).encode(), 5u8.encode()));
+        let answer = values.write_encoded(Mode::Der, &mut target);
+        holds(&rt, target.taken.as_slice() == &whole[..n]);
+        match answer {
+            Ok(()) => same(&rt, n, 8),
+            Err(WriteError::Target(_)) => holds(&rt, n < 8),
+            Err(WriteError::Refused(_)) => holds(&rt, false),
+        }
+    }
+    Ok(())
+}
+
+/// Takes nothing.
+#[derive(Clone, Copy, Drop)]
+struct Full;
+
+impl Write for Full {
+    fn write(&mut self, _buf: &[u8]) -> io::Result<usize> {
+        Ok(0)
+    }
+
+    fn flush(&mut self) -> io::Result<()> {
+        Ok(())
+    }
+}
+
+#[test]
+fn a_target_that_takes_nothing(rt: HostRuntime) {
+    match true.encode().write_encoded(Mode::Ber, &mut Full) {
+        Err(WriteError::Target(error)) => same(&rt, error.kind(), ErrorKind::WriteZero),
+        _ => holds(&rt, false),
+    }
+    holds(&rt, Nothing.write_encoded(Mode::Ber, &mut Full).is_ok());
+}
