@@ -69,7 +69,7 @@ impl<T: AsSlice<u8>> Oid<T> {
     pub fn same_as<U: AsSlice<u8>>(&self, other: &Oid<U>) -> bool
         ensures { IsTrue result ↔ (T.items self.now.0 ≡ U.items other.now.0) }
     {
-        self.0.as_slice() == other.0.as_slice()
+        self.as_slice() == other.as_slice()
     }
 }
 
