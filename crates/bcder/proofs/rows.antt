@@ -4,3 +4,4 @@ pub mod Identifiers
 pub mod Lengths
 pub mod Values
 pub mod Headings
+pub mod ObjectIdentifiers

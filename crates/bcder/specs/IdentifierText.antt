@@ -60,7 +60,7 @@ pub record MayBegin (m n : ℕ) : Type 0 where
   pub first : m ≤ 2
   pub second : m < 2 → n < 40
 
--- the texts, one or more of them after the first two, are components, and these are the octets of an identifier that has them
+-- the first two texts and those after them are components, and w is the octets of the identifier that has these components
 pub record AreTextsOf (a b : List ℕ) (ts : List (List ℕ)) (w : List ℕ) : Type 0 where
   pub first : ℕ
   pub second : ℕ

@@ -69,7 +69,7 @@ impl<T: AsSlice<u8>> Oid<T> {
     pub fn same_as<U: AsSlice<u8>>(&self, other: &Oid<U>) -> bool
         ensures { IsTrue result ↔ (T.items self.now.0 ≡ U.items other.now.0) }
     {
-        self.0.as_slice() == other.0.as_slice()
+        self.as_slice() == other.as_slice()
     }
 }
 
@@ -178,7 +178,14 @@ impl Oid<Bytes> {
 }
 
 impl Oid<Vec<u8>> {
-    /// Reads the components in decimal, joined by dots. Each subidentifier has the fewest octets.
+    /// Reads components in decimal, joined by dots. Each may have a plus in front and is below 2^32;
+    /// the first is at most 2, and where it is 0 or 1 the second is below 40. Each subidentifier is
+    /// given the fewest octets.
+    ///
+    /// # Errors
+    ///
+    /// What keeps the text from being an identifier, at the first component that does; and where
+    /// there is no memory for the octets.
     pub fn from_str(alloc: Global, text: &str) -> Result<Self, OidError>
         ensures ok { IfOk result (λ oid. IsTextOf text.now oid.0.items) }
         ensures err { IfErr result (λ e. RefusesText text.now e) }
@@ -187,6 +194,10 @@ impl Oid<Vec<u8>> {
     }
 
     /// The same identifier, its octets shared by all clones.
+    ///
+    /// # Errors
+    ///
+    /// Where there is no memory to count the clones. The identifier is then dropped.
     pub fn into_shared(self) -> Result<Oid<Bytes>, NoMemory>
         ensures { IfOk result (λ oid. oid.0 ≡ self.0.items) }
     {
@@ -203,7 +214,7 @@ impl<T: AsSlice<u8>> AsSlice<u8> for Oid<T> {
     }
 }
 
-/// By the octets.
+/// Identifiers are equal where their octets are.
 impl<T: AsSlice<u8>> PartialEq for Oid<T> {
     ghost eq = { λ x y. pointwise nat_eq (T.items x.0) (T.items y.0) };
 
@@ -218,7 +229,7 @@ impl<T: AsSlice<u8>> Eq for Oid<T> {
     ghost laws = { on_equiv (λ oid. T.items oid.0) nat_list_eq_equiv };
 }
 
-/// By the octets.
+/// The hash is that of the octets.
 impl<T: AsSlice<u8>> Hash for Oid<T> {
     ghost hash_input = { λ oid. fed.slice fed.u8 (T.items oid.0) };
 

@@ -1,0 +1,93 @@
+//! Tells the contents octets of object identifiers.
+//!
+//! `mkoid ARG..` prints a line for each argument. For an object identifier, its components in
+//! decimal joined by dots, it has the octets in decimal, as `[85,29,19,]` for `2.5.29.19`. For any
+//! other argument it has the argument and why it is none.
+#![tactic(auto)]
+
+ghost use Rattle.std.specs.Prelude.{◌≡◌, OnOk, OnErr, IfOk, map, string_bytes};
+ghost use Rattle.mkoid.specs.Lines.{octets_line, IsLine, WritesAll, WritesSome, WritesLine};
+ghost use Rattle.mkoid.specs.Lines.{WritesPart};
+
+mod target;
+#[cfg(test)]
+mod tests;
+
+use bcder::{NoMemory, Oid};
+use std::alloc::Global;
+use std::process::ExitCode;
+use std::{env, io};
+
+/// The line of an identifier: its octets in decimal, each followed by a comma, in brackets.
+fn octets_line(alloc: Global, octets: &[u8]) -> Result<String, NoMemory>
+    ensures { IfOk result (λ line. string_bytes line ≡ octets_line octets.now) }
+{
+    let mut line = String::from_str(alloc, "[")?;
+    for octet in octets {
+        write!(line, "{octet},")?;
+    }
+    line.push_str("]\n")?;
+    Ok(line)
+}
+
+/// The line of an argument.
+fn line_of(alloc: Global, arg: &str) -> Result<String, NoMemory>
+    ensures { IfOk result (λ line. IsLine arg.now (string_bytes line)) }
+{
+    match Oid::from_str(alloc, arg) {
+        Ok(oid) => octets_line(alloc, oid.0.as_slice()),
+        Err(error) => Ok(format!(in alloc; "{arg}: {error}.\n")?),
+    }
+}
+
+/// Writes the line of an argument. Where there is no memory to put it together, the line says so.
+fn write_line<W: io::Write>(alloc: Global, arg: &str, target: &mut W) -> Result<(), io::Error>
+    ensures ok { OnOk result (WritesLine arg.now (W.contents target.old) (W.contents target.new)) }
+    ensures err { OnErr result
+        (WritesPart arg.now (W.contents target.old) (W.contents target.new)) }
+{
+    match line_of(alloc, arg) {
+        Ok(line) => target::write_octets(target, line.as_bytes()),
+        Err(NoMemory) => {
+            target::write_octets(target, arg.as_bytes())?;
+            target::write_octets(target, b": out of memory.\n".as_slice())
+        }
+    }
+}
+
+/// Writes a line for each argument: the octets of the object identifier that it names, or why it
+/// names none.
+///
+/// An error is one of the target. Of the line that met it a beginning may have been written.
+pub fn lines<W: io::Write>(alloc: Global, args: &[String], target: &mut W) -> Result<(), io::Error>
+    ensures ok { OnOk result (WritesAll (map string_bytes args.now)
+        (W.contents target.old) (W.contents target.new)) }
+    ensures err { OnErr result (WritesSome (map string_bytes args.now)
+        (W.contents target.old) (W.contents target.new)) }
+{
+    for arg in args {
+        write_line(alloc, arg, target)?;
+    }
+    Ok(())
+}
+
+/// The arguments without the name of the program.
+fn arguments(rt: &HostRuntime) -> io::Result<Vec<String>> {
+    let mut args = env::args(rt)?;
+    let _program = args.next();
+    Ok(args.collect(rt.alloc())?)
+}
+
+fn main(rt: HostRuntime) -> ExitCode {
+    let mut out = rt.stdout();
+    match arguments(&rt) {
+        Ok(args) => match lines(rt.alloc(), &args, &mut out) {
+            Ok(()) => ExitCode::SUCCESS,
+            Err(_) => ExitCode::FAILURE,
+        },
+        Err(error) => {
+            let _ = eprintln!(rt; "{error}");
+            ExitCode::FAILURE
+        }
+    }
+}
