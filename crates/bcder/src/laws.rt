@@ -7,9 +7,9 @@ ghost use Rattle.bcder.specs.Grammar.{OneIdentifier, OneLength, OneEnd, OneFront
 ghost use Rattle.bcder.specs.Grammar.{OneEncoding, ValueInBer, ListInBer};
 ghost use Rattle.bcder.specs.Grammar.{ValueHasTwo, ListHasTwo, ValueIsOctets, ListIsOctets};
 
+pub mod encoders;
 pub mod identifiers;
 pub mod integers;
-pub mod encoders;
 pub mod sources;
 
 use crate::tag::Tag;

@@ -1,217 +1,115 @@
 -- What is gathered, at each way that it can go.
-use Rattle.std.proofs.Common.{◌≡◌, ◌≢◌, ℕ, ◌+◌, ◌<◌, ◌^◌, true, false, List, [], ◌++◌, length, Option, Some, None, MatchOption, refl, sym, ap, subst, ◌∙◌, append_assoc, append-nil, arith, inl, inr}
+use Rattle.std.proofs.Common.{◌≡◌, ◌≢◌, ℕ, Bool, true, false, List, [], ◌∷◌, ◌++◌, Option, Some, None, MatchOption, refl, sym, ap, subst, ◌∙◌, append_assoc, append-nil, arith, inl, inr}
 use Rattle.std.specs.Prelude.{◌⊎◌, Result, Ok, Err, IfOk, IfErr, IfSome, IfNone, OnOk}
-use Rattle.std.specs.Borrow.{MutBor}
+use Rattle.std.specs.Borrow.{MutBor, GName}
+use Rattle.std.proofs.lemmas.Fn.{chained_keeps}
 use Rattle.bcder.specs.declared.mode.Mode.{Mode}
 use Rattle.bcder.specs.declared.decode.content.State.TheVariants.{Open, Failed}
-use Rattle.bcder.specs.Identifier.{Tag}
-use Rattle.bcder.specs.Tree.{Tree, Trees, no_trees, ◌∷ₜ◌}
-use Rattle.bcder.specs.Encoding.{AreEncodings}
-use Rattle.bcder.specs.Preorder.{preorder, preorders}
-use Rattle.bcder.specs.Content.{Reading, Octets, UnboundedValues, any, HasHeader, Moves, IsDone, EndsAt}
+use Rattle.bcder.specs.declared.decode.content.Constructed.{Constructed}
 use Rattle.bcder.specs.declared.decode.error.ContentError.{ContentError}
-use Rattle.bcder.specs.Calls.{Hands, Answered, TakesValue, RefusesContent, by_closure, unfinished, RefusesValue}
-use Rattle.bcder.specs.Calls as calls
-use Rattle.bcder.specs.Walking.{PassesValue, ClosesBefore, HasValues, RefusesWalk, RefusesOctets, RefusesValues, Walks}
-use Rattle.bcder.specs.Decoding.{IsAllOf, RefusesOn, RefusesDecode}
-use Rattle.bcder.specs.Decoding as decoding
-use Rattle.bcder.specs.declared.decode.content.Primitive.{Primitive}
-use Rattle.bcder.specs.declared.decode.source.slice.SliceSource.{SliceSource}
 use Rattle.bcder.specs.declared.decode.error.DecodeError.{DecodeError}
 use Rattle.bcder.specs.declared.decode.error.DecodeError.TheVariants as error
-use Rattle.bcder.specs.declared.decode.content.Constructed.{Constructed}
-use Rattle.bcder.specs.Stream.{Stream, IsSound, Grew}
-use Rattle.bcder.specs.laws.Limits.{limited_sound}
-use Rattle.bcder.specs.Views.{of_primitive, of_constructed}
-use Rattle.bcder.specs.Cause.{Cause, cause_of}
+use Rattle.bcder.specs.declared.decode.source.slice.SliceSource.{SliceSource}
+use Rattle.bcder.specs.Tree.{Tree, Trees, no_trees, ◌∷ₜ◌}
+use Rattle.bcder.specs.Encoding.{AreEncodings}
+use Rattle.bcder.specs.Preorder.{Heading, preorder, preorders}
+use Rattle.bcder.specs.Content.{Reading, Octets, UnboundedValues, Moves, IsDone, EndsAt}
+use Rattle.bcder.specs.Walking.{PassesValue, ClosesBefore, HasValues, RefusesWalk, RefusesValues, Walks}
+use Rattle.bcder.specs.Skipping.{Steps, Called, SkipsValue, RefusesSkip}
+use Rattle.bcder.specs.Skipping as skipping
+use Rattle.bcder.specs.Decoding.{IsAllOf, RefusesOn, RefusesDecode}
+use Rattle.bcder.specs.Decoding as decoding
+use Rattle.bcder.specs.Stream.{Stream, Grew}
+use Rattle.bcder.specs.Views.{of_constructed}
+use Rattle.bcder.specs.Cause.{Cause, cause_of, of_memory}
 use Rattle.bcder.proofs.Moving.{open_not_ended}
 use Rattle.bcder.proofs.Entering.{Within}
 use Rattle.bcder.proofs.Walking.{values_before, values_before_trees, moves_kind, walks_refused, none_left, none_left_trees, walks_refl, walks_value}
-use Rattle.bcder.proofs.Insides.{heading_of_octets, value_of_values}
-use Rattle.bcder.proofs.Walked.{WalksContent, walks_one, refuses_walk}
 use Rattle.berlist.specs.Lines.{line, lines}
-use Rattle.berlist.specs.Gather.{ListsContent, of_octets, of_values, IsWant, ListsValue, ListsValues, RefusesNext, RefusesAll}
+use Rattle.berlist.specs.Gather.{IsWant, ListsValue, ListsValues, RefusesNext, RefusesAll}
 use Rattle.berlist.specs.Answers.{IsNoList}
-use Rattle.berlist.proofs.Listing.{lines-list}
-
--- ---- a value that was taken
-
--- the lines of a value's content are those of the value
-value_lines : (c d i : Reading) (after text : List ℕ) (depth : ℕ) (f : HasHeader any c after) → Hands c.mode f.form f.len f.owed after i → (p : PassesValue c d) → ListsContent i f.tag depth text → text ≡ lines (preorder p.tree depth)
-value_lines c d i after text depth f g p (of_octets k e) =
-    e ∙ sym (append-nil (line (record { tag = f.tag; constructed = false; depth = depth })))
-    ∙ ap lines (sym (heading_of_octets c d i after f g p depth k))
-value_lines c d i after text depth f g p (of_values k h e) = e ∙ ap (λ t. lines (preorder t depth)) (value_of_values c d i after f g p k h)
-
--- what a closure makes of content
-pub record Gathers {T E : Type 0} (why : E → Cause ContentError) (Want : E → Type 0) (bytes : T → List ℕ) (i : Reading) (tag : Tag) (depth : ℕ) (r : Result T E) (j : Reading) : Type 0 where
-  pub moves : Moves i j
-  pub done : OnOk r (IsDone j)
-  pub listed : IfOk r (λ x. i.state ≡ Open → ListsContent i tag depth (bytes x))
-  pub refused : IfErr r (λ e. Want e ⊎ RefusesValues why i e j)
-  pub marked : OnOk r (j.marked ≡ i.marked)
-
-module _ {C T E : Type 0} (why : E → Cause ContentError) (Want : E → Type 0) (decides : (e : E) → Want e ⊎ (Want e → ⊥)) (bytes : T → List ℕ) (view : C → Reading) (depth : ℕ) (post : Tag → MutBor C → Result T E → MutBor C → Type 0) (k : (t : Tag) (p : MutBor C) (r : Result T E) (q : MutBor C) → post t p r q → Gathers why Want bytes (view p.now) t depth r (view q.now)) where
-  -- the closure, where it had memory
-  abbrev Had : Tag → MutBor C → Result T E → MutBor C → Type 0
-  Had t p r q = post t p r q × IfErr r (λ e. Want e → ⊥)
-
-  without : (i j : Reading) (r : Result T E) → IfErr r (λ e. Want e ⊎ RefusesValues why i e j) → IfErr r (λ e. Want e → ⊥) → IfErr r (λ e. RefusesValues why i e j)
-  without i j (Ok x) h n = tt
-  without i j (Err e) (inl w) n = absurd (n w)
-  without i j (Err e) (inr w) n = w
-
-  walks : WalksContent why view Had
-  walks t p r q x = let g = k t p r q x.0 in record { moves = g.moves; marked = g.marked; done = g.done; refused = without (view p.now) (view q.now) r g.refused x.1 }
-
-  answered : (t : Tag) (i j : Reading) (r : Result T E) → IfErr r (λ e. Want e → ⊥) → Answered {R = Result T E} view post t i r j → Answered {R = Result T E} view Had t i r j
-  answered t i j r n a = record { handed = a.handed; left = a.left; handed_is = a.handed_is; left_is = a.left_is; called = (a.called, n) }
-
-  taken : (c d : Reading) (x : T) → TakesValue view post any c x d → TakesValue view Had any c x d
-  taken c d x v = record {
-    usable = v.usable;
-    passed = v.passed;
-    front = v.front;
-    handed = v.handed;
-    left = v.left;
-    hands = v.hands;
-    answers = record {
-      left = v.answers.left;
-      answered = answered v.front.tag v.handed v.answers.left (Ok x) tt v.answers.answered;
-      finishes = v.answers.finishes;
-      marked = v.answers.marked;
-      ends = v.answers.ends;
-      done = v.answers.done;
-    };
-    tree = v.tree;
-    encodes = v.encodes;
-    follows = v.follows;
-    faults_handed = v.faults_handed;
-    faults_left = v.faults_left;
-    stays = v.stays;
-    marked = v.marked;
-  }
-
-  content_of : (c d : Reading) (x : T) (v : TakesValue view post any c x d) → ListsContent v.handed v.front.tag depth (bytes x)
-  content_of c d x v =
-      let a = v.answers.answered in
-      let g = k v.front.tag a.handed (Ok x) a.left a.called in
-      subst (λ z. z.state ≡ Open → ListsContent z v.front.tag depth (bytes x)) a.handed_is g.listed v.hands.state
-
-  lists_value : (c d : Reading) (x : T) → TakesValue view post any c x d → ListsValue c depth (bytes x) d
-  lists_value c d x v =
-      let p : PassesValue c d = walks_one why view Had walks c d (Ok (Some x)) (taken c d x v) in
-      record { passes = p; is = value_lines c d v.handed (v.passed ++ d.stream.rest) (bytes x) depth v.front v.hands p (content_of c d x v) }
-
-  pub lists_next : (c d : Reading) (r : Result (Option T) E) → IfOk r (λ o. IfSome o (λ x. TakesValue view post any c x d)) → IfOk r (λ o. IfSome o (λ x. ListsValue c depth (bytes x) d))
-  lists_next c d (Ok None) h = tt
-  lists_next c d (Ok (Some x)) h = lists_value c d x h
-  lists_next c d (Err e) h = tt
-
-  refuses_content : (t : Tag) (i j : Reading) (e : E) → (Want e → ⊥) → RefusesContent why view post t i e j → RefusesContent why view Had t i e j
-  refuses_content t i j e n (by_closure a) = by_closure (answered t i j (Err e) n a)
-  refuses_content t i j e n (unfinished x l a m z) = unfinished x l (answered t i l (Ok x) tt a) m z
-
-  refuses_value : (c d : Reading) (e : E) → (Want e → ⊥) → RefusesValue why view post any c e d → RefusesValue why view Had any c e d
-  refuses_value c d e n (calls.RefusesValue.failed s o) = calls.RefusesValue.failed s o
-  refuses_value c d e n (calls.RefusesValue.source x s) = calls.RefusesValue.source x s
-  refuses_value c d e n (calls.RefusesValue.nothing x o) = calls.RefusesValue.nothing x o
-  refuses_value c d e n (calls.RefusesValue.content f) = calls.RefusesValue.content (record {
-    usable = f.usable;
-    after = f.after;
-    front = f.front;
-    handed = f.handed;
-    left = f.left;
-    hands = f.hands;
-    moves = f.moves;
-    faults_handed = f.faults_handed;
-    faults_left = f.faults_left;
-    marked = f.marked;
-    refuses = refuses_content f.front.tag f.handed f.left e n f.refuses;
-  })
-
-  refused_next : (U : Type 0) (c d : Reading) (e : E) → Within c → RefusesValue why view post any c e d → Want e ⊎ RefusesWalk why c e d
-  refused_next U c d e w h = elim (decides e) [
-    | inl m ↦ inl m
-    | inr n ↦ inr (refuses_walk why view Had walks {U = U} c d (Err e) w (refuses_value c d e n h))
-  ]
-
-  pub refuses_next : {U : Type 0} (c d : Reading) (r : Result U E) → Within c → IfErr r (λ e. RefusesValue why view post any c e d) → IfErr r (λ e. Want e ⊎ RefusesWalk why c e d)
-  refuses_next c d (Ok x) w h = tt
-  refuses_next {U} c d (Err e) w h = refused_next U c d e w h
-
--- ---- a primitive value
-
-pub octets_refused : {E : Type 0} (why : E → Cause ContentError) (i j : Reading) (e : E) → i.kind ≡ Octets → RefusesOctets why i e j → RefusesValues why i e j
-octets_refused why i j e k (RefusesOctets.failing y x) = RefusesValues.source y x
-octets_refused why i j e k (RefusesOctets.few x o) = RefusesValues.short k x o
-
-pub primitive_done : {S : Type 0} (stream : S → Stream) (p : Primitive S) → (of_primitive stream p).owed ≡ Some 0 → IsDone (of_primitive stream p)
-unfolding of_primitive
-primitive_done stream p e = inr (refl, e)
+use Rattle.berlist.proofs.Listing.{lines-append, lines-list}
 
 -- ---- values up to the end
 
 -- what was gathered of the values passed, and what is to be gathered of those that remain, is what is to be gathered of all
-pub record GoesOn (c d : Reading) (depth : ℕ) (old mid : List ℕ) : Type 0 where
+pub record GoesOn (c d : Reading) (mid : List ℕ) : Type 0 where
   pub walks : Walks c d
-  pub more : (h : HasValues d) → (k : HasValues c) × (old ++ lines (preorders k.trees depth) ≡ mid ++ lines (preorders h.trees depth))
+  pub more : (h : HasValues d) → (k : HasValues c) × (lines (preorders k.trees 0) ≡ mid ++ lines (preorders h.trees 0))
 
-pub begins : (c : Reading) (depth : ℕ) (old : List ℕ) → GoesOn c c depth old old
-begins c depth old = record { walks = walks_refl c; more = λ h. (h, refl) }
+pub begins : (c : Reading) (mid : List ℕ) → mid ≡ [] → GoesOn c c mid
+begins c mid e = record { walks = walks_refl c; more = λ h. (h, ap (λ w. w ++ lines (preorders h.trees 0)) (sym e)) }
 
-lines_first : (t : Tree) (ts us : Trees) (depth : ℕ) (mid text : List ℕ) → us ≡ t ∷ₜ ts → mid ++ lines (preorders us depth) ≡ (mid ++ lines (preorder t depth)) ++ lines (preorders ts depth)
-lines_first t ts us depth mid text e = ap (λ z. mid ++ lines (preorders z depth)) e ∙ ap (λ l. mid ++ l) (lines-list t ts depth) ∙ sym (append_assoc mid (lines (preorder t depth)) (lines (preorders ts depth)))
+lines_first : (t : Tree) (ts us : Trees) (mid : List ℕ) → us ≡ t ∷ₜ ts → mid ++ lines (preorders us 0) ≡ (mid ++ lines (preorder t 0)) ++ lines (preorders ts 0)
+lines_first t ts us mid e = ap (λ z. mid ++ lines (preorders z 0)) e ∙ ap (λ l. mid ++ l) (lines-list t ts 0) ∙ sym (append_assoc mid (lines (preorder t 0)) (lines (preorders ts 0)))
 
-pub goes_on : (i j k : Reading) (depth : ℕ) (old mid text new : List ℕ) → Within j → GoesOn i j depth old mid → Moves j k → k.mode ≡ j.mode → k.marked ≡ j.marked → ListsValue j depth text k → new ≡ mid ++ text → GoesOn i k depth old new
+pub goes_on : (i j k : Reading) (mid new : List ℕ) → Within j → GoesOn i j mid → Moves j k → k.mode ≡ j.mode → k.marked ≡ j.marked → ListsValue j mid new k → GoesOn i k new
 unfolding Moves
-goes_on i j k depth old mid text new w g m o s v e = record {
+goes_on i j k mid new w g m o s v = record {
   walks = walks_value i j k w g.walks m o s v.passes;
   more = λ h.
       let b = values_before j k w v.passes m o h in
       let a = g.more b in
-      (a.0, a.1 ∙ lines_first v.passes.tree h.trees b.trees depth mid text (values_before_trees j k w v.passes m o h) ∙ ap (λ z. (mid ++ z) ++ lines (preorders h.trees depth)) (sym v.is) ∙ ap (λ z. z ++ lines (preorders h.trees depth)) (sym e));
+      (a.0, a.1 ∙ lines_first v.passes.tree h.trees b.trees mid (values_before_trees j k w v.passes m o h) ∙ ap (λ z. z ++ lines (preorders h.trees 0)) (sym v.is));
 }
 
-end_lines : (ts : Trees) (depth : ℕ) (mid : List ℕ) → ts ≡ no_trees → mid ++ lines (preorders ts depth) ≡ mid
-end_lines ts depth mid e = ap (λ z. mid ++ lines (preorders z depth)) e ∙ append-nil mid
+end_lines : (ts : Trees) (mid : List ℕ) → ts ≡ no_trees → mid ++ lines (preorders ts 0) ≡ mid
+end_lines ts mid e = ap (λ z. mid ++ lines (preorders z 0)) e ∙ append-nil mid
 
-pub ends_here : (i j k : Reading) (depth : ℕ) (old mid : List ℕ) → i.kind ≢ Octets → GoesOn i j depth old mid → EndsAt j k → i.state ≡ Open → ListsValues i depth old mid
-ends_here i j k depth old mid o g (inl e) s = absurd (open_not_ended i.state s (g.walks.ended e))
-ends_here i j k depth old mid o g (inr e) s =
+pub ends_here : (i j k : Reading) (mid new : List ℕ) → new ≡ mid → i.kind ≢ Octets → GoesOn i j mid → EndsAt j k → i.state ≡ Open → ListsValues i new
+ends_here i j k mid new same o g (inl e) s = absurd (open_not_ended i.state s (g.walks.ended e))
+ends_here i j k mid new same o g (inr e) s =
     let q : j.kind ≢ Octets = λ q. o (sym (moves_kind i j g.walks.moves) ∙ q) in
     let h = none_left j k.stream.rest q e.1 in
     let a = g.more h in
-    record { values = a.0; is = sym (a.1 ∙ end_lines h.trees depth mid (none_left_trees j k.stream.rest q e.1)) }
+    record { values = a.0; is = same ∙ sym (a.1 ∙ end_lines h.trees mid (none_left_trees j k.stream.rest q e.1)) }
 
 pub refused_here : {S : Type 0} (e : DecodeError S) (i j k : Reading) → i.kind ≢ Octets → Walks i j → RefusesNext j e k → RefusesAll i e k
 refused_here e i j k o w (inl m) = inl m
 refused_here e i j k o w (inr r) = inr (walks_refused cause_of e i j k o w r)
 
-pub decides_want : {S : Type 0} (e : DecodeError S) → IsWant e ⊎ (IsWant e → ⊥)
-decides_want (error.Source e) = inr (λ h. cc)
-decides_want (error.Content e p) = inr (λ h. cc)
-decides_want error.NoMemory = inl refl
+-- ---- the lines of headings
 
--- a source has fewer octets than a `usize` can count
-pub small : {S : Type 0} (stream : S → Stream) (sound : (x : S) → IsSound (stream x)) (c : Constructed S) → length (of_constructed stream c).stream.rest < 2 ^ 64
-unfolding of_constructed
-small stream sound c = (limited_sound c.source.now.limit (stream c.source.now.source) (sound c.source.now.source)).size
+lines-push : (hs : List Heading) (h : Heading) → lines (hs ++ h ∷ []) ≡ lines hs ++ line h
+lines-push hs h = lines-append hs (h ∷ []) ∙ ap (λ l. lines hs ++ l) (append-nil (line h))
+
+-- a closure that adds a line where it answers Ok, and else wanted memory; it keeps what it borrows
+module _ {F : Type 0} (step : Steps F ContentError) (text : F → List ℕ) (wants : F → Bool) (text_name wants_name : F → GName) where
+  pub record AddsLines : Type 0 where
+    pub adds : (p q : F) (h : Heading) → step p h.tag h.constructed h.depth (Ok tt) q → text q ≡ text p ++ line h
+    pub tells : (p q : F) (h : Heading) (x : ContentError) → step p h.tag h.constructed h.depth (Err x) q → wants q ≡ true
+    pub same_text : (p q : F) (h : Heading) (r : Result (Unit {0}) ContentError) → step p h.tag h.constructed h.depth r q → text_name q ≡ text_name p
+    pub same_wants : (p q : F) (h : Heading) (r : Result (Unit {0}) ContentError) → step p h.tag h.constructed h.depth r q → wants_name q ≡ wants_name p
+
+  module _ (k : AddsLines) where
+    lines_added : (hs : List Heading) (f g : F) → Called step f hs g → (text g ≡ text f ++ lines hs) × (text_name g ≡ text_name f)
+    lines_added hs f g c = chained_keeps (λ p h q. step p h.tag h.constructed h.depth (Ok tt) q) (λ done q. (text q ≡ text f ++ lines done) × (text_name q ≡ text_name f))
+        (λ done q h v e s. (k.adds q v h s ∙ ap (λ w. w ++ line h) e.0 ∙ append_assoc (text f) (lines done) (line h) ∙ ap (λ w. text f ++ w) (sym (lines-push done h)), k.same_text q v h (Ok tt) s ∙ e.1))
+        hs f g (sym (append-nil (text f)), refl) c
+
+    wants_kept : (hs : List Heading) (f g : F) → Called step f hs g → wants_name g ≡ wants_name f
+    wants_kept hs f g c = chained_keeps (λ p h q. step p h.tag h.constructed h.depth (Ok tt) q) (λ done q. wants_name q ≡ wants_name f)
+        (λ done q h v e s. k.same_wants q v h (Ok tt) s ∙ e) hs f g refl c
+
+    pub lists_next : {T X : Type 0} (c d : Reading) (f g : F) (r : Result (Option T) X) (new : List ℕ) → (text_name g ≡ text_name f → new ≡ text g)
+        → IfOk r (λ o. IfSome o (λ _. SkipsValue step c f g d)) → IfOk r (λ o. IfSome o (λ _. ListsValue c (text f) new d))
+    lists_next c d f g (Ok None) new same s = tt
+    lists_next c d f g (Ok (Some x)) new same s = let all = lines_added (preorder s.passes.tree 0) f g s.called in record { passes = s.passes; is = same all.1 ∙ all.0 }
+    lists_next c d f g (Err e) new same s = tt
+
+    refuses_one : {S : Type 0} (c d : Reading) (f g : F) (e : DecodeError S) → (wants_name g ≡ wants_name f → wants g ≡ false) → RefusesSkip cause_of step c f e g d → RefusesNext c e d
+    refuses_one c d f g e w (skipping.RefusesSkip.by_content hs x y z) = inr z
+    refuses_one c d f g e w (skipping.RefusesSkip.by_closure hs h q x y z u v) = (let b : true ≡ false = sym (k.tells q g h x z) ∙ w (k.same_wants q g h (Err x) z ∙ wants_kept hs f q y) in cc)
+    refuses_one c d f g e w (skipping.RefusesSkip.by_memory hs h x y z u v) = inl v
+
+    pub refuses_next : {T S : Type 0} (c d : Reading) (f g : F) (r : Result T (DecodeError S)) → (wants_name g ≡ wants_name f → wants g ≡ false) → IfErr r (λ e. RefusesSkip cause_of step c f e g d) → IfErr r (λ e. RefusesNext c e d)
+    refuses_next c d f g (Ok x) w s = tt
+    refuses_next c d f g (Err e) w s = refuses_one c d f g e w s
 
 -- ---- what an answer says
 
 pub when_none : {X : Type 0} (P : Type 0) (Q : X → Type 0) (r : Option X) → r ≡ None → MatchOption r P Q → P
 when_none P Q r e m = subst (λ r. MatchOption r P Q) e m
-
-pub heading_first : {T E : Type 0} (bytes : T → List ℕ) (i : Reading) (tag : Tag) (depth : ℕ) (first : List ℕ) (r : Result T E) → i.kind ≢ Octets → first ≡ line (record { tag = tag; constructed = true; depth = depth }) → IfOk r (λ x. i.state ≡ Open → ListsValues i (depth + 1) first (bytes x)) → IfOk r (λ x. i.state ≡ Open → ListsContent i tag depth (bytes x))
-heading_first bytes i tag depth first (Ok x) k e h = λ s. (let l = h s in of_values k l.values (l.is ∙ ap (λ z. z ++ lines (preorders l.values.trees (depth + 1))) e))
-heading_first bytes i tag depth first (Err x) k e h = tt
-
-pub some_of : {X : Type 0} (Q : X → Type 0) (o : Option X) (x : X) → o ≡ Some x → IfSome o Q → Q x
-some_of Q o x e h = subst (λ o. IfSome o Q) e h
-
-pub none_of : {X : Type 0} (P : Type 0) (o : Option X) → o ≡ None → IfNone o P → P
-none_of P o e h = subst (λ o. IfNone o P) e h
 
 -- ---- all octets
 
@@ -231,7 +129,7 @@ values_there i mode w ts k m r a = record {
 -- what a closure makes of all values of a source
 pub record ListsAll {T S : Type 0} (bytes : T → List ℕ) (i : Reading) (r : Result T (DecodeError S)) (j : Reading) : Type 0 where
   pub done : OnOk r (IsDone j)
-  pub listed : IfOk r (λ x. i.state ≡ Open → ListsValues i 0 [] (bytes x))
+  pub listed : IfOk r (λ x. i.state ≡ Open → ListsValues i (bytes x))
   pub refused : IfErr r (λ e. RefusesAll i e j)
 
 -- a slice never fails

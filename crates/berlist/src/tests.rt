@@ -140,6 +140,32 @@ fn lists_what_the_mode_takes(rt: HostRuntime) -> Result<(), Fail> {
     Ok(())
 }
 
+/// The digits of so many values of the indefinite form, each but the first inside another.
+fn nested(alloc: Global, levels: usize) -> Result<String, AllocError> {
+    let mut digits = String::new(alloc);
+    for _ in 0..levels {
+        digits.push_str("3080")?;
+    }
+    for _ in 0..levels {
+        digits.push_str("0000")?;
+    }
+    Ok(digits)
+}
+
+#[test]
+fn lists_a_hundred_thousand_levels(rt: HostRuntime) -> Result<(), Fail> {
+    let hex = nested(rt.alloc(), 100_000)?;
+    let ran = ran(rt.alloc(), &["ber", &hex])?;
+    // A line is its depth and 22 octets; the depths have 10 + 2 * 90 + 3 * 900 + 4 * 9000 + 5 * 90000 digits.
+    assert_eq!(rt; ran.out.len(), 488_890 + 22 * 100_000);
+    assert!(rt;
+        ran.out
+            .ends_with(b"99999 SEQUENCE constructed\n".as_slice())
+    );
+    assert_eq!(rt; ran.status, 0);
+    Ok(())
+}
+
 #[test]
 fn refuses_what_the_mode_does_not_take(rt: HostRuntime) -> Result<(), Fail> {
     for (mode, hex) in [

@@ -5,9 +5,9 @@ ghost use Rattle.bcder.specs.Content.{Octets};
 ghost use Rattle.bcder.specs.Views.{of_constructed, of_primitive, of_content, content_start};
 ghost use Rattle.bcder.specs.Views.{before, after, octets_before, octets_after, Moved, MovedOctets};
 
+mod alone;
 mod capture;
 mod capture_values;
-mod alone;
 mod decode;
 mod either;
 mod forms;
