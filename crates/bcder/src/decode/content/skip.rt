@@ -223,6 +223,7 @@ where
             }
             Err(stop) => Err(Halt::Stopped(stop)),
         },
+        // No primitive value has it (X.690, 8.1.3.2), and none is passed over here.
         Length::Indefinite => Err(Halt::NoMemory),
     }
 }
@@ -316,6 +317,7 @@ where
             Ok(()) => Ok(()),
             Err(stop) => Err(Halt::Stopped(stop)),
         },
+        // No primitive value has it (X.690, 8.1.3.2), and none is passed over here.
         Length::Indefinite => Err(Halt::NoMemory),
     }
 }
