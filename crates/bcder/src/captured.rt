@@ -110,7 +110,8 @@ impl Captured {
         let mut source = BytesSource::with_offset(octets, self.start);
         let value = Constructed::decode_lent(&mut source, self.mode, op)?;
         self.start = source.pos();
-        self.octets = source.into_bytes();
+        let left = source.into_bytes();
+        self.octets = left;
         Ok(value)
     }
 
