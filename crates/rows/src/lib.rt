@@ -13,6 +13,8 @@ mod contents;
 #[cfg(test)]
 mod decodes;
 pub mod decoding;
+#[cfg(test)]
+mod integers;
 pub mod sip;
 #[cfg(test)]
 mod sources;

@@ -280,7 +280,7 @@ impl<'a, S: Source> Primitive<'a, S> {
                 self.pass_all(len);
                 Ok(value)
             }
-            Err(error) => Err(self.content_err(error)),
+            Err(error) => Err(Primitive::content_err(self, error)),
         }
     }
 
