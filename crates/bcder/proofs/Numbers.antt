@@ -8,7 +8,7 @@ use Rattle.std.proofs.lemmas.Nat.{mul-le}
 use Rattle.std.proofs.Math.Nat.{pow-le-pow_right}
 use Rattle.bcder.specs.Identifier.{AreOctets}
 use Rattle.bcder.specs.Length.{big_endian}
-use Rattle.bcder.specs.Integer.{number, IsSmallest, AreInteger, Leads, octet}
+use Rattle.bcder.specs.Integer.{number, AreInteger, Leads, octet}
 use Rattle.bcder.specs.Number.{magnitude, HasMagnitude, IsNoNumber}
 use Rattle.bcder.specs.laws.Integers.{Sized, Told, positive, negative, told_by, number_positive, number_negative}
 

@@ -1,5 +1,5 @@
 -- Readers of contents octets that did not come, or were refused.
-use Rattle.std.proofs.Common.{◌≡◌, ℕ, List, length, Result, Err}
+use Rattle.std.proofs.Common.{◌≡◌, ℕ, List, length, Err}
 use Rattle.bcder.specs.declared.decode.error.DecodeError.{DecodeError}
 use Rattle.bcder.specs.Content.{Reading}
 use Rattle.bcder.specs.Readers.{HasAll, RefusesAll, RefusesReading, Reads}

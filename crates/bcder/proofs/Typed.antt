@@ -1,17 +1,17 @@
 -- Values that are taken by readers of contents octets.
-use Rattle.std.proofs.Common.{◌≡◌, ◌≢◌, ℕ, ◌+◌, ◌≤◌, Bool, true, false, List, [], ◌++◌, length, take, drop, Option, Some, None, refl, ap, sym, ◌∙◌, arith, length-append, append_assoc, take-append-drop, subst, inl, inr}
-use Rattle.std.specs.Prelude.{◌⊎◌, ◌||◌, Result, Ok, Err, IfOk, IfErr, IfSome, IfNone, OnErr}
+use Rattle.std.proofs.Common.{◌≡◌, ℕ, ◌≤◌, Bool, true, false, List, ◌++◌, length, take, drop, Option, Some, None, refl, ap, sym, ◌∙◌, arith, length-append, append_assoc, take-append-drop, subst, inl, inr}
+use Rattle.std.specs.Prelude.{◌||◌, Result, Ok, Err}
 use Rattle.std.specs.Borrow.{MutBor}
 use Rattle.std.proofs.lemmas.List.{take_at}
 use Rattle.bcder.specs.declared.mode.Mode.{Mode}
 use Rattle.bcder.specs.declared.length.Length.{Length}
 use Rattle.bcder.specs.declared.length.Length.TheVariants.{Definite, Indefinite}
-use Rattle.bcder.specs.declared.decode.content.State.TheVariants.{Open, Failed}
+use Rattle.bcder.specs.declared.decode.content.State.TheVariants.{Open}
 use Rattle.bcder.specs.declared.decode.error.DecodeError.{DecodeError}
 use Rattle.bcder.specs.Identifier.{AreOctets, Tag}
 use Rattle.bcder.specs.Tree.{Tree, primitive}
 use Rattle.bcder.specs.Encoding.{IsHeader, IsEncoding}
-use Rattle.bcder.specs.Stream.{Stream, Grew}
+use Rattle.bcder.specs.Stream.{Stream}
 use Rattle.bcder.specs.declared.decode.content.Primitive.{Primitive}
 use Rattle.bcder.specs.Views.{of_primitive}
 use Rattle.bcder.specs.Cause.{cause_of}
@@ -19,7 +19,7 @@ use Rattle.bcder.specs.Content.{Reading, Form, Octets, DefiniteValues, Indefinit
 use Rattle.bcder.specs.Content as content
 use Rattle.bcder.specs.Calls.{Hands, IsFormOf, ContentOf, Answered, TakesValue, RefusesFront, RefusesContent, by_closure, unfinished, RefusesEnd, left_failed, source_failed, left_open, HasForm}
 use Rattle.bcder.specs.Takes.{HasNone, TakesNext, Takes, RefusesTake, by_header, by_form, by_content}
-use Rattle.bcder.specs.Walking.{HasValue, IsShort}
+use Rattle.bcder.specs.Walking.{IsShort}
 use Rattle.bcder.specs.Readers.{HasAll, Reads, RefusesReading, RefusesAll}
 use Rattle.bcder.specs.Readers as readers
 use Rattle.bcder.specs.Typed.{HasPrimitive, HasBroken, TakesAs, RefusesAs, TakesNextAs, PassesNextAs, TakesOneAs}

@@ -1,7 +1,5 @@
 -- Integers by sign and magnitude: n, or -1 - n where it is negative.
-use Rattle.std.specs.Prelude.{◌≡◌, ℕ, ◌+◌, ◌-◌, ◌*◌, ◌^◌, ◌<◌, Bool, List, [], ◌∷◌, length, ℤ, pos, negsuc, Result, MatchResult, Option, IfSome, IfNone}
-use Rattle.std.specs.Int.{complement_if}
-use Rattle.bcder.specs.Length.{big_endian}
+use Rattle.std.specs.Prelude.{◌≡◌, ℕ, ◌+◌, ◌*◌, ◌^◌, ◌<◌, Bool, List, [], ◌∷◌, length, ℤ, pos, negsuc, Result, MatchResult}
 use Rattle.bcder.specs.Integer.{octet, AreInteger}
 
 -- the unsigned number that octets are, or all their bits turned

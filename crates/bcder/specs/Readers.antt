@@ -1,5 +1,5 @@
 -- What readers of contents octets say, by what the octets mean.
-use Rattle.std.specs.Prelude.{◌≡◌, ◌≢◌, ◌⊎◌, ℕ, ℤ, pos, Bool, false, List, [], length, Option, Some, Result, Ok, Err, IfOk, IfErr, OnOk, OnErr, IsErrAnd}
+use Rattle.std.specs.Prelude.{◌≡◌, ◌≢◌, ◌⊎◌, ℕ, ℤ, pos, Bool, List, [], length, Some, Result, Ok, Err, IfOk, IfErr, OnOk, OnErr, IsErrAnd}
 use Rattle.std.specs.Borrow.{MutBor}
 use Rattle.std.specs.Int.{Width, FitsUnsignedBits}
 use Rattle.std.specs.Int.RustNames.{FitsSigned}
@@ -14,7 +14,7 @@ use Rattle.bcder.specs.Cause.{cause_of, of_source, of_content, of_memory, IsRefu
 use Rattle.bcder.specs.Stream.{Stream, Grew}
 use Rattle.bcder.specs.Content.{Reading, Octets}
 use Rattle.bcder.specs.Walking.{IsShort}
-use Rattle.bcder.specs.Integer.{AreInteger, IsSmallest, Leads, truth}
+use Rattle.bcder.specs.Integer.{AreInteger, IsSmallest, truth}
 use Rattle.bcder.specs.Number.{IsNumber}
 use Rattle.bcder.specs.Views.{octets_before, octets_after, content_before, content_after}
 

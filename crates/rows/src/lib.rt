@@ -15,6 +15,8 @@ mod decodes;
 pub mod decoding;
 #[cfg(test)]
 mod encodes;
+#[cfg(test)]
+mod integers;
 pub mod sip;
 #[cfg(test)]
 mod sources;

@@ -1,8 +1,9 @@
 //! Compares answers from outside with ours, and two of our readers with one another.
 //!
 //! Each file of `data/` says in its head what its columns mean and where its answers come from:
-//! `walk.tsv` has answers of the Rust crate bcder 0.7.7, and the others are written by the rules of
-//! X.690 and of the calls.
+//! `walk.tsv` and `integer_values.tsv` have answers of the Rust crate bcder 0.7.7, `integers.tsv`
+//! numbers that another language wrote, and the others are written by the rules of X.690 and of the
+//! calls.
 //!
 //! Then `walk` and the plain reader are compared with each other on all short lists of some octets.
 //!
@@ -13,6 +14,7 @@
 mod calls;
 mod captures;
 mod fields;
+mod integers;
 mod malformed;
 mod positions;
 mod tags;
@@ -131,6 +133,34 @@ fn replay_tags(rt: &HostRuntime) -> Result<(), Error> {
     print(rt, "tags shown", tallies.shown)
 }
 
+/// Replays `integers.tsv` and `integer_values.tsv`, and compares all contents of two octets with
+/// what std makes of them.
+fn replay_integers(rt: &HostRuntime) -> Result<(), Error> {
+    let mut tallies = integers::Tallies::default();
+    let text = fs::read_to_string(rt, "integers.tsv")?;
+    for line in text.lines() {
+        if !is_comment(line) {
+            integers::compare_line(rt.alloc(), line, &mut tallies)?;
+        }
+    }
+    let text = fs::read_to_string(rt, "integer_values.tsv")?;
+    for line in text.lines() {
+        if !is_comment(line) {
+            integers::compare_value(rt.alloc(), line, &mut tallies)?;
+        }
+    }
+    for (what, tally) in [
+        ("numbers read", tallies.read),
+        ("integers converted", tallies.converted),
+        ("integers made", tallies.made),
+        ("numbers of two octets", integers::compare_pairs()),
+        ("integers taken", tallies.values),
+    ] {
+        print(rt, what, tally)?;
+    }
+    Ok(())
+}
+
 /// Prints what was compared.
 fn print(rt: &HostRuntime, what: &str, tally: Tally) -> Result<(), Error> {
     println!(rt;
@@ -145,5 +175,6 @@ fn main(rt: HostRuntime) -> Result<(), Error> {
     replay_takes(&rt)?;
     replay_captures(&rt)?;
     replay_positions(&rt)?;
-    replay_tags(&rt)
+    replay_tags(&rt)?;
+    replay_integers(&rt)
 }

@@ -80,7 +80,7 @@ fn refuse_octets<S: Source>(
     if inside > 0 {
         use_octets(octets, true, Use::Pass)?;
     }
-    Err(octets.content_err(ContentError::from_static("bad")))
+    Err(Primitive::content_err(octets, ContentError::from_static("bad")))
 }
 
 /// The refusal of values, after so many of them.

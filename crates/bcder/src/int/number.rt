@@ -1,5 +1,6 @@
 //! The numbers that contents octets of INTEGER values are (X.690, 8.3), as values of Rust's types.
-ghost use Rattle.std.specs.Prelude.{◌≡◌, ◌∷◌, [], ◌≤◌, ◌<◌, ◌↔◌, ℤ, ℕ, false, pos, IfSome, IfNone, IsTrue, length};
+ghost use Rattle.std.specs.Prelude.{◌≡◌, ◌∷◌, [], ◌≤◌, ◌↔◌, ℤ, ℕ, false, pos};
+ghost use Rattle.std.specs.Prelude.{IfSome, IfNone, IsTrue, length};
 ghost use Rattle.std.specs.Int.{complement_if, w8, w16, w32, w64, w128, FitsUnsignedBits};
 ghost use Rattle.std.specs.Int.RustNames.{FitsSigned};
 ghost use Rattle.bcder.specs.Integer.{AreInteger, IsSmallest, Leads, octet};

@@ -163,8 +163,8 @@ impl Unsigned {
     ///
     /// # Errors
     ///
-    /// Those of [`Constructed::take_primitive_if`]; where the contents octets are no such integer's;
-    /// and where there is no memory for them.
+    /// Those of [`Constructed::take_primitive_if`]; where the contents octets are no such
+    /// integer's; and where there is no memory for them.
     #[tactic(auto, using(crate::proofs::moves_refl))]
     pub fn take_from<S: Source>(
         alloc: Global,
@@ -184,8 +184,8 @@ impl Unsigned {
     ///
     /// # Errors
     ///
-    /// Where they are no such integer's, where fewer come than are owed, where the source fails, and
-    /// where there is no memory for them. Then none is taken.
+    /// Where they are no such integer's, where fewer come than are owed, where the source fails,
+    /// and where there is no memory for them. Then none is taken.
     pub fn from_primitive<S: Source>(
         alloc: Global,
         octets: &mut Primitive<'_, S>,

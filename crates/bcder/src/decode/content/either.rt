@@ -46,8 +46,8 @@ impl<'a, S: Source> Content<'a, S> {
     ///
     /// # Errors
     ///
-    /// Where octets are owed, and where the content is that of a constructed value, which then stays
-    /// as it is.
+    /// Where octets are owed, and where the content is that of a constructed value, which then
+    /// stays as it is.
     pub fn to_null(&mut self) -> Result<(), DecodeError<S::Error>>
         ensures moves { MovedContent S.stream self }
         ensures read { ReadContent S.stream self IsNull result }

@@ -99,8 +99,10 @@ impl<'a, S: Source> Primitive<'a, S> {
         F: FnOnce(&[u8]) -> Result<T, ContentError>,
         requires found { HasAll len (of_primitive S.stream self.now) }
         requires at_hand { len ≤ (of_primitive S.stream self.now).stream.avail }
-        requires callable { (p : _) → p.now ≡ (of_primitive S.stream self.now).stream.rest → F.pre op p }
-        ensures { (p : _) × (p.now ≡ (of_primitive S.stream self.now).stream.rest) × F.post op p result }
+        requires callable { (p : _) → p.now ≡ (of_primitive S.stream self.now).stream.rest
+            → F.pre op p }
+        ensures { (p : _) × (p.now ≡ (of_primitive S.stream self.now).stream.rest)
+            × F.post op p result }
     {
         op(self.all(len))
     }
@@ -282,7 +284,7 @@ impl<'a, S: Source> Primitive<'a, S> {
                 self.pass_all(len);
                 Ok(value)
             }
-            Err(error) => Err(self.content_err(error)),
+            Err(error) => Err(Primitive::content_err(self, error)),
         }
     }
 

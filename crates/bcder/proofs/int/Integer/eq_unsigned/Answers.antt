@@ -1,4 +1,4 @@
-use Rattle.std.proofs.Common.{◌≡◌, ◌∙◌, Bool, true, sym, refl}
+use Rattle.std.proofs.Common.{◌∙◌, sym}
 use Rattle.std.specs.Prelude.{pos}
 use Rattle.std.specs.Cmp.{signed_Decides}
 use Rattle.bcder.proofs.Telling.{octets_equal}

@@ -1,6 +1,5 @@
-use Rattle.std.proofs.Common.{◌≡◌, ℕ, ◌+◌, ◌*◌, ◌^◌, ◌<◌, length, take, arith}
+use Rattle.std.proofs.Common.{◌<◌, arith}
 use Rattle.bcder.specs.Identifier.{AreOctets}
-use Rattle.bcder.specs.Number.{magnitude}
 use Rattle.bcder.proofs.Numbers.{magnitude_fits}
 use Rattle.bcder.proofs.int.number.magnitude_of.Goals as goal
 

@@ -1,7 +1,6 @@
-use Rattle.std.proofs.Common.{rules, ◌≡◌, ◌<◌, ◌∙◌, length, arith, sym, subst, refl, ap}
+use Rattle.std.proofs.Common.{rules, ◌∙◌, arith, sym, ap}
 use Rattle.std.specs.Int.{complement_if}
 use Rattle.bcder.specs.Identifier.{AreOctets}
-use Rattle.bcder.specs.Integer.{IsSmallest, number}
 use Rattle.bcder.specs.Number.{magnitude}
 use Rattle.bcder.proofs.Numbers.{told_parts, dropped_parts, too_large}
 use Rattle.bcder.proofs.int.number.parts_of.Goals as goal

@@ -1,4 +1,3 @@
-use Rattle.std.proofs.Common.{◌∙◌, ap, refl}
 use Rattle.bcder.proofs.Telling.{int_eq_pos}
 use Rattle.bcder.proofs.int.compare.UnsignedPartialEq.eq.Goals as goal
 

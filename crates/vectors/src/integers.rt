@@ -1,0 +1,222 @@
+//! Integers: the numbers that contents octets are, in each type, and values that are read.
+use crate::fields::{next, octets_of};
+use crate::malformed::Malformed;
+use crate::tally::Tally;
+use anyhow::Error;
+use bcder::decode::{BytesSource, DecodeError, Primitive, SliceSource, Source};
+use bcder::{Integer, Mode};
+use bytes::Bytes;
+use rows::sip::Sip;
+use std::alloc::Global;
+use std::convert::TryFrom;
+
+/// What was compared.
+#[derive(Clone, Copy, Debug, Default)]
+pub struct Tallies {
+    /// Numbers read as values of Rust's types.
+    pub read: Tally,
+
+    /// Integers converted to them.
+    pub converted: Tally,
+
+    /// Integers made of them.
+    pub made: Tally,
+
+    /// Values read from sources.
+    pub values: Tally,
+}
+
+/// What was read, where it is no matter why nothing was.
+fn found<T: Drop, E: Drop>(outcome: Result<T, E>) -> Option<T> {
+    match outcome {
+        Ok(value) => Some(value),
+        Err(_) => None,
+    }
+}
+
+/// Compares what was read with what std reads in the number's text.
+fn count<T: PartialEq + Drop>(tally: &mut Tally, read: Option<T>, wanted: Option<T>) {
+    tally.count(read == wanted);
+}
+
+fn compare_unsigned(octets: &[u8], text: &str, tally: &mut Tally) {
+    let mode = Mode::Ber;
+    let read = found(Primitive::decode_slice(octets, mode, |p| p.to_u8()));
+    count(tally, read, found(text.parse::<u8>()));
+    let read = found(Primitive::decode_slice(octets, mode, |p| p.to_u16()));
+    count(tally, read, found(text.parse::<u16>()));
+    let read = found(Primitive::decode_slice(octets, mode, |p| p.to_u32()));
+    count(tally, read, found(text.parse::<u32>()));
+    let read = found(Primitive::decode_slice(octets, mode, |p| p.to_u64()));
+    count(tally, read, found(text.parse::<u64>()));
+    let read = found(Primitive::decode_slice(octets, mode, |p| p.to_u128()));
+    count(tally, read, found(text.parse::<u128>()));
+}
+
+fn compare_signed(octets: &[u8], text: &str, tally: &mut Tally) {
+    let mode = Mode::Der;
+    let read = found(Primitive::decode_slice(octets, mode, |p| p.to_i8()));
+    count(tally, read, found(text.parse::<i8>()));
+    let read = found(Primitive::decode_slice(octets, mode, |p| p.to_i16()));
+    count(tally, read, found(text.parse::<i16>()));
+    let read = found(Primitive::decode_slice(octets, mode, |p| p.to_i32()));
+    count(tally, read, found(text.parse::<i32>()));
+    let read = found(Primitive::decode_slice(octets, mode, |p| p.to_i64()));
+    count(tally, read, found(text.parse::<i64>()));
+    let read = found(Primitive::decode_slice(octets, mode, |p| p.to_i128()));
+    count(tally, read, found(text.parse::<i128>()));
+}
+
+fn compare_converted(integer: &Integer, text: &str, tally: &mut Tally) {
+    count(
+        tally,
+        found(u8::try_from(integer)),
+        found(text.parse::<u8>()),
+    );
+    count(
+        tally,
+        found(u64::try_from(integer)),
+        found(text.parse::<u64>()),
+    );
+    count(
+        tally,
+        found(u128::try_from(integer)),
+        found(text.parse::<u128>()),
+    );
+    count(
+        tally,
+        found(i8::try_from(integer)),
+        found(text.parse::<i8>()),
+    );
+    count(
+        tally,
+        found(i64::try_from(integer)),
+        found(text.parse::<i64>()),
+    );
+    count(
+        tally,
+        found(i128::try_from(integer)),
+        found(text.parse::<i128>()),
+    );
+}
+
+/// Compares the octets of the integers that numbers are made.
+fn compare_made(alloc: Global, octets: &[u8], text: &str, tally: &mut Tally) -> Result<(), Error> {
+    if let Ok(number) = text.parse::<i128>() {
+        tally.count(Integer::from_i128(alloc, number)?.as_slice() == octets);
+    }
+    if let Ok(number) = text.parse::<u128>() {
+        tally.count(Integer::from_u128(alloc, number)?.as_slice() == octets);
+    }
+    Ok(())
+}
+
+/// Compares the answers of one line of numbers.
+pub fn compare_line(alloc: Global, line: &str, tallies: &mut Tallies) -> Result<(), Error> {
+    let mut fields = line.split('\t');
+    let list = octets_of(alloc, next(&mut fields)?)?;
+    let octets = list.as_slice();
+    let text = next(&mut fields)?;
+    compare_unsigned(octets, text, &mut tallies.read);
+    compare_signed(octets, text, &mut tallies.read);
+    let read = found(Primitive::decode_slice(octets, Mode::Cer, |p| {
+        Integer::from_primitive(alloc, p)
+    }));
+    tallies.converted.count(read.is_some() == (text != "-"));
+    if let Some(integer) = read {
+        compare_converted(&integer, text, &mut tallies.converted);
+    }
+    compare_made(alloc, octets, text, &mut tallies.made)
+}
+
+/// Compares what is read of two octets with what std makes of them.
+fn compare_pair(pair: u16, tally: &mut Tally) {
+    let octets = pair.to_be_bytes();
+    let number = i16::from_be_bytes(octets);
+    let wanted = if i8::try_from(number).is_ok() {
+        None
+    } else {
+        Some(number)
+    };
+    let read = found(Primitive::decode_slice(&octets, Mode::Der, |p| p.to_i16()));
+    count(tally, read, wanted);
+    let read = found(Primitive::decode_slice(&octets, Mode::Der, |p| p.to_u8()));
+    let small = match wanted {
+        Some(number) => found(u8::try_from(number)),
+        None => None,
+    };
+    count(tally, read, small);
+}
+
+/// Compares all contents of two octets.
+pub fn compare_pairs() -> Tally {
+    let mut tally = Tally::default();
+    for pair in 0..=u16::MAX {
+        compare_pair(pair, &mut tally);
+    }
+    tally
+}
+
+/// The contents octets of the INTEGER at the front of a source, and how many of so many octets are
+/// left behind it.
+fn take_integer<S: Source>(
+    alloc: Global,
+    mode: Mode,
+    source: &mut S,
+    count: usize,
+) -> Option<(Bytes, usize)> {
+    let integer = match mode.decode_lent(source, |cons| Integer::take_from(alloc, cons)) {
+        Ok(integer) => integer,
+        Err(_) => return None,
+    };
+    match source.request(count) {
+        Ok(left) => Some((integer.into_bytes(), left)),
+        Err(_) => None,
+    }
+}
+
+/// Whether so much was taken as an answer says.
+fn is_answer(
+    alloc: Global,
+    taken: Option<(Bytes, usize)>,
+    count: usize,
+    answer: &str,
+) -> Result<bool, Error> {
+    let Some((contents, left)) = taken else {
+        return Ok(answer == "-");
+    };
+    let Some((size, hex)) = answer.split_once(':') else {
+        return Ok(false);
+    };
+    let wanted = hex::decode(alloc, hex)?;
+    Ok(
+        size.parse::<usize>()?.checked_add(left) == Some(count)
+            && contents.as_slice() == wanted.as_slice(),
+    )
+}
+
+/// Compares the answers of one line of values.
+pub fn compare_value(alloc: Global, line: &str, tallies: &mut Tallies) -> Result<(), Error> {
+    let mut fields = line.split('\t');
+    let list = octets_of(alloc, next(&mut fields)?)?;
+    let octets = list.as_slice();
+    let count = octets.len();
+    for mode in [Mode::Ber, Mode::Cer, Mode::Der] {
+        let answer = next(&mut fields)?;
+        let taken = take_integer(alloc, mode, &mut SliceSource::new(octets), count);
+        tallies
+            .values
+            .count(is_answer(alloc, taken, count, answer)?);
+        let shared = Bytes::copy_from_slice(alloc, octets)?;
+        let taken = take_integer(alloc, mode, &mut BytesSource::new(shared), count);
+        tallies
+            .values
+            .count(is_answer(alloc, taken, count, answer)?);
+        let mut sip = Sip::new(octets.to_vec(alloc)?, 0);
+        let taken = take_integer(alloc, mode, &mut sip, count);
+        tallies
+            .values
+            .count(is_answer(alloc, taken, count, answer)?);
+    }
+    Ok(())
+}
