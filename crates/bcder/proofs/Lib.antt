@@ -30,3 +30,4 @@ pub mod Writing
 pub mod Enclosing
 pub mod Joining
 pub mod Integers
+pub mod Iterating

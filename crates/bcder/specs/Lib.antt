@@ -37,3 +37,4 @@ pub mod Enclosing
 pub mod IntegerOctets
 pub mod Slices
 pub mod Written
+pub mod Iterated

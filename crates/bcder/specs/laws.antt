@@ -14,3 +14,4 @@ pub mod Written
 pub mod Meanings
 pub mod Joined
 pub mod IntegerOctets
+pub mod Listed
