@@ -47,7 +47,7 @@ sum_over M N n None (x, m, a) (y, d, b) e = (join x y, (x, y, m, d, refl), omega
 +++-assoc no_trees b c = refl
 +++-assoc (t ∷ₜ a) b c = ap (λ u. t ∷ₜ u) (+++-assoc a b c)
 
-join-assoc : (x y z : Encoded) → join (join x y) z ≡ join x (join y z)
+pub join-assoc : (x y z : Encoded) → join (join x y) z ≡ join x (join y z)
 join-assoc x y z =
     let trees = +++-assoc x.values y.values z.values in
     let octets = append_assoc x.octets y.octets z.octets in

@@ -53,3 +53,4 @@ pub mod Skips
 pub mod Unwinding
 pub mod Running
 pub mod Skipped
+pub mod Iterating

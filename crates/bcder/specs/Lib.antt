@@ -55,3 +55,4 @@ pub mod Stacked
 pub mod Alone
 pub mod Slices
 pub mod Written
+pub mod Iterated

@@ -12,5 +12,7 @@ pub use primitive::{Primitive, PrimitiveContent};
 pub use values::Values;
 pub use values::choice::{Choice2, Choice3, Nothing};
 pub use values::constructed::{Constructed, sequence, sequence_as, set, set_as};
+pub use values::iter::iter;
+pub use values::iterated::Iter;
 pub use values::mapped::Slice;
 pub use values::slice::slice;

@@ -6,6 +6,8 @@ ghost use Rattle.bcder.specs.Encoders.{HasEncoding, SizeOfValues, WritesValues, 
 
 pub(crate) mod choice;
 pub(crate) mod constructed;
+pub(crate) mod iter;
+pub(crate) mod iterated;
 pub(crate) mod lists;
 pub(crate) mod mapped;
 mod parts;

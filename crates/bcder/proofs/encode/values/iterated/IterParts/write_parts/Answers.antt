@@ -1,0 +1,68 @@
+use Rattle.std.proofs.Common.{subst, sym, refl, [], Ok}
+use Rattle.std.proofs.KnownBytes.{Appends-nil}
+use Rattle.bcder.specs.Meaning.{Encoded}
+use Rattle.bcder.specs.Joined.{EachOf}
+use Rattle.bcder.specs.Iterated.{RunsMean, as_listed, none_left, to_second}
+use Rattle.bcder.proofs.Writing.{passed_on, lacks_more}
+use Rattle.bcder.proofs.Joining.{WrittenSoFar, next_known, written_next, written_failed, written_done}
+use Rattle.bcder.proofs.Iterating.{next_of}
+use Rattle.bcder.proofs.encode.values.iterated.IterParts.write_parts.Goals as goal
+
+pub loop-item-init : goal.loop-item-init
+loop-item-init g c =
+    let (copy, cloned, made) = c.in-Ok.ensures in
+    let given = subst (g.T.IntoIterator.into_iter_gives copy) (sym c.into_iter-item-iterator.ensures.into_iter_gives) made in
+    record {
+      rest = c.requires.can.items;
+      gives = c.requires.can.same copy _ cloned given;
+      so_far = record { splits = λ e m. ([], e, as_listed c.requires.can c.args.mode (Ok e) m, refl, Appends-nil _) };
+    }
+
+pub write_known-requires : goal.write_known-requires
+write_known-requires g c =
+    let M = λ (v : g.row.T-Item.Denot). g.T.Item.Values.means v c.args.mode in
+    let Means = RunsMean g.T.Clone.is_clone g.T.IntoIterator.into_iter_gives g.T.IntoIter.Iterator.next_gives M c.args.self.now.value in
+    let x = c.in-Some.item in
+    let run = c.loop-item.invariant in
+    let step = subst (λ r. g.T.IntoIter.Iterator.next_gives c.loop-item.item-iterator r c.next.new.self) c.in-Some.is c.next.ensures.steps in
+    let next = next_of g.T.IntoIter.Iterator.next_gives g.T.Item.Values.can_encode g.T.Item.Values.means _ _ run.rest x run.gives step in
+    let so_far = subst (λ l. WrittenSoFar Means (EachOf M l) (g.W.Write.contents c.args.target.now) (g.W.Write.contents c.loop-item.target)) next.is run.so_far in
+    let known = next_known (M next.first) (EachOf M next.others) so_far c.requires.known in
+    record { can = next.may; known = (known.0, to_second g.T.Item.Values.means next.first x next.same c.args.mode (Ok known.0) known.1) }
+
+pub loop-item-preserved : goal.loop-item-preserved
+loop-item-preserved g c =
+    let M = λ (v : g.row.T-Item.Denot). g.T.Item.Values.means v c.args.mode in
+    let Means = RunsMean g.T.Clone.is_clone g.T.IntoIterator.into_iter_gives g.T.IntoIter.Iterator.next_gives M c.args.self.now.value in
+    let x = c.in-Some.item in
+    let run = c.loop-item.invariant in
+    let step = subst (λ r. g.T.IntoIter.Iterator.next_gives c.loop-item.item-iterator r c.next.new.self) c.in-Some.is c.next.ensures.steps in
+    let next = next_of g.T.IntoIter.Iterator.next_gives g.T.Item.Values.can_encode g.T.Item.Values.means _ _ run.rest x run.gives step in
+    let so_far = subst (λ l. WrittenSoFar Means (EachOf M l) (g.W.Write.contents c.args.target.now) (g.W.Write.contents c.loop-item.target)) next.is run.so_far in
+    let one = (g.met.T.Item.Values.lawful x c.args.mode next.may).one in
+    let wrote = λ (e : Encoded) (m : M next.first (Ok e)). c.write_known.ensures one e (to_second g.T.Item.Values.means next.first x next.same c.args.mode (Ok e) m) in
+    let lacks = g.T.Item.Values.may_lack x c.args.mode in
+    record { rest = next.others; gives = next.gives; so_far = written_next (M next.first) (EachOf M next.others) lacks so_far wrote c.in_ok-write_known.was }
+
+pub returns-in_err-write_known : goal.returns-in_err-write_known
+returns-in_err-write_known g c = λ e meant.
+    let M = λ (v : g.row.T-Item.Denot). g.T.Item.Values.means v c.args.mode in
+    let Means = RunsMean g.T.Clone.is_clone g.T.IntoIterator.into_iter_gives g.T.IntoIter.Iterator.next_gives M c.args.self.now.value in
+    let x = c.in-Some.item in
+    let run = c.loop-item.invariant in
+    let step = subst (λ r. g.T.IntoIter.Iterator.next_gives c.loop-item.item-iterator r c.next.new.self) c.in-Some.is c.next.ensures.steps in
+    let next = next_of g.T.IntoIter.Iterator.next_gives g.T.Item.Values.can_encode g.T.Item.Values.means _ _ run.rest x run.gives step in
+    let so_far = subst (λ l. WrittenSoFar Means (EachOf M l) (g.W.Write.contents c.args.target.now) (g.W.Write.contents c.loop-item.target)) next.is run.so_far in
+    let one = (g.met.T.Item.Values.lawful x c.args.mode next.may).one in
+    let wrote = λ (e : Encoded) (m : M next.first (Ok e)). c.write_known.ensures one e (to_second g.T.Item.Values.means next.first x next.same c.args.mode (Ok e) m) in
+    let lacks = g.T.Item.Values.may_lack x c.args.mode in
+    passed_on _ c.from_residual.ensures (lacks_more _ (λ h. tt) (written_failed (M next.first) (EachOf M next.others) lacks so_far wrote c.in_err-write_known.was e meant))
+
+pub returns : goal.returns
+returns g c = λ e meant.
+    let M = λ (v : g.row.T-Item.Denot). g.T.Item.Values.means v c.args.mode in
+    let Means = RunsMean g.T.Clone.is_clone g.T.IntoIterator.into_iter_gives g.T.IntoIter.Iterator.next_gives M c.args.self.now.value in
+    let run = c.loop-item.invariant in
+    let step = subst (λ r. g.T.IntoIter.Iterator.next_gives c.loop-item.item-iterator r c.next.new.self) c.in-None.is c.next.ensures.steps in
+    let none = none_left g.T.IntoIter.Iterator.next_gives g.T.Item.Values.can_encode g.T.Item.Values.means _ _ run.rest run.gives step in
+    written_done (subst (λ l. WrittenSoFar Means (EachOf M l) (g.W.Write.contents c.args.target.now) (g.W.Write.contents c.loop-item.target)) none run.so_far) _ e meant

@@ -1,0 +1,111 @@
+//! The items of an iterator, one after the other.
+ghost use Rattle.std.specs.Prelude.{◌≡◌, ⊤, IfOk};
+ghost use Rattle.bcder.specs.Iterated.{RunsMean, GivesOneList, runs_lawful};
+ghost use Rattle.bcder.specs.Joined.{Joined};
+ghost use Rattle.bcder.specs.laws.Joined.{Joined_lawful};
+
+use crate::NoMemory;
+use crate::encode::values::Values;
+use crate::encode::values::parts::{Parts, add_len, joined_len, write_joined, write_known_parts};
+use crate::encode::{EncodeError, WriteError};
+use crate::mode::Mode;
+use std::io;
+
+/// The items of an iterator, one after the other.
+///
+/// Each call goes over the items of a clone. It may be asked where every clone gives the same
+/// finite list.
+#[derive(Clone, Debug, Drop)]
+pub struct Iter<T> {
+    value: T,
+}
+
+impl<T: IntoIterator + Clone> Iter<T> {
+    /// The items of `value`.
+    pub fn new(value: T) -> Self
+        ensures { result ≡ record { value = value } }
+    {
+        Iter { value }
+    }
+
+    /// The items, of a clone.
+    ///
+    /// # Errors
+    ///
+    /// `NoMemory` where the clone was refused.
+    pub fn items(&self) -> Result<T::IntoIter, NoMemory>
+        ensures { IfOk result (λ i. (t : T) × T.is_clone self.now.value t × T.into_iter_gives t i) }
+    {
+        match self.value.clone() {
+            Ok(copy) => Ok(copy.into_iter()),
+            Err(_) => Err(NoMemory),
+        }
+    }
+}
+
+impl<T: IntoIterator + Clone> Parts for Iter<T>
+where
+    T::Item: Values + Drop,
+{
+    ghost all = { λ x mode. RunsMean T.is_clone T.into_iter_gives T.IntoIter.next_gives
+        (λ v. T.Item.means v mode) x.value };
+
+    ghost may_lack = { λ _ _. ⊤ };
+
+    ghost can_encode = { λ x. GivesOneList T.is_clone T.into_iter_gives T.IntoIter.next_gives
+        T.IntoIter.can_next T.IntoIter.remaining T.Item.can_encode T.Item.means x.value };
+
+    fn parts_len(&self, mode: Mode) -> Result<Option<usize>, EncodeError> {
+        let items = match self.items() {
+            Ok(items) => items,
+            Err(_) => return Err(EncodeError::NoMemory),
+        };
+        let mut sum = Some(0usize);
+        for item in items {
+            let len = item.encoded_len(mode)?;
+            sum = add_len(sum, len);
+        }
+        Ok(sum)
+    }
+
+    fn write_parts<W: io::Write>(&self, mode: Mode, target: &mut W) -> Result<(), WriteError> {
+        let items = match self.items() {
+            Ok(items) => items,
+            Err(_) => return Err(WriteError::Refused(EncodeError::NoMemory)),
+        };
+        for item in items {
+            item.write_known(mode, target)?;
+        }
+        Ok(())
+    }
+
+    ghost all_lawful = { λ x mode can. runs_lawful can mode (λ v. T.Item.lawful v mode) };
+}
+
+impl<T: IntoIterator + Clone> Values for Iter<T>
+where
+    T::Item: Values + Drop,
+{
+    ghost means = { λ x mode. Joined (RunsMean T.is_clone T.into_iter_gives
+        T.IntoIter.next_gives (λ v. T.Item.means v mode) x.value) };
+
+    ghost may_lack = { λ _ _. ⊤ };
+
+    ghost can_encode = { λ x. GivesOneList T.is_clone T.into_iter_gives T.IntoIter.next_gives
+        T.IntoIter.can_next T.IntoIter.remaining T.Item.can_encode T.Item.means x.value };
+
+    fn encoded_len(&self, mode: Mode) -> Result<usize, EncodeError> {
+        joined_len(self, mode)
+    }
+
+    fn write_encoded<W: io::Write>(&self, mode: Mode, target: &mut W) -> Result<(), WriteError> {
+        write_joined(self, mode, target)
+    }
+
+    fn write_known<W: io::Write>(&self, mode: Mode, target: &mut W) -> Result<(), WriteError> {
+        write_known_parts(self, mode, target)
+    }
+
+    ghost lawful = { λ x mode can.
+        Joined_lawful (runs_lawful can mode (λ v. T.Item.lawful v mode)) };
+}
