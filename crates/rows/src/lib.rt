@@ -15,6 +15,8 @@ mod decodes;
 pub mod decoding;
 pub mod sip;
 #[cfg(test)]
+mod skips;
+#[cfg(test)]
 mod sources;
 #[cfg(test)]
 mod tag_names;
