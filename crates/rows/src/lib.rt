@@ -19,6 +19,8 @@ mod encodes;
 mod integers;
 pub mod sip;
 #[cfg(test)]
+mod skips;
+#[cfg(test)]
 mod sources;
 #[cfg(test)]
 mod tag_names;

@@ -1,0 +1,100 @@
+//! Skipping: the calls that a closure gets, and how the skip ends.
+#![tactic(auto, using(bcder::proofs::Moving::moves_refl))]
+
+ghost use Rattle.bcder.specs.Views.{Moved};
+
+use crate::asserts::same;
+use crate::sip::Sip;
+use bcder::decode::{Constructed, ContentError, DecodeError, SliceSource, Source};
+use bcder::{Mode, Tag};
+use std::alloc::Global;
+use std::process::Abort;
+use std::test::Fail;
+
+/// Skips the next value and writes down the headings that the closure is told, which refuses a tag.
+fn told<S: Source>(
+    cons: &mut Constructed<'_, S>,
+    alloc: Global,
+    refused: Tag,
+    text: &mut String,
+) -> Result<Option<()>, DecodeError<S::Error>>
+    ensures { Moved S.stream cons }
+{
+    let mut op = |tag: Tag, constructed: bool, depth: usize| -> Result<(), ContentError> {
+        let form = if constructed { 'c' } else { 'p' };
+        if write!(text, "{depth}{form} {tag}, ").is_err() || tag == refused {
+            return Err(ContentError::from_static("refused"));
+        }
+        Ok(())
+    };
+    cons.skip_opt(alloc, &mut op)
+}
+
+fn check<S: Source>(
+    rt: &impl Abort,
+    alloc: Global,
+    source: &mut S,
+    mode: Mode,
+    refused: Tag,
+    wanted: &str,
+) -> Result<(), Fail> {
+    let mut text = String::new(alloc);
+    let end = match mode.decode_lent(source, |cons| told(cons, alloc, refused, &mut text)) {
+        Ok(Some(())) => "some",
+        Ok(None) => "none",
+        Err(_) => "refused",
+    };
+    write!(text, "{end}")?;
+    same(rt, text.as_str() == wanted, true);
+    Ok(())
+}
+
+/// Rules, octets, the tag that the closure refuses, and what it is told.
+const ROWS: [(Mode, &[u8], Tag, &str); 7] = [
+    (
+        Mode::Ber,
+        &[0x30, 0x06, 0x02, 0x01, 0x05, 0x04, 0x01, 0x41],
+        Tag::OCTET_STRING,
+        "0c SEQUENCE, 1p INTEGER, 1p OCTET STRING, refused",
+    ),
+    (
+        Mode::Ber,
+        &[0x02, 0x05, 0x01],
+        Tag::NULL,
+        "0p INTEGER, refused",
+    ),
+    (Mode::Der, &[0x30, 0x80, 0x00, 0x00], Tag::NULL, "refused"),
+    (Mode::Cer, &[0x30, 0x00], Tag::NULL, "refused"),
+    (
+        Mode::Ber,
+        &[0x30, 0x03, 0x30, 0x80, 0x00, 0x00],
+        Tag::NULL,
+        "0c SEQUENCE, 1c SEQUENCE, refused",
+    ),
+    (
+        Mode::Ber,
+        &[
+            0x30, 0x80, 0x30, 0x03, 0x02, 0x01, 0x05, 0x04, 0x00, 0x00, 0x00,
+        ],
+        Tag::NULL,
+        "0c SEQUENCE, 1c SEQUENCE, 2p INTEGER, 1p OCTET STRING, some",
+    ),
+    (Mode::Ber, &[], Tag::NULL, "none"),
+];
+
+#[test]
+fn closures_are_told_the_headings(rt: HostRuntime) -> Result<(), Fail> {
+    for (mode, octets, refused, wanted) in ROWS {
+        check(
+            &rt,
+            rt.alloc(),
+            &mut SliceSource::new(octets),
+            mode,
+            refused,
+            wanted,
+        )?;
+        let mut sip = Sip::new(octets.to_vec(rt.alloc())?, 0);
+        check(&rt, rt.alloc(), &mut sip, mode, refused, wanted)?;
+    }
+    Ok(())
+}
