@@ -156,7 +156,8 @@ fn nested(alloc: Global, levels: usize) -> Result<String, AllocError> {
 fn lists_a_hundred_thousand_levels(rt: HostRuntime) -> Result<(), Fail> {
     let hex = nested(rt.alloc(), 100_000)?;
     let ran = ran(rt.alloc(), &["ber", &hex])?;
-    // A line is its depth and 22 octets; the depths have 10 + 2 * 90 + 3 * 900 + 4 * 9000 + 5 * 90000 digits.
+    // A line is its depth and 22 octets. The depths have 10 + 2 * 90 + 3 * 900 + 4 * 9000 + 5 *
+    // 90000 digits.
     assert_eq!(rt; ran.out.len(), 488_890 + 22 * 100_000);
     assert!(rt;
         ran.out

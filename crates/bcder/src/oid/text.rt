@@ -99,7 +99,8 @@ fn component(text: &str) -> Option<u32>
 
 /// Appends the subidentifiers of the components after the first two, if there are any.
 fn push_others(octets: &mut Vec<u8>, others: Option<&str>) -> Result<(), OidError>
-    ensures ok { OnOk result (AppendsTexts octets.old.items octets.new.items (texts_of others.entry)) }
+    ensures ok { OnOk result
+        (AppendsTexts octets.old.items octets.new.items (texts_of others.entry)) }
     ensures err { IfErr result (λ e.
         ((e ≡ NotInteger) × HasNoComponent (texts_of others.entry)) ⊎ (e ≡ Want)) }
 {

@@ -155,7 +155,8 @@ impl<'a, S: Source> Constructed<'a, S> {
     }
 
     /// Passes over the next value in one go where all of its octets are at hand and are no more
-    /// than `most`, and says whether it did. The source is asked once at most, and not where no octets are owed.
+    /// than `most`, and says whether it did. The source is asked once at most, and not where no
+    /// octets are owed.
     #[tactic(auto, unfolding(crate::specs::Views::of_constructed))]
     #[inline(always)]
     pub(super) fn pass_at_hand(&mut self, short: bool, most: usize) -> Result<bool, Stop<S::Error>>
