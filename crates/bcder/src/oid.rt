@@ -179,8 +179,8 @@ impl Oid<Bytes> {
 
 impl Oid<Vec<u8>> {
     /// Reads components in decimal, joined by dots. Each may have a plus in front and is below
-    /// 2^32; the first is at most 2, and where it is 0 or 1 the second is below 40. Each subidentifier is
-    /// given the fewest octets.
+    /// 2^32; the first is at most 2, and where it is 0 or 1 the second is below 40. Each
+    /// subidentifier is given the fewest octets.
     ///
     /// # Errors
     ///
