@@ -167,18 +167,29 @@ def edits_in(folder):
     return [f"{folder}/{it}" for it in names if it.endswith(".edit")]
 
 
+def crate_of(file):
+    """The crate of an edit by its place, edits/CRATE/ or crates/CRATE/must-fail/."""
+    above, folder = os.path.split(os.path.dirname(os.path.abspath(file)))
+    return os.path.basename(above) if folder == "must-fail" else folder
+
+
 def main(words):
-    names = [it for it in words if it != "--gate"]
-    for it in names:
+    gate, files = "--gate" in words, [it for it in words if it.endswith(".edit")]
+    names = [it for it in words if it != "--gate" and it not in files]
+    for it in [*names, *map(crate_of, files)]:
         if not os.path.isdir(f"{ROOT}/crates/{it}"):
             print(f"edits/run: there is no crate {it}")
             return 2
+    chosen = {}
+    for it in files:
+        chosen.setdefault(crate_of(it), []).append(it)
+    for name in names or sorted(os.listdir(f"{ROOT}/crates")) * (not files):
+        kept = edits_in(f"{ROOT}/crates/{name}/must-fail") if gate else []
+        chosen.setdefault(name, []).extend(edits_in(f"{ROOT}/edits/{name}") + kept)
     with tempfile.TemporaryDirectory(prefix="edits-") as scratch:
         judge, batches = Judge(scratch), []
-        for name in names or sorted(os.listdir(f"{ROOT}/crates")):
-            files = edits_in(f"{ROOT}/edits/{name}")
-            files += edits_in(f"{ROOT}/crates/{name}/must-fail") if "--gate" in words else []
-            batches += judge.crate(name, files) if files else []
+        for name, edits in chosen.items():
+            batches += judge.crate(name, edits) if edits else []
         # Two checks at a time, the largest first: the end of a check often waits for one long proof.
         with ThreadPoolExecutor(2) as pool:
             list(pool.map(lambda it: judge.batch(*it), sorted(batches, key=lambda it: -len(it[1]))))

@@ -36,7 +36,6 @@ pub mod Capturing
 pub mod CapturingValues
 pub mod Markers
 pub mod Typed
-pub mod Integers
 pub mod Subidentifiers
 pub mod Digits
 pub mod Shown

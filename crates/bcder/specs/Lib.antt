@@ -48,7 +48,6 @@ pub mod Capturing
 pub mod CapturingValues
 pub mod Choices
 pub mod Enclosing
-pub mod IntegerOctets
 pub mod Growing
 pub mod Skipping
 pub mod Stacked

@@ -16,5 +16,4 @@ pub mod Numbers
 pub mod Written
 pub mod Meanings
 pub mod Joined
-pub mod IntegerOctets
 pub mod Listed

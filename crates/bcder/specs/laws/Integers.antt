@@ -160,6 +160,9 @@ unfolding integer_octets
 some_integer (pos n) = (octets_are n false n, positive_octets n n (fits_itself n))
 some_integer (negsuc n) = (octets_are n true n, negative_octets n n (fits_itself n))
 
+pub integer_octets_are : (z : ℤ) → AreOctets (integer_octets z)
+integer_octets_are z = (some_integer z).0
+
 -- ---- one smallest list for each number
 
 -- m is what w tells, apart from the sign, where w is smallest

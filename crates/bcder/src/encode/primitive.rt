@@ -9,7 +9,6 @@ ghost use Rattle.bcder.specs.Encoders.{SizeOfContents, WritesContents, GathersCo
 ghost use Rattle.bcder.specs.laws.Meanings.{primitive_lawful};
 
 mod integers;
-mod octets;
 mod plain;
 
 use crate::encode::gather::gather_contents;

@@ -12,14 +12,6 @@ use std::alloc::Global;
 use std::convert::TryFrom;
 
 impl Integer {
-    /// The integer that is `magnitude`, or -1 less it where it is negative.
-    fn from_parts(alloc: Global, negative: bool, magnitude: u128) -> Result<Integer, NoMemory>
-        ensures { IfOk result (λ x. x ≡ complement_if negative magnitude) }
-    {
-        let octets = Octets::of(negative, magnitude);
-        Ok(Integer::of(Bytes::copy_from_slice(alloc, octets.as_slice())?))
-    }
-
     /// The integer that a `u8` is.
     pub fn from_u8(alloc: Global, x: u8) -> Result<Integer, NoMemory>
         ensures { IfOk result (λ z. z ≡ pos x) }
@@ -52,7 +44,7 @@ impl Integer {
     pub fn from_u128(alloc: Global, x: u128) -> Result<Integer, NoMemory>
         ensures { IfOk result (λ z. z ≡ pos x) }
     {
-        Integer::from_parts(alloc, false, x)
+        Ok(Integer::of(Bytes::copy_from_slice(alloc, Octets::of(false, x).as_slice())?))
     }
 
     /// The integer that an `i8` is.
@@ -87,11 +79,7 @@ impl Integer {
     pub fn from_i128(alloc: Global, x: i128) -> Result<Integer, NoMemory>
         ensures { IfOk result (λ z. z ≡ x) }
     {
-        if x < 0 {
-            Integer::from_parts(alloc, true, (-1 - x) as u128)
-        } else {
-            Integer::from_parts(alloc, false, x as u128)
-        }
+        Ok(Integer::of(Bytes::copy_from_slice(alloc, Octets::of_signed(x).as_slice())?))
     }
 }
 

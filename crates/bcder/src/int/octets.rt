@@ -1,8 +1,7 @@
-//! The contents octets of a number.
+//! The contents octets of a number, which readers and encoders share.
 ghost use Rattle.std.specs.Prelude.{◌≡◌, ◌<◌, length, drop};
 ghost use Rattle.std.specs.Int.{complement_if};
-ghost use Rattle.bcder.specs.Identifier.{AreOctets};
-ghost use Rattle.bcder.specs.Integer.{AreInteger};
+ghost use Rattle.bcder.specs.Integer.{AreInteger, integer_octets};
 
 use crate::int::number::turned;
 
@@ -17,7 +16,10 @@ pub(crate) struct Octets {
 impl Octets {
     /// Those of `magnitude`, or of -1 less it where the number is negative.
     pub(crate) fn of(negative: bool, magnitude: u128) -> Octets
-        ensures { AreInteger (complement_if negative magnitude) (drop result.start result.buffer) }
+        ensures octets { drop result.start result.buffer
+            ≡ integer_octets (complement_if negative magnitude) }
+        ensures integer { AreInteger (complement_if negative magnitude)
+            (drop result.start result.buffer) }
     {
         let mut buffer = [0u8; 17];
         let mut start = 16;
@@ -31,6 +33,19 @@ impl Octets {
         Octets { buffer, start }
     }
 
+    /// Those of a signed integer.
+    pub(crate) fn of_signed(x: i128) -> Octets
+        ensures octets { drop result.start result.buffer ≡ integer_octets x }
+        ensures integer { AreInteger x (drop result.start result.buffer) }
+    {
+        if x < 0 {
+            Octets::of(true, (-1 - x) as u128)
+        } else {
+            Octets::of(false, x as u128)
+        }
+    }
+
+    /// These octets.
     pub(crate) fn as_slice(&self) -> &[u8]
         ensures { result.now ≡ drop self.now.start self.now.buffer }
     {

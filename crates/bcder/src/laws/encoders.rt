@@ -1,6 +1,5 @@
 //! What follows from the laws of encoders.
 ghost use Rattle.bcder.specs.Grammar.{SameWhereEncodingsAre};
-ghost use Rattle.bcder.specs.IntegerOctets.{IntegerIsWritten, OneInteger};
 ghost use Rattle.bcder.specs.Meaning.{IsOne};
 ghost use Rattle.bcder.specs.Written.{WritesEncodings, WritesTheOnlyOne};
 
@@ -22,11 +21,4 @@ pub fn what_is_written_is_an_encoding<V: Values>(values: &V, mode: Mode)
 /// In CER and DER two lists of values that have encodings are the same exactly where these are.
 pub fn values_are_the_same_where_encodings_are()
     ensures { SameWhereEncodingsAre }
-{}
-
-/// What is written of an integer of at most 128 bits are short octets that are this number
-/// (X.690, 8.3.2, 8.3.3), and no other short octets are.
-pub fn integers_have_one_short_form()
-    ensures written { IntegerIsWritten }
-    ensures one { OneInteger }
 {}

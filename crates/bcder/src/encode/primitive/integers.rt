@@ -1,72 +1,46 @@
 //! Contents octets of the integers of Rust (X.690, 8.3).
-ghost use Rattle.std.specs.Prelude.{◌≡◌, pos, int_lt};
+ghost use Rattle.std.specs.Prelude.{pos};
 ghost use Rattle.bcder.specs.Identifier.{universal};
-ghost use Rattle.bcder.specs.IntegerOctets.{integer_octets, magnitude_octets};
+ghost use Rattle.bcder.specs.Integer.{integer_octets};
 ghost use Rattle.bcder.specs.Encoders.{SizeOfContents, WritesContents};
 ghost use Rattle.bcder.specs.Meaning.{Exactly};
-ghost use Rattle.bcder.specs.laws.IntegerOctets.{integer_octets_are};
+ghost use Rattle.bcder.specs.laws.Integers.{integer_octets_are};
 ghost use Rattle.bcder.specs.laws.Meanings.{Exactly_lawful};
 
 use super::PrimitiveContent;
-use super::octets::Octets;
 use crate::encode::target::write_all;
 use crate::encode::{EncodeError, WriteError};
+use crate::int::octets::Octets;
 use crate::mode::Mode;
 use crate::tag::Tag;
 use std::io;
-
-/// How many octets `magnitude` has, or -1 less it where the number is negative.
-fn magnitude_len(negative: bool, magnitude: u128) -> Result<usize, EncodeError>
-    ensures { SizeOfContents (Exactly (magnitude_octets negative magnitude)) ⊥ result }
-{
-    Ok(Octets::of(negative, magnitude).as_slice().len())
-}
-
-/// Writes the octets of `magnitude`, or of -1 less it where the number is negative.
-fn write_magnitude<W: io::Write>(
-    negative: bool,
-    magnitude: u128,
-    target: &mut W,
-) -> Result<(), WriteError>
-    ensures { WritesContents W.contents target
-        (Exactly (magnitude_octets negative magnitude)) ⊥ result }
-{
-    write_all(target, Octets::of(negative, magnitude).as_slice())
-}
-
-/// A number without its sign: itself, or -1 less it where it is negative.
-fn magnitude(x: i128) -> u128
-    ensures { integer_octets x ≡ magnitude_octets (int_lt x (pos 0)) result }
-{
-    if x < 0 { (-1 - x) as u128 } else { x as u128 }
-}
 
 /// How many octets an unsigned integer has.
 fn unsigned_len(x: u128) -> Result<usize, EncodeError>
     ensures { SizeOfContents (Exactly (integer_octets (pos x))) ⊥ result }
 {
-    magnitude_len(false, x)
+    Ok(Octets::of(false, x).as_slice().len())
 }
 
 /// Writes the octets of an unsigned integer.
 fn write_unsigned<W: io::Write>(x: u128, target: &mut W) -> Result<(), WriteError>
     ensures { WritesContents W.contents target (Exactly (integer_octets (pos x))) ⊥ result }
 {
-    write_magnitude(false, x, target)
+    write_all(target, Octets::of(false, x).as_slice())
 }
 
 /// How many octets an integer has.
 fn signed_len(x: i128) -> Result<usize, EncodeError>
     ensures { SizeOfContents (Exactly (integer_octets x)) ⊥ result }
 {
-    magnitude_len(x < 0, magnitude(x))
+    Ok(Octets::of_signed(x).as_slice().len())
 }
 
 /// Writes the octets of an integer.
 fn write_signed<W: io::Write>(x: i128, target: &mut W) -> Result<(), WriteError>
     ensures { WritesContents W.contents target (Exactly (integer_octets x)) ⊥ result }
 {
-    write_magnitude(x < 0, magnitude(x), target)
+    write_all(target, Octets::of_signed(x).as_slice())
 }
 
 impl PrimitiveContent for u8 {

@@ -1,8 +1,8 @@
 use Rattle.std.proofs.Common.{◌≡◌, ℕ, zero, suc, ◌<◌, ◌≤◌, ◌+◌, ◌-◌, ◌*◌, ◌/◌, ◌%◌, ◌^◌, ◌++◌, ◌∷◌, [], List, length, drop, set, Bool, true, false, nat_lt, refl, sym, ap, ◌∙◌, subst, arith, append_assoc, length-set, append-nil, lit<, add-one, pow-suc}
 use Rattle.std.proofs.lemmas.List.{drop-set}
-use Rattle.bcder.specs.Integer.{AreInteger, octet, octets_within}
+use Rattle.bcder.specs.Integer.{AreInteger, octet, octets_within, integer_octets}
 use Rattle.std.specs.Int.{complement_if}
-use Rattle.bcder.specs.laws.Integers.{positive_octets, negative_octets}
+use Rattle.bcder.specs.laws.Integers.{positive_octets, negative_octets, octets_are, some_integer, one_integer, integer_octets_are}
 use Rattle.bcder.proofs.int.octets.Octets.of.Goals as goal
 
 more_octets : (k : ℕ) (neg : Bool) (n : ℕ) → 128 ≤ n → octets_within (suc k) neg n ≡ octets_within k neg (n / 256) ++ octet neg (n % 256) ∷ []
@@ -41,13 +41,28 @@ loop-rest-preserved c =
     let (fits, len, below, is) = c.loop-rest.invariant in
     step c.args.negative c.loop-rest.start c.loop-rest.rest c.turned.result c.loop-rest.buffer _ fits len below is c.loop-rest-test.true c.turned.ensures
 
-pub returns : goal.returns
-returns c =
+is_those : (neg : Bool) (n : ℕ) → n < 2 ^ 128 → octets_within 16 neg n ≡ integer_octets (complement_if neg n)
+is_those neg n h = one_integer _ _ _ (octets_are 16 neg n) (integer_octets_are _) (told_by_sign neg n h) ((some_integer _).1)
+
+-- what stands at the end of the buffer when the last octet is put there
+ends : (neg : Bool) (s n d : ℕ) (buf whole : List ℕ) → s < 17 → length buf ≡ 17 → whole ≡ octets_within s neg n ++ drop (s + 1) buf → n < 128 → d ≡ octet neg n
+    → whole ≡ drop s (set buf s d)
+ends neg s n d buf whole fits len is small digit =
+    let inside : s < length buf = omega arith in
+    is
+    ∙ ap (λ l. l ++ drop (s + 1) buf) (last_octet s neg n small)
+    ∙ ap (λ x. x ∷ drop (s + 1) buf) (sym digit)
+    ∙ sym (drop-set buf s d inside)
+
+pub returns-clause-octets : goal.returns-clause-octets
+returns-clause-octets c =
     let (fits, len, below, is) = c.loop-rest.invariant in
-    let inside : c.loop-rest.start < length c.loop-rest.buffer = omega arith in
+    sym (ends c.args.negative c.loop-rest.start c.loop-rest.rest c.turned-2.result c.loop-rest.buffer _ fits len is c.loop-rest-test.false c.turned-2.ensures)
+    ∙ is_those c.args.negative c.args.magnitude c.ranges.magnitude.fits
+
+pub returns-clause-integer : goal.returns-clause-integer
+returns-clause-integer c =
+    let (fits, len, below, is) = c.loop-rest.invariant in
     subst (AreInteger (complement_if c.args.negative c.args.magnitude))
-    (is
-    ∙ ap (λ l. l ++ drop (c.loop-rest.start + 1) c.loop-rest.buffer) (last_octet c.loop-rest.start c.args.negative c.loop-rest.rest c.loop-rest-test.false)
-    ∙ ap (λ x. x ∷ drop (c.loop-rest.start + 1) c.loop-rest.buffer) (sym c.turned-2.ensures)
-    ∙ sym (drop-set c.loop-rest.buffer c.loop-rest.start c.turned-2.result inside))
+    (ends c.args.negative c.loop-rest.start c.loop-rest.rest c.turned-2.result c.loop-rest.buffer _ fits len is c.loop-rest-test.false c.turned-2.ensures)
     (told_by_sign c.args.negative c.args.magnitude c.ranges.magnitude.fits)
