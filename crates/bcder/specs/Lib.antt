@@ -54,4 +54,5 @@ pub mod Stacked
 pub mod Alone
 pub mod Slices
 pub mod Written
+pub mod ReadBack
 pub mod Iterated
