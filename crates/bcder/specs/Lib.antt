@@ -55,4 +55,5 @@ pub mod Alone
 pub mod Slices
 pub mod Written
 pub mod ReadBack
+pub mod Front
 pub mod Iterated
