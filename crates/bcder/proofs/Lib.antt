@@ -29,6 +29,7 @@ pub mod Repeating
 pub mod Keeping
 pub mod Numbers
 pub mod Reading
+pub mod Contents
 pub mod Writing
 pub mod Enclosing
 pub mod Joining

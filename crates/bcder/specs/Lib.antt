@@ -54,4 +54,6 @@ pub mod Stacked
 pub mod Alone
 pub mod Slices
 pub mod Written
+pub mod ReadBack
+pub mod Front
 pub mod Iterated

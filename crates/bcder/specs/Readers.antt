@@ -95,6 +95,17 @@ module _ {T X : Type 0} (Means : List ℕ → T → Type 0) (Refuses : List ℕ 
     pub mode : d.mode ≡ c.mode
     pub marked : d.marked ≡ c.marked
 
+-- contents octets were looked at, and left; or did not come
+pub record LooksAt {T X : Type 0} (Means : List ℕ → T → Type 0) (c : Reading) (r : Result T (DecodeError X)) (d : Reading) : Type 0 where
+  pub value : IfOk r (λ x. Means c.stream.rest x)
+  pub all : OnOk r (HasAll (length c.stream.rest) c)
+  pub no_fault : OnOk r (d.stream.faults ≡ c.stream.faults)
+  pub refused : IfErr r (λ e. RefusesAll c e d)
+  pub kept : d.stream.rest ≡ c.stream.rest
+  pub still_owed : d.owed ≡ c.owed
+  pub mode : d.mode ≡ c.mode
+  pub marked : d.marked ≡ c.marked
+
 -- ---- the same of a parameter as a whole
 
 module _ {S T X : Type 0} (stream : S → Stream) (c : Both (MutBor (Primitive S)) (MutBor (Primitive S))) where
@@ -105,6 +116,10 @@ module _ {S T X : Type 0} (stream : S → Stream) (c : Both (MutBor (Primitive S
   -- what the octets mean, refused exactly where they mean nothing
   abbrev pub ReadOctets : (List ℕ → T → Type 0) → Result T (DecodeError X) → Type 0
   ReadOctets Means r = ReadBy Means (MeanNothing Means) r
+
+  -- lent, and left
+  abbrev pub LookedAt : (List ℕ → T → Type 0) → Result T (DecodeError X) → Type 0
+  LookedAt Means r = LooksAt Means (octets_before stream c) r (octets_after stream c)
 
 -- ---- octets that are lent to a closure
 
@@ -118,6 +133,10 @@ module _ {S T X : Type 0} (stream : S → Stream) (c : Both (MutBor (Content S))
 
   abbrev pub RefusedValues : Result T (DecodeError X) → Type 0
   RefusedValues r = (content_before stream c).kind ≢ Octets → IsErrAnd r IsRefusal × (content_after stream c ≡ content_before stream c)
+
+-- a closure that is lent octets, and can't refuse them, answered x
+abbrev pub ToldOf : {B T : Type 0} → (B → List ℕ) → (B → T → Type 0) → List ℕ → T → Type 0
+ToldOf now post w x = (p : _) × (now p ≡ w) × post p x
 
 -- a closure that is lent octets answered x
 abbrev pub Told : {B T : Type 0} → (B → List ℕ) → (B → Result T ContentError → Type 0) → List ℕ → T → Type 0

@@ -1,5 +1,6 @@
 //! Encoding: what has an encoding, and writing it.
 mod error;
+pub(crate) mod front;
 mod gather;
 mod header;
 mod primitive;

@@ -6,6 +6,8 @@ ghost use Rattle.bcder.specs.Octets.{header, fits_length};
 ghost use Rattle.bcder.specs.Encoders.{HasHeader, RefusesHeader, HeaderMeans};
 ghost use Rattle.bcder.specs.Encoders.{WroteOctets, WritesContents};
 
+use crate::encode::front::Front;
+use crate::encode::target::write_all;
 use crate::encode::{EncodeError, WriteError};
 use crate::length::Length;
 use crate::tag::Tag;
@@ -53,7 +55,8 @@ pub fn write_header<W: io::Write>(
     put_header(target, tag, constructed, Length::Definite(len))
 }
 
-/// Writes a header with a length that four octets tell.
+/// Writes a header with a length that four octets tell, by one call of the target's `write` where
+/// that takes all of it.
 pub(crate) fn put_header<W: io::Write>(
     target: &mut W,
     tag: Tag,
@@ -63,6 +66,8 @@ pub(crate) fn put_header<W: io::Write>(
     requires { fits_length len ≡ true }
     ensures { WroteOctets W.contents target (header tag constructed len) result }
 {
-    tag.put(constructed, target)?;
-    len.write_encoded(target)
+    let mut front = Front::new();
+    tag.spell(constructed, &mut front);
+    len.spell(&mut front);
+    write_all(target, front.as_slice())
 }

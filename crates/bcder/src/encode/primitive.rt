@@ -8,7 +8,9 @@ ghost use Rattle.bcder.specs.Enclosing.{ContentsSize};
 ghost use Rattle.bcder.specs.Encoders.{SizeOfContents, WritesContents, GathersContents};
 ghost use Rattle.bcder.specs.laws.Meanings.{primitive_lawful};
 
+mod identifier;
 mod integers;
+mod numbers;
 mod plain;
 
 use crate::encode::gather::gather_contents;

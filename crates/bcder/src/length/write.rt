@@ -1,12 +1,12 @@
 //! Writing length octets (X.690, 8.1.3, 10.1).
-ghost use Rattle.std.specs.Prelude.{◌≡◌, ◌<◌, length, true, IfOk};
-ghost use Rattle.bcder.specs.Encoders.{LengthMeans, SizeOfContents, WritesContents};
+ghost use Rattle.std.specs.Prelude.{◌≡◌, ◌<◌, ◌++◌, length, true, IfOk};
+ghost use Rattle.bcder.specs.Encoders.{LengthMeans, SizeOfContents};
+ghost use Rattle.bcder.specs.Front.{front_of};
 ghost use Rattle.bcder.specs.Octets.{length_octets, fits_length};
 
 use super::Length;
-use crate::encode::target::write_all;
-use crate::encode::{EncodeError, WriteError};
-use std::io;
+use crate::encode::EncodeError;
+use crate::encode::front::Front;
 
 impl Length {
     /// Whether four octets tell it.
@@ -61,50 +61,40 @@ impl Length {
         }
     }
 
-    /// Writes its octets, the fewest that there are for a definite length (10.1).
-    ///
-    /// # Errors
-    ///
-    /// `LengthTooLarge` for a definite length of 2^32 or more, and nothing is written; or the
-    /// target's.
+    /// Adds its octets to those of a header, the fewest that there are for a definite length
+    /// (10.1).
     #[tactic(auto, unfolding(crate::specs::Octets::definite_length))]
-    pub(crate) fn write_encoded<W: io::Write>(self, target: &mut W) -> Result<(), WriteError>
-        ensures { WritesContents W.contents target (LengthMeans self) ⊥ result }
+    #[inline(always)]
+    pub(crate) fn spell(self, front: &mut Front)
+        requires fits { fits_length self ≡ true }
+        requires room { front.old.len < 5 }
+        ensures { front_of front.new ≡ front_of front.old ++ length_octets self }
     {
-        if !self.fits() {
-            return Err(WriteError::Refused(EncodeError::LengthTooLarge));
-        }
         let len = match self {
             Length::Definite(len) => len,
-            Length::Indefinite => return write_all(target, &[0x80]),
+            Length::Indefinite => return front.add(&[0x80]),
         };
         if len < 0x80 {
-            write_all(target, &[len as u8])
+            front.add(&[len as u8])
         } else if len < 0x100 {
-            write_all(target, &[0x81, len as u8])
+            front.add(&[0x81, len as u8])
         } else if len < 0x1_0000 {
-            write_all(target, &[0x82, (len / 0x100) as u8, (len % 0x100) as u8])
+            front.add(&[0x82, (len / 0x100) as u8, (len % 0x100) as u8])
         } else if len < 0x100_0000 {
-            write_all(
-                target,
-                &[
-                    0x83,
-                    (len / 0x1_0000) as u8,
-                    (len / 0x100 % 0x100) as u8,
-                    (len % 0x100) as u8,
-                ],
-            )
+            front.add(&[
+                0x83,
+                (len / 0x1_0000) as u8,
+                (len / 0x100 % 0x100) as u8,
+                (len % 0x100) as u8,
+            ])
         } else {
-            write_all(
-                target,
-                &[
-                    0x84,
-                    (len / 0x100_0000) as u8,
-                    (len / 0x1_0000 % 0x100) as u8,
-                    (len / 0x100 % 0x100) as u8,
-                    (len % 0x100) as u8,
-                ],
-            )
+            front.add(&[
+                0x84,
+                (len / 0x100_0000) as u8,
+                (len / 0x1_0000 % 0x100) as u8,
+                (len / 0x100 % 0x100) as u8,
+                (len % 0x100) as u8,
+            ])
         }
     }
 }

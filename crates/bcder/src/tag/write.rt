@@ -1,14 +1,14 @@
 //! Writing identifier octets (X.690, 8.1.2).
 #![tactic(auto, using(crate::proofs::nat_tests), unfolding(crate::specs::Identifier::identifier))]
 
-ghost use Rattle.std.specs.Prelude.{◌≡◌, ◌<◌, ◌+◌, Bool, length, OnOk, OnErr};
+ghost use Rattle.std.specs.Prelude.{◌≡◌, ◌<◌, ◌+◌, ◌++◌, Bool, length, OnOk, OnErr};
 ghost use Rattle.bcder.specs.Classes.{class_meant};
-ghost use Rattle.bcder.specs.Encoders.{WroteOctets};
+ghost use Rattle.bcder.specs.Front.{front_of};
 ghost use Rattle.bcder.specs.Identifier.{class_bits, form_bit, identifier};
 ghost use Rattle.bcder.specs.Target.{Appended, AppendedShorter};
 
 use super::{Class, Tag};
-use crate::encode::WriteError;
+use crate::encode::front::Front;
 use crate::encode::target::write_octets;
 use std::io;
 
@@ -66,40 +66,34 @@ impl Tag {
         ensures refused { OnErr result
             (AppendedShorter W.contents target (identifier self constructed)) }
     {
+        let mut front = Front::new();
+        self.spell(constructed, &mut front);
+        write_octets(target, front.as_slice())
+    }
+
+    /// Adds the identifier octets to those of a header.
+    #[inline(always)]
+    pub(crate) fn spell(self, constructed: bool, front: &mut Front)
+        requires { front.old.len < 5 }
+        ensures octets { front_of front.new ≡ front_of front.old ++ identifier self constructed }
+        ensures limit { front.new.len < front.old.len + 5 }
+    {
         let number = self.number;
         if number < 31 {
-            return write_octets(target, &[self.leading(constructed, number as u8)]);
+            return front.add(&[self.leading(constructed, number as u8)]);
         }
         let leading = self.leading(constructed, 31);
         if number < 128 {
-            write_octets(target, &[leading, number as u8])
+            front.add(&[leading, number as u8])
         } else if number < 16384 {
-            write_octets(
-                target,
-                &[leading, (128 + number / 128) as u8, (number % 128) as u8],
-            )
+            front.add(&[leading, (128 + number / 128) as u8, (number % 128) as u8])
         } else {
-            write_octets(
-                target,
-                &[
-                    leading,
-                    (128 + number / 16384) as u8,
-                    (128 + number / 128 % 128) as u8,
-                    (number % 128) as u8,
-                ],
-            )
+            front.add(&[
+                leading,
+                (128 + number / 16384) as u8,
+                (128 + number / 128 % 128) as u8,
+                (number % 128) as u8,
+            ])
         }
-    }
-
-    /// Writes the identifier octets, where a refusal may follow.
-    pub(crate) fn put<W: io::Write>(
-        self,
-        constructed: bool,
-        target: &mut W,
-    ) -> Result<(), WriteError>
-        ensures { WroteOctets W.contents target (identifier self constructed) result }
-    {
-        self.write_encoded(constructed, target)?;
-        Ok(())
     }
 }

@@ -5,6 +5,7 @@ ghost use Rattle.bcder.specs.Number.{IsNumber};
 ghost use Rattle.bcder.specs.Integer.{truth, IsSmallest, Leads};
 ghost use Rattle.bcder.specs.Readers.{HasAll, RefusesAll, ReadBy, ReadOctets, FindNoMemory};
 ghost use Rattle.bcder.specs.Readers.{IsSigned, IsUnsigned, IsTruth, IsNull, Told, Untold};
+ghost use Rattle.bcder.specs.Readers.{LookedAt, ToldOf};
 ghost use Rattle.bcder.specs.Readers.{IsThis, MeanAnother, NotSmallest, NoUnsigned};
 ghost use Rattle.bcder.specs.Cause.{cause_of, of_content};
 ghost use Rattle.bcder.specs.Stream.{borrowed, limited};
@@ -103,6 +104,21 @@ impl<'a, S: Source> Primitive<'a, S> {
             → F.pre op p }
         ensures { (p : _) × (p.now ≡ (of_primitive S.stream self.now).stream.rest)
             × F.post op p result }
+    {
+        op(self.all(len))
+    }
+
+    /// Lends them to a closure that can't refuse them.
+    #[inline(always)]
+    fn show_all<F, T: Drop>(&self, len: usize, op: F) -> T
+    where
+        F: FnOnce(&[u8]) -> T,
+        requires found { HasAll len (of_primitive S.stream self.now) }
+        requires at_hand { len ≤ (of_primitive S.stream self.now).stream.avail }
+        requires callable { (p : _) → p.now ≡ (of_primitive S.stream self.now).stream.rest
+            → F.pre op p }
+        ensures { ToldOf (λ p. p.now) (F.post op)
+            (of_primitive S.stream self.now).stream.rest result }
     {
         op(self.all(len))
     }
@@ -286,6 +302,27 @@ impl<'a, S: Source> Primitive<'a, S> {
             }
             Err(error) => Err(Primitive::content_err(self, error)),
         }
+    }
+
+    /// Lends all octets to the closure, and leaves them.
+    ///
+    /// # Errors
+    ///
+    /// Where fewer octets come than are owed, and where the source fails. The closure is then not
+    /// called.
+    #[inline(always)]
+    pub fn slice_all<F, T: Drop>(&mut self, op: F) -> Result<T, DecodeError<S::Error>>
+    where
+        F: FnOnce(&[u8]) -> T,
+        requires { (p : _) → p.now ≡ (of_primitive S.stream self.old).stream.rest → F.pre op p }
+        ensures moves { MovedOctets S.stream self }
+        ensures looked { LookedAt S.stream self (ToldOf (λ p. p.now) (F.post op)) result }
+    {
+        let len = match self.request_all() {
+            Ok(len) => len,
+            Err(error) => return Err(error),
+        };
+        Ok(self.show_all(len, op))
     }
 
     /// Reads all octets as an INTEGER (X.690, 8.3) that an `i8` holds, and takes them.

@@ -1,0 +1,47 @@
+//! The octets of a header, put together so that they are written at once.
+ghost use Rattle.std.specs.Prelude.{◌≡◌, ◌+◌, ◌≤◌, ◌<◌, [], ◌++◌, length};
+
+/// The first octets of a header, which has at most nine.
+#[derive(Clone, Copy)]
+pub(crate) struct Front {
+    octets: [u8; 9],
+    len: usize,
+    ghost within: { len ≤ 9 },
+}
+
+impl Front {
+    ghost use Rattle.bcder.specs.Front.{front_of};
+
+    /// None yet.
+    #[inline(always)]
+    pub(crate) fn new() -> Front
+        ensures none { front_of result ≡ [] }
+        ensures len { result.len ≡ 0 }
+    {
+        Front {
+            octets: [0; 9],
+            len: 0,
+        }
+    }
+
+    /// Adds octets behind those that there are.
+    #[inline(always)]
+    pub(crate) fn add(&mut self, octets: &[u8])
+        requires { self.old.len + length octets.now ≤ 9 }
+        ensures octets { front_of self.new ≡ front_of self.old ++ octets.now }
+        ensures len { self.new.len ≡ self.old.len + length octets.now }
+    {
+        let start = self.len;
+        let end = start + octets.len();
+        self.octets[start..end].copy_from_slice(octets);
+        self.len = end;
+    }
+
+    /// All of them.
+    #[inline(always)]
+    pub(crate) fn as_slice(&self) -> &[u8]
+        ensures { result.now ≡ front_of self.now }
+    {
+        &self.octets[..self.len]
+    }
+}

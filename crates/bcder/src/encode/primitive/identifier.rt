@@ -1,0 +1,36 @@
+//! Contents octets of object identifiers (X.690, 8.19).
+ghost use Rattle.bcder.specs.Identifier.{universal};
+ghost use Rattle.bcder.specs.Meaning.{ExactlyOctets};
+ghost use Rattle.bcder.specs.laws.Meanings.{ExactlyOctets_lawful};
+
+use super::PrimitiveContent;
+use super::plain::{octets_len, write_octets};
+use crate::encode::{EncodeError, WriteError};
+use crate::mode::Mode;
+use crate::oid::Oid;
+use crate::tag::Tag;
+use std::convert::AsSlice;
+use std::io;
+
+/// The octets that it holds, whether they end with a subidentifier or not.
+impl<T: AsSlice<u8>> PrimitiveContent for Oid<T> {
+    ghost own_tag = { record { class = universal; number = 6 } };
+
+    ghost means = { λ x _. ExactlyOctets (T.items x.0) };
+
+    ghost may_lack = { λ _ _. ⊥ };
+
+    fn tag() -> Tag {
+        Tag::OID
+    }
+
+    fn encoded_len(&self, _mode: Mode) -> Result<usize, EncodeError> {
+        octets_len(self.0.as_slice())
+    }
+
+    fn write_encoded<W: io::Write>(&self, _mode: Mode, target: &mut W) -> Result<(), WriteError> {
+        write_octets(self.0.as_slice(), target)
+    }
+
+    ghost lawful = { λ x _. ExactlyOctets_lawful (T.items x.0) };
+}

@@ -1,0 +1,82 @@
+//! Contents octets of integers of any size (X.690, 8.3).
+ghost use Rattle.std.specs.Prelude.{◌≡◌, pos};
+ghost use Rattle.bcder.specs.Identifier.{universal};
+ghost use Rattle.bcder.specs.Integer.{integer_octets};
+ghost use Rattle.bcder.specs.Encoders.{SizeOfContents, WritesContents};
+ghost use Rattle.bcder.specs.Meaning.{Exactly};
+ghost use Rattle.bcder.specs.laws.Integers.{integer_octets_are};
+ghost use Rattle.bcder.specs.laws.Meanings.{Exactly_lawful};
+
+use super::PrimitiveContent;
+use crate::encode::target::write_all;
+use crate::encode::{EncodeError, WriteError};
+use crate::int::{Integer, Unsigned};
+use crate::mode::Mode;
+use crate::tag::Tag;
+use std::convert::AsSlice;
+use std::io;
+
+/// How many octets an integer has.
+fn integer_len(x: &Integer) -> Result<usize, EncodeError>
+    ensures { SizeOfContents (Exactly (integer_octets x.now)) ⊥ result }
+{
+    Ok(AsSlice::as_slice(x).len())
+}
+
+/// Writes the octets of an integer.
+fn write_integer<W: io::Write>(x: &Integer, target: &mut W) -> Result<(), WriteError>
+    ensures { WritesContents W.contents target (Exactly (integer_octets x.now)) ⊥ result }
+{
+    write_all(target, AsSlice::as_slice(x))
+}
+
+/// The octets that it keeps, which are the smallest of the number.
+impl PrimitiveContent for &'_ Integer {
+    ghost own_tag = { record { class = universal; number = 2 } };
+
+    ghost means = { λ x _. Exactly (integer_octets x.now) };
+
+    ghost may_lack = { λ _ _. ⊥ };
+
+    fn tag() -> Tag
+        ensures { result ≡ record { class = universal; number = 2 } }
+    {
+        Tag::INTEGER
+    }
+
+    fn encoded_len(&self, _mode: Mode) -> Result<usize, EncodeError> {
+        integer_len(*self)
+    }
+
+    fn write_encoded<W: io::Write>(&self, _mode: Mode, target: &mut W) -> Result<(), WriteError> {
+        write_integer(*self, target)
+    }
+
+    ghost lawful = { λ x _. Exactly_lawful (integer_octets x.now) (integer_octets_are x.now) };
+}
+
+/// The octets that it keeps, which are the smallest of the number.
+impl PrimitiveContent for &'_ Unsigned {
+    ghost own_tag = { record { class = universal; number = 2 } };
+
+    ghost means = { λ x _. Exactly (integer_octets (pos x.now)) };
+
+    ghost may_lack = { λ _ _. ⊥ };
+
+    fn tag() -> Tag
+        ensures { result ≡ record { class = universal; number = 2 } }
+    {
+        Tag::INTEGER
+    }
+
+    fn encoded_len(&self, _mode: Mode) -> Result<usize, EncodeError> {
+        integer_len((*self).as_ref())
+    }
+
+    fn write_encoded<W: io::Write>(&self, _mode: Mode, target: &mut W) -> Result<(), WriteError> {
+        write_integer((*self).as_ref(), target)
+    }
+
+    ghost lawful = { λ x _.
+        Exactly_lawful (integer_octets (pos x.now)) (integer_octets_are (pos x.now)) };
+}
