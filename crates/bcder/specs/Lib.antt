@@ -56,3 +56,4 @@ pub mod Alone
 pub mod Slices
 pub mod Written
 pub mod Iterated
+pub mod Gathered

@@ -18,3 +18,4 @@ pub mod Meanings
 pub mod Joined
 pub mod IntegerOctets
 pub mod Listed
+pub mod Gathered
