@@ -3,7 +3,7 @@ use crate::asserts::{holds, same, shows};
 use crate::encodes::{refuses, writes};
 use bcder::captured::CapturedBuilder;
 use bcder::decode::{IntoSource, SliceSource, Source};
-use bcder::encode::{Constructed, EncodeError, Iter, Nothing, PrimitiveContent, Values, sequence};
+use bcder::encode::{Constructed, EncodeError, Nothing, PrimitiveContent, Values, sequence};
 use bcder::{Captured, Mode, NoMemory, Tag};
 use std::alloc::Global;
 use std::process::Abort;
@@ -27,46 +27,29 @@ fn holds_from_start(
     shows(rt, alloc, &captured.into_source().pos(), "0")
 }
 
+/// The values are refused in this mode, since they were captured in another.
+fn not_in<V: Values>(rt: &impl Abort, alloc: Global, values: &V, mode: Mode) -> Result<(), Fail>
+    requires { V.can_encode values.now }
+{
+    refuses(rt, alloc, values, mode, EncodeError::CapturedMode)
+}
+
 #[test]
 fn written_in_ber_and_in_their_own_mode(rt: HostRuntime) -> Result<(), Fail> {
     let indefinite = [0x30, 0x80, 0x02, 0x01, 0x05, 0x00, 0x00];
     let basic = capture(rt.alloc(), &indefinite, Mode::Ber)?;
     writes(&rt, rt.alloc(), &basic, Mode::Ber, &indefinite)?;
-    refuses(
-        &rt,
-        rt.alloc(),
-        &basic,
-        Mode::Cer,
-        EncodeError::CapturedMode,
-    )?;
-    refuses(
-        &rt,
-        rt.alloc(),
-        &basic,
-        Mode::Der,
-        EncodeError::CapturedMode,
-    )?;
+    not_in(&rt, rt.alloc(), &basic, Mode::Cer)?;
+    not_in(&rt, rt.alloc(), &basic, Mode::Der)?;
     let canonical = capture(rt.alloc(), &indefinite, Mode::Cer)?;
     writes(&rt, rt.alloc(), &canonical, Mode::Ber, &indefinite)?;
     writes(&rt, rt.alloc(), &canonical, Mode::Cer, &indefinite)?;
-    refuses(
-        &rt,
-        rt.alloc(),
-        &canonical,
-        Mode::Der,
-        EncodeError::CapturedMode,
-    )?;
+    not_in(&rt, rt.alloc(), &canonical, Mode::Der)?;
     let definite = [0x30, 0x03, 0x02, 0x01, 0x05];
     let distinguished = capture(rt.alloc(), &definite, Mode::Der)?;
     writes(&rt, rt.alloc(), &distinguished, Mode::Ber, &definite)?;
     writes(&rt, rt.alloc(), &distinguished, Mode::Der, &definite)?;
-    refuses(
-        &rt,
-        rt.alloc(),
-        &distinguished,
-        Mode::Cer,
-        EncodeError::CapturedMode,
-    )
+    not_in(&rt, rt.alloc(), &distinguished, Mode::Cer)
 }
 
 #[test]
@@ -74,7 +57,7 @@ fn refused_where_there_are_none(rt: HostRuntime) -> Result<(), Fail> {
     let none = Captured::empty(rt.alloc(), Mode::Der);
     writes(&rt, rt.alloc(), &none, Mode::Der, &[])?;
     writes(&rt, rt.alloc(), &none, Mode::Ber, &[])?;
-    refuses(&rt, rt.alloc(), &none, Mode::Cer, EncodeError::CapturedMode)
+    not_in(&rt, rt.alloc(), &none, Mode::Cer)
 }
 
 #[test]
@@ -87,13 +70,7 @@ fn what_a_sequence_holds(rt: HostRuntime) -> Result<(), Fail> {
     writes(&rt, rt.alloc(), &captured, Mode::Ber, &wanted)?;
     let again = captured.to_captured(rt.alloc(), Mode::Ber)?;
     holds_from_start(&rt, rt.alloc(), again, Mode::Ber, &wanted)?;
-    refuses(
-        &rt,
-        rt.alloc(),
-        &captured,
-        Mode::Der,
-        EncodeError::CapturedMode,
-    )?;
+    not_in(&rt, rt.alloc(), &captured, Mode::Der)?;
     let refused = captured.to_captured(rt.alloc(), Mode::Der);
     holds(&rt, matches!(refused, Err(EncodeError::CapturedMode)));
     Ok(())
@@ -110,13 +87,7 @@ fn labelled_by_the_mode_that_was_set(rt: HostRuntime) -> Result<(), Fail> {
         })
     })?;
     writes(&rt, rt.alloc(), &captured, Mode::Ber, &octets)?;
-    refuses(
-        &rt,
-        rt.alloc(),
-        &captured,
-        Mode::Der,
-        EncodeError::CapturedMode,
-    )
+    not_in(&rt, rt.alloc(), &captured, Mode::Der)
 }
 
 #[test]
@@ -131,13 +102,7 @@ fn the_first_refusal_is_answered(rt: HostRuntime) -> Result<(), Fail> {
         EncodeError::EndOfValueTag,
     )?;
     let first = sequence((&none, true.encode_as(Tag::END_OF_VALUE)));
-    refuses(
-        &rt,
-        rt.alloc(),
-        &first,
-        Mode::Cer,
-        EncodeError::CapturedMode,
-    )?;
+    not_in(&rt, rt.alloc(), &first, Mode::Cer)?;
     let second = sequence((true.encode_as(Tag::END_OF_VALUE), &none));
     refuses(
         &rt,
@@ -235,6 +200,6 @@ fn several_captured_in_a_row(rt: HostRuntime) -> Result<(), Fail> {
     let wanted = [0x30, 0x05, 0x02, 0x01, 0x05, 0x05, 0x00];
     let whole = sequence(list.as_slice()).to_captured(rt.alloc(), Mode::Der)?;
     holds_from_start(&rt, rt.alloc(), whole, Mode::Der, &wanted)?;
-    let whole = Iter::new(list).to_captured(rt.alloc(), Mode::Ber)?;
+    let whole = list.to_captured(rt.alloc(), Mode::Ber)?;
     holds_from_start(&rt, rt.alloc(), whole, Mode::Ber, &wanted[2..])
 }
