@@ -12,7 +12,7 @@ use std::process::Abort;
 use std::test::Fail;
 
 /// The values are written as these octets, and their size is told.
-fn writes<V: Values>(
+pub fn writes<V: Values>(
     rt: &impl Abort,
     alloc: Global,
     values: &V,
@@ -43,7 +43,7 @@ fn writes_always<V: Values>(
 }
 
 /// The values are refused for this reason, and nothing is written.
-fn refuses<V: Values>(
+pub fn refuses<V: Values>(
     rt: &impl Abort,
     alloc: Global,
     values: &V,

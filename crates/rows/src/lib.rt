@@ -9,6 +9,8 @@
 mod asserts;
 pub mod borrows;
 #[cfg(test)]
+mod captured;
+#[cfg(test)]
 mod contents;
 #[cfg(test)]
 mod decodes;
