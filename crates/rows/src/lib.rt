@@ -9,10 +9,16 @@
 mod asserts;
 pub mod borrows;
 #[cfg(test)]
+mod captures;
+#[cfg(test)]
 mod contents;
 #[cfg(test)]
 mod decodes;
 pub mod decoding;
+#[cfg(test)]
+mod deep;
+#[cfg(test)]
+mod dropped;
 #[cfg(test)]
 mod encodes;
 #[cfg(test)]
