@@ -22,6 +22,8 @@ mod dropped;
 #[cfg(test)]
 mod encodes;
 #[cfg(test)]
+mod failures;
+#[cfg(test)]
 mod integers;
 pub mod sip;
 #[cfg(test)]
