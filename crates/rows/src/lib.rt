@@ -2,7 +2,7 @@
 //! are in `vectors`. There is one module for each subject.
 //!
 //! [`sip`] is a source that can fail and makes available no more than what was asked for; each
-//! module of tests runs over it too.
+//! module of tests runs over it too. [`encoders`] has values of any size.
 #![tactic(auto)]
 
 #[cfg(test)]
@@ -19,6 +19,7 @@ pub mod decoding;
 mod deep;
 #[cfg(test)]
 mod dropped;
+pub mod encoders;
 #[cfg(test)]
 mod encodes;
 #[cfg(test)]
