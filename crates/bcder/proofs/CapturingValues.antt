@@ -19,6 +19,8 @@ use Rattle.bcder.specs.Content.{Reading, Form, octets, values, Octets, Indefinit
 use Rattle.bcder.specs.Decoding.{AnsweredOn, by_closure, left_failed}
 use Rattle.bcder.specs.Walking.{HasValue, PassesValue, ClosesBefore, HasValues, Walks}
 use Rattle.bcder.specs.Walking as walking
+use Rattle.bcder.specs.Skipping.{RefusesOne}
+use Rattle.bcder.specs.Skipping as skipping
 use Rattle.bcder.proofs.Moving.{open_not_ended, open_not_failed}
 use Rattle.bcder.proofs.Entering.{Within}
 use Rattle.bcder.proofs.Walking.{value_not_at_end, value_once, moves_faults, grew_from, walks_refused}
@@ -55,10 +57,15 @@ where_of P Q f c i j d e s a b (memory m) = memory m
 
 -- ---- what walking refuses
 
-pub walk_refused : {X : Type 0} (c d : Reading) (e : DecodeError X) → walking.RefusesWalk cause_of c e d → RefusesWhere (HasNoValue c) c e d
+walk_refused : {X : Type 0} (c d : Reading) (e : DecodeError X) → walking.RefusesWalk cause_of c e d → RefusesWhere (HasNoValue c) c e d
 walk_refused c d e (walking.RefusesWalk.failed s o) = failed s o
 walk_refused c d e (walking.RefusesWalk.source k g) = source k g
 walk_refused c d e (walking.RefusesWalk.nothing s n x o) = nothing (record { none = λ t w after v. n.none t w after v.encodes v.rest }) o
+
+-- the same of skipping, which may also want memory
+pub one_refused : {X : Type 0} (c d : Reading) (e : DecodeError X) → RefusesOne cause_of c e d → RefusesWhere (HasNoValue c) c e d
+one_refused c d e (skipping.RefusesOne.by_walk r) = walk_refused c d e r
+one_refused c d e (skipping.RefusesOne.by_depth g m) = memory m
 
 pub end_has_none : (c d : Reading) → Within c → EndsAt c d → HasNoValue c
 end_has_none c d w e = record { none = λ t v after h. (value_not_at_end c w t v after h).none d.stream.rest e }
@@ -297,10 +304,14 @@ others_left e i k form o (walking.RefusesValues.source s f) = source s f
 others_left e i k form o (walking.RefusesValues.broken x n a) = nothing (record { usable = o; none = n }) a
 others_left e i k form o (walking.RefusesValues.short x n a) = absurd (form x)
 
-pub loop_refused : {X : Type 0} (e : DecodeError X) (i j k : Reading) → i.kind ≢ Octets → Walks i j → walking.RefusesWalk cause_of j e k → RefusesWhere (HasOthers i) i e k
+loop_refused : {X : Type 0} (e : DecodeError X) (i j k : Reading) → i.kind ≢ Octets → Walks i j → walking.RefusesWalk cause_of j e k → RefusesWhere (HasOthers i) i e k
 loop_refused e i j k form w (walking.RefusesWalk.failed f a) = failed (w.failed f) a
 loop_refused e i j k form w (walking.RefusesWalk.source s f) = source s (grew_from _ _ _ (moves_faults i j w.moves) f)
 loop_refused e i j k form w (walking.RefusesWalk.nothing s n f a) = others_left e i k form (still_open i j w s) (walks_refused cause_of e i j k form w (walking.RefusesWalk.nothing s n f a))
+
+pub loop_refused_one : {X : Type 0} (e : DecodeError X) (i j k : Reading) → i.kind ≢ Octets → Walks i j → RefusesOne cause_of j e k → RefusesWhere (HasOthers i) i e k
+loop_refused_one e i j k form w (skipping.RefusesOne.by_walk r) = loop_refused e i j k form w r
+loop_refused_one e i j k form w (skipping.RefusesOne.by_depth g m) = memory m
 
 -- the loop answers the error that it met
 pub pass_refused : {T X : Type 0} (c d : Reading) (r : Result T (DecodeError X)) (e : DecodeError X) → IsErrAnd r (λ x. x ≡ e) → RefusesWhere (HasOthers c) c e d → d.marked ≡ c.marked → PassesBy PassesToEnd HasOthers c r d

@@ -22,6 +22,7 @@ pub mod Walked
 pub mod Stopping
 pub mod Stepping
 pub mod Passing
+pub mod Levels
 pub mod Decoding
 pub mod Insides
 pub mod Nested

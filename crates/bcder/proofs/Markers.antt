@@ -1,9 +1,17 @@
 -- The marker behind whole values, by its size.
-use Rattle.std.proofs.Common.{◌≡◌, ℕ, zero, suc, ◌-◌, ◌<◌, ◌≤◌, true, List, ◌++◌, length, take, drop, refl, sym, ap, ◌∙◌, subst, take-append-drop, arith, inl, inr}
+use Rattle.std.specs.Prelude.{◌↔◌, IsTrue}
+use Rattle.std.proofs.Common.{◌≡◌, ℕ, zero, suc, ◌-◌, ◌<◌, ◌≤◌, Bool, true, false, List, [], ◌++◌, length, take, drop, refl, sym, ap, ◌∙◌, subst, take-append-drop, append-nil, arith, inl, inr}
 use Rattle.std.proofs.lemmas.List.{length-append, append_cancel_left, take_at}
 use Rattle.bcder.specs.declared.mode.Mode.{Mode}
 use Rattle.bcder.specs.Length.{IsLengthForm, IsEndOfContents}
 use Rattle.bcder.specs.Capturing.{EndsIn, EndsBy}
+use Rattle.bcder.specs.declared.decode.error.ContentError.{ContentError}
+use Rattle.bcder.specs.Cause.{Cause, of_memory, is_memory_cause}
+use Rattle.bcder.specs.Stream.{Grew}
+use Rattle.bcder.specs.Content.{Reading, UnboundedValues}
+use Rattle.bcder.specs.Encoding.{AreEncodings}
+use Rattle.bcder.specs.Tree.{Trees}
+use Rattle.bcder.specs.Walking.{HasValues, ClosesBefore}
 use Rattle.bcder.specs.laws.Lengths.{IsLengthForm-from_length}
 
 form_size : (w : List ℕ) → IsLengthForm 0 w → (1 ≤ length w) × (length w ≤ 5)
@@ -45,3 +53,40 @@ ends_by_two mode w front h none =
     let s = end_size mode h.close h.is_marker in
     let two : length h.close ≡ 2 = two_left (length h.close) s.0 s.1 (λ a b. none (length h.close) a b (ends_by_size mode w front h)) in
     subst (λ n. EndsBy mode w n) two (ends_by_size mode w front h)
+
+-- ---- values up to the end of a source
+
+abbrev pub AreValues : Mode → List ℕ → Type 0
+AreValues mode w = (ts : Trees) × AreEncodings mode ts w
+
+module _ (c : Reading) (mode : Mode) (w : List ℕ) (m : c.mode ≡ mode) (k : c.kind ≡ UnboundedValues) (r : c.stream.rest ≡ w) where
+  pub values_there : AreValues mode w → HasValues c
+  values_there v = record {
+    trees = v.0;
+    all = w;
+    after = [];
+    encode = subst (λ x. AreEncodings x v.0 w) (sym m) v.1;
+    rest = r ∙ sym (append-nil w);
+    closes = subst (λ x. ClosesBefore x c.mode c.owed w []) (sym k) refl;
+  }
+
+  pub values_found : HasValues c → AreValues mode w
+  values_found h =
+      let z : h.after ≡ [] = subst (λ x. ClosesBefore x c.mode c.owed h.all h.after) k h.closes in
+      let e : h.all ≡ w = sym (append-nil h.all) ∙ ap (λ x. h.all ++ x) (sym z) ∙ sym h.rest ∙ r in
+      (h.trees, subst (λ x. AreEncodings mode h.trees x) e (subst (λ x. AreEncodings x h.trees h.all) m h.encode))
+
+-- a cause that isn't want of memory
+pub not_memory : (e : Cause ContentError) → is_memory_cause e ≡ false → e ≡ of_memory → ⊥
+not_memory e n m = (let x : true ≡ false = sym (ap is_memory_cause m) ∙ n in cc)
+
+-- a source that never fails
+pub never_grew : Grew 0 0 → ⊥
+never_grew g = elim g.larger_or_last [ inl l ↦ omega (arith, l) | inr l ↦ omega (arith, l) ]
+
+-- an answer that another gives, and one that is no
+pub as_other : (P : Type 0) (b l : Bool) → b ≡ l → IsTrue l ↔ P → IsTrue b ↔ P
+as_other P b l e h = rw e h
+
+pub as_no : (P : Type 0) (b : Bool) → b ≡ false → (P → ⊥) → IsTrue b ↔ P
+as_no P b e n = (λ t. absurd (let x : true ≡ false = sym t ∙ e in cc), λ v. absurd (n v))

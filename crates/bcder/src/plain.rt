@@ -13,6 +13,8 @@ ghost use Rattle.bcder.specs.Reading.{is_value_tag, BeginPrimitive};
 ghost use Rattle.bcder.specs.Reading.{read_header, read_tree, read_list, at_end};
 ghost use Rattle.bcder.specs.Grammar.{IsOnly, BeginsWhole};
 
+pub(crate) mod levels;
+
 use crate::length::{Length, after_end, length_at};
 use crate::mode::Mode;
 use crate::tag::{Tag, identifier_at};

@@ -230,7 +230,7 @@ impl<'a, S: Source> Constructed<'a, S> {
         match result {
             Ok(octets) => {
                 let mode = label(self.mode, marked);
-                let octets = without_marker(mode, octets, ends(self.state, state));
+                let octets = without_marker(mode, alloc, octets, ends(self.state, state));
                 self.state = state;
                 Ok(Captured::new(octets, mode, start))
             }

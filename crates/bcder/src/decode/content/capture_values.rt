@@ -5,7 +5,6 @@ ghost use Rattle.bcder.specs.CapturingValues.{PassedOne, PassedAll};
 ghost use Rattle.bcder.specs.Views.{Moved};
 
 use super::Constructed;
-use super::walk::walk;
 use crate::captured::Captured;
 use crate::decode::error::DecodeError;
 use crate::decode::source::Source;
@@ -13,11 +12,14 @@ use std::alloc::Global;
 
 /// Passes over the next value, which has to be there.
 #[tactic(auto, using(crate::proofs::moves_refl, crate::proofs::Carrying::carries))]
-fn pass_one<S: Source>(cons: &mut Constructed<'_, S>) -> Result<(), DecodeError<S::Error>>
+fn pass_one<S: Source>(
+    cons: &mut Constructed<'_, S>,
+    alloc: Global,
+) -> Result<(), DecodeError<S::Error>>
     ensures moves { Moved S.stream cons }
     ensures passed { PassedOne S.stream cons result }
 {
-    match walk(cons) {
+    match cons.skip_one(alloc) {
         Ok(Some(())) => Ok(()),
         Ok(None) => Err(cons.refusal("expected another value")),
         Err(error) => Err(error),
@@ -26,11 +28,14 @@ fn pass_one<S: Source>(cons: &mut Constructed<'_, S>) -> Result<(), DecodeError<
 
 /// Passes over all values up to the end of the content, whose marker it takes.
 #[tactic(auto, using(crate::proofs::moves_refl, crate::proofs::Carrying::carries))]
-fn pass_all<S: Source>(cons: &mut Constructed<'_, S>) -> Result<(), DecodeError<S::Error>>
+fn pass_all<S: Source>(
+    cons: &mut Constructed<'_, S>,
+    alloc: Global,
+) -> Result<(), DecodeError<S::Error>>
     ensures moves { Moved S.stream cons }
     ensures passed { PassedAll S.stream cons result }
 {
-    while walk(cons)?.is_some() {}
+    while cons.skip_one(alloc)?.is_some() {}
     Ok(())
 }
 
@@ -40,19 +45,20 @@ impl<'a, S: Source> Constructed<'a, S> {
     ///
     /// It is captured exactly where an encoding of a value stands in front, in the content's mode
     /// (X.690, 8.1.1), unless the source fails or memory is wanted; and what is captured is that
-    /// encoding. All headers inside it are looked at.
+    /// encoding. All headers inside it are looked at. Values may be nested to any depth, as for
+    /// [`skip_one`](Self::skip_one).
     ///
     /// # Errors
     ///
     /// Where no encoding of a value stands in front, as at the end of the content; where an earlier
-    /// value was refused; where the source fails; and where there is no memory for the octets. The
-    /// content is then as it was.
+    /// value was refused; where the source fails; and where there is no memory for the octets or
+    /// for a value that is open at a depth of four or more. The content is then as it was.
     pub fn capture_one(&mut self, alloc: Global) -> Result<Captured, DecodeError<S::Error>>
         ensures moves { Moved S.stream self }
         ensures captured { CapturedOne S.stream self result }
         ensures exact { ExactlyOne S.stream self result }
     {
-        self.capture(alloc, |cons| pass_one(cons))
+        self.capture(alloc, |cons| pass_one(cons, alloc))
     }
 
     /// Captures all values up to the end of the content, which may be none.
@@ -65,12 +71,13 @@ impl<'a, S: Source> Constructed<'a, S> {
     /// # Errors
     ///
     /// Where the rest up to the end isn't encodings; where an earlier value was refused; where the
-    /// source fails; and where there is no memory for the octets. The content is then as it was.
+    /// source fails; and where there is no memory for the octets or for a value that is open at a
+    /// depth of four or more. The content is then as it was.
     pub fn capture_all(&mut self, alloc: Global) -> Result<Captured, DecodeError<S::Error>>
         ensures moves { Moved S.stream self }
         ensures captured { CapturedAll S.stream self result }
         ensures exact { ExactlyAll S.stream self result }
     {
-        self.capture(alloc, |cons| pass_all(cons))
+        self.capture(alloc, |cons| pass_all(cons, alloc))
     }
 }

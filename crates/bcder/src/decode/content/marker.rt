@@ -1,13 +1,41 @@
 //! The end-of-contents octets behind values (X.690, 8.1.5).
 ghost use Rattle.std.specs.Prelude.{◌≡◌, ◌≤◌, ◌↔◌, true, IsTrue, List, ℕ, length, take};
 ghost use Rattle.bcder.specs.Capturing.{EndsBy, EndsIn};
+ghost use Rattle.bcder.specs.Encoding.{AreEncodings};
+ghost use Rattle.bcder.specs.Tree.{Trees};
 
+use super::{Constructed, Kind, State};
+use crate::decode::source::{LimitedSource, SliceSource, Source};
 use crate::mode::Mode;
 use crate::plain::{end_at, is_list};
 use bytes::Bytes;
+use std::alloc::Global;
+
+/// Whether the octets are the encodings of a list of values.
+///
+/// They are passed over with a stack, so that no level of values takes a level of calls. Only where
+/// there is no memory for that stack does the plain reader look at them.
+fn are_values(mode: Mode, alloc: Global, octets: &[u8]) -> bool
+    ensures { IsTrue result ↔ (ts : Trees) × AreEncodings mode ts octets.now }
+{
+    let mut source = LimitedSource::new(SliceSource::new(octets));
+    let start = source.pos();
+    let mut cons = Constructed {
+        source: &mut source,
+        kind: Kind::Unbounded,
+        state: State::Open,
+        mode,
+        marked: false,
+        start,
+    };
+    match cons.skip_all(alloc) {
+        Ok(()) => true,
+        Err(error) => error.is_memory() && is_list(mode, octets),
+    }
+}
 
 /// Whether the last octets, so many, are end-of-contents octets behind whole values.
-fn ends_by(mode: Mode, octets: &[u8], size: usize) -> bool
+fn ends_by(mode: Mode, alloc: Global, octets: &[u8], size: usize) -> bool
     ensures { IsTrue result ↔ EndsBy mode octets.now size }
 {
     if octets.len() < size {
@@ -15,7 +43,7 @@ fn ends_by(mode: Mode, octets: &[u8], size: usize) -> bool
     }
     let (front, end) = octets.split_at(octets.len() - size);
     match end_at(mode, end) {
-        Some(rest) => rest.is_empty() && is_list(mode, front),
+        Some(rest) => rest.is_empty() && are_values(mode, alloc, front),
         None => false,
     }
 }
@@ -24,13 +52,13 @@ fn ends_by(mode: Mode, octets: &[u8], size: usize) -> bool
 ///
 /// These are two octets. Only in BER can they be more, and only where they look like it are the
 /// values before them looked at again.
-fn before_marker(mode: Mode, octets: &[u8]) -> usize
+fn before_marker(mode: Mode, alloc: Global, octets: &[u8]) -> usize
     requires { (front : List ℕ) × EndsIn mode true octets.now front }
     ensures fits { result ≤ length octets.now }
     ensures ends { EndsIn mode true octets.now (take result octets.now) }
 {
     for size in 3..7 {
-        if ends_by(mode, octets, size) {
+        if ends_by(mode, alloc, octets, size) {
             return octets.len() - size;
         }
     }
@@ -38,12 +66,12 @@ fn before_marker(mode: Mode, octets: &[u8]) -> usize
 }
 
 /// The octets without the marker behind them, if there is one. None are copied.
-pub(super) fn without_marker(mode: Mode, mut octets: Bytes, marker: bool) -> Bytes
+pub(super) fn without_marker(mode: Mode, alloc: Global, mut octets: Bytes, marker: bool) -> Bytes
     requires { (front : List ℕ) × EndsIn mode marker octets front }
     ensures { EndsIn mode marker octets result }
 {
     if marker {
-        let front = before_marker(mode, octets.as_slice());
+        let front = before_marker(mode, alloc, octets.as_slice());
         octets.truncate(front);
     }
     octets

@@ -16,6 +16,7 @@ ghost use Rattle.bcder.specs.Views.{after, before, Moved};
 ghost use Rattle.bcder.specs.Walking.{ExactlyNext};
 
 use super::inside::{go_inside, kind_behind};
+use super::walk::Looked;
 use super::{Constructed, Kind, State};
 use crate::decode::error::{ContentError, DecodeError};
 use crate::decode::header::Header;
@@ -26,10 +27,6 @@ use crate::mode::Mode;
 use crate::tag::Tag;
 use smallvec::SmallVec;
 use std::alloc::Global;
-
-/// How many octets of a value the plain reader looks at. It calls itself for values inside values,
-/// which is no deeper than half of that.
-const PLAIN: usize = 4096;
 
 /// How an open value ends.
 #[derive(Clone, Copy)]
@@ -446,7 +443,7 @@ impl<'a, S: Source> Constructed<'a, S> {
         ensures moves { Moves (before S.stream self) (after S.stream self) }
         ensures skipped { SkippedOne S.stream self result }
     {
-        match self.pass_at_hand(false, PLAIN) {
+        match self.pass_at_hand(Looked::Shallow) {
             Ok(true) => Ok(Some(())),
             Ok(false) => self.skip_stacked(alloc),
             Err(stop) => Err(self.stopped(stop)),
@@ -470,7 +467,7 @@ impl<'a, S: Source> Constructed<'a, S> {
         ensures skipped { SkippedOne S.stream self result }
         ensures exact { FoundMemory result → ExactlyNext S.stream self result }
     {
-        match self.pass_at_hand(true, usize::MAX) {
+        match self.pass_at_hand(Looked::Short) {
             Ok(true) => Ok(Some(())),
             Ok(false) => self.skip_any(alloc),
             Err(stop) => Err(self.stopped(stop)),

@@ -21,6 +21,7 @@ use crate::decode::source::{LimitedSource, Source};
 use crate::decode::stop::Stop;
 use crate::length::Length;
 use crate::mode::Mode;
+use crate::plain::levels::size_within;
 use crate::plain::{short_size, skip_one};
 
 /// Passes over the next value, or answers `None` at the end of the content, whose marker it takes.
@@ -75,30 +76,42 @@ fn primitive_size(header: Header, size: usize) -> Option<usize>
     }
 }
 
-/// How many octets the value at the front has, if all of them are here. Only some values are looked
-/// for if `short`: primitive ones with a header of two octets.
+/// Which values are looked for at hand.
+#[derive(Clone, Copy)]
+pub(super) enum Looked {
+    /// Primitive ones with a header of two octets.
+    Short,
+
+    /// Those that take no more than some levels of calls.
+    Shallow,
+
+    /// All.
+    Any,
+}
+
+/// How many octets the value at the front has, if it is one that is looked for and all of its
+/// octets are here.
 #[inline(always)]
-fn whole_size(mode: Mode, octets: &[u8], short: bool) -> Option<usize>
+fn whole_size(mode: Mode, octets: &[u8], looked: Looked) -> Option<usize>
     ensures { IfSome result (λ n. BeginsWhole mode octets.now n) }
 {
-    if short {
-        return short_size(octets);
-    }
-    match skip_one(mode, octets) {
-        Some(rest) => Some(octets.len() - rest.len()),
-        None => None,
+    match looked {
+        Looked::Short => short_size(octets),
+        Looked::Shallow => size_within(mode, octets),
+        Looked::Any => match skip_one(mode, octets) {
+            Some(rest) => Some(octets.len() - rest.len()),
+            None => None,
+        },
     }
 }
 
 /// The same of the value at the front of a source, of which nothing is taken. It asks for two
-/// octets, as the header of a value has at least, and looks at no more than `most`. An error is the
-/// source's own.
+/// octets, as the header of a value has at least. An error is the source's own.
 #[inline(always)]
 fn size_at_hand<S: Source>(
     source: &mut S,
     mode: Mode,
-    short: bool,
-    most: usize,
+    looked: Looked,
 ) -> Result<Option<usize>, S::Error>
     ensures whole { IfOk result (λ o.
         IfSome o (λ n. BeginsWhole mode (S.stream source.new).rest n)) }
@@ -111,7 +124,7 @@ fn size_at_hand<S: Source>(
     ensures kept { (S.stream source.new).kept ≡ (S.stream source.old).kept }
 {
     let found = source.request(2)?;
-    Ok(whole_size(mode, &source.slice()[..found.min(most)], short))
+    Ok(whole_size(mode, &source.slice()[..found], looked))
 }
 
 impl<'a, S: Source> Constructed<'a, S> {
@@ -138,11 +151,11 @@ impl<'a, S: Source> Constructed<'a, S> {
         self.source.advance(size);
     }
 
-    /// How many octets the next value has, if all of them are at hand and are no more than `most`.
-    /// Nothing is taken.
+    /// How many octets the next value has, if it is one that is looked for and all of its octets
+    /// are at hand. Nothing is taken.
     #[tactic(auto, unfolding(crate::specs::Views::of_constructed))]
     #[inline(always)]
-    fn look_at_whole(&mut self, short: bool, most: usize) -> Result<Option<usize>, S::Error>
+    fn look_at_whole(&mut self, looked: Looked) -> Result<Option<usize>, S::Error>
         ensures same { Between S.stream self Resembles }
         ensures whole { IfOk result (λ o. IfSome o (λ n.
             BeginsWhole self.old.mode (limited_stream S.stream self.new.source.now).rest n)) }
@@ -151,15 +164,15 @@ impl<'a, S: Source> Constructed<'a, S> {
         ensures no_fault { OnOk result (NoFault S.stream self) }
         ensures fault { OnErr result (Fault S.stream self) }
     {
-        size_at_hand(self.source, self.mode, short, most)
+        size_at_hand(self.source, self.mode, looked)
     }
 
-    /// Passes over the next value in one go where all of its octets are at hand and are no more
-    /// than `most`, and says whether it did. The source is asked once at most, and not where no
-    /// octets are owed.
+    /// Passes over the next value in one go where it is one that is looked for and all of its
+    /// octets are at hand, and says whether it did. The source is asked once at most, and not where
+    /// no octets are owed.
     #[tactic(auto, unfolding(crate::specs::Views::of_constructed))]
     #[inline(always)]
-    pub(super) fn pass_at_hand(&mut self, short: bool, most: usize) -> Result<bool, Stop<S::Error>>
+    pub(super) fn pass_at_hand(&mut self, looked: Looked) -> Result<bool, Stop<S::Error>>
         ensures moves { Between S.stream self Moves }
         ensures passed { PassedAtOnce S.stream self result }
     {
@@ -171,7 +184,7 @@ impl<'a, S: Source> Constructed<'a, S> {
                 return Ok(false);
             }
         }
-        match self.look_at_whole(short, most) {
+        match self.look_at_whole(looked) {
             Ok(Some(size)) => {
                 self.pass_over(size);
                 Ok(true)
@@ -245,7 +258,7 @@ fn walk_next<S: Source>(cons: &mut Constructed<'_, S>) -> Result<Option<()>, Sto
     ensures moves { Between S.stream cons Moves }
     ensures passed { PassedStep S.stream cons result }
 {
-    match cons.pass_at_hand(true, usize::MAX) {
+    match cons.pass_at_hand(Looked::Short) {
         Ok(true) => Ok(Some(())),
         Ok(false) => walk_any(cons),
         Err(stop) => Err(stop),
@@ -258,7 +271,7 @@ fn walk_any<S: Source>(cons: &mut Constructed<'_, S>) -> Result<Option<()>, Stop
     ensures moves { Between S.stream cons Moves }
     ensures passed { PassedStep S.stream cons result }
 {
-    match cons.pass_at_hand(false, usize::MAX) {
+    match cons.pass_at_hand(Looked::Any) {
         Ok(true) => Ok(Some(())),
         Ok(false) => step(cons),
         Err(stop) => Err(stop),

@@ -7,7 +7,7 @@ use Rattle.bcder.proofs.Names.{within_constructed, constructed_form}
 use Rattle.bcder.proofs.Carrying.{carries}
 use Rattle.bcder.proofs.Walking.{walks_refl, walks_value, value_shorter}
 use Rattle.bcder.proofs.Walked.{some_value, none_value}
-use Rattle.bcder.proofs.CapturingValues.{loop_refused, pass_refused, to_end}
+use Rattle.bcder.proofs.CapturingValues.{loop_refused_one, pass_refused, to_end}
 use Rattle.bcder.proofs.decode.content.capture_values.pass_all.Goals as goal
 
 pub loop-init : goal.loop-init
@@ -17,44 +17,44 @@ pub loop-preserved : goal.loop-preserved
 loop-preserved g c =
     let i = of_constructed g.S.Source.stream c.args.cons.now in
     let j = of_constructed g.S.Source.stream c.loop.cons in
-    let k = of_constructed g.S.Source.stream c.walk.new.cons in
-    let p = c.in_ok-walk.ensures.passed in
+    let k = of_constructed g.S.Source.stream c.skip_one.new.self in
+    let p = c.in_ok-skip_one.ensures.skipped in
     record {
-      walks = walks_value i j k (within_constructed g.S.Source.stream g.met.S.Source.sound c.loop.cons) c.loop.invariant.walks (c.walk.ensures.moves j (moves_refl j)) p.mode p.marked (some_value (PassesValue j k) _ c.if-is_some.ensures p.value);
+      walks = walks_value i j k (within_constructed g.S.Source.stream g.met.S.Source.sound c.loop.cons) c.loop.invariant.walks (c.skip_one.ensures.moves j (moves_refl j)) p.mode p.marked (some_value (PassesValue j k) _ c.if-is_some.ensures p.value);
       no_fault = p.no_fault ∙ c.loop.invariant.no_fault;
     }
 
 pub loop-smaller : goal.loop-smaller
 loop-smaller g c =
     let j = of_constructed g.S.Source.stream c.loop.cons in
-    let k = of_constructed g.S.Source.stream c.walk.new.cons in
-    let h = value_shorter j k (some_value (PassesValue j k) _ c.if-is_some.ensures c.in_ok-walk.ensures.passed.value) in omega (arith, h)
+    let k = of_constructed g.S.Source.stream c.skip_one.new.self in
+    let h = value_shorter j k (some_value (PassesValue j k) _ c.if-is_some.ensures c.in_ok-skip_one.ensures.skipped.value) in omega (arith, h)
 
-pub returns-in_err-walk-clause-moves : goal.returns-in_err-walk-clause-moves
-returns-in_err-walk-clause-moves g c =
+pub returns-in_err-skip_one-clause-moves : goal.returns-in_err-skip_one-clause-moves
+returns-in_err-skip_one-clause-moves g c =
     let j = of_constructed g.S.Source.stream c.loop.cons in
-    carries _ _ (moves_trans _ _ _ c.loop.invariant.walks.moves (c.walk.ensures.moves j (moves_refl j)))
+    carries _ _ (moves_trans _ _ _ c.loop.invariant.walks.moves (c.skip_one.ensures.moves j (moves_refl j)))
 
-pub returns-in_err-walk-clause-passed : goal.returns-in_err-walk-clause-passed
-returns-in_err-walk-clause-passed g c =
+pub returns-in_err-skip_one-clause-passed : goal.returns-in_err-skip_one-clause-passed
+returns-in_err-skip_one-clause-passed g c =
     let i = of_constructed g.S.Source.stream c.args.cons.now in
     let j = of_constructed g.S.Source.stream c.loop.cons in
-    let k = of_constructed g.S.Source.stream c.walk.new.cons in
-    pass_refused i k c.from_residual.result _ c.from_residual.ensures.1 (loop_refused _ i j k (constructed_form g.S.Source.stream c.args.cons.now) c.loop.invariant.walks c.in_err-walk.ensures.passed.refused) (c.in_err-walk.ensures.passed.marked ∙ c.loop.invariant.walks.marked)
+    let k = of_constructed g.S.Source.stream c.skip_one.new.self in
+    pass_refused i k c.from_residual.result _ c.from_residual.ensures.1 (loop_refused_one _ i j k (constructed_form g.S.Source.stream c.args.cons.now) c.loop.invariant.walks c.in_err-skip_one.ensures.skipped.refused) (c.in_err-skip_one.ensures.skipped.marked ∙ c.loop.invariant.walks.marked)
 
 pub returns-clause-moves : goal.returns-clause-moves
 returns-clause-moves g c =
     let j = of_constructed g.S.Source.stream c.loop.cons in
-    carries _ _ (moves_trans _ _ _ c.loop.invariant.walks.moves (c.walk.ensures.moves j (moves_refl j)))
+    carries _ _ (moves_trans _ _ _ c.loop.invariant.walks.moves (c.skip_one.ensures.moves j (moves_refl j)))
 
 pub returns-clause-passed : goal.returns-clause-passed
 returns-clause-passed g c =
     let i = of_constructed g.S.Source.stream c.args.cons.now in
     let j = of_constructed g.S.Source.stream c.loop.cons in
-    let k = of_constructed g.S.Source.stream c.walk.new.cons in
-    let p = c.in_ok-walk.ensures.passed in
+    let k = of_constructed g.S.Source.stream c.skip_one.new.self in
+    let p = c.in_ok-skip_one.ensures.skipped in
     record {
-      passed = to_end j k (c.walk.ensures.moves j (moves_refl j)) (none_value (EndsAt j k) _ c.if-is_some.ensures p.end) i (none_value (IsDone k) _ c.if-is_some.ensures p.done);
+      passed = to_end j k (c.skip_one.ensures.moves j (moves_refl j)) (none_value (EndsAt j k) _ c.if-is_some.ensures p.end) i (none_value (IsDone k) _ c.if-is_some.ensures p.done);
       no_fault = p.no_fault ∙ c.loop.invariant.no_fault;
       refused = tt;
       marked = p.marked ∙ c.loop.invariant.walks.marked;

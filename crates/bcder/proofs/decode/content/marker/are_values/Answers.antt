@@ -1,0 +1,20 @@
+use Rattle.std.proofs.Common.{◌≡◌, true, false, refl, rules}
+use Rattle.bcder.specs.Cause.{is_memory_cause, cause_of}
+use Rattle.bcder.specs.Views.{of_constructed}
+use Rattle.bcder.proofs.Markers.{values_there, values_found, not_memory, never_grew, as_other, as_no}
+use Rattle.bcder.proofs.decode.content.marker.are_values.Goals.{then-is_memory, else-is_memory}
+use Rattle.bcder.proofs.decode.content.marker.are_values.Goals as goal
+
+pub returns-in-Ok : goal.returns-in-Ok
+unfolding of_constructed
+returns-in-Ok c = (λ t. values_found _ c.args.mode c.args.octets.now refl refl (search rules) (c.in-Ok.ensures.skipped.all refl), λ v. refl)
+
+pub returns-after-is_memory : goal.returns-after-is_memory
+unfolding of_constructed
+returns-after-is_memory c =
+    elim c.if-is_memory.branch [
+      | then-is_memory w ↦ as_other _ _ _ w.result-is w.is_list.ensures
+      | else-is_memory w ↦
+          let n : is_memory_cause (cause_of c.in-Err.error) ≡ false = search rules in
+          as_no _ _ (search rules) (λ v. let x : false ≡ true = c.in-Err.ensures.exact never_grew (λ m. not_memory _ n m) refl (values_there _ c.args.mode c.args.octets.now refl refl (search rules) v) in cc)
+    ]
