@@ -54,3 +54,4 @@ pub mod Unwinding
 pub mod Running
 pub mod Skipped
 pub mod Iterating
+pub mod Gathering

@@ -57,3 +57,4 @@ pub mod Written
 pub mod ReadBack
 pub mod Front
 pub mod Iterated
+pub mod Gathered

@@ -17,3 +17,4 @@ pub mod Written
 pub mod Meanings
 pub mod Joined
 pub mod Listed
+pub mod Gathered

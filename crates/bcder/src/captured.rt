@@ -3,10 +3,16 @@ ghost use Rattle.std.specs.Prelude.{◌≡◌, [], IfOk, OnErr};
 ghost use Rattle.bcder.specs.Captured.{AreWhole, kept_stream};
 ghost use Rattle.bcder.specs.Captured.{CallableOnKept, LawfulOnKept, DecodesPart, RefusesPart};
 ghost use Rattle.bcder.specs.Decoding.{CallableOnAll, LawfulOnAll, DecodesAll, RefusesAll};
+ghost use Rattle.bcder.specs.Gathered.{none_kept, from_start, GathersValues};
+
+mod builder;
+mod values;
 
 use crate::NoMemory;
 use crate::decode::{BytesSource, Constructed, DecodeError, IntoSource, Pos, Source};
+use crate::encode::{EncodeError, Values};
 use crate::mode::Mode;
+pub use builder::CapturedBuilder;
 use bytes::Bytes;
 use std::alloc::{AllocError, Global};
 use std::convert::{AsRef, AsSlice, Infallible};
@@ -61,6 +67,51 @@ impl Captured {
             mode,
             start: Pos::default(),
         }
+    }
+
+    /// The values of an encoder, in a mode, at position 0.
+    ///
+    /// The octets are what the encoder writes in the mode: an encoding of its values, in CER and
+    /// DER the only one (X.690, 9.1, 10.1). Memory for them is asked for once.
+    ///
+    /// # Errors
+    ///
+    /// Those of the encoder's `encoded_len`, and `NoMemory` where there is no memory for the
+    /// octets.
+    pub fn from_values<V: Values + Drop>(
+        alloc: Global,
+        mode: Mode,
+        values: V,
+    ) -> Result<Captured, EncodeError>
+        requires { V.can_encode values }
+        ensures { GathersValues (V.means values mode) mode result }
+    {
+        let mut builder = Captured::builder(alloc, mode);
+        builder.extend(values)?;
+        match builder.freeze() {
+            Ok(captured) => Ok(captured),
+            Err(NoMemory) => Err(EncodeError::NoMemory),
+        }
+    }
+
+    /// A builder without values, in a mode.
+    pub fn builder(alloc: Global, mode: Mode) -> CapturedBuilder
+        ensures { result ≡ none_kept mode }
+    {
+        CapturedBuilder::new(alloc, mode)
+    }
+
+    /// A builder with these values, behind which more can be put. It begins at position 0.
+    ///
+    /// The octets are copied, as they may be shared.
+    ///
+    /// # Errors
+    ///
+    /// Where there is no memory for the copy.
+    pub fn into_builder(self, alloc: Global) -> Result<CapturedBuilder, NoMemory>
+        ensures { IfOk result (λ b. b ≡ from_start self) }
+    {
+        Ok(CapturedBuilder::holding(Vec::from_slice(alloc, self.as_slice())?, self.mode))
     }
 
     /// Decodes the values, in the mode that they are kept in.

@@ -5,7 +5,7 @@
 //! proved. The README says crate by crate what that comes to.
 #![tactic(auto)]
 
-mod captured;
+pub mod captured;
 pub mod decode;
 pub mod encode;
 pub mod int;

@@ -1,5 +1,6 @@
 //! What encoders write: octets from worked examples, sizes, and refusals.
 use crate::asserts::{holds, same};
+use crate::encoders::{Nulls, Zeros};
 use bcder::encode::{
     Choice2, Choice3, EncodeError, Nothing, PrimitiveContent, Values, WriteError, sequence,
     sequence_as, set, set_as, slice, total_encoded_len, write_header,
@@ -12,7 +13,7 @@ use std::process::Abort;
 use std::test::Fail;
 
 /// The values are written as these octets, and their size is told.
-fn writes<V: Values>(
+pub fn writes<V: Values>(
     rt: &impl Abort,
     alloc: Global,
     values: &V,
@@ -43,7 +44,7 @@ fn writes_always<V: Values>(
 }
 
 /// The values are refused for this reason, and nothing is written.
-fn refuses<V: Values>(
+pub fn refuses<V: Values>(
     rt: &impl Abort,
     alloc: Global,
     values: &V,
@@ -317,11 +318,88 @@ fn refusals(rt: HostRuntime) -> Result<(), Fail> {
     )
 }
 
-/// Takes one octet a call, and fails when `left` is used up.
+/// The values have so many octets in each mode, or are refused for this reason and not written.
+fn sizes<V: Values>(
+    rt: &impl Abort,
+    alloc: Global,
+    values: &V,
+    wanted: [Result<usize, EncodeError>; 3],
+) -> Result<(), Fail>
+    requires { V.can_encode values.now }
+{
+    let [ber, cer, der] = wanted;
+    for (mode, wanted) in [(Mode::Ber, ber), (Mode::Cer, cer), (Mode::Der, der)] {
+        match wanted {
+            Ok(_) => same(rt, values.encoded_len(mode), wanted),
+            Err(error) => refuses(rt, alloc, values, mode, error)?,
+        }
+    }
+    Ok(())
+}
+
+#[test]
+fn encoders_of_any_size(rt: HostRuntime) -> Result<(), Fail> {
+    let zeros = [0x04, 0x03, 0x00, 0x00, 0x00];
+    writes_always(&rt, rt.alloc(), &Zeros(3).encode(), &zeros)?;
+    writes_always(
+        &rt,
+        rt.alloc(),
+        &Zeros(0).encode_as(Tag::CTX_0),
+        &[0x80, 0x00],
+    )?;
+    writes_always(&rt, rt.alloc(), &Nulls(2), &[0x05, 0x00, 0x05, 0x00])?;
+    writes_always(&rt, rt.alloc(), &Nulls(0), &[])
+}
+
+/// Four octets tell lengths below 2^32, and the indefinite form any.
+#[test]
+fn the_longest_lengths(rt: HostRuntime) -> Result<(), Fail> {
+    let long = Err(EncodeError::LengthTooLarge);
+    sizes(
+        &rt,
+        rt.alloc(),
+        &Zeros(4294967295).encode(),
+        [Ok(4294967301); 3],
+    )?;
+    sizes(&rt, rt.alloc(), &Zeros(4294967296).encode(), [long; 3])?;
+    let inside = sequence(Zeros(4294967295).encode());
+    sizes(&rt, rt.alloc(), &inside, [long, Ok(4294967305), long])
+}
+
+/// Sizes that a `usize` doesn't count. A length is looked at before a sum.
+#[test]
+fn the_largest_sizes(rt: HostRuntime) -> Result<(), Fail> {
+    let many = Nulls(9223372036854775807);
+    let long = Err(EncodeError::LengthTooLarge);
+    let over = Err(EncodeError::SizeOverflow);
+    sizes(
+        &rt,
+        rt.alloc(),
+        &(many, Nothing),
+        [Ok(18446744073709551614); 3],
+    )?;
+    sizes(&rt, rt.alloc(), &(many, true.encode()), [over; 3])?;
+    sizes(&rt, rt.alloc(), &Nulls(9223372036854775808), [over; 3])?;
+    sizes(&rt, rt.alloc(), &sequence(many), [long, over, long])
+}
+
+/// How a target fails.
+#[derive(Clone, Copy, Debug, PartialEq, Eq)]
+enum Failure {
+    /// It answers that it took no octet.
+    Nothing,
+
+    /// It answers an error of this kind.
+    Error(ErrorKind),
+}
+
+/// Takes one octet a call, and fails at one call, of the number `failing`, counted from 1.
 #[derive(Drop)]
 struct OneByOne {
     taken: Vec<u8>,
-    left: usize,
+    calls: usize,
+    failing: usize,
+    failure: Failure,
 }
 
 impl Write for OneByOne {
@@ -333,11 +411,14 @@ impl Write for OneByOne {
         if buf.is_empty() {
             return Ok(0);
         }
-        if self.left == 0 {
-            return Err(Error::from(ErrorKind::Interrupted));
+        self.calls = self.calls.saturating_add(1);
+        if self.calls == self.failing {
+            return match self.failure {
+                Failure::Nothing => Ok(0),
+                Failure::Error(kind) => Err(Error::from(kind)),
+            };
         }
         self.taken.push(buf[0])?;
-        self.left -= 1;
         Ok(1)
     }
 
@@ -346,21 +427,55 @@ impl Write for OneByOne {
     }
 }
 
+/// Writes to a target that fails at a call. The octets up to that call were taken, and no more,
+/// also where it would take more at the next one.
+fn check_failing<V: Values>(
+    rt: &impl Abort,
+    alloc: Global,
+    values: &V,
+    wanted: &[u8],
+    failing: usize,
+    failure: Failure,
+) -> Result<(), Fail>
+    requires { V.can_encode values.now }
+{
+    let mut target = OneByOne {
+        taken: Vec::new(alloc),
+        calls: 0,
+        failing,
+        failure,
+    };
+    let kind = match values.write_encoded(Mode::Der, &mut target) {
+        Ok(()) => None,
+        Err(WriteError::Target(error)) => Some(error.kind()),
+        Err(WriteError::Refused(_)) => Some(ErrorKind::Other),
+    };
+    if failing > wanted.len() {
+        same(rt, kind, None);
+        holds(rt, target.taken.as_slice() == wanted);
+        return Ok(());
+    }
+    match failure {
+        Failure::Nothing => same(rt, kind, Some(ErrorKind::WriteZero)),
+        Failure::Error(wanted) => same(rt, kind, Some(wanted)),
+    }
+    same(rt, target.taken.len() + 1, failing);
+    holds(rt, wanted.starts_with(target.taken.as_slice()));
+    Ok(())
+}
+
 #[test]
 fn up_to_the_failure(rt: HostRuntime) -> Result<(), Fail> {
-    let whole = [0x30, 0x06, 0x02, 0x01, 0xFF, 0x02, 0x01, 0x05];
-    for n in 0..9usize {
-        let mut target = OneByOne {
-            taken: Vec::new(rt.alloc()),
-            left: n,
-        };
-        let values = sequence(((-1i8).encode(), 5u8.encode()));
-        let answer = values.write_encoded(Mode::Der, &mut target);
-        holds(&rt, target.taken.as_slice() == &whole[..n]);
-        match answer {
-            Ok(()) => same(&rt, n, 8),
-            Err(WriteError::Target(_)) => holds(&rt, n < 8),
-            Err(WriteError::Refused(_)) => holds(&rt, false),
+    let whole = [0x30, 0x06, 0x01, 0x01, 0xFF, 0x02, 0x01, 0x05];
+    let failures = [
+        Failure::Nothing,
+        Failure::Error(ErrorKind::Interrupted),
+        Failure::Error(ErrorKind::BrokenPipe),
+    ];
+    let values = sequence((true.encode(), 5u8.encode()));
+    for failure in failures {
+        for failing in 1..10usize {
+            check_failing(&rt, rt.alloc(), &values, &whole, failing, failure)?;
         }
     }
     Ok(())

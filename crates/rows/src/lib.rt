@@ -2,19 +2,30 @@
 //! are in `vectors`. There is one module for each subject.
 //!
 //! [`sip`] is a source that can fail and makes available no more than what was asked for; each
-//! module of tests runs over it too.
+//! module of tests runs over it too. [`encoders`] has values of any size.
 #![tactic(auto)]
 
 #[cfg(test)]
 mod asserts;
 pub mod borrows;
 #[cfg(test)]
+mod captured;
+#[cfg(test)]
+mod captures;
+#[cfg(test)]
 mod contents;
 #[cfg(test)]
 mod decodes;
 pub mod decoding;
 #[cfg(test)]
+mod deep;
+#[cfg(test)]
+mod dropped;
+pub mod encoders;
+#[cfg(test)]
 mod encodes;
+#[cfg(test)]
+mod failures;
 #[cfg(test)]
 mod integers;
 pub mod sip;

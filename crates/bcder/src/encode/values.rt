@@ -3,6 +3,7 @@ ghost use Rattle.std.specs.Prelude.{◌≡◌, ⊤};
 ghost use Rattle.bcder.specs.declared.mode.Mode.{Mode};
 ghost use Rattle.bcder.specs.Meaning.{Meaning, IsLawful};
 ghost use Rattle.bcder.specs.Encoders.{HasEncoding, SizeOfValues, WritesValues, WritesKnown};
+ghost use Rattle.bcder.specs.Gathered.{GathersValues};
 
 pub(crate) mod choice;
 pub(crate) mod constructed;
@@ -14,10 +15,12 @@ mod parts;
 pub(crate) mod slice;
 mod tuples;
 
+use crate::captured::Captured;
 use crate::encode::values::constructed::Constructed;
 use crate::encode::{EncodeError, WriteError};
 use crate::mode::Mode;
 use crate::tag::Tag;
+use std::alloc::Global;
 use std::io;
 
 /// What has an encoding as a list of values, one after the other.
@@ -81,6 +84,20 @@ pub trait Values {
         ensures { result ≡ record { tag = tag; inner = self } }
     {
         Constructed::new(tag, self)
+    }
+
+    /// The values as [`Captured`], in a mode, at position 0.
+    ///
+    /// # Errors
+    ///
+    /// Those of `encoded_len`, and `NoMemory` where there is no memory for the octets.
+    final fn to_captured(&self, alloc: Global, mode: Mode) -> Result<Captured, EncodeError>
+    where
+        Self: Sized,
+        requires { can_encode self.now }
+        ensures { GathersValues (means self.now mode) mode result }
+    {
+        Captured::from_values(alloc, mode, self)
     }
 }
 

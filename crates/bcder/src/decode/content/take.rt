@@ -58,6 +58,19 @@ fn is_end(tag: Tag, constructed: bool, len: Length) -> bool
     tag == Tag::END_OF_VALUE && !constructed && len == Length::Definite(0)
 }
 
+/// A header whose tag is known: where it is a constant, so is what is asked of it.
+#[inline(always)]
+fn tagged(tag: Tag, header: Header) -> Header
+    requires { header.tag ≡ tag }
+    ensures { result ≡ header }
+{
+    Header {
+        tag,
+        constructed: header.constructed,
+        len: header.len,
+    }
+}
+
 impl<'a, S: Source> Primitive<'a, S> {
     /// A refusal at the present position.
     #[cold]
@@ -295,7 +308,7 @@ impl<'a, S: Source> Constructed<'a, S> {
             return Ok(None);
         }
         match self.look_for(tag) {
-            Ok(PeekedIf::Front { header, size }) => self.enter(header, size),
+            Ok(PeekedIf::Front { header, size }) => self.enter(tagged(tag, header), size),
             Ok(PeekedIf::Nothing) => Ok(None),
             Ok(PeekedIf::Other) => Ok(None),
             Ok(PeekedIf::Refused) => {

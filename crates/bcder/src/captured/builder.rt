@@ -1,0 +1,111 @@
+//! Values that are put one behind the other, as their octets.
+ghost use Rattle.std.specs.Prelude.{◌≡◌, IfOk, OnErr};
+ghost use Rattle.bcder.specs.Captured.{AreWhole};
+ghost use Rattle.bcder.specs.Gathered.{none_kept, kept_from_start, ExtendsBy};
+
+use crate::NoMemory;
+use crate::captured::Captured;
+use crate::decode::Pos;
+use crate::encode::{EncodeError, Values, WriteError};
+use crate::mode::Mode;
+use bytes::Bytes;
+use std::alloc::Global;
+use std::marker::Model;
+
+/// A list of values that more can be put behind, kept as their encodings in a mode.
+#[derive(Drop)]
+pub struct CapturedBuilder {
+    octets: Vec<u8>,
+    mode: Mode,
+}
+
+/// It is what it would be captured as.
+impl Model for CapturedBuilder {
+    ghost use Rattle.bcder.specs.Captured.{Kept, AreWhole};
+    ghost use Rattle.bcder.specs.Gathered.{kept_from_start};
+
+    ghost Value = { Kept };
+
+    ghost view = { λ b. kept_from_start b.mode b.octets.items };
+
+    ghost invariant = { λ b. AreWhole b.mode b.octets.items };
+}
+
+impl CapturedBuilder {
+    /// Octets that are encodings in a mode.
+    pub(super) fn holding(octets: Vec<u8>, mode: Mode) -> CapturedBuilder
+        requires { AreWhole mode octets.items }
+        ensures { result ≡ kept_from_start mode octets.items }
+    {
+        CapturedBuilder { octets, mode }
+    }
+
+    /// No values, in a mode.
+    #[tactic(auto, using(crate::proofs::Gathering::none_whole))]
+    pub fn new(alloc: Global, mode: Mode) -> CapturedBuilder
+        ensures { result ≡ none_kept mode }
+    {
+        CapturedBuilder::holding(Vec::new(alloc), mode)
+    }
+
+    /// No values, in a mode, with memory for encodings of `capacity` octets in all.
+    ///
+    /// # Errors
+    ///
+    /// Where there is no such memory.
+    #[tactic(auto, using(crate::proofs::Gathering::none_whole))]
+    pub fn with_capacity(
+        alloc: Global,
+        capacity: usize,
+        mode: Mode,
+    ) -> Result<CapturedBuilder, NoMemory>
+        ensures { IfOk result (λ b. b ≡ none_kept mode) }
+    {
+        Ok(CapturedBuilder::holding(Vec::with_capacity(alloc, capacity)?, mode))
+    }
+
+    /// Puts the values of an encoder behind those that there are, in the builder's mode.
+    ///
+    /// The octets that are added are what the encoder writes in that mode: an encoding of its
+    /// values, in CER and DER the only one (X.690, 9.1, 10.1). Memory for them is asked for once.
+    ///
+    /// # Errors
+    ///
+    /// Those of the encoder's `encoded_len`, and `NoMemory` where there is no memory for the
+    /// octets. The values are then as they were.
+    pub fn extend<V: Values + Drop>(&mut self, values: V) -> Result<(), EncodeError>
+        requires { V.can_encode values }
+        ensures extended { ExtendsBy (V.means values self.old.mode) self result }
+        ensures unchanged { OnErr result (self.new ≡ self.old) }
+    {
+        let len = values.encoded_len(self.mode)?;
+        if self.octets.reserve(len).is_err() {
+            return Err(EncodeError::NoMemory);
+        }
+        let before = self.octets.len();
+        match values.write_known(self.mode, &mut self.octets) {
+            Ok(()) => Ok(()),
+            Err(error) => {
+                self.octets.truncate(before);
+                match error {
+                    WriteError::Refused(error) => Err(error),
+                    WriteError::Target(_) => Err(EncodeError::NoMemory),
+                }
+            }
+        }
+    }
+
+    /// The values, captured, at position 0. No octet is copied.
+    ///
+    /// # Errors
+    ///
+    /// Where there is no memory to share the octets.
+    pub fn freeze(self) -> Result<Captured, NoMemory>
+        ensures { IfOk result (λ c. c ≡ self) }
+    {
+        match Bytes::from_vec(self.octets) {
+            Ok(octets) => Ok(Captured::new(octets, self.mode, Pos::default())),
+            Err(_) => Err(NoMemory),
+        }
+    }
+}

@@ -1,0 +1,61 @@
+//! Captured values as an encoder.
+ghost use Rattle.std.specs.Prelude.{◌≡◌};
+ghost use Rattle.bcder.specs.Gathered.{suits, KeptMeans, MayWrite};
+ghost use Rattle.bcder.specs.laws.Gathered.{kept_lawful};
+
+use crate::captured::Captured;
+use crate::encode::target::write_all;
+use crate::encode::{EncodeError, Values, WriteError};
+use crate::mode::Mode;
+use std::io;
+
+/// The values that it holds, as their octets stand.
+///
+/// They are written in their own mode, and in BER, in which an encoding of CER or DER is one too.
+/// In CER and DER values of another mode are refused with `CapturedMode`, also where there are
+/// none.
+impl Values for Captured {
+    ghost means = { KeptMeans };
+
+    ghost may_lack = { λ c mode. ⊥ };
+
+    fn encoded_len(&self, mode: Mode) -> Result<usize, EncodeError> {
+        self.check_mode(mode)?;
+        Ok(self.octets.len())
+    }
+
+    fn write_encoded<W: io::Write>(&self, mode: Mode, target: &mut W) -> Result<(), WriteError> {
+        self.check_mode(mode)?;
+        write_all(target, self.octets.as_slice())
+    }
+
+    fn write_known<W: io::Write>(&self, _mode: Mode, target: &mut W) -> Result<(), WriteError> {
+        write_all(target, self.octets.as_slice())
+    }
+
+    ghost lawful = { λ c mode can. kept_lawful c mode };
+}
+
+impl Captured {
+    /// Refuses a mode that the values may not be written in.
+    #[tactic(auto, using(crate::proofs::Gathering::may_write))]
+    fn check_mode(&self, mode: Mode) -> Result<(), EncodeError>
+        ensures { MayWrite self.now mode result }
+    {
+        if suits(self.mode, mode) {
+            Ok(())
+        } else {
+            Err(EncodeError::CapturedMode)
+        }
+    }
+}
+
+/// Whether values that are kept in one mode may be written in another.
+fn suits(own: Mode, mode: Mode) -> bool
+    ensures { result ≡ suits own mode }
+{
+    match mode {
+        Mode::Ber => true,
+        Mode::Cer | Mode::Der => own == mode,
+    }
+}

@@ -1,0 +1,127 @@
+//! Values in values, deeper than calls may be in calls: skipping takes no level of calls for one.
+#![tactic(auto, using(bcder::proofs::Moving::moves_refl))]
+
+ghost use Rattle.bcder.specs.Views.{Moved};
+
+use crate::asserts::{holds, same};
+use crate::sip::Sip;
+use bcder::decode::{BytesSource, Constructed, ContentError, DecodeError, SliceSource, Source};
+use bcder::{Mode, Tag};
+use bytes::Bytes;
+use std::alloc::{AllocError, Global};
+use std::process::Abort;
+use std::test::Fail;
+
+/// How many sequences are opened.
+const LEVELS: usize = 100_000;
+
+/// What a closure was told: how many headings, and whether they were those of nested sequences.
+#[derive(Clone, Copy)]
+struct Told {
+    calls: usize,
+    nested: bool,
+}
+
+impl Told {
+    /// The next heading is that of a sequence, one level deeper than the one before it.
+    fn hear(&mut self, tag: Tag, constructed: bool, depth: usize) {
+        if tag != Tag::SEQUENCE || !constructed || depth != self.calls {
+            self.nested = false;
+        }
+        self.calls = self.calls.saturating_add(1);
+    }
+}
+
+/// Skips the next value, and keeps what the closure is told.
+fn skip_told<S: Source>(
+    cons: &mut Constructed<'_, S>,
+    alloc: Global,
+    told: &mut Told,
+) -> Result<(), DecodeError<S::Error>>
+    ensures { Moved S.stream cons }
+{
+    let mut op = |tag: Tag, constructed: bool, depth: usize| -> Result<(), ContentError> {
+        told.hear(tag, constructed, depth);
+        Ok(())
+    };
+    cons.skip(alloc, &mut op)
+}
+
+/// The value is skipped up to the end of the source, or refused for its octets, after so many
+/// calls, one for each level, at its depth.
+fn check<S: Source>(
+    rt: &impl Abort,
+    alloc: Global,
+    source: &mut S,
+    mode: Mode,
+    skipped: bool,
+    calls: usize,
+) -> Result<(), Fail> {
+    let mut told = Told {
+        calls: 0,
+        nested: true,
+    };
+    match mode.decode_lent(source, |cons| skip_told(cons, alloc, &mut told)) {
+        Ok(()) => {
+            holds(rt, skipped);
+            same(rt, source.take_opt_u8()?, None);
+        }
+        Err(error) => holds(rt, !skipped && error.content_error().is_some()),
+    }
+    same(rt, told.calls, calls);
+    holds(rt, told.nested);
+    Ok(())
+}
+
+/// Sequences of indefinite length, each in the one before it.
+fn nested(alloc: Global) -> Result<Vec<u8>, AllocError> {
+    let mut octets = Vec::new(alloc);
+    for _ in 0..LEVELS {
+        octets.extend_from_slice(&[0x30, 0x80])?;
+    }
+    octets.resize(4 * LEVELS, 0x00)?;
+    Ok(octets)
+}
+
+/// How many octets of the nested sequences are there, the rules, whether they are skipped, and
+/// after how many calls that ends: each level has two octets at its front and two at its end.
+const ROWS: [(usize, Mode, bool, usize); 5] = [
+    (4 * LEVELS, Mode::Ber, true, LEVELS),
+    (4 * LEVELS, Mode::Cer, true, LEVELS),
+    (4 * LEVELS, Mode::Der, false, 0),
+    (4 * LEVELS - 1, Mode::Ber, false, LEVELS),
+    (2 * LEVELS, Mode::Ber, false, LEVELS),
+];
+
+#[test]
+fn over_borrowed_octets(rt: HostRuntime) -> Result<(), Fail> {
+    let octets = nested(rt.alloc())?;
+    for (len, mode, skipped, calls) in ROWS {
+        let front = &octets[..len.min(octets.len())];
+        let mut source = SliceSource::new(front);
+        check(&rt, rt.alloc(), &mut source, mode, skipped, calls)?;
+    }
+    Ok(())
+}
+
+#[test]
+fn over_shared_octets(rt: HostRuntime) -> Result<(), Fail> {
+    let octets = nested(rt.alloc())?;
+    for (len, mode, skipped, calls) in ROWS {
+        let front = &octets[..len.min(octets.len())];
+        let mut source = BytesSource::new(Bytes::copy_from_slice(rt.alloc(), front)?);
+        check(&rt, rt.alloc(), &mut source, mode, skipped, calls)?;
+    }
+    Ok(())
+}
+
+#[test]
+fn over_what_was_asked_for(rt: HostRuntime) -> Result<(), Fail> {
+    let octets = nested(rt.alloc())?;
+    for (len, mode, skipped, calls) in ROWS {
+        let front = &octets[..len.min(octets.len())];
+        let mut source = Sip::new(front.to_vec(rt.alloc())?, 0);
+        check(&rt, rt.alloc(), &mut source, mode, skipped, calls)?;
+    }
+    Ok(())
+}
