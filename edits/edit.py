@@ -37,8 +37,9 @@ class Crate:
         start = "::".join(module) + "::"
         if start + name in states:
             return start + name
-        plain = lambda it: it.replace("+", "").replace("Any", "")
-        found = [it for it in states if plain(it).endswith(f"::{name}") and "::fn::" not in it]
+        # Of `impl Oid<Vec<u8>>` the report has `Oid+Vec+u8`.
+        plain = lambda it: it.replace("+", "").replace("Any", "").lower()
+        found = [it for it in states if plain(it).endswith(f"::{name}".lower()) and "::fn::" not in it]
         found = [it for it in found if it.startswith(start)] or found
         return found[0] if len(found) == 1 else None
 

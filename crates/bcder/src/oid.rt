@@ -210,7 +210,8 @@ impl<T: AsSlice<u8>> AsSlice<u8> for Oid<T> {
     ghost items = { λ oid. T.items oid.0 };
 
     fn as_slice(&self) -> &[u8] {
-        self.0.as_slice()
+        let Oid(octets) = self;
+        octets.as_slice()
     }
 }
 

@@ -73,32 +73,15 @@ impl<V: Values> Values for Vec<V> {
     ghost can_encode = { λ x. All V.can_encode x.items };
 
     fn encoded_len(&self, mode: Mode) -> Result<usize, EncodeError> {
-        joined_len(
-            &Items {
-                items: self.as_slice(),
-            },
-            mode,
-        )
+        self.as_slice().encoded_len(mode)
     }
 
     fn write_encoded<W: io::Write>(&self, mode: Mode, target: &mut W) -> Result<(), WriteError> {
-        write_joined(
-            &Items {
-                items: self.as_slice(),
-            },
-            mode,
-            target,
-        )
+        self.as_slice().write_encoded(mode, target)
     }
 
     fn write_known<W: io::Write>(&self, mode: Mode, target: &mut W) -> Result<(), WriteError> {
-        write_known_parts(
-            &Items {
-                items: self.as_slice(),
-            },
-            mode,
-            target,
-        )
+        self.as_slice().write_known(mode, target)
     }
 
     ghost lawful = { λ x mode can.

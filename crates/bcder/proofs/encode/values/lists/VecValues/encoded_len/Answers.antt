@@ -6,5 +6,5 @@ use Rattle.bcder.proofs.encode.values.lists.VecValues.encoded_len.Goals as goal
 
 pub returns : goal.returns
 returns g c =
-    subst (λ (xs : List g.row.V.Denot). TellsSize octets_of (Joined (EachOf (λ v. g.V.Values.means v c.args.mode) xs)) (Any (λ v. g.V.Values.may_lack v c.args.mode) xs) c.joined_len.result)
-    c.as_slice.ensures.value c.joined_len.ensures
+    subst (λ (xs : List g.row.V.Denot). TellsSize octets_of (Joined (EachOf (λ v. g.V.Values.means v c.args.mode) xs)) (Any (λ v. g.V.Values.may_lack v c.args.mode) xs) c.encoded_len.result)
+    c.as_slice.ensures.value c.encoded_len.ensures

@@ -6,5 +6,5 @@ use Rattle.bcder.proofs.encode.values.lists.VecValues.write_encoded.Goals as goa
 
 pub returns : goal.returns
 returns g c =
-    subst (λ (xs : List g.row.V.Denot). Writes octets_of (Joined (EachOf (λ v. g.V.Values.means v c.args.mode) xs)) (Any (λ v. g.V.Values.may_lack v c.args.mode) xs) (g.W.Write.contents c.args.target.now) (g.W.Write.contents c.write_joined.new.target) c.write_joined.result)
-    c.as_slice.ensures.value c.write_joined.ensures
+    subst (λ (xs : List g.row.V.Denot). Writes octets_of (Joined (EachOf (λ v. g.V.Values.means v c.args.mode) xs)) (Any (λ v. g.V.Values.may_lack v c.args.mode) xs) (g.W.Write.contents c.args.target.now) (g.W.Write.contents c.write_encoded.new.target) c.write_encoded.result)
+    c.as_slice.ensures.value c.write_encoded.ensures

@@ -7,5 +7,5 @@ use Rattle.bcder.proofs.encode.values.lists.VecValues.write_known.Goals as goal
 pub returns : goal.returns
 returns g c =
     subst (λ (xs : List g.row.V.Denot). IsOne (Joined (EachOf (λ v. g.V.Values.means v c.args.mode) xs))
-    → WritesEncoding (Joined (EachOf (λ v. g.V.Values.means v c.args.mode) xs)) (Any (λ v. g.V.Values.may_lack v c.args.mode) xs) (g.W.Write.contents c.args.target.now) (g.W.Write.contents c.write_known_parts.new.target) c.write_known_parts.result)
-    c.as_slice.ensures.value c.write_known_parts.ensures
+    → WritesEncoding (Joined (EachOf (λ v. g.V.Values.means v c.args.mode) xs)) (Any (λ v. g.V.Values.may_lack v c.args.mode) xs) (g.W.Write.contents c.args.target.now) (g.W.Write.contents c.write_known.new.target) c.write_known.result)
+    c.as_slice.ensures.value c.write_known.ensures
