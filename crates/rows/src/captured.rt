@@ -1,17 +1,68 @@
 //! Captured values: what they are written as and where they are refused, and how they are built.
+#![tactic(auto, using(bcder::proofs::Moving::moves_refl))]
+
+ghost use Rattle.bcder.specs.Views.{Moved};
+
 use crate::asserts::{holds, same, shows};
 use crate::encodes::{refuses, writes};
 use bcder::captured::CapturedBuilder;
-use bcder::decode::{IntoSource, SliceSource, Source};
+use bcder::decode::{Constructed as Content, DecodeError, IntoSource, SliceSource, Source};
 use bcder::encode::{Constructed, EncodeError, Nothing, PrimitiveContent, Values, sequence};
 use bcder::{Captured, Mode, NoMemory, Tag};
 use std::alloc::Global;
 use std::process::Abort;
 use std::test::Fail;
 
+/// Captures all values.
+#[tactic(auto, using(bcder::proofs::Moving::moves_refl, bcder::proofs::Carrying::carries))]
+fn all<S: Source>(
+    cons: &mut Content<'_, S>,
+    alloc: Global,
+) -> Result<Captured, DecodeError<S::Error>>
+    ensures { Moved S.stream cons }
+{
+    cons.capture_all(alloc)
+}
+
+/// Passes over a value, and captures the next.
+#[tactic(auto, using(bcder::proofs::Moving::moves_refl, bcder::proofs::Carrying::carries))]
+fn second<S: Source>(
+    cons: &mut Content<'_, S>,
+    alloc: Global,
+) -> Result<Captured, DecodeError<S::Error>>
+    ensures { Moved S.stream cons }
+{
+    cons.skip_one(alloc)?;
+    cons.capture_one(alloc)
+}
+
+/// Passes over a value in BER.
+#[tactic(auto, using(bcder::proofs::Moving::moves_refl, bcder::proofs::Carrying::carries))]
+fn pass_in_ber<S: Source>(
+    cons: &mut Content<'_, S>,
+    alloc: Global,
+) -> Result<(), DecodeError<S::Error>>
+    ensures { Moved S.stream cons }
+{
+    cons.set_mode(Mode::Ber);
+    cons.skip_one(alloc)?;
+    Ok(())
+}
+
+/// Captures what is passed over in BER.
+#[tactic(auto, using(bcder::proofs::Moving::moves_refl, bcder::proofs::Carrying::carries))]
+fn passed_in_ber<S: Source>(
+    cons: &mut Content<'_, S>,
+    alloc: Global,
+) -> Result<Captured, DecodeError<S::Error>>
+    ensures { Moved S.stream cons }
+{
+    cons.capture(alloc, |inner| pass_in_ber(inner, alloc))
+}
+
 /// All values of the octets, captured in a mode.
 fn capture(alloc: Global, octets: &[u8], mode: Mode) -> Result<Captured, Fail> {
-    Ok(mode.decode(SliceSource::new(octets), |cons| cons.capture_all(alloc))?)
+    Ok(mode.decode(SliceSource::new(octets), |cons| all(cons, alloc))?)
 }
 
 /// These octets are held, from position 0, and are written in this mode as they stand.
@@ -79,13 +130,8 @@ fn what_a_sequence_holds(rt: HostRuntime) -> Result<(), Fail> {
 #[test]
 fn labelled_by_the_mode_that_was_set(rt: HostRuntime) -> Result<(), Fail> {
     let octets = [0x30, 0x80, 0x00, 0x00];
-    let captured = Mode::Der.decode(SliceSource::new(&octets), |cons| {
-        cons.capture(rt.alloc(), |cons| {
-            cons.set_mode(Mode::Ber);
-            cons.skip_one(rt.alloc())?;
-            Ok(())
-        })
-    })?;
+    let alloc = rt.alloc();
+    let captured = Mode::Der.decode(SliceSource::new(&octets), |cons| passed_in_ber(cons, alloc))?;
     writes(&rt, rt.alloc(), &captured, Mode::Ber, &octets)?;
     not_in(&rt, rt.alloc(), &captured, Mode::Der)
 }
@@ -177,10 +223,8 @@ fn a_refused_extend_changes_nothing(rt: HostRuntime) -> Result<(), Fail> {
 #[test]
 fn more_behind_captured_values(rt: HostRuntime) -> Result<(), Fail> {
     let octets = [0x04, 0x00, 0x02, 0x01, 0x05];
-    let captured = Mode::Der.decode(SliceSource::new(&octets), |cons| {
-        cons.skip_one(rt.alloc())?;
-        cons.capture_one(rt.alloc())
-    })?;
+    let alloc = rt.alloc();
+    let captured = Mode::Der.decode(SliceSource::new(&octets), |cons| second(cons, alloc))?;
     let copy = captured.clone()?;
     shows(&rt, rt.alloc(), &copy.into_source().pos(), "2")?;
     let again = captured.clone()?.into_builder(rt.alloc())?.freeze()?;
