@@ -32,7 +32,23 @@ fn is_comment(line: &str) -> bool {
     line.is_empty() || line.starts_with('#')
 }
 
-/// Replays `walk.tsv`, and compares the readers on short lists.
+/// Prints what was compared of each reader.
+fn print_readers(rt: &HostRuntime, what: &str, tallies: walks::Tallies) -> Result<(), Error> {
+    for (reader, tally) in [
+        ("plain reader", tallies.plain),
+        ("walk", tallies.walk),
+        ("skip_one", tallies.skip_one),
+        ("capture_one", tallies.capture_one),
+    ] {
+        println!(rt;
+            "{what}, {reader}: {} answers compared, {} differ",
+            tally.compared, tally.differ
+        )?;
+    }
+    Ok(())
+}
+
+/// Replays `walk.tsv` and `fronts.tsv`, and compares the readers on short lists.
 fn replay_walks(rt: &HostRuntime) -> Result<(), Error> {
     let text = fs::read_to_string(rt, "walk.tsv")?;
     let mut tallies = walks::Tallies::default();
@@ -41,16 +57,22 @@ fn replay_walks(rt: &HostRuntime) -> Result<(), Error> {
             walks::compare_line(rt.alloc(), line, &mut tallies)?;
         }
     }
-    for (reader, tally) in [
-        ("plain reader", tallies.plain),
-        ("walk over a slice", tallies.slice),
-        ("walk over shared octets", tallies.bytes),
-        ("walk over a source that gives what is asked", tallies.sip),
-        ("short lists, walk and plain reader", walks::compare_lists()),
-    ] {
-        print(rt, reader, tally)?;
+    print_readers(rt, "values", tallies)?;
+    let text = fs::read_to_string(rt, "fronts.tsv")?;
+    let mut tallies = walks::Tallies::default();
+    for line in text.lines() {
+        if !is_comment(line) {
+            walks::compare_fronts(rt.alloc(), line, &mut tallies)?;
+        }
     }
-    Ok(())
+    print_readers(rt, "values that are cut", tallies)?;
+    let tallies = walks::compare_lists(rt.alloc());
+    print(rt, "short lists, walk and plain reader", tallies.walk)?;
+    print(
+        rt,
+        "short lists, skip_one and plain reader",
+        tallies.skip_one,
+    )
 }
 
 /// Replays `takes.tsv`.
@@ -73,7 +95,7 @@ fn replay_takes(rt: &HostRuntime) -> Result<(), Error> {
     print(rt, "octets left", counts.left)
 }
 
-/// Replays `captures.tsv`, and captures the values of `walk.tsv`.
+/// Replays `captures.tsv`.
 fn replay_captures(rt: &HostRuntime) -> Result<(), Error> {
     let text = fs::read_to_string(rt, "captures.tsv")?;
     let mut tallies = captures::Tallies::default();
@@ -88,15 +110,7 @@ fn replay_captures(rt: &HostRuntime) -> Result<(), Error> {
     }
     print(rt, "captures", tallies.captures)?;
     print(rt, "steps beside captures", tallies.others)?;
-    print(rt, "octets left of captures", tallies.left)?;
-    let text = fs::read_to_string(rt, "walk.tsv")?;
-    let mut tally = Tally::default();
-    for line in text.lines() {
-        if !is_comment(line) {
-            captures::compare_walked(rt.alloc(), line, &mut tally)?;
-        }
-    }
-    print(rt, "capture_one", tally)
+    print(rt, "octets left of captures", tallies.left)
 }
 
 /// Replays `positions.tsv`.

@@ -1,7 +1,7 @@
-//! Walking over the value at the front, and the plain reader.
+//! Passing over the value at the front, in each way, and the plain reader.
 ghost use Rattle.bcder.specs.Views.{Moved};
 
-use crate::malformed::Malformed;
+use crate::fields::{modes_of, next, number, octets_of};
 use crate::tally::Tally;
 use anyhow::Error;
 use bcder::Mode;
@@ -10,13 +10,21 @@ use bytes::Bytes;
 use rows::sip::Sip;
 use std::alloc::{AllocError, Global};
 
+/// A call that passes over the next value.
+#[derive(Clone, Copy, Debug, PartialEq, Eq)]
+enum Way {
+    Walk,
+    SkipOne,
+    CaptureOne,
+}
+
 /// What was compared of each reader.
 #[derive(Clone, Copy, Debug, Default)]
 pub struct Tallies {
     pub plain: Tally,
-    pub slice: Tally,
-    pub bytes: Tally,
-    pub sip: Tally,
+    pub walk: Tally,
+    pub skip_one: Tally,
+    pub capture_one: Tally,
 }
 
 /// How many octets the value at the front takes, by the plain reader.
@@ -25,67 +33,140 @@ fn plainly(mode: Mode, octets: &[u8]) -> Option<usize> {
     octets.len().checked_sub(rest.len())
 }
 
-/// Whether a value was passed over.
-fn passes<S: Source>(cons: &mut Constructed<'_, S>) -> Result<bool, DecodeError<S::Error>>
+/// Whether a value was passed over, and in so many octets where it was captured. The refusal of a
+/// capture is dropped.
+#[tactic(auto, using(bcder::proofs::Moving::moves_refl, bcder::proofs::Carrying::carries))]
+fn passes<S: Source>(
+    cons: &mut Constructed<'_, S>,
+    alloc: Global,
+    way: Way,
+    size: Option<usize>,
+) -> Result<bool, DecodeError<S::Error>>
     ensures { Moved S.stream cons }
 {
-    Ok(walk(cons)?.is_some())
-}
-
-/// How many of so many octets the value at the front of a source takes, by `walk`.
-fn walked<S: Source>(mode: Mode, source: &mut S, count: usize) -> Option<usize> {
-    match mode.decode_lent(source, |cons| passes(cons)) {
-        Ok(true) => match source.request(count) {
-            Ok(left) => count.checked_sub(left),
-            Err(_) => None,
+    match way {
+        Way::Walk => Ok(walk(cons)?.is_some()),
+        Way::SkipOne => Ok(cons.skip_one(alloc)?.is_some()),
+        Way::CaptureOne => match cons.capture_one(alloc) {
+            Ok(captured) => Ok(size == Some(captured.as_slice().len())),
+            Err(_) => Ok(false),
         },
-        _ => None,
     }
 }
 
-fn walked_slice(mode: Mode, octets: &[u8]) -> Option<usize> {
-    walked(mode, &mut SliceSource::new(octets), octets.len())
+/// Whether a value of so many octets is passed over in a source that has `count` of them, or none
+/// is. A refused capture leaves all octets, and content that `decode` doesn't refuse.
+fn is_passed<S: Source>(
+    source: &mut S,
+    alloc: Global,
+    mode: Mode,
+    way: Way,
+    count: usize,
+    size: Option<usize>,
+) -> bool {
+    match mode.decode_lent(source, |cons| passes(cons, alloc, way, size)) {
+        Ok(passed) => {
+            let left = source.request(count);
+            passed == size.is_some()
+                && left.is_ok_and(|left| count.checked_sub(left) == Some(size.unwrap_or(0)))
+        }
+        Err(_) => size.is_none() && way != Way::CaptureOne,
+    }
 }
 
-fn walked_bytes(alloc: Global, mode: Mode, octets: &[u8]) -> Result<Option<usize>, AllocError> {
-    let shared = Bytes::copy_from_slice(alloc, octets)?;
-    Ok(walked(mode, &mut BytesSource::new(shared), octets.len()))
+/// Compares what is passed over, over three sources.
+fn compare_way(
+    alloc: Global,
+    mode: Mode,
+    way: Way,
+    octets: &[u8],
+    size: Option<usize>,
+    tally: &mut Tally,
+) -> Result<(), AllocError> {
+    let count = octets.len();
+    let mut slice = SliceSource::new(octets);
+    tally.count(is_passed(&mut slice, alloc, mode, way, count, size));
+    let mut shared = BytesSource::new(Bytes::copy_from_slice(alloc, octets)?);
+    tally.count(is_passed(&mut shared, alloc, mode, way, count, size));
+    let mut sip = Sip::new(octets.to_vec(alloc)?, 0);
+    tally.count(is_passed(&mut sip, alloc, mode, way, count, size));
+    Ok(())
 }
 
-/// Over a source that has available only what is asked for.
-fn walked_sip(alloc: Global, mode: Mode, octets: &[u8]) -> Result<Option<usize>, AllocError> {
-    let mut source = Sip::new(octets.to_vec(alloc)?, 0);
-    Ok(walked(mode, &mut source, octets.len()))
+/// Compares what each reader passes over with the size of the value at the front, if one is there.
+pub fn compare_ways(
+    alloc: Global,
+    mode: Mode,
+    octets: &[u8],
+    size: Option<usize>,
+    tallies: &mut Tallies,
+) -> Result<(), AllocError> {
+    tallies.plain.count(plainly(mode, octets) == size);
+    compare_way(alloc, mode, Way::Walk, octets, size, &mut tallies.walk)?;
+    compare_way(
+        alloc,
+        mode,
+        Way::SkipOne,
+        octets,
+        size,
+        &mut tallies.skip_one,
+    )?;
+    compare_way(
+        alloc,
+        mode,
+        Way::CaptureOne,
+        octets,
+        size,
+        &mut tallies.capture_one,
+    )
 }
 
-/// Compares the answers of one line.
+/// Compares the answers of one line of `walk.tsv`.
 pub fn compare_line(alloc: Global, line: &str, tallies: &mut Tallies) -> Result<(), Error> {
     let mut fields = line.split('\t');
-    let hex = fields.next().ok_or(Malformed)?;
-    let list = hex::decode(alloc, hex)?;
-    let octets = list.as_slice();
+    let octets = octets_of(alloc, next(&mut fields)?)?;
     for mode in [Mode::Ber, Mode::Cer, Mode::Der] {
-        let field = fields.next().ok_or(Malformed)?;
-        let wanted = match field {
+        let size = match next(&mut fields)? {
             "-" => None,
-            number => Some(number.parse::<usize>()?),
+            field => Some(number(field)?),
         };
-        tallies.plain.count(plainly(mode, octets) == wanted);
-        tallies.slice.count(walked_slice(mode, octets) == wanted);
-        tallies
-            .bytes
-            .count(walked_bytes(alloc, mode, octets)? == wanted);
-        tallies
-            .sip
-            .count(walked_sip(alloc, mode, octets)? == wanted);
+        compare_ways(alloc, mode, &octets, size, tallies)?;
     }
     Ok(())
 }
 
-/// Compares `walk` with the plain reader on a list of octets, in each mode.
-fn compare_list(octets: &[u8], tally: &mut Tally) {
+/// Compares that the value of a line of `fronts.tsv` is passed over, and no front of it is.
+pub fn compare_fronts(alloc: Global, line: &str, tallies: &mut Tallies) -> Result<(), Error> {
+    let mut fields = line.split('\t');
+    let modes = modes_of(alloc, next(&mut fields)?)?;
+    let octets = octets_of(alloc, next(&mut fields)?)?;
+    for mode in &modes {
+        compare_ways(alloc, *mode, &octets, Some(octets.len()), tallies)?;
+        for size in 1..octets.len() {
+            compare_ways(alloc, *mode, &octets[..size], None, tallies)?;
+        }
+    }
+    Ok(())
+}
+
+/// What was compared with the plain reader on short lists.
+#[derive(Clone, Copy, Debug, Default)]
+pub struct ListTallies {
+    pub walk: Tally,
+    pub skip_one: Tally,
+}
+
+/// Compares `walk` and `skip_one` with the plain reader on a list of octets, in each mode.
+fn compare_list(alloc: Global, octets: &[u8], tallies: &mut ListTallies) {
+    let count = octets.len();
     for mode in [Mode::Ber, Mode::Cer, Mode::Der] {
-        tally.count(walked_slice(mode, octets) == plainly(mode, octets));
+        let size = plainly(mode, octets);
+        let mut slice = SliceSource::new(octets);
+        let walks = is_passed(&mut slice, alloc, mode, Way::Walk, count, size);
+        tallies.walk.count(walks);
+        let mut slice = SliceSource::new(octets);
+        let skips = is_passed(&mut slice, alloc, mode, Way::SkipOne, count, size);
+        tallies.skip_one.count(skips);
     }
 }
 
@@ -93,22 +174,22 @@ fn compare_list(octets: &[u8], tally: &mut Tally) {
 const LETTERS: [u8; 8] = [0x00, 0x01, 0x02, 0x04, 0x24, 0x30, 0x80, 0x81];
 
 /// Compares the readers on all lists of one to five of those octets.
-pub fn compare_lists() -> Tally {
-    let mut tally = Tally::default();
+pub fn compare_lists(alloc: Global) -> ListTallies {
+    let mut tallies = ListTallies::default();
     for a in LETTERS {
-        compare_list(&[a], &mut tally);
+        compare_list(alloc, &[a], &mut tallies);
         for b in LETTERS {
-            compare_list(&[a, b], &mut tally);
+            compare_list(alloc, &[a, b], &mut tallies);
             for c in LETTERS {
-                compare_list(&[a, b, c], &mut tally);
+                compare_list(alloc, &[a, b, c], &mut tallies);
                 for d in LETTERS {
-                    compare_list(&[a, b, c, d], &mut tally);
+                    compare_list(alloc, &[a, b, c, d], &mut tallies);
                     for e in LETTERS {
-                        compare_list(&[a, b, c, d, e], &mut tally);
+                        compare_list(alloc, &[a, b, c, d, e], &mut tallies);
                     }
                 }
             }
         }
     }
-    tally
+    tallies
 }
