@@ -19,9 +19,13 @@ mod decodes;
 pub mod decoding;
 #[cfg(test)]
 mod deep;
+#[cfg(test)]
+mod dropped;
 pub mod encoders;
 #[cfg(test)]
 mod encodes;
+#[cfg(test)]
+mod failures;
 #[cfg(test)]
 mod integers;
 pub mod sip;
