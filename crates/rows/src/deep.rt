@@ -73,6 +73,40 @@ fn check<S: Source>(
     Ok(())
 }
 
+/// Captures the next value whole, or refuses it for its octets.
+fn capture_whole<S: Source>(
+    rt: &impl Abort,
+    alloc: Global,
+    cons: &mut Constructed<'_, S>,
+    octets: &[u8],
+    captured: bool,
+) -> Result<(), DecodeError<S::Error>>
+    ensures { Moved S.stream cons }
+{
+    match cons.capture_one(alloc) {
+        Ok(values) => holds(rt, captured && values.as_slice() == octets),
+        Err(error) => holds(rt, !captured && error.content_error().is_some()),
+    }
+    Ok(())
+}
+
+/// The value is captured up to the end of the source, or refused, and all is left.
+fn check_captured<S: Source>(
+    rt: &impl Abort,
+    alloc: Global,
+    source: &mut S,
+    mode: Mode,
+    octets: &[u8],
+    captured: bool,
+) -> Result<(), Fail> {
+    mode.decode_lent(source, |cons| {
+        capture_whole(rt, alloc, cons, octets, captured)
+    })?;
+    let left = if captured { 0 } else { octets.len() };
+    same(rt, source.skip(octets.len())?, left);
+    Ok(())
+}
+
 /// Sequences of indefinite length, each in the one before it.
 fn nested(alloc: Global) -> Result<Vec<u8>, AllocError> {
     let mut octets = Vec::new(alloc);
@@ -100,6 +134,8 @@ fn over_borrowed_octets(rt: HostRuntime) -> Result<(), Fail> {
         let front = &octets[..len.min(octets.len())];
         let mut source = SliceSource::new(front);
         check(&rt, rt.alloc(), &mut source, mode, skipped, calls)?;
+        let mut source = SliceSource::new(front);
+        check_captured(&rt, rt.alloc(), &mut source, mode, front, skipped)?;
     }
     Ok(())
 }
@@ -109,8 +145,11 @@ fn over_shared_octets(rt: HostRuntime) -> Result<(), Fail> {
     let octets = nested(rt.alloc())?;
     for (len, mode, skipped, calls) in ROWS {
         let front = &octets[..len.min(octets.len())];
-        let mut source = BytesSource::new(Bytes::copy_from_slice(rt.alloc(), front)?);
+        let shared = Bytes::copy_from_slice(rt.alloc(), front)?;
+        let mut source = BytesSource::new(shared.clone()?);
         check(&rt, rt.alloc(), &mut source, mode, skipped, calls)?;
+        let mut source = BytesSource::new(shared);
+        check_captured(&rt, rt.alloc(), &mut source, mode, front, skipped)?;
     }
     Ok(())
 }
@@ -122,6 +161,8 @@ fn over_what_was_asked_for(rt: HostRuntime) -> Result<(), Fail> {
         let front = &octets[..len.min(octets.len())];
         let mut source = Sip::new(front.to_vec(rt.alloc())?, 0);
         check(&rt, rt.alloc(), &mut source, mode, skipped, calls)?;
+        let mut source = Sip::new(front.to_vec(rt.alloc())?, 0);
+        check_captured(&rt, rt.alloc(), &mut source, mode, front, skipped)?;
     }
     Ok(())
 }

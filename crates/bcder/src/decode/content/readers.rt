@@ -95,22 +95,7 @@ impl<'a, S: Source> Primitive<'a, S> {
 
     /// Lends them to the closure.
     #[inline(always)]
-    fn lend_all<F, T: Drop>(&self, len: usize, op: F) -> Result<T, ContentError>
-    where
-        F: FnOnce(&[u8]) -> Result<T, ContentError>,
-        requires found { HasAll len (of_primitive S.stream self.now) }
-        requires at_hand { len ≤ (of_primitive S.stream self.now).stream.avail }
-        requires callable { (p : _) → p.now ≡ (of_primitive S.stream self.now).stream.rest
-            → F.pre op p }
-        ensures { (p : _) × (p.now ≡ (of_primitive S.stream self.now).stream.rest)
-            × F.post op p result }
-    {
-        op(self.all(len))
-    }
-
-    /// Lends them to a closure that can't refuse them.
-    #[inline(always)]
-    fn show_all<F, T: Drop>(&self, len: usize, op: F) -> T
+    fn lend_all<F, T: Drop>(&self, len: usize, op: F) -> T
     where
         F: FnOnce(&[u8]) -> T,
         requires found { HasAll len (of_primitive S.stream self.now) }
@@ -322,7 +307,7 @@ impl<'a, S: Source> Primitive<'a, S> {
             Ok(len) => len,
             Err(error) => return Err(error),
         };
-        Ok(self.show_all(len, op))
+        Ok(self.lend_all(len, op))
     }
 
     /// Reads all octets as an INTEGER (X.690, 8.3) that an `i8` holds, and takes them.
