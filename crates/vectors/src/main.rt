@@ -14,6 +14,7 @@
 mod calls;
 mod captures;
 mod fields;
+mod identifiers;
 mod integers;
 mod malformed;
 mod positions;
@@ -66,6 +67,7 @@ fn replay_walks(rt: &HostRuntime) -> Result<(), Error> {
         }
     }
     print_readers(rt, "values that are cut", tallies)?;
+    print(rt, "values that are cut, skip_all", tallies.skip_all)?;
     let tallies = walks::compare_lists(rt.alloc());
     print(rt, "short lists, walk and plain reader", tallies.walk)?;
     print(
@@ -147,7 +149,7 @@ fn replay_tags(rt: &HostRuntime) -> Result<(), Error> {
     print(rt, "tags shown", tallies.shown)
 }
 
-/// Replays `integers.tsv` and `integer_values.tsv`, and compares all contents of two octets with
+/// Replays the files of integers, and compares all contents of two octets with
 /// what std makes of them.
 fn replay_integers(rt: &HostRuntime) -> Result<(), Error> {
     let mut tallies = integers::Tallies::default();
@@ -163,12 +165,65 @@ fn replay_integers(rt: &HostRuntime) -> Result<(), Error> {
             integers::compare_value(rt.alloc(), line, &mut tallies)?;
         }
     }
+    let text = fs::read_to_string(rt, "unsigned.tsv")?;
+    for line in text.lines() {
+        if !is_comment(line) {
+            integers::compare_made_unsigned(rt.alloc(), line, &mut tallies)?;
+        }
+    }
+    let text = fs::read_to_string(rt, "orders.tsv")?;
+    for line in text.lines() {
+        if !is_comment(line) {
+            integers::compare_order(rt.alloc(), line, &mut tallies)?;
+        }
+    }
     for (what, tally) in [
         ("numbers read", tallies.read),
         ("integers converted", tallies.converted),
         ("integers made", tallies.made),
         ("numbers of two octets", integers::compare_pairs()),
         ("integers taken", tallies.values),
+        ("unsigned integers made", tallies.unsigned),
+        ("integers ordered", tallies.ordered),
+    ] {
+        print(rt, what, tally)?;
+    }
+    Ok(())
+}
+
+/// Replays the files of object identifiers.
+fn replay_identifiers(rt: &HostRuntime) -> Result<(), Error> {
+    let mut tallies = identifiers::Tallies::default();
+    let text = fs::read_to_string(rt, "identifiers.tsv")?;
+    for line in text.lines() {
+        if !is_comment(line) {
+            identifiers::compare_line(rt.alloc(), line, &mut tallies)?;
+        }
+    }
+    let text = fs::read_to_string(rt, "texts.tsv")?;
+    for line in text.lines() {
+        if !is_comment(line) {
+            identifiers::compare_text(rt.alloc(), line, &mut tallies)?;
+        }
+    }
+    let text = fs::read_to_string(rt, "components.tsv")?;
+    for line in text.lines() {
+        if !is_comment(line) {
+            identifiers::compare_components(rt.alloc(), line, &mut tallies)?;
+        }
+    }
+    let text = fs::read_to_string(rt, "identifier_values.tsv")?;
+    for line in text.lines() {
+        if !is_comment(line) {
+            identifiers::compare_value(rt.alloc(), line, &mut tallies)?;
+        }
+    }
+    for (what, tally) in [
+        ("identifiers read", tallies.read),
+        ("identifiers shown", tallies.shown),
+        ("texts of identifiers", tallies.texts),
+        ("components", tallies.components),
+        ("identifiers taken", tallies.values),
     ] {
         print(rt, what, tally)?;
     }
@@ -190,5 +245,6 @@ fn main(rt: HostRuntime) -> Result<(), Error> {
     replay_captures(&rt)?;
     replay_positions(&rt)?;
     replay_tags(&rt)?;
-    replay_integers(&rt)
+    replay_integers(&rt)?;
+    replay_identifiers(&rt)
 }
