@@ -101,7 +101,7 @@ fn is_component(octets: &[u8], place: usize, number: &str) -> bool {
     }
 }
 
-/// Compares the numbers of the octets of a subidentifier as first, as second and as third component.
+/// Compares the numbers of the octets of a subidentifier as first, second and third component.
 pub fn compare_components(alloc: Global, line: &str, tallies: &mut Tallies) -> Result<(), Error> {
     let mut fields = line.split('\t');
     let octets = octets_of(alloc, next(&mut fields)?)?;
@@ -120,7 +120,7 @@ pub fn compare_components(alloc: Global, line: &str, tallies: &mut Tallies) -> R
     Ok(())
 }
 
-/// The OBJECT IDENTIFIER at the front of a source, and how many of so many octets are left behind it.
+/// The OBJECT IDENTIFIER at the front of a source, and how many of so many octets are left behind.
 fn take_identifier<S: Source>(
     alloc: Global,
     mode: Mode,
