@@ -57,6 +57,7 @@ pub fn write_header<W: io::Write>(
 
 /// Writes a header with a length that four octets tell, by one call of the target's `write` where
 /// that takes all of it.
+#[inline(always)]
 pub(crate) fn put_header<W: io::Write>(
     target: &mut W,
     tag: Tag,

@@ -115,10 +115,12 @@ impl<P: PrimitiveContent> PrimitiveContent for &'_ P {
         P::tag()
     }
 
+    #[inline(always)]
     fn encoded_len(&self, mode: Mode) -> Result<usize, EncodeError> {
         (**self).encoded_len(mode)
     }
 
+    #[inline(always)]
     fn write_encoded<W: io::Write>(&self, mode: Mode, target: &mut W) -> Result<(), WriteError> {
         (**self).write_encoded(mode, target)
     }
@@ -134,6 +136,7 @@ pub struct Primitive<P> {
 }
 
 /// How many contents octets the value has, or why it has no encoding.
+#[inline(always)]
 fn contents_len<P: PrimitiveContent>(tag: Tag, prim: &P, mode: Mode) -> Result<usize, EncodeError>
     ensures { ContentsSize tag (P.means prim.now mode) (P.may_lack prim.now mode) result }
 {
@@ -152,11 +155,13 @@ impl<P: PrimitiveContent> Values for Primitive<P> {
 
     ghost may_lack = { λ x mode. P.may_lack x.prim mode };
 
+    #[inline(always)]
     fn encoded_len(&self, mode: Mode) -> Result<usize, EncodeError> {
         let len = contents_len(self.tag, &self.prim, mode)?;
         Ok(self.tag.encoded_len() + Length::Definite(len).octet_count() + len)
     }
 
+    #[inline(always)]
     fn write_encoded<W: io::Write>(&self, mode: Mode, target: &mut W) -> Result<(), WriteError> {
         let len = contents_len(self.tag, &self.prim, mode)?;
         put_header(target, self.tag, false, Length::Definite(len))?;

@@ -12,6 +12,7 @@ use std::io::{Error, ErrorKind, Write};
 /// # Errors
 ///
 /// That of the target. A front of the octets was then written, and not all of them.
+#[inline(always)]
 pub(crate) fn write_octets<W: Write>(target: &mut W, octets: &[u8]) -> io::Result<()>
     ensures ok { OnOk result (Appended W.contents target octets.now) }
     ensures refused { OnErr result (AppendedShorter W.contents target octets.now) }
@@ -28,6 +29,7 @@ pub(crate) fn write_octets<W: Write>(target: &mut W, octets: &[u8]) -> io::Resul
 }
 
 /// Writes all octets, where a refusal may follow.
+#[inline(always)]
 pub(crate) fn write_all<W: Write>(target: &mut W, octets: &[u8]) -> Result<(), WriteError>
     ensures { WroteOctets W.contents target octets.now result }
 {

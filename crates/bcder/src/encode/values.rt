@@ -65,6 +65,7 @@ pub trait Values {
     ///
     /// `NoMemory` or the target's, as `write_encoded`.
     #[doc(hidden)]
+    #[inline(always)]
     fn write_known<W: io::Write>(&self, mode: Mode, target: &mut W) -> Result<(), WriteError>
         requires can { can_encode self.now }
         requires known { HasEncoding (means self.now mode) }
@@ -108,14 +109,17 @@ impl<V: Values> Values for &'_ V {
 
     ghost can_encode = { λ x. V.can_encode x.now };
 
+    #[inline(always)]
     fn encoded_len(&self, mode: Mode) -> Result<usize, EncodeError> {
         (**self).encoded_len(mode)
     }
 
+    #[inline(always)]
     fn write_encoded<W: io::Write>(&self, mode: Mode, target: &mut W) -> Result<(), WriteError> {
         (**self).write_encoded(mode, target)
     }
 
+    #[inline(always)]
     fn write_known<W: io::Write>(&self, mode: Mode, target: &mut W) -> Result<(), WriteError> {
         (**self).write_known(mode, target)
     }

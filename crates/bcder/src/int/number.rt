@@ -83,6 +83,7 @@ fn magnitude_of(negative: bool, octets: &[u8]) -> u128
 
 /// Whether the number is negative, and its magnitude, if the octets are contents octets of a number
 /// whose magnitude has at most 128 bits.
+#[inline(never)]
 fn parts_of(octets: &[u8]) -> Option<(bool, u128)>
     ensures some { IfSome result (λ r. AreInteger (complement_if r.0 r.1) octets.now) }
     ensures none { IfNone result (IsNoNumber HasMagnitude octets.now) }

@@ -15,6 +15,7 @@ pub(crate) struct Octets {
 
 impl Octets {
     /// Those of `magnitude`, or of -1 less it where the number is negative.
+    #[inline(always)]
     pub(crate) fn of(negative: bool, magnitude: u128) -> Octets
         ensures octets { drop result.start result.buffer
             ≡ integer_octets (complement_if negative magnitude) }
@@ -24,16 +25,24 @@ impl Octets {
         let mut buffer = [0u8; 17];
         let mut start = 16;
         let mut rest = magnitude;
-        while rest >= 128 {
+        while rest > u64::MAX as u128 {
             buffer[start] = turned(negative, (rest % 256) as u8);
             rest /= 256;
             start -= 1;
         }
-        buffer[start] = turned(negative, rest as u8);
+        // What is left is divided in one register.
+        let mut low = rest as u64;
+        while low >= 128 {
+            buffer[start] = turned(negative, (low % 256) as u8);
+            low /= 256;
+            start -= 1;
+        }
+        buffer[start] = turned(negative, low as u8);
         Octets { buffer, start }
     }
 
     /// Those of a signed integer.
+    #[inline(always)]
     pub(crate) fn of_signed(x: i128) -> Octets
         ensures octets { drop result.start result.buffer ≡ integer_octets x }
         ensures integer { AreInteger x (drop result.start result.buffer) }
@@ -46,6 +55,7 @@ impl Octets {
     }
 
     /// These octets.
+    #[inline(always)]
     pub(crate) fn as_slice(&self) -> &[u8]
         ensures { result.now ≡ drop self.now.start self.now.buffer }
     {

@@ -16,6 +16,7 @@ use crate::tag::Tag;
 use std::io;
 
 /// How many octets an unsigned integer has.
+#[inline(always)]
 fn unsigned_len(x: u128) -> Result<usize, EncodeError>
     ensures { SizeOfContents (Exactly (integer_octets (pos x))) ⊥ result }
 {
@@ -23,6 +24,7 @@ fn unsigned_len(x: u128) -> Result<usize, EncodeError>
 }
 
 /// Writes the octets of an unsigned integer.
+#[inline(always)]
 fn write_unsigned<W: io::Write>(x: u128, target: &mut W) -> Result<(), WriteError>
     ensures { WritesContents W.contents target (Exactly (integer_octets (pos x))) ⊥ result }
 {
@@ -30,6 +32,7 @@ fn write_unsigned<W: io::Write>(x: u128, target: &mut W) -> Result<(), WriteErro
 }
 
 /// How many octets an integer has.
+#[inline(always)]
 fn signed_len(x: i128) -> Result<usize, EncodeError>
     ensures { SizeOfContents (Exactly (integer_octets x)) ⊥ result }
 {
@@ -37,6 +40,7 @@ fn signed_len(x: i128) -> Result<usize, EncodeError>
 }
 
 /// Writes the octets of an integer.
+#[inline(always)]
 fn write_signed<W: io::Write>(x: i128, target: &mut W) -> Result<(), WriteError>
     ensures { WritesContents W.contents target (Exactly (integer_octets x)) ⊥ result }
 {

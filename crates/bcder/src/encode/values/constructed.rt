@@ -68,6 +68,7 @@ struct Sizes {
 }
 
 /// The size of a constructed value with `len` contents octets.
+#[inline(always)]
 fn enclosed_size(tag: Tag, mode: Mode, len: usize) -> Result<usize, EncodeError>
     ensures { EnclosedSize mode tag len result }
 {
@@ -102,6 +103,7 @@ fn find_sizes<V: Values>(tag: Tag, inner: &V, mode: Mode) -> Result<Sizes, Encod
 }
 
 /// What the length octets of a constructed value say (X.690, 9.1, 10.1).
+#[inline(always)]
 fn constructed_length(mode: Mode, len: usize) -> Length
     ensures { result ≡ constructed_length mode len }
 {
@@ -112,6 +114,7 @@ fn constructed_length(mode: Mode, len: usize) -> Length
 }
 
 /// The same for values that are known to have an encoding. In CER their size isn't asked for.
+#[inline(always)]
 fn known_length<V: Values>(inner: &V, mode: Mode) -> Result<Length, EncodeError>
     requires can { V.can_encode inner.now }
     ensures { KnownLength mode (V.means inner.now mode) (V.may_lack inner.now mode) result }
@@ -123,6 +126,7 @@ fn known_length<V: Values>(inner: &V, mode: Mode) -> Result<Length, EncodeError>
 }
 
 /// Writes the end-of-contents octets, if the mode has them behind its constructed values.
+#[inline(always)]
 fn write_closing<W: io::Write>(mode: Mode, target: &mut W) -> Result<(), WriteError>
     ensures { WroteOctets W.contents target (closing mode) result }
 {

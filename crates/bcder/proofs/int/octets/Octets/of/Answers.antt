@@ -39,7 +39,15 @@ loop-rest-init c = (lit< tt, refl, c.ranges.magnitude.fits, sym (append-nil _))
 pub loop-rest-preserved : goal.loop-rest-preserved
 loop-rest-preserved c =
     let (fits, len, below, is) = c.loop-rest.invariant in
-    step c.args.negative c.loop-rest.start c.loop-rest.rest c.turned.result c.loop-rest.buffer _ fits len below is c.loop-rest-test.true c.turned.ensures
+    step c.args.negative c.loop-rest.start c.loop-rest.rest c.turned.result c.loop-rest.buffer _ fits len below is (omega (arith, c.loop-rest-test.true)) c.turned.ensures
+
+pub loop-low-init : goal.loop-low-init
+loop-low-init c = c.loop-rest.invariant
+
+pub loop-low-preserved : goal.loop-low-preserved
+loop-low-preserved c =
+    let (fits, len, below, is) = c.loop-low.invariant in
+    step c.args.negative c.loop-low.start c.loop-low.low c.turned-in-loop-low.result c.loop-low.buffer _ fits len below is c.loop-low-test.true c.turned-in-loop-low.ensures
 
 is_those : (neg : Bool) (n : ℕ) → n < 2 ^ 128 → octets_within 16 neg n ≡ integer_octets (complement_if neg n)
 is_those neg n h = one_integer _ _ _ (octets_are 16 neg n) (integer_octets_are _) (told_by_sign neg n h) ((some_integer _).1)
@@ -56,13 +64,13 @@ ends neg s n d buf whole fits len is small digit =
 
 pub returns-clause-octets : goal.returns-clause-octets
 returns-clause-octets c =
-    let (fits, len, below, is) = c.loop-rest.invariant in
-    sym (ends c.args.negative c.loop-rest.start c.loop-rest.rest c.turned-2.result c.loop-rest.buffer _ fits len is c.loop-rest-test.false c.turned-2.ensures)
+    let (fits, len, below, is) = c.loop-low.invariant in
+    sym (ends c.args.negative c.loop-low.start c.loop-low.low c.turned-2.result c.loop-low.buffer _ fits len is c.loop-low-test.false c.turned-2.ensures)
     ∙ is_those c.args.negative c.args.magnitude c.ranges.magnitude.fits
 
 pub returns-clause-integer : goal.returns-clause-integer
 returns-clause-integer c =
-    let (fits, len, below, is) = c.loop-rest.invariant in
+    let (fits, len, below, is) = c.loop-low.invariant in
     subst (AreInteger (complement_if c.args.negative c.args.magnitude))
-    (ends c.args.negative c.loop-rest.start c.loop-rest.rest c.turned-2.result c.loop-rest.buffer _ fits len is c.loop-rest-test.false c.turned-2.ensures)
+    (ends c.args.negative c.loop-low.start c.loop-low.low c.turned-2.result c.loop-low.buffer _ fits len is c.loop-low-test.false c.turned-2.ensures)
     (told_by_sign c.args.negative c.args.magnitude c.ranges.magnitude.fits)

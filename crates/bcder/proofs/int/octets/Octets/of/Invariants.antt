@@ -8,3 +8,9 @@ invariant-loop-rest l = (l.start < 17) × (length l.buffer ≡ 17) × (l.rest < 
 
 abbrev pub decreases-loop-rest : goal.decreases-loop-rest
 decreases-loop-rest l = l.rest
+
+abbrev pub invariant-loop-low : goal.invariant-loop-low
+invariant-loop-low l = (l.start < 17) × (length l.buffer ≡ 17) × (l.low < 256 ^ l.start) × (octets_within 16 l.negative l.magnitude ≡ octets_within l.start l.negative l.low ++ drop (l.start + 1) l.buffer)
+
+abbrev pub decreases-loop-low : goal.decreases-loop-low
+decreases-loop-low l = l.low
