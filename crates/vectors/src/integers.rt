@@ -1,13 +1,16 @@
 //! Integers: the numbers that contents octets are, in each type, and values that are read.
-use crate::fields::{next, octets_of};
+use crate::fields::{find, next, octets_of};
 use crate::malformed::Malformed;
 use crate::tally::Tally;
+use crate::written;
 use anyhow::Error;
 use bcder::decode::{BytesSource, DecodeError, Primitive, SliceSource, Source};
-use bcder::{Integer, Mode};
+use bcder::int::{IntegerError, InvalidInteger};
+use bcder::{Integer, Mode, Unsigned};
 use bytes::Bytes;
 use rows::sip::Sip;
 use std::alloc::Global;
+use std::cmp::Ordering;
 use std::convert::TryFrom;
 
 /// What was compared.
@@ -24,6 +27,15 @@ pub struct Tallies {
 
     /// Values read from sources.
     pub values: Tally,
+
+    /// Numbers written as values.
+    pub written: Tally,
+
+    /// Octets made unsigned integers.
+    pub unsigned: Tally,
+
+    /// Integers compared, and their signs.
+    pub ordered: Tally,
 }
 
 /// What was read, where it is no matter why nothing was.
@@ -65,6 +77,59 @@ fn compare_signed(octets: &[u8], text: &str, tally: &mut Tally) {
     count(tally, read, found(text.parse::<i64>()));
     let read = found(Primitive::decode_slice(octets, mode, |p| p.to_i128()));
     count(tally, read, found(text.parse::<i128>()));
+}
+
+/// The same by the calls of `Unsigned` and `Integer`.
+fn compare_from_unsigned(octets: &[u8], text: &str, tally: &mut Tally) {
+    let mode = Mode::Der;
+    let read = found(Primitive::decode_slice(octets, mode, |p| Unsigned::u8_from_primitive(p)));
+    count(tally, read, found(text.parse::<u8>()));
+    let read = found(Primitive::decode_slice(octets, mode, |p| Unsigned::u16_from_primitive(p)));
+    count(tally, read, found(text.parse::<u16>()));
+    let read = found(Primitive::decode_slice(octets, mode, |p| Unsigned::u32_from_primitive(p)));
+    count(tally, read, found(text.parse::<u32>()));
+    let read = found(Primitive::decode_slice(octets, mode, |p| Unsigned::u64_from_primitive(p)));
+    count(tally, read, found(text.parse::<u64>()));
+    let read = found(Primitive::decode_slice(octets, mode, |p| Unsigned::u128_from_primitive(p)));
+    count(tally, read, found(text.parse::<u128>()));
+}
+
+fn compare_from_signed(octets: &[u8], text: &str, tally: &mut Tally) {
+    let mode = Mode::Cer;
+    let read = found(Primitive::decode_slice(octets, mode, |p| Integer::i8_from_primitive(p)));
+    count(tally, read, found(text.parse::<i8>()));
+    let read = found(Primitive::decode_slice(octets, mode, |p| Integer::i16_from_primitive(p)));
+    count(tally, read, found(text.parse::<i16>()));
+    let read = found(Primitive::decode_slice(octets, mode, |p| Integer::i32_from_primitive(p)));
+    count(tally, read, found(text.parse::<i32>()));
+    let read = found(Primitive::decode_slice(octets, mode, |p| Integer::i64_from_primitive(p)));
+    count(tally, read, found(text.parse::<i64>()));
+    let read = found(Primitive::decode_slice(octets, mode, |p| Integer::i128_from_primitive(p)));
+    count(tally, read, found(text.parse::<i128>()));
+}
+
+/// Compares the conversions to types of 16 and 32 bits.
+fn compare_narrowed(integer: &Integer, text: &str, tally: &mut Tally) {
+    count(
+        tally,
+        found(u16::try_from(integer)),
+        found(text.parse::<u16>()),
+    );
+    count(
+        tally,
+        found(u32::try_from(integer)),
+        found(text.parse::<u32>()),
+    );
+    count(
+        tally,
+        found(i16::try_from(integer)),
+        found(text.parse::<i16>()),
+    );
+    count(
+        tally,
+        found(i32::try_from(integer)),
+        found(text.parse::<i32>()),
+    );
 }
 
 fn compare_converted(integer: &Integer, text: &str, tally: &mut Tally) {
@@ -119,14 +184,72 @@ pub fn compare_line(alloc: Global, line: &str, tallies: &mut Tallies) -> Result<
     let text = next(&mut fields)?;
     compare_unsigned(octets, text, &mut tallies.read);
     compare_signed(octets, text, &mut tallies.read);
+    compare_from_unsigned(octets, text, &mut tallies.read);
+    compare_from_signed(octets, text, &mut tallies.read);
     let read = found(Primitive::decode_slice(octets, Mode::Cer, |p| {
         Integer::from_primitive(alloc, p)
     }));
     tallies.converted.count(read.is_some() == (text != "-"));
     if let Some(integer) = read {
         compare_converted(&integer, text, &mut tallies.converted);
+        compare_narrowed(&integer, text, &mut tallies.converted);
     }
+    written::compare_unsigned(alloc, octets, text, &mut tallies.written);
+    written::compare_signed(alloc, octets, text, &mut tallies.written);
     compare_made(alloc, octets, text, &mut tallies.made)
+}
+
+/// Compares the contents octets of the unsigned integer that octets are, or that they are none.
+pub fn compare_made_unsigned(
+    alloc: Global,
+    line: &str,
+    tallies: &mut Tallies,
+) -> Result<(), Error> {
+    let mut fields = line.split('\t');
+    let octets = octets_of(alloc, next(&mut fields)?)?;
+    let copied = Unsigned::from_slice(alloc, &octets);
+    let shared = Unsigned::from_bytes(alloc, Bytes::copy_from_slice(alloc, &octets)?);
+    match next(&mut fields)? {
+        "invalid" => {
+            let invalid = Some(IntegerError::Invalid(InvalidInteger));
+            tallies.unsigned.count(copied.err() == invalid);
+            tallies.unsigned.count(shared.err() == invalid);
+        }
+        field => {
+            let wanted = octets_of(alloc, field)?;
+            tallies
+                .unsigned
+                .count(copied?.as_slice() == wanted.as_slice());
+            tallies
+                .unsigned
+                .count(shared?.as_slice() == wanted.as_slice());
+        }
+    }
+    Ok(())
+}
+
+/// The words for orders.
+const ORDERS: [(&str, Ordering); 3] = [
+    ("less", Ordering::Less),
+    ("equal", Ordering::Equal),
+    ("greater", Ordering::Greater),
+];
+
+/// Compares the order of the integers of two numbers, and of the first one and zero.
+pub fn compare_order(alloc: Global, line: &str, tallies: &mut Tallies) -> Result<(), Error> {
+    let mut fields = line.split('\t');
+    let one = Integer::from_i128(alloc, next(&mut fields)?.parse::<i128>()?)?;
+    let sign = find(&ORDERS, next(&mut fields)?)?;
+    let other = Integer::from_i128(alloc, next(&mut fields)?.parse::<i128>()?)?;
+    let order = find(&ORDERS, next(&mut fields)?)?;
+    let tally = &mut tallies.ordered;
+    tally.count(one.is_negative() == (sign == Ordering::Less));
+    tally.count(one.is_zero() == (sign == Ordering::Equal));
+    tally.count(one.is_positive() == (sign == Ordering::Greater));
+    tally.count(one.cmp(&other) == order);
+    tally.count(other.cmp(&one) == order.reverse());
+    tally.count((one == other) == (order == Ordering::Equal));
+    Ok(())
 }
 
 /// Compares what is read of two octets with what std makes of them.

@@ -14,13 +14,19 @@
 mod calls;
 mod captures;
 mod fields;
+mod identifiers;
 mod integers;
+mod labels;
 mod malformed;
+mod partial;
 mod positions;
+mod row;
+mod skips;
 mod tags;
 mod takes;
 mod tally;
 mod walks;
+mod written;
 
 use anyhow::Error;
 use calls::CALLS;
@@ -39,6 +45,7 @@ fn print_readers(rt: &HostRuntime, what: &str, tallies: walks::Tallies) -> Resul
         ("walk", tallies.walk),
         ("skip_one", tallies.skip_one),
         ("capture_one", tallies.capture_one),
+        ("skip_all", tallies.skip_all),
     ] {
         println!(rt;
             "{what}, {reader}: {} answers compared, {} differ",
@@ -46,6 +53,40 @@ fn print_readers(rt: &HostRuntime, what: &str, tallies: walks::Tallies) -> Resul
         )?;
     }
     Ok(())
+}
+
+/// Replays `skips.tsv`.
+fn replay_skips(rt: &HostRuntime) -> Result<(), Error> {
+    let text = fs::read_to_string(rt, "skips.tsv")?;
+    let mut told = Tally::default();
+    let mut tallies = walks::Tallies::default();
+    for line in text.lines() {
+        if !is_comment(line) {
+            let before = told.differ;
+            skips::compare_line(rt.alloc(), line, &mut told, &mut tallies)?;
+            if told.differ != before {
+                println!(rt; "differs: {line}")?;
+            }
+        }
+    }
+    print(rt, "headings told", told)?;
+    print_readers(rt, "values that are told", tallies)
+}
+
+/// Replays `labels.tsv`.
+fn replay_labels(rt: &HostRuntime) -> Result<(), Error> {
+    let text = fs::read_to_string(rt, "labels.tsv")?;
+    let mut tally = Tally::default();
+    for line in text.lines() {
+        if !is_comment(line) {
+            let before = tally.differ;
+            labels::compare_line(rt.alloc(), line, &mut tally)?;
+            if tally.differ != before {
+                println!(rt; "differs: {line}")?;
+            }
+        }
+    }
+    print(rt, "rules of captures", tally)
 }
 
 /// Replays `walk.tsv` and `fronts.tsv`, and compares the readers on short lists.
@@ -75,16 +116,18 @@ fn replay_walks(rt: &HostRuntime) -> Result<(), Error> {
     )
 }
 
-/// Replays `takes.tsv`.
+/// Replays `takes.tsv` and `typed.tsv`.
 fn replay_takes(rt: &HostRuntime) -> Result<(), Error> {
-    let text = fs::read_to_string(rt, "takes.tsv")?;
     let mut counts = takes::Counts::new(rt.alloc())?;
-    for line in text.lines() {
-        if !is_comment(line) {
-            let before = counts.differ();
-            takes::compare_line(rt.alloc(), line, &mut counts)?;
-            if counts.differ() != before {
-                println!(rt; "differs: {line}")?;
+    for file in ["takes.tsv", "typed.tsv"] {
+        let text = fs::read_to_string(rt, file)?;
+        for line in text.lines() {
+            if !is_comment(line) {
+                let before = counts.differ();
+                takes::compare_line(rt.alloc(), line, &mut counts)?;
+                if counts.differ() != before {
+                    println!(rt; "differs: {line}")?;
+                }
             }
         }
     }
@@ -113,6 +156,22 @@ fn replay_captures(rt: &HostRuntime) -> Result<(), Error> {
     print(rt, "octets left of captures", tallies.left)
 }
 
+/// Replays `partial.tsv`.
+fn replay_partial(rt: &HostRuntime) -> Result<(), Error> {
+    let text = fs::read_to_string(rt, "partial.tsv")?;
+    let mut tally = Tally::default();
+    for line in text.lines() {
+        if !is_comment(line) {
+            let before = tally.differ;
+            partial::compare_line(rt.alloc(), line, &mut tally)?;
+            if tally.differ != before {
+                println!(rt; "differs: {line}")?;
+            }
+        }
+    }
+    print(rt, "captured values decoded in part", tally)
+}
+
 /// Replays `positions.tsv`.
 fn replay_positions(rt: &HostRuntime) -> Result<(), Error> {
     let text = fs::read_to_string(rt, "positions.tsv")?;
@@ -129,7 +188,7 @@ fn replay_positions(rt: &HostRuntime) -> Result<(), Error> {
     print(rt, "positions of refusals", tally)
 }
 
-/// Replays `tags.tsv`.
+/// Replays `tags.tsv` and `headers.tsv`.
 fn replay_tags(rt: &HostRuntime) -> Result<(), Error> {
     let text = fs::read_to_string(rt, "tags.tsv")?;
     let mut tallies = tags::Tallies::default();
@@ -144,10 +203,19 @@ fn replay_tags(rt: &HostRuntime) -> Result<(), Error> {
     }
     print(rt, "tags taken", tallies.taken)?;
     print(rt, "tags refused", tallies.refused)?;
-    print(rt, "tags shown", tallies.shown)
+    print(rt, "tags shown", tallies.shown)?;
+    print(rt, "tags written", tallies.written)?;
+    let text = fs::read_to_string(rt, "headers.tsv")?;
+    let mut tally = Tally::default();
+    for line in text.lines() {
+        if !is_comment(line) {
+            written::compare_header(rt.alloc(), line, &mut tally)?;
+        }
+    }
+    print(rt, "headers written", tally)
 }
 
-/// Replays `integers.tsv` and `integer_values.tsv`, and compares all contents of two octets with
+/// Replays the files of integers, and compares all contents of two octets with
 /// what std makes of them.
 fn replay_integers(rt: &HostRuntime) -> Result<(), Error> {
     let mut tallies = integers::Tallies::default();
@@ -163,12 +231,66 @@ fn replay_integers(rt: &HostRuntime) -> Result<(), Error> {
             integers::compare_value(rt.alloc(), line, &mut tallies)?;
         }
     }
+    let text = fs::read_to_string(rt, "unsigned.tsv")?;
+    for line in text.lines() {
+        if !is_comment(line) {
+            integers::compare_made_unsigned(rt.alloc(), line, &mut tallies)?;
+        }
+    }
+    let text = fs::read_to_string(rt, "orders.tsv")?;
+    for line in text.lines() {
+        if !is_comment(line) {
+            integers::compare_order(rt.alloc(), line, &mut tallies)?;
+        }
+    }
     for (what, tally) in [
         ("numbers read", tallies.read),
         ("integers converted", tallies.converted),
         ("integers made", tallies.made),
         ("numbers of two octets", integers::compare_pairs()),
         ("integers taken", tallies.values),
+        ("integers written", tallies.written),
+        ("unsigned integers made", tallies.unsigned),
+        ("integers ordered", tallies.ordered),
+    ] {
+        print(rt, what, tally)?;
+    }
+    Ok(())
+}
+
+/// Replays the files of object identifiers.
+fn replay_identifiers(rt: &HostRuntime) -> Result<(), Error> {
+    let mut tallies = identifiers::Tallies::default();
+    let text = fs::read_to_string(rt, "identifiers.tsv")?;
+    for line in text.lines() {
+        if !is_comment(line) {
+            identifiers::compare_line(rt.alloc(), line, &mut tallies)?;
+        }
+    }
+    let text = fs::read_to_string(rt, "texts.tsv")?;
+    for line in text.lines() {
+        if !is_comment(line) {
+            identifiers::compare_text(rt.alloc(), line, &mut tallies)?;
+        }
+    }
+    let text = fs::read_to_string(rt, "components.tsv")?;
+    for line in text.lines() {
+        if !is_comment(line) {
+            identifiers::compare_components(rt.alloc(), line, &mut tallies)?;
+        }
+    }
+    let text = fs::read_to_string(rt, "identifier_values.tsv")?;
+    for line in text.lines() {
+        if !is_comment(line) {
+            identifiers::compare_value(rt.alloc(), line, &mut tallies)?;
+        }
+    }
+    for (what, tally) in [
+        ("identifiers read", tallies.read),
+        ("identifiers shown", tallies.shown),
+        ("texts of identifiers", tallies.texts),
+        ("components", tallies.components),
+        ("identifiers taken", tallies.values),
     ] {
         print(rt, what, tally)?;
     }
@@ -186,9 +308,13 @@ fn print(rt: &HostRuntime, what: &str, tally: Tally) -> Result<(), Error> {
 
 fn main(rt: HostRuntime) -> Result<(), Error> {
     replay_walks(&rt)?;
+    replay_skips(&rt)?;
     replay_takes(&rt)?;
     replay_captures(&rt)?;
+    replay_labels(&rt)?;
+    replay_partial(&rt)?;
     replay_positions(&rt)?;
     replay_tags(&rt)?;
-    replay_integers(&rt)
+    replay_integers(&rt)?;
+    replay_identifiers(&rt)
 }

@@ -16,6 +16,9 @@ enum Way {
     Walk,
     SkipOne,
     CaptureOne,
+
+    /// It passes over all values.
+    SkipAll,
 }
 
 /// What was compared of each reader.
@@ -25,6 +28,7 @@ pub struct Tallies {
     pub walk: Tally,
     pub skip_one: Tally,
     pub capture_one: Tally,
+    pub skip_all: Tally,
 }
 
 /// How many octets the value at the front takes, by the plain reader.
@@ -47,6 +51,10 @@ fn passes<S: Source>(
     match way {
         Way::Walk => Ok(walk(cons)?.is_some()),
         Way::SkipOne => Ok(cons.skip_one(alloc)?.is_some()),
+        Way::SkipAll => {
+            cons.skip_all(alloc)?;
+            Ok(true)
+        }
         Way::CaptureOne => match cons.capture_one(alloc) {
             Ok(captured) => Ok(size == Some(captured.as_slice().len())),
             Err(_) => Ok(false),
@@ -121,6 +129,25 @@ pub fn compare_ways(
     )
 }
 
+/// The same where the octets are no more than that value, or don't begin with one.
+pub fn compare_whole(
+    alloc: Global,
+    mode: Mode,
+    octets: &[u8],
+    size: Option<usize>,
+    tallies: &mut Tallies,
+) -> Result<(), AllocError> {
+    compare_ways(alloc, mode, octets, size, tallies)?;
+    compare_way(
+        alloc,
+        mode,
+        Way::SkipAll,
+        octets,
+        size,
+        &mut tallies.skip_all,
+    )
+}
+
 /// Compares the answers of one line of `walk.tsv`.
 pub fn compare_line(alloc: Global, line: &str, tallies: &mut Tallies) -> Result<(), Error> {
     let mut fields = line.split('\t');
@@ -141,9 +168,9 @@ pub fn compare_fronts(alloc: Global, line: &str, tallies: &mut Tallies) -> Resul
     let modes = modes_of(alloc, next(&mut fields)?)?;
     let octets = octets_of(alloc, next(&mut fields)?)?;
     for mode in &modes {
-        compare_ways(alloc, *mode, &octets, Some(octets.len()), tallies)?;
+        compare_whole(alloc, *mode, &octets, Some(octets.len()), tallies)?;
         for size in 1..octets.len() {
-            compare_ways(alloc, *mode, &octets[..size], None, tallies)?;
+            compare_whole(alloc, *mode, &octets[..size], None, tallies)?;
         }
     }
     Ok(())
