@@ -45,7 +45,6 @@ fn print_readers(rt: &HostRuntime, what: &str, tallies: walks::Tallies) -> Resul
         ("walk", tallies.walk),
         ("skip_one", tallies.skip_one),
         ("capture_one", tallies.capture_one),
-        ("skip_all", tallies.skip_all),
     ] {
         println!(rt;
             "{what}, {reader}: {} answers compared, {} differ",
@@ -70,7 +69,8 @@ fn replay_skips(rt: &HostRuntime) -> Result<(), Error> {
         }
     }
     print(rt, "headings told", told)?;
-    print_readers(rt, "values that are told", tallies)
+    print_readers(rt, "values that are told", tallies)?;
+    print(rt, "values that are told, skip_all", tallies.skip_all)
 }
 
 /// Replays `labels.tsv`.
@@ -107,6 +107,7 @@ fn replay_walks(rt: &HostRuntime) -> Result<(), Error> {
         }
     }
     print_readers(rt, "values that are cut", tallies)?;
+    print(rt, "values that are cut, skip_all", tallies.skip_all)?;
     let tallies = walks::compare_lists(rt.alloc());
     print(rt, "short lists, walk and plain reader", tallies.walk)?;
     print(
