@@ -35,10 +35,7 @@ pub fn compare_line(alloc: Global, line: &str, tallies: &mut Tallies) -> Result<
     let mut fields = line.split('\t');
     let octets = octets_of(alloc, next(&mut fields)?)?;
     let taken = next(&mut fields)? == "taken";
-    let text = match next(&mut fields)? {
-        "-" => "",
-        text => text,
-    };
+    let text = next(&mut fields)?;
     for mode in [Mode::Ber, Mode::Cer, Mode::Der] {
         let skipped = Primitive::decode_slice(&octets, mode, |p| Oid::skip_primitive(p));
         tallies.read.count(skipped.is_ok() == taken);
@@ -50,7 +47,12 @@ pub fn compare_line(alloc: Global, line: &str, tallies: &mut Tallies) -> Result<
         }
     }
     let shown = format!(in alloc; "{}", Oid(octets))?;
-    tallies.shown.count(shown.as_str() == text);
+    let same = if text == "-" {
+        shown.as_str().is_empty()
+    } else {
+        shown.as_str() == text
+    };
+    tallies.shown.count(same);
     let back = next(&mut fields)?;
     tallies.texts.count(is_read(alloc, shown.as_str(), back)?);
     Ok(())

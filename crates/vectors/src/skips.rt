@@ -22,7 +22,7 @@ struct Row<'a> {
     /// The tag that the closure refuses.
     refused: Option<Tag>,
 
-    /// The headings that it is told.
+    /// The headings that it is told, or `-`.
     headings: &'a str,
     answer: Answer,
 
@@ -77,7 +77,12 @@ fn tells<S: Source>(
                 || (answer == Answer::Static && row.answer == Answer::Absent && wanted)
         }
     };
-    same && text.as_str() == row.headings
+    let is_told = if row.headings == "-" {
+        text.as_str().is_empty()
+    } else {
+        text.as_str() == row.headings
+    };
+    same && is_told
 }
 
 /// Compares what `skip_opt` and `skip` tell over a source made anew.
@@ -124,10 +129,7 @@ fn row_of<'a>(alloc: Global, line: &'a str) -> Result<Row<'a>, Error> {
         "-" => None,
         word => Some(tag_of(word)?),
     };
-    let headings = match next(&mut fields)? {
-        "-" => "",
-        text => text,
-    };
+    let headings = next(&mut fields)?;
     let answer = answer_of(next(&mut fields)?)?;
     let left = number(next(&mut fields)?)?;
     Ok(Row {
