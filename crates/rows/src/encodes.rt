@@ -5,7 +5,7 @@ use bcder::encode::{
     Choice2, Choice3, EncodeError, Nothing, PrimitiveContent, Values, WriteError, sequence,
     sequence_as, set, set_as, slice, total_encoded_len, write_header,
 };
-use bcder::{Mode, Tag};
+use bcder::{Integer, Mode, Oid, Tag, Unsigned};
 use std::alloc::Global;
 use std::io;
 use std::io::{Error, ErrorKind, Write};
@@ -168,8 +168,8 @@ fn octets_and_references(rt: HostRuntime) -> Result<(), Fail> {
     Ok(())
 }
 
-/// A number is written with these contents octets under the tag INTEGER.
-fn integer<P: PrimitiveContent + Drop>(
+/// A primitive value has these contents octets.
+fn contents<P: PrimitiveContent + Drop>(
     rt: &impl Abort,
     alloc: Global,
     number: P,
@@ -184,12 +184,12 @@ fn integer<P: PrimitiveContent + Drop>(
 
 #[test]
 fn unsigned_integers(rt: HostRuntime) -> Result<(), Fail> {
-    integer(&rt, rt.alloc(), 0u32, &[0x00])?;
-    integer(&rt, rt.alloc(), 0x12u32, &[0x12])?;
-    integer(&rt, rt.alloc(), 0x1234u32, &[0x12, 0x34])?;
-    integer(&rt, rt.alloc(), 0x123400u32, &[0x12, 0x34, 0x00])?;
-    integer(&rt, rt.alloc(), 0x12345678u32, &[0x12, 0x34, 0x56, 0x78])?;
-    integer(
+    contents(&rt, rt.alloc(), 0u32, &[0x00])?;
+    contents(&rt, rt.alloc(), 0x12u32, &[0x12])?;
+    contents(&rt, rt.alloc(), 0x1234u32, &[0x12, 0x34])?;
+    contents(&rt, rt.alloc(), 0x123400u32, &[0x12, 0x34, 0x00])?;
+    contents(&rt, rt.alloc(), 0x12345678u32, &[0x12, 0x34, 0x56, 0x78])?;
+    contents(
         &rt,
         rt.alloc(),
         0xA2345678u32,
@@ -199,39 +199,61 @@ fn unsigned_integers(rt: HostRuntime) -> Result<(), Fail> {
 
 #[test]
 fn signed_integers(rt: HostRuntime) -> Result<(), Fail> {
-    integer(&rt, rt.alloc(), 0xF2i32, &[0x00, 0xF2])?;
-    integer(&rt, rt.alloc(), 0xF234i32, &[0x00, 0xF2, 0x34])?;
-    integer(&rt, rt.alloc(), 0xF23400i32, &[0x00, 0xF2, 0x34, 0x00])?;
-    integer(&rt, rt.alloc(), -1i32, &[0xFF])?;
-    integer(&rt, rt.alloc(), -0xF0i32, &[0xFF, 0x10])?;
-    integer(&rt, rt.alloc(), -0xF000i32, &[0xFF, 0x10, 0x00])?;
-    integer(&rt, rt.alloc(), -1200000i32, &[0xED, 0xB0, 0x80])
+    contents(&rt, rt.alloc(), 0xF2i32, &[0x00, 0xF2])?;
+    contents(&rt, rt.alloc(), 0xF234i32, &[0x00, 0xF2, 0x34])?;
+    contents(&rt, rt.alloc(), 0xF23400i32, &[0x00, 0xF2, 0x34, 0x00])?;
+    contents(&rt, rt.alloc(), -1i32, &[0xFF])?;
+    contents(&rt, rt.alloc(), -0xF0i32, &[0xFF, 0x10])?;
+    contents(&rt, rt.alloc(), -0xF000i32, &[0xFF, 0x10, 0x00])?;
+    contents(&rt, rt.alloc(), -1200000i32, &[0xED, 0xB0, 0x80])
 }
 
 #[test]
 fn small_and_large_integers(rt: HostRuntime) -> Result<(), Fail> {
-    integer(&rt, rt.alloc(), -32769i64, &[0xFF, 0x7F, 0xFF])?;
-    integer(&rt, rt.alloc(), -32768i16, &[0x80, 0x00])?;
-    integer(&rt, rt.alloc(), -129i16, &[0xFF, 0x7F])?;
-    integer(&rt, rt.alloc(), -128i8, &[0x80])?;
-    integer(&rt, rt.alloc(), 128u8, &[0x00, 0x80])?;
-    integer(&rt, rt.alloc(), -12000i32, &[0xD1, 0x20])
+    contents(&rt, rt.alloc(), -32769i64, &[0xFF, 0x7F, 0xFF])?;
+    contents(&rt, rt.alloc(), -32768i16, &[0x80, 0x00])?;
+    contents(&rt, rt.alloc(), -129i16, &[0xFF, 0x7F])?;
+    contents(&rt, rt.alloc(), -128i8, &[0x80])?;
+    contents(&rt, rt.alloc(), 128u8, &[0x00, 0x80])?;
+    contents(&rt, rt.alloc(), -12000i32, &[0xD1, 0x20])
 }
 
 #[test]
 fn the_largest_integers(rt: HostRuntime) -> Result<(), Fail> {
     let mut least = [0u8; 16];
     least[0] = 0x80;
-    integer(&rt, rt.alloc(), i128::MIN, &least)?;
+    contents(&rt, rt.alloc(), i128::MIN, &least)?;
     let mut most = [0xFFu8; 17];
     most[0] = 0;
-    integer(&rt, rt.alloc(), u128::MAX, &most)?;
-    integer(
+    contents(&rt, rt.alloc(), u128::MAX, &most)?;
+    contents(
         &rt,
         rt.alloc(),
         u64::MAX,
         &[0, 0xFF, 0xFF, 0xFF, 0xFF, 0xFF, 0xFF, 0xFF, 0xFF],
     )
+}
+
+#[test]
+fn integers_of_any_size(rt: HostRuntime) -> Result<(), Fail> {
+    let alloc = rt.alloc();
+    let octets = [0x00, 0x00, 0xDE, 0xAD, 0xBE, 0xEF];
+    let number = Unsigned::from_slice(alloc, &octets)?;
+    let wanted = [0x02, 0x05, 0x00, 0xDE, 0xAD, 0xBE, 0xEF];
+    writes_always(&rt, alloc, &(&number).encode(), &wanted)?;
+    contents(&rt, alloc, &number, &wanted[2..])?;
+    let number = Integer::from_i128(alloc, -32769)?;
+    let wanted = [0x02, 0x03, 0xFF, 0x7F, 0xFF];
+    writes_always(&rt, alloc, &(&number).encode(), &wanted)?;
+    contents(&rt, alloc, &number, &wanted[2..])
+}
+
+#[test]
+fn object_identifiers(rt: HostRuntime) -> Result<(), Fail> {
+    let octets: &[u8] = &[85, 29, 19];
+    let wanted = [0x06, 0x03, 0x55, 0x1D, 0x13];
+    writes_always(&rt, rt.alloc(), &Oid(octets).encode(), &wanted)?;
+    contents(&rt, rt.alloc(), Oid(octets), octets)
 }
 
 #[test]

@@ -9,7 +9,7 @@ use bcder::decode::{
     BytesSource, Constructed, ContentError, DecodeError, Primitive, SliceSource, Source,
 };
 use bcder::int::{IntegerError, InvalidInteger, OverflowError};
-use bcder::{Integer, Mode, Unsigned};
+use bcder::{Integer, Mode, Tag, Unsigned};
 use bytes::Bytes;
 use std::alloc::Global;
 use std::convert::TryFrom;
@@ -85,6 +85,48 @@ fn octets_as_they_are(rt: HostRuntime) -> Result<(), Fail> {
         p.with_slice_all(|octets| Ok(octets.len()))
     })?;
     same(&rt, count, 3);
+    Ok(())
+}
+
+/// Looks at octets that a reader refused. They stay until they are taken.
+fn look_and_take<S: Source>(
+    rt: &impl Abort,
+    alloc: Global,
+    octets: &mut Primitive<'_, S>,
+) -> Result<Bytes, DecodeError<S::Error>>
+    ensures { MovedOctets S.stream octets }
+{
+    holds(rt, octets.to_u16().is_err());
+    same(rt, octets.remaining(), 3);
+    holds(
+        rt,
+        octets.slice_all(|octets| octets == [0x01, 0x02, 0x03].as_slice())?,
+    );
+    same(rt, octets.remaining(), 3);
+    octets.take_all(alloc)
+}
+
+/// The same of the octets of an INTEGER.
+fn look_and_take_value<S: Source>(
+    rt: &impl Abort,
+    alloc: Global,
+    cons: &mut Constructed<'_, S>,
+) -> Result<Bytes, DecodeError<S::Error>>
+    ensures { Moved S.stream cons }
+{
+    cons.take_primitive_if(Tag::INTEGER, |p| look_and_take(rt, alloc, p))
+}
+
+#[test]
+fn octets_that_are_looked_at(rt: HostRuntime) -> Result<(), Fail> {
+    let alloc = rt.alloc();
+    let octets = [0x01, 0x02, 0x03];
+    let all = Primitive::decode_slice(&octets, Mode::Der, |p| look_and_take(&rt, alloc, p))?;
+    same(&rt, all.as_slice(), &octets);
+    let value = [0x02, 0x03, 0x01, 0x02, 0x03];
+    let mut sip = Sip::new(value.to_vec(alloc)?, 0);
+    let taken = Mode::Der.decode_lent(&mut sip, |cons| look_and_take_value(&rt, alloc, cons))?;
+    same(&rt, taken.as_slice(), &octets);
     Ok(())
 }
 

@@ -1,6 +1,8 @@
 //! Calls on content, by the words of the data.
 use crate::fields::{find, next};
 use crate::malformed::Malformed;
+use crate::row::Step;
+use anyhow::Error;
 use bcder::Tag;
 use std::alloc::Global;
 
@@ -24,6 +26,23 @@ pub enum Call {
     Set,
     OptSet,
 
+    Bool,
+    OptBool,
+    Null,
+    OptNull,
+    U8,
+    OptU8,
+    U16,
+    OptU16,
+    U32,
+    OptU32,
+    U64,
+    OptU64,
+
+    /// `skip_u8_if` and its optional form, of the number of the step.
+    SkipU8If,
+    SkipOptU8If,
+
     /// `walk`, which is no call of content but passes over its next value.
     Walk,
 
@@ -38,7 +57,7 @@ pub enum Call {
 }
 
 /// The words for the calls.
-pub const CALLS: [(&str, Call); 20] = [
+pub const CALLS: [(&str, Call); 34] = [
     ("take_value", Call::Value),
     ("take_opt_value", Call::OptValue),
     ("take_value_if", Call::ValueIf),
@@ -55,6 +74,20 @@ pub const CALLS: [(&str, Call); 20] = [
     ("take_opt_sequence", Call::OptSequence),
     ("take_set", Call::Set),
     ("take_opt_set", Call::OptSet),
+    ("take_bool", Call::Bool),
+    ("take_opt_bool", Call::OptBool),
+    ("take_null", Call::Null),
+    ("take_opt_null", Call::OptNull),
+    ("take_u8", Call::U8),
+    ("take_opt_u8", Call::OptU8),
+    ("take_u16", Call::U16),
+    ("take_opt_u16", Call::OptU16),
+    ("take_u32", Call::U32),
+    ("take_opt_u32", Call::OptU32),
+    ("take_u64", Call::U64),
+    ("take_opt_u64", Call::OptU64),
+    ("skip_u8_if", Call::SkipU8If),
+    ("skip_opt_u8_if", Call::SkipOptU8If),
     ("walk", Call::Walk),
     ("set_mode", Call::SetBer),
     ("enter", Call::Enter),
@@ -62,10 +95,11 @@ pub const CALLS: [(&str, Call); 20] = [
 ];
 
 /// The words for the tags.
-const TAGS: [(&str, Tag); 6] = [
+const TAGS: [(&str, Tag); 7] = [
     ("INTEGER", Tag::INTEGER),
     ("BOOLEAN", Tag::BOOLEAN),
     ("NULL", Tag::NULL),
+    ("OCTET_STRING", Tag::OCTET_STRING),
     ("SEQUENCE", Tag::SEQUENCE),
     ("SET", Tag::SET),
     ("END_OF_VALUE", Tag::END_OF_VALUE),
@@ -101,6 +135,12 @@ pub enum Answer {
     /// A value, or that all went well.
     Taken,
 
+    /// A truth value.
+    Truth(bool),
+
+    /// A number.
+    Number(u64),
+
     /// That no such value is there.
     Absent,
 
@@ -110,6 +150,9 @@ pub enum Answer {
     /// A refusal that names the tag of the step.
     Expected,
 
+    /// A refusal that names the number of the step.
+    Another,
+
     /// The closure's own refusal.
     Own,
 
@@ -118,21 +161,30 @@ pub enum Answer {
 }
 
 /// The words for the answers.
-const ANSWERS: [(&str, Answer); 5] = [
+const ANSWERS: [(&str, Answer); 8] = [
     ("taken", Answer::Taken),
+    ("true", Answer::Truth(true)),
+    ("false", Answer::Truth(false)),
     ("absent", Answer::Absent),
     ("static", Answer::Static),
     ("expected", Answer::Expected),
+    ("another", Answer::Another),
     ("own", Answer::Own),
 ];
 
-/// A call, the tag of its value, what its closure does, and the answer.
+/// A call, the tag or the number of its value, what its closure does, and the answer.
 #[derive(Clone, Copy, Debug)]
-pub struct Step {
+pub struct TakeStep {
     pub call: Call,
     pub tag: Tag,
+    pub number: u8,
     pub with: Use,
     pub answer: Answer,
+}
+
+/// The tag that a word stands for.
+pub fn tag_of(word: &str) -> Result<Tag, Malformed> {
+    find(&TAGS, word)
 }
 
 /// The answer that a word stands for.
@@ -140,30 +192,29 @@ pub fn answer_of(word: &str) -> Result<Answer, Malformed> {
     find(&ANSWERS, word)
 }
 
-/// A step, as `CALL=ANSWER`, `CALL:TAG=ANSWER` or `CALL:TAG:USE=ANSWER`.
-fn step_of(text: &str) -> Result<Step, Malformed> {
-    let (what, answer) = text.split_once('=').ok_or(Malformed)?;
-    let mut words = what.split(':');
-    let call = find(&CALLS, next(&mut words)?)?;
-    let tag = find(&TAGS, words.next().unwrap_or("END_OF_VALUE"))?;
-    let with = find(&USES, words.next().unwrap_or("pass"))?;
-    let answer = answer_of(answer)?;
-    Ok(Step {
-        call,
-        tag,
-        with,
-        answer,
-    })
-}
-
-/// The steps of a field, which are separated by spaces, or none for `-`.
-pub fn steps_of(alloc: Global, field: &str) -> Result<Vec<Step>, anyhow::Error> {
-    let mut steps = Vec::new(alloc);
-    if field == "-" {
-        return Ok(steps);
+impl Step for TakeStep {
+    /// A step, as `CALL=ANSWER`, `CALL:TAG=ANSWER` or `CALL:TAG:USE=ANSWER`, where TAG may be a
+    /// number, and ANSWER may be `=` and a number.
+    fn of(_alloc: Global, word: &str) -> Result<TakeStep, Error> {
+        let (what, answer) = word.split_once('=').ok_or(Malformed)?;
+        let mut words = what.split(':');
+        let call = find(&CALLS, next(&mut words)?)?;
+        let value = words.next().unwrap_or("END_OF_VALUE");
+        let with = find(&USES, words.next().unwrap_or("pass"))?;
+        let (tag, number) = match value.parse::<u8>() {
+            Ok(number) => (Tag::INTEGER, number),
+            Err(_) => (tag_of(value)?, 0),
+        };
+        let answer = match answer.strip_prefix('=') {
+            Some(number) => Answer::Number(number.parse::<u64>()?),
+            None => answer_of(answer)?,
+        };
+        Ok(TakeStep {
+            call,
+            tag,
+            number,
+            with,
+            answer,
+        })
     }
-    for text in field.split(' ') {
-        steps.push(step_of(text)?)?;
-    }
-    Ok(steps)
 }

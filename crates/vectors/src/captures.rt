@@ -2,18 +2,19 @@
 ghost use Rattle.bcder.specs.Views.{Moved};
 
 use crate::calls::{Answer, answer_of};
-use crate::fields::{find, mode_of, modes_of, next, number, octets_of};
+use crate::fields::{find, mode_of, next, number, octets_of};
 use crate::malformed::Malformed;
+use crate::row::{Row, Step, row_of};
 use crate::takes::{OWN, error_kind};
 use crate::tally::Tally;
 use anyhow::Error;
 use bcder::decode::{
-    BytesSource, Constructed, ContentError, DecodeError, SliceSource, Source, walk,
+    BytesSource, Constructed, ContentError, DecodeError, IntoSource, SliceSource, Source, walk,
 };
 use bcder::{Captured, Mode, Tag};
 use bytes::Bytes;
 use rows::sip::Sip;
-use std::alloc::Global;
+use std::alloc::{AllocError, Global};
 
 /// A call on content, or on what `enter` entered.
 #[derive(Clone, Copy, Debug, PartialEq, Eq)]
@@ -42,8 +43,12 @@ enum Call {
     /// `capture` with a closure that captures the next value.
     Nested,
 
-    /// `walk`, which is no capture.
+    /// `walk` and the calls that skip, which are no captures.
     Pass,
+    Skip,
+    SkipOpt,
+    SkipOne,
+    SkipAll,
 
     /// `take_primitive_if` of an INTEGER, which is no capture.
     Integer,
@@ -53,7 +58,7 @@ enum Call {
 }
 
 /// The words for the calls.
-const CALLS: [(&str, Call); 12] = [
+const CALLS: [(&str, Call); 16] = [
     ("capture_one", Call::One),
     ("capture_all", Call::All),
     ("capture_walk", Call::Walk),
@@ -64,48 +69,50 @@ const CALLS: [(&str, Call); 12] = [
     ("capture_drop", Call::Drop),
     ("capture_nested", Call::Nested),
     ("walk", Call::Pass),
+    ("skip", Call::Skip),
+    ("skip_opt", Call::SkipOpt),
+    ("skip_one", Call::SkipOne),
+    ("skip_all", Call::SkipAll),
     ("integer", Call::Integer),
     ("enter", Call::Enter),
 ];
 
-/// A call, and its answer: octets with their rules, if these aren't those of the row.
+/// A call, and its answer: octets with their rules, if these aren't those of the row, and with the
+/// position where they began, if that is said.
 #[derive(Drop)]
-struct Step {
+pub struct CaptureStep {
     call: Call,
     answer: Answer,
     octets: Vec<u8>,
     label: Option<Mode>,
+    start: Option<usize>,
 }
 
-/// A step, as `CALL=ANSWER`, `CALL:OCTETS=ANSWER` or `CALL:OCTETS:MODE=ANSWER`.
-fn step_of(alloc: Global, text: &str) -> Result<Step, Error> {
-    let (what, answer) = text.split_once('=').ok_or(Malformed)?;
-    let mut words = what.split(':');
-    let call = find(&CALLS, next(&mut words)?)?;
-    let octets = octets_of(alloc, words.next().unwrap_or("-"))?;
-    let label = match words.next() {
-        Some(word) => Some(mode_of(word)?),
-        None => None,
-    };
-    let answer = answer_of(answer)?;
-    Ok(Step {
-        call,
-        answer,
-        octets,
-        label,
-    })
-}
-
-/// The steps of a field, which are separated by spaces, or none for `-`.
-fn steps_of(alloc: Global, field: &str) -> Result<Vec<Step>, Error> {
-    let mut steps = Vec::new(alloc);
-    if field == "-" {
-        return Ok(steps);
+impl Step for CaptureStep {
+    /// A step, as `CALL=ANSWER`, `CALL:OCTETS=ANSWER`, `CALL:OCTETS:MODE=ANSWER` or
+    /// `CALL:OCTETS:MODE:START=ANSWER`.
+    fn of(alloc: Global, word: &str) -> Result<CaptureStep, Error> {
+        let (what, answer) = word.split_once('=').ok_or(Malformed)?;
+        let mut words = what.split(':');
+        let call = find(&CALLS, next(&mut words)?)?;
+        let octets = octets_of(alloc, words.next().unwrap_or("-"))?;
+        let label = match words.next() {
+            Some(word) => Some(mode_of(word)?),
+            None => None,
+        };
+        let start = match words.next() {
+            Some(word) => Some(number(word)?),
+            None => None,
+        };
+        let answer = answer_of(answer)?;
+        Ok(CaptureStep {
+            call,
+            answer,
+            octets,
+            label,
+            start,
+        })
     }
-    for text in field.split(' ') {
-        steps.push(step_of(alloc, text)?)?;
-    }
-    Ok(steps)
 }
 
 /// Passes over the next value, if there is one.
@@ -193,8 +200,19 @@ fn capture<S: Source>(
 
 /// The rules by which captured values are decoded.
 #[tactic(auto, using(bcder::proofs::Moving::moves_refl))]
-fn label_of(captured: Captured) -> Option<Mode> {
+pub fn label_of(captured: Captured) -> Option<Mode> {
     captured.decode(|cons| Ok(cons.mode())).ok()
+}
+
+/// Whether what was captured began at a position, if one is said.
+fn begins_at(captured: &Captured, alloc: Global, start: Option<usize>) -> Result<bool, AllocError> {
+    let Some(start) = start else {
+        return Ok(true);
+    };
+    let position = captured.clone()?.into_source().pos();
+    let shown = format!(in alloc; "{position}")?;
+    let wanted = format!(in alloc; "{start}")?;
+    Ok(shown.as_str() == wanted.as_str())
 }
 
 /// Whether a capture answers as the step says.
@@ -202,7 +220,7 @@ fn label_of(captured: Captured) -> Option<Mode> {
 fn captures<S: Source>(
     cons: &mut Constructed<'_, S>,
     alloc: Global,
-    step: &Step,
+    step: &CaptureStep,
     mode: Mode,
 ) -> bool
     ensures { Moved S.stream cons }
@@ -211,45 +229,46 @@ fn captures<S: Source>(
         Ok(captured) => {
             step.answer == Answer::Taken
                 && captured.as_slice() == step.octets.as_slice()
+                && begins_at(&captured, alloc, step.start).is_ok_and(|begins| begins)
                 && label_of(captured) == Some(step.label.unwrap_or(mode))
         }
         Err(error) => step.answer == error_kind(&error, Tag::END_OF_VALUE),
     }
 }
 
-/// Whether a step that captures nothing answers as it says.
+/// What a step answers that captures nothing.
 #[tactic(auto, using(bcder::proofs::Moving::moves_refl, bcder::proofs::Carrying::carries))]
-fn passes<S: Source>(cons: &mut Constructed<'_, S>, step: &Step) -> bool
+fn pass_by<S: Source>(
+    cons: &mut Constructed<'_, S>,
+    alloc: Global,
+    call: Call,
+) -> Result<Option<()>, DecodeError<S::Error>>
     ensures { Moved S.stream cons }
 {
-    let answer = match step.call {
-        Call::Integer => match cons.take_primitive_if(Tag::INTEGER, |octets| octets.skip_all()) {
-            Ok(()) => Answer::Taken,
-            Err(error) => error_kind(&error, Tag::INTEGER),
-        },
-        _ => match walk(cons) {
-            Ok(Some(())) => Answer::Taken,
-            Ok(None) => Answer::Absent,
-            Err(error) => error_kind(&error, Tag::END_OF_VALUE),
-        },
-    };
-    answer == step.answer
+    match call {
+        Call::Integer => Ok(Some(cons.take_primitive_if(
+            Tag::INTEGER,
+            |octets| octets.skip_all(),
+        )?)),
+        Call::Skip => Ok(Some(cons.skip(alloc, &mut |_, _, _| Ok(()))?)),
+        Call::SkipOpt => cons.skip_opt(alloc, &mut |_, _, _| Ok(())),
+        Call::SkipOne => cons.skip_one(alloc),
+        Call::SkipAll => Ok(Some(cons.skip_all(alloc)?)),
+        _ => walk(cons),
+    }
 }
 
-/// Steps on octets in some modes.
-#[derive(Drop)]
-struct Row {
-    modes: Vec<Mode>,
-    octets: Vec<u8>,
-
-    /// On the content that `enter` enters.
-    inside: Vec<Step>,
-
-    /// At top level.
-    outside: Vec<Step>,
-
-    /// How `decode` refuses, if it does, or how many octets are left.
-    left: Result<usize, Answer>,
+/// Whether a step that captures nothing answers as it says.
+#[tactic(auto, using(bcder::proofs::Moving::moves_refl, bcder::proofs::Carrying::carries))]
+fn passes<S: Source>(cons: &mut Constructed<'_, S>, alloc: Global, step: &CaptureStep) -> bool
+    ensures { Moved S.stream cons }
+{
+    let answer = match pass_by(cons, alloc, step.call) {
+        Ok(Some(())) => Answer::Taken,
+        Ok(None) => Answer::Absent,
+        Err(error) => error_kind(&error, Tag::INTEGER),
+    };
+    answer == step.answer
 }
 
 /// What was compared: captures, other steps, and what `decode` answers and leaves.
@@ -275,14 +294,15 @@ impl Tallies {
 fn compare_step<S: Source>(
     cons: &mut Constructed<'_, S>,
     alloc: Global,
-    step: &Step,
+    step: &CaptureStep,
     mode: Mode,
     tallies: &mut Tallies,
 )
     ensures { Moved S.stream cons }
 {
     match step.call {
-        Call::Integer | Call::Pass => tallies.others.count(passes(cons, step)),
+        Call::Integer | Call::Pass | Call::Skip | Call::SkipOpt | Call::SkipOne | Call::SkipAll =>
+            tallies.others.count(passes(cons, alloc, step)),
         _ => tallies.captures.count(captures(cons, alloc, step, mode)),
     }
     tallies.others.count(cons.mode() == mode);
@@ -292,7 +312,7 @@ fn compare_step<S: Source>(
 fn compare_steps<S: Source>(
     cons: &mut Constructed<'_, S>,
     alloc: Global,
-    steps: &[Step],
+    steps: &[CaptureStep],
     mode: Mode,
     tallies: &mut Tallies,
 )
@@ -307,7 +327,7 @@ fn compare_steps<S: Source>(
 fn enter<S: Source>(
     cons: &mut Constructed<'_, S>,
     alloc: Global,
-    row: &Row,
+    row: &Row<CaptureStep>,
     mode: Mode,
     tallies: &mut Tallies,
 ) -> Answer
@@ -331,7 +351,7 @@ fn enter<S: Source>(
 fn compare_outside<S: Source>(
     cons: &mut Constructed<'_, S>,
     alloc: Global,
-    row: &Row,
+    row: &Row<CaptureStep>,
     mode: Mode,
     tallies: &mut Tallies,
 )
@@ -351,7 +371,7 @@ fn compare_outside<S: Source>(
 fn compare_over<S: Source>(
     source: &mut S,
     alloc: Global,
-    row: &Row,
+    row: &Row<CaptureStep>,
     mode: Mode,
     tallies: &mut Tallies,
 ) {
@@ -372,33 +392,9 @@ fn compare_over<S: Source>(
     tallies.left.count(same);
 }
 
-/// How many octets are left, or how `decode` refuses.
-fn left_of(field: &str) -> Result<Result<usize, Answer>, Error> {
-    match answer_of(field) {
-        Ok(answer) => Ok(Err(answer)),
-        Err(_) => Ok(Ok(number(field)?)),
-    }
-}
-
-fn row_of(alloc: Global, line: &str) -> Result<Row, Error> {
-    let mut fields = line.split('\t');
-    let modes = modes_of(alloc, next(&mut fields)?)?;
-    let octets = octets_of(alloc, next(&mut fields)?)?;
-    let inside = steps_of(alloc, next(&mut fields)?)?;
-    let outside = steps_of(alloc, next(&mut fields)?)?;
-    let left = left_of(next(&mut fields)?)?;
-    Ok(Row {
-        modes,
-        octets,
-        inside,
-        outside,
-        left,
-    })
-}
-
 /// Does the steps of a line in its modes, over three sources, and compares their answers.
 pub fn compare_line(alloc: Global, line: &str, tallies: &mut Tallies) -> Result<(), Error> {
-    let row = row_of(alloc, line)?;
+    let row: Row<CaptureStep> = row_of(alloc, line)?;
     for mode in &row.modes {
         compare_over(
             &mut SliceSource::new(&row.octets),

@@ -2,6 +2,7 @@
 use crate::fields::{find, next, octets_of};
 use crate::malformed::Malformed;
 use crate::tally::Tally;
+use crate::written;
 use anyhow::Error;
 use bcder::decode::{BytesSource, DecodeError, Primitive, SliceSource, Source};
 use bcder::int::{IntegerError, InvalidInteger};
@@ -26,6 +27,9 @@ pub struct Tallies {
 
     /// Values read from sources.
     pub values: Tally,
+
+    /// Numbers written as values.
+    pub written: Tally,
 
     /// Octets made unsigned integers.
     pub unsigned: Tally,
@@ -190,6 +194,8 @@ pub fn compare_line(alloc: Global, line: &str, tallies: &mut Tallies) -> Result<
         compare_converted(&integer, text, &mut tallies.converted);
         compare_narrowed(&integer, text, &mut tallies.converted);
     }
+    written::compare_unsigned(alloc, octets, text, &mut tallies.written);
+    written::compare_signed(alloc, octets, text, &mut tallies.written);
     compare_made(alloc, octets, text, &mut tallies.made)
 }
 

@@ -16,12 +16,17 @@ mod captures;
 mod fields;
 mod identifiers;
 mod integers;
+mod labels;
 mod malformed;
+mod partial;
 mod positions;
+mod row;
+mod skips;
 mod tags;
 mod takes;
 mod tally;
 mod walks;
+mod written;
 
 use anyhow::Error;
 use calls::CALLS;
@@ -47,6 +52,41 @@ fn print_readers(rt: &HostRuntime, what: &str, tallies: walks::Tallies) -> Resul
         )?;
     }
     Ok(())
+}
+
+/// Replays `skips.tsv`.
+fn replay_skips(rt: &HostRuntime) -> Result<(), Error> {
+    let text = fs::read_to_string(rt, "skips.tsv")?;
+    let mut told = Tally::default();
+    let mut tallies = walks::Tallies::default();
+    for line in text.lines() {
+        if !is_comment(line) {
+            let before = told.differ;
+            skips::compare_line(rt.alloc(), line, &mut told, &mut tallies)?;
+            if told.differ != before {
+                println!(rt; "differs: {line}")?;
+            }
+        }
+    }
+    print(rt, "headings told", told)?;
+    print_readers(rt, "values that are told", tallies)?;
+    print(rt, "values that are told, skip_all", tallies.skip_all)
+}
+
+/// Replays `labels.tsv`.
+fn replay_labels(rt: &HostRuntime) -> Result<(), Error> {
+    let text = fs::read_to_string(rt, "labels.tsv")?;
+    let mut tally = Tally::default();
+    for line in text.lines() {
+        if !is_comment(line) {
+            let before = tally.differ;
+            labels::compare_line(rt.alloc(), line, &mut tally)?;
+            if tally.differ != before {
+                println!(rt; "differs: {line}")?;
+            }
+        }
+    }
+    print(rt, "rules of captures", tally)
 }
 
 /// Replays `walk.tsv` and `fronts.tsv`, and compares the readers on short lists.
@@ -77,16 +117,18 @@ fn replay_walks(rt: &HostRuntime) -> Result<(), Error> {
     )
 }
 
-/// Replays `takes.tsv`.
+/// Replays `takes.tsv` and `typed.tsv`.
 fn replay_takes(rt: &HostRuntime) -> Result<(), Error> {
-    let text = fs::read_to_string(rt, "takes.tsv")?;
     let mut counts = takes::Counts::new(rt.alloc())?;
-    for line in text.lines() {
-        if !is_comment(line) {
-            let before = counts.differ();
-            takes::compare_line(rt.alloc(), line, &mut counts)?;
-            if counts.differ() != before {
-                println!(rt; "differs: {line}")?;
+    for file in ["takes.tsv", "typed.tsv"] {
+        let text = fs::read_to_string(rt, file)?;
+        for line in text.lines() {
+            if !is_comment(line) {
+                let before = counts.differ();
+                takes::compare_line(rt.alloc(), line, &mut counts)?;
+                if counts.differ() != before {
+                    println!(rt; "differs: {line}")?;
+                }
             }
         }
     }
@@ -115,6 +157,22 @@ fn replay_captures(rt: &HostRuntime) -> Result<(), Error> {
     print(rt, "octets left of captures", tallies.left)
 }
 
+/// Replays `partial.tsv`.
+fn replay_partial(rt: &HostRuntime) -> Result<(), Error> {
+    let text = fs::read_to_string(rt, "partial.tsv")?;
+    let mut tally = Tally::default();
+    for line in text.lines() {
+        if !is_comment(line) {
+            let before = tally.differ;
+            partial::compare_line(rt.alloc(), line, &mut tally)?;
+            if tally.differ != before {
+                println!(rt; "differs: {line}")?;
+            }
+        }
+    }
+    print(rt, "captured values decoded in part", tally)
+}
+
 /// Replays `positions.tsv`.
 fn replay_positions(rt: &HostRuntime) -> Result<(), Error> {
     let text = fs::read_to_string(rt, "positions.tsv")?;
@@ -131,7 +189,7 @@ fn replay_positions(rt: &HostRuntime) -> Result<(), Error> {
     print(rt, "positions of refusals", tally)
 }
 
-/// Replays `tags.tsv`.
+/// Replays `tags.tsv` and `headers.tsv`.
 fn replay_tags(rt: &HostRuntime) -> Result<(), Error> {
     let text = fs::read_to_string(rt, "tags.tsv")?;
     let mut tallies = tags::Tallies::default();
@@ -146,7 +204,16 @@ fn replay_tags(rt: &HostRuntime) -> Result<(), Error> {
     }
     print(rt, "tags taken", tallies.taken)?;
     print(rt, "tags refused", tallies.refused)?;
-    print(rt, "tags shown", tallies.shown)
+    print(rt, "tags shown", tallies.shown)?;
+    print(rt, "tags written", tallies.written)?;
+    let text = fs::read_to_string(rt, "headers.tsv")?;
+    let mut tally = Tally::default();
+    for line in text.lines() {
+        if !is_comment(line) {
+            written::compare_header(rt.alloc(), line, &mut tally)?;
+        }
+    }
+    print(rt, "headers written", tally)
 }
 
 /// Replays the files of integers, and compares all contents of two octets with
@@ -183,6 +250,7 @@ fn replay_integers(rt: &HostRuntime) -> Result<(), Error> {
         ("integers made", tallies.made),
         ("numbers of two octets", integers::compare_pairs()),
         ("integers taken", tallies.values),
+        ("integers written", tallies.written),
         ("unsigned integers made", tallies.unsigned),
         ("integers ordered", tallies.ordered),
     ] {
@@ -241,8 +309,11 @@ fn print(rt: &HostRuntime, what: &str, tally: Tally) -> Result<(), Error> {
 
 fn main(rt: HostRuntime) -> Result<(), Error> {
     replay_walks(&rt)?;
+    replay_skips(&rt)?;
     replay_takes(&rt)?;
     replay_captures(&rt)?;
+    replay_labels(&rt)?;
+    replay_partial(&rt)?;
     replay_positions(&rt)?;
     replay_tags(&rt)?;
     replay_integers(&rt)?;

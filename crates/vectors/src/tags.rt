@@ -4,6 +4,7 @@ use crate::fields::{find, next, number, octets_of};
 use crate::malformed::Malformed;
 use crate::takes::error_kind;
 use crate::tally::Tally;
+use crate::written::compare_tag;
 use anyhow::Error;
 use bcder::Tag;
 use bcder::decode::{BytesSource, DecodeError, SliceSource, Source};
@@ -39,6 +40,9 @@ pub struct Tallies {
 
     /// Texts, classes and numbers.
     pub shown: Tally,
+
+    /// Tags that were written.
+    pub written: Tally,
 }
 
 impl Tallies {
@@ -47,6 +51,7 @@ impl Tallies {
         let mut all = self.taken;
         all.join(self.refused);
         all.join(self.shown);
+        all.join(self.written);
         all.differ
     }
 }
@@ -206,6 +211,7 @@ pub fn compare_line(alloc: Global, line: &str, tallies: &mut Tallies) -> Result<
     let tag = tag_of(class, number)?;
     let constructed = next(&mut fields)? == "constructed";
     compare_octets(alloc, &octets, tag, constructed, &mut tallies.taken)?;
+    compare_tag(alloc, &octets, tag, constructed, &mut tallies.written);
     let count = octets.len();
     if count > 1 {
         compare_refused(alloc, &octets[..count - 1], tag, &mut tallies.refused)?;

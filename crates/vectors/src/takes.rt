@@ -1,8 +1,8 @@
 //! Taking values from content: which are taken, which are refused and how, and what stands then.
 ghost use Rattle.bcder.specs.Views.{Moved, MovedOctets, MovedContent};
 
-use crate::calls::{Answer, CALLS, Call, Step, Use, answer_of, steps_of};
-use crate::fields::{modes_of, next, number, octets_of};
+use crate::calls::{Answer, CALLS, Call, TakeStep, Use};
+use crate::row::{Row, row_of};
 use crate::tally::Tally;
 use anyhow::Error;
 use bcder::decode::{
@@ -130,10 +130,10 @@ fn of_option<T: Drop, E: Drop>(outcome: Result<Option<T>, DecodeError<E>>, tag: 
 
 /// A call that takes a value of either form.
 #[tactic(auto, using(bcder::proofs::Moving::moves_refl, bcder::proofs::Carrying::carries))]
-fn take_any<S: Source>(cons: &mut Constructed<'_, S>, step: Step) -> Answer
+fn take_any<S: Source>(cons: &mut Constructed<'_, S>, step: TakeStep) -> Answer
     ensures { Moved S.stream cons }
 {
-    let Step { tag, with, .. } = step;
+    let TakeStep { tag, with, .. } = step;
     match step.call {
         Call::Value => of_result(
             cons.take_value(|found, content| use_content(content, found == tag, with)),
@@ -155,10 +155,10 @@ fn take_any<S: Source>(cons: &mut Constructed<'_, S>, step: Step) -> Answer
 }
 
 /// A call that takes a primitive value.
-fn take_octets<S: Source>(cons: &mut Constructed<'_, S>, step: Step) -> Answer
+fn take_octets<S: Source>(cons: &mut Constructed<'_, S>, step: TakeStep) -> Answer
     ensures { Moved S.stream cons }
 {
-    let Step { tag, with, .. } = step;
+    let TakeStep { tag, with, .. } = step;
     match step.call {
         Call::Primitive => of_result(
             cons.take_primitive(|found, inner| use_octets(inner, found == tag, with)),
@@ -180,10 +180,10 @@ fn take_octets<S: Source>(cons: &mut Constructed<'_, S>, step: Step) -> Answer
 }
 
 /// A call that takes a constructed value.
-fn take_values<S: Source>(cons: &mut Constructed<'_, S>, step: Step) -> Answer
+fn take_values<S: Source>(cons: &mut Constructed<'_, S>, step: TakeStep) -> Answer
     ensures { Moved S.stream cons }
 {
-    let Step { tag, with, .. } = step;
+    let TakeStep { tag, with, .. } = step;
     match step.call {
         Call::Constructed => of_result(
             cons.take_constructed(|found, inner| use_values(inner, found == tag, with)),
@@ -205,10 +205,10 @@ fn take_values<S: Source>(cons: &mut Constructed<'_, S>, step: Step) -> Answer
 }
 
 /// A call that takes a sequence or a set.
-fn take_list<S: Source>(cons: &mut Constructed<'_, S>, step: Step) -> Answer
+fn take_list<S: Source>(cons: &mut Constructed<'_, S>, step: TakeStep) -> Answer
     ensures { Moved S.stream cons }
 {
-    let Step { tag, with, .. } = step;
+    let TakeStep { tag, with, .. } = step;
     match step.call {
         Call::Sequence => of_result(
             cons.take_sequence(|inner| use_values(inner, true, with)),
@@ -226,9 +226,77 @@ fn take_list<S: Source>(cons: &mut Constructed<'_, S>, step: Step) -> Answer
     }
 }
 
+/// A call that takes a truth value or null, or passes over the integer of a number.
+#[tactic(auto, using(bcder::proofs::Moving::moves_refl, bcder::proofs::Carrying::carries))]
+fn take_known<S: Source>(
+    cons: &mut Constructed<'_, S>,
+    call: Call,
+    number: u8,
+) -> Result<Option<Answer>, DecodeError<S::Error>>
+    ensures { Moved S.stream cons }
+{
+    match call {
+        Call::Bool => Ok(Some(Answer::Truth(cons.take_bool()?))),
+        Call::OptBool => Ok(cons.take_opt_bool()?.map(|value| Answer::Truth(value))),
+        Call::Null => {
+            cons.take_null()?;
+            Ok(Some(Answer::Taken))
+        }
+        Call::OptNull => {
+            cons.take_opt_null()?;
+            Ok(Some(Answer::Taken))
+        }
+        Call::SkipU8If => {
+            cons.skip_u8_if(number)?;
+            Ok(Some(Answer::Taken))
+        }
+        _ => {
+            cons.skip_opt_u8_if(number)?;
+            Ok(Some(Answer::Taken))
+        }
+    }
+}
+
+/// A call that takes an integer.
+#[tactic(auto, using(bcder::proofs::Moving::moves_refl, bcder::proofs::Carrying::carries))]
+fn take_number<S: Source>(
+    cons: &mut Constructed<'_, S>,
+    call: Call,
+) -> Result<Option<Answer>, DecodeError<S::Error>>
+    ensures { Moved S.stream cons }
+{
+    let number = match call {
+        Call::U8 => Some(u64::from(cons.take_u8()?)),
+        Call::OptU8 => cons.take_opt_u8()?.map(|number| u64::from(number)),
+        Call::U16 => Some(u64::from(cons.take_u16()?)),
+        Call::OptU16 => cons.take_opt_u16()?.map(|number| u64::from(number)),
+        Call::U32 => Some(u64::from(cons.take_u32()?)),
+        Call::OptU32 => cons.take_opt_u32()?.map(|number| u64::from(number)),
+        Call::U64 => Some(cons.take_u64()?),
+        _ => cons.take_opt_u64()?,
+    };
+    Ok(number.map(|number| Answer::Number(number)))
+}
+
+/// What a call answered that took a value of this tag, or passed over this number.
+fn of_known<E: Drop>(
+    outcome: Result<Option<Answer>, DecodeError<E>>,
+    tag: Tag,
+    number: u8,
+) -> Answer {
+    match outcome {
+        Ok(Some(answer)) => answer,
+        Ok(None) => Answer::Absent,
+        Err(error) => match error.content_error() {
+            Some(ContentError::ExpectedInteger(found)) if *found == number => Answer::Another,
+            _ => error_kind(&error, tag),
+        },
+    }
+}
+
 /// A call, and what it answered.
 #[tactic(auto, using(bcder::proofs::Moving::moves_refl, bcder::proofs::Carrying::carries))]
-fn perform<S: Source>(cons: &mut Constructed<'_, S>, step: Step) -> Answer
+pub fn perform<S: Source>(cons: &mut Constructed<'_, S>, step: TakeStep) -> Answer
     ensures { Moved S.stream cons }
 {
     match step.call {
@@ -240,28 +308,30 @@ fn perform<S: Source>(cons: &mut Constructed<'_, S>, step: Step) -> Answer
             take_values(cons, step)
         }
         Call::Sequence | Call::OptSequence | Call::Set | Call::OptSet => take_list(cons, step),
+        Call::Bool
+        | Call::OptBool
+        | Call::Null
+        | Call::OptNull
+        | Call::SkipU8If
+        | Call::SkipOptU8If => of_known(
+            take_known(cons, step.call, step.number),
+            step.tag,
+            step.number,
+        ),
+        Call::U8
+        | Call::OptU8
+        | Call::U16
+        | Call::OptU16
+        | Call::U32
+        | Call::OptU32
+        | Call::U64
+        | Call::OptU64 => of_known(take_number(cons, step.call), step.tag, step.number),
         Call::Walk => of_option(walk(cons), step.tag),
         _ => {
             cons.set_mode(Mode::Ber);
             Answer::Taken
         }
     }
-}
-
-/// Steps on octets in some modes.
-#[derive(Drop)]
-struct Row {
-    modes: Vec<Mode>,
-    octets: Vec<u8>,
-
-    /// On the content that `enter` enters.
-    inside: Vec<Step>,
-
-    /// At top level.
-    outside: Vec<Step>,
-
-    /// How `decode` refuses, if it does, or how many octets are left.
-    left: Result<usize, Answer>,
 }
 
 /// How often each call was compared, and how often the mode of the content and what is left of the
@@ -317,7 +387,7 @@ impl Counts {
 }
 
 /// Does the steps, and compares their answers.
-fn compare_steps<S: Source>(cons: &mut Constructed<'_, S>, steps: &[Step], counts: &mut Counts)
+fn compare_steps<S: Source>(cons: &mut Constructed<'_, S>, steps: &[TakeStep], counts: &mut Counts)
     ensures { Moved S.stream cons }
 {
     for step in steps {
@@ -329,7 +399,7 @@ fn compare_steps<S: Source>(cons: &mut Constructed<'_, S>, steps: &[Step], count
 /// Enters a sequence, and does the steps there. The content has the mode of what is around it.
 fn enter<S: Source>(
     cons: &mut Constructed<'_, S>,
-    steps: &[Step],
+    steps: &[TakeStep],
     mode: Mode,
     tag: Tag,
     counts: &mut Counts,
@@ -351,7 +421,7 @@ fn enter<S: Source>(
 /// Does the steps at top level, and compares their answers. The mode of the content stays.
 fn compare_outside<S: Source>(
     cons: &mut Constructed<'_, S>,
-    row: &Row,
+    row: &Row<TakeStep>,
     mode: Mode,
     counts: &mut Counts,
 )
@@ -369,7 +439,7 @@ fn compare_outside<S: Source>(
 }
 
 /// Decodes the octets of a row from a source over them.
-fn compare_over<S: Source>(source: &mut S, row: &Row, mode: Mode, counts: &mut Counts) {
+fn compare_over<S: Source>(source: &mut S, row: &Row<TakeStep>, mode: Mode, counts: &mut Counts) {
     let decoded = mode.decode_lent(source, |cons| {
         compare_outside(cons, row, mode, counts);
         Ok(())
@@ -387,33 +457,9 @@ fn compare_over<S: Source>(source: &mut S, row: &Row, mode: Mode, counts: &mut C
     }
 }
 
-/// How many octets are left, or how `decode` refuses.
-fn left_of(field: &str) -> Result<Result<usize, Answer>, Error> {
-    match answer_of(field) {
-        Ok(answer) => Ok(Err(answer)),
-        Err(_) => Ok(Ok(number(field)?)),
-    }
-}
-
-fn row_of(alloc: Global, line: &str) -> Result<Row, Error> {
-    let mut fields = line.split('\t');
-    let modes = modes_of(alloc, next(&mut fields)?)?;
-    let octets = octets_of(alloc, next(&mut fields)?)?;
-    let inside = steps_of(alloc, next(&mut fields)?)?;
-    let outside = steps_of(alloc, next(&mut fields)?)?;
-    let left = left_of(next(&mut fields)?)?;
-    Ok(Row {
-        modes,
-        octets,
-        inside,
-        outside,
-        left,
-    })
-}
-
 /// Does the steps of a line in its modes, over three sources, and compares their answers.
 pub fn compare_line(alloc: Global, line: &str, counts: &mut Counts) -> Result<(), Error> {
-    let row = row_of(alloc, line)?;
+    let row: Row<TakeStep> = row_of(alloc, line)?;
     for mode in &row.modes {
         compare_over(&mut SliceSource::new(&row.octets), &row, *mode, counts);
         let shared = Bytes::copy_from_slice(alloc, &row.octets)?;

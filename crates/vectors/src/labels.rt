@@ -1,0 +1,174 @@
+//! The rules that a capture is labelled by, where they are changed inside it.
+ghost use Rattle.bcder.specs.Views.{Moved, MovedOctets};
+
+use crate::captures::label_of;
+use crate::fields::{find, mode_of, modes_of, next, octets_of};
+use crate::tally::Tally;
+use anyhow::Error;
+use bcder::decode::{BytesSource, Constructed, DecodeError, Primitive, SliceSource, Source};
+use bcder::{Mode, Tag};
+use bytes::Bytes;
+use rows::sip::Sip;
+use std::alloc::Global;
+
+/// The content whose rules are set, of an INTEGER in a SEQUENCE in a SEQUENCE.
+#[derive(Clone, Copy, Debug, PartialEq, Eq)]
+enum Place {
+    /// The content of the capture itself.
+    Around,
+
+    /// That of the outer SEQUENCE.
+    Outer,
+
+    /// That of the inner one.
+    Inner,
+
+    /// That of the INTEGER.
+    Primitive,
+}
+
+/// The words for the places.
+const PLACES: [(&str, Place); 4] = [
+    ("around", Place::Around),
+    ("outer", Place::Outer),
+    ("inner", Place::Inner),
+    ("primitive", Place::Primitive),
+];
+
+/// Rules that are set at a place, one after the other.
+#[derive(Clone, Copy, Debug)]
+struct Change {
+    place: Place,
+    first: Mode,
+    second: Mode,
+}
+
+/// Sets the rules of values, if they are the place.
+#[tactic(auto, using(bcder::proofs::Moving::moves_refl, bcder::proofs::Carrying::carries))]
+fn set_modes<S: Source>(cons: &mut Constructed<'_, S>, change: Change, place: Place)
+    ensures { Moved S.stream cons }
+{
+    if change.place == place {
+        cons.set_mode(change.first);
+        cons.set_mode(change.second);
+    }
+}
+
+/// Passes over the octets of the INTEGER.
+fn pass_octets<S: Source>(
+    octets: &mut Primitive<'_, S>,
+    change: Change,
+) -> Result<(), DecodeError<S::Error>>
+    ensures { MovedOctets S.stream octets }
+{
+    if change.place == Place::Primitive {
+        octets.set_mode(change.first);
+        octets.set_mode(change.second);
+    }
+    octets.skip_all()
+}
+
+/// Passes over what is in the inner SEQUENCE.
+fn pass_inner<S: Source>(
+    cons: &mut Constructed<'_, S>,
+    change: Change,
+) -> Result<(), DecodeError<S::Error>>
+    ensures { Moved S.stream cons }
+{
+    set_modes(cons, change, Place::Inner);
+    cons.take_primitive_if(Tag::INTEGER, |octets| pass_octets(octets, change))
+}
+
+/// Passes over what is in the outer SEQUENCE.
+fn pass_outer<S: Source>(
+    cons: &mut Constructed<'_, S>,
+    change: Change,
+) -> Result<(), DecodeError<S::Error>>
+    ensures { Moved S.stream cons }
+{
+    set_modes(cons, change, Place::Outer);
+    cons.take_sequence(|inner| pass_inner(inner, change))
+}
+
+/// Passes over the outer SEQUENCE.
+fn pass_around<S: Source>(
+    cons: &mut Constructed<'_, S>,
+    change: Change,
+) -> Result<(), DecodeError<S::Error>>
+    ensures { Moved S.stream cons }
+{
+    set_modes(cons, change, Place::Around);
+    cons.take_sequence(|outer| pass_outer(outer, change))
+}
+
+/// A line of the data.
+#[derive(Drop)]
+struct Row {
+    modes: Vec<Mode>,
+    octets: Vec<u8>,
+    change: Change,
+
+    /// The rules that the capture is labelled by.
+    label: Mode,
+}
+
+/// Whether all octets are captured by these rules, and the content keeps its own.
+#[tactic(auto, using(bcder::proofs::Moving::moves_refl, bcder::proofs::Carrying::carries))]
+fn is_labelled<S: Source>(
+    cons: &mut Constructed<'_, S>,
+    alloc: Global,
+    row: &Row,
+    mode: Mode,
+) -> bool
+    ensures { Moved S.stream cons }
+{
+    let change = row.change;
+    match cons.capture(alloc, |inner| pass_around(inner, change)) {
+        Ok(captured) => {
+            cons.mode() == mode
+                && captured.as_slice() == row.octets.as_slice()
+                && label_of(captured) == Some(row.label)
+        }
+        Err(_) => false,
+    }
+}
+
+/// Whether that is so over a source.
+fn is_labelled_over<S: Source>(source: &mut S, alloc: Global, row: &Row, mode: Mode) -> bool {
+    mode.decode_lent(source, |cons| Ok(is_labelled(cons, alloc, row, mode)))
+        .is_ok_and(|same| same)
+}
+
+fn row_of(alloc: Global, line: &str) -> Result<Row, Error> {
+    let mut fields = line.split('\t');
+    let modes = modes_of(alloc, next(&mut fields)?)?;
+    let octets = octets_of(alloc, next(&mut fields)?)?;
+    let place = find(&PLACES, next(&mut fields)?)?;
+    let first = mode_of(next(&mut fields)?)?;
+    let second = mode_of(next(&mut fields)?)?;
+    let label = mode_of(next(&mut fields)?)?;
+    Ok(Row {
+        modes,
+        octets,
+        change: Change {
+            place,
+            first,
+            second,
+        },
+        label,
+    })
+}
+
+/// Compares a line in its modes, over three sources.
+pub fn compare_line(alloc: Global, line: &str, tally: &mut Tally) -> Result<(), Error> {
+    let row = row_of(alloc, line)?;
+    for mode in &row.modes {
+        let mut slice = SliceSource::new(&row.octets);
+        tally.count(is_labelled_over(&mut slice, alloc, &row, *mode));
+        let mut shared = BytesSource::new(Bytes::copy_from_slice(alloc, &row.octets)?);
+        tally.count(is_labelled_over(&mut shared, alloc, &row, *mode));
+        let mut sip = Sip::new(row.octets.clone()?, 0);
+        tally.count(is_labelled_over(&mut sip, alloc, &row, *mode));
+    }
+    Ok(())
+}
