@@ -4,6 +4,9 @@
 
 ghost use Rattle.bcder.specs.Views.{Moved};
 
+#[cfg(test)]
+mod written;
+
 use bcder::Mode;
 use bcder::decode::{Constructed, DecodeError, SliceSource, Source};
 use std::test::Fail;

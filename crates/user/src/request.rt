@@ -1,0 +1,140 @@
+//! Requests for certificates (RFC 2986, section 4), as they are written.
+ghost use Rattle.std.specs.Prelude.{◌≡◌};
+ghost use Rattle.bcder.specs.Identifier.{universal};
+ghost use Rattle.bcder.specs.Meaning.{ExactlyOctets};
+ghost use Rattle.bcder.specs.laws.Meanings.{ExactlyOctets_lawful};
+
+use bcder::encode::{
+    EncodeError, PrimitiveContent, Values, WriteError, sequence, sequence_as, set, slice,
+};
+use bcder::{Mode, Oid, Tag};
+use std::io;
+
+/// A text, which is written as a UTF8String by its octets.
+#[derive(Clone, Copy)]
+pub struct Text<'a>(pub &'a str);
+
+/// It means the octets of the text, in each mode.
+impl PrimitiveContent for Text<'_> {
+    ghost own_tag = { record { class = universal; number = 12 } };
+
+    ghost means = { λ x _. ExactlyOctets x.0.now };
+
+    ghost may_lack = { λ _ _. ⊥ };
+
+    fn tag() -> Tag
+        ensures { result ≡ record { class = universal; number = 12 } }
+    {
+        Tag::UTF8_STRING
+    }
+
+    fn encoded_len(&self, mode: Mode) -> Result<usize, EncodeError> {
+        self.0.as_bytes().encoded_len(mode)
+    }
+
+    fn write_encoded<W: io::Write>(&self, mode: Mode, target: &mut W) -> Result<(), WriteError> {
+        self.0.as_bytes().write_encoded(mode, target)
+    }
+
+    ghost lawful = { λ x _. ExactlyOctets_lawful x.0.now };
+}
+
+/// A part of a name: its kind and its text.
+#[derive(Clone, Copy)]
+pub struct Part<'a> {
+    /// The contents octets of the identifier of its kind.
+    pub kind: &'a [u8],
+
+    /// Its text.
+    pub text: Text<'a>,
+}
+
+/// What is asked for.
+#[derive(Clone, Copy)]
+pub struct Request<'a> {
+    /// The organization that asks.
+    pub organization: Part<'a>,
+
+    /// Who asks.
+    pub name: Part<'a>,
+
+    /// The contents octets of the identifier of the key's kind.
+    pub algorithm: &'a [u8],
+
+    /// Those of the key's curve.
+    pub curve: &'a [u8],
+
+    /// The contents octets of the key as a BIT STRING.
+    pub key: &'a [u8],
+
+    /// The contents octets of the identifier of an attribute.
+    pub attribute: &'a [u8],
+
+    /// Its values.
+    pub values: &'a [Text<'a>],
+}
+
+/// Writes what a request asks for: a SEQUENCE of a version, a name, a key and attributes.
+///
+/// # Errors
+///
+/// Those of the target.
+pub fn write_request<W: io::Write>(
+    request: &Request<'_>,
+    mode: Mode,
+    target: &mut W,
+) -> Result<(), WriteError> {
+    let values = slice(request.values, |text: &Text<'_>| (*text).encode());
+    let attribute = (Oid(request.attribute).encode(), set(&values));
+    write_with_attributes(request, &sequence(&attribute), mode, target)
+}
+
+/// The same with these attributes: its key is a SEQUENCE of an algorithm and a BIT STRING.
+fn write_with_attributes<A: Values, W: io::Write>(
+    request: &Request<'_>,
+    attributes: &A,
+    mode: Mode,
+    target: &mut W,
+) -> Result<(), WriteError>
+    requires { A.can_encode attributes.now }
+{
+    let algorithm = (Oid(request.algorithm).encode(), Oid(request.curve).encode());
+    let key = (sequence(&algorithm), request.key.encode_as(Tag::BIT_STRING));
+    write_with_key(request, &sequence(&key), attributes, mode, target)
+}
+
+/// The same with this key: its name is a SEQUENCE of SETs, each of one part.
+fn write_with_key<K: Values, A: Values, W: io::Write>(
+    request: &Request<'_>,
+    key: &K,
+    attributes: &A,
+    mode: Mode,
+    target: &mut W,
+) -> Result<(), WriteError>
+    requires key { K.can_encode key.now }
+    requires attributes { A.can_encode attributes.now }
+{
+    let organization = (
+        Oid(request.organization.kind).encode(),
+        request.organization.text.encode(),
+    );
+    let name = (Oid(request.name.kind).encode(), request.name.text.encode());
+    let subject = (set(sequence(&organization)), set(sequence(&name)));
+    write_parts(&sequence(&subject), key, attributes, mode, target)
+}
+
+/// The SEQUENCE of these parts, after the version 0.
+fn write_parts<N: Values, K: Values, A: Values, W: io::Write>(
+    name: &N,
+    key: &K,
+    attributes: &A,
+    mode: Mode,
+    target: &mut W,
+) -> Result<(), WriteError>
+    requires name { N.can_encode name.now }
+    requires key { K.can_encode key.now }
+    requires attributes { A.can_encode attributes.now }
+{
+    let parts = (0u8.encode(), name, key, sequence_as(Tag::CTX_0, attributes));
+    sequence(&parts).write_encoded(mode, target)
+}
