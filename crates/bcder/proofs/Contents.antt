@@ -1,11 +1,11 @@
 -- What is written as contents octets is read back.
 use Rattle.std.proofs.Common.{◌≡◌, ℕ, Bool, true, false, List, refl, sym, ◌∙◌}
-use Rattle.std.specs.Prelude.{ℤ, pos, Ok, FitsSigned}
+use Rattle.std.specs.Prelude.{ℤ, pos, FitsSigned}
 use Rattle.std.specs.Int.{Width, FitsUnsignedBits}
 use Rattle.bcder.specs.declared.mode.Mode.{Mode}
 use Rattle.bcder.specs.declared.mode.Mode.TheVariants.{Ber, Cer, Der}
 use Rattle.bcder.specs.Identifier.{AreOctets}
-use Rattle.bcder.specs.Integer.{AreInteger, integer_octets, truth}
+use Rattle.bcder.specs.Integer.{AreInteger, integer_octets}
 use Rattle.bcder.specs.Meaning.{Exactly, ExactlyOctets, truth_octets}
 use Rattle.bcder.specs.ReadBack.{IsReadBack}
 use Rattle.bcder.specs.Readers.{IsSigned, IsUnsigned, IsTruth}

@@ -1,19 +1,19 @@
 -- The open values end one after the other, where a source may end before a limit.
-use Rattle.std.proofs.Common.{◌≡◌, ◌⊎◌, inl, inr, ℕ, zero, suc, ◌+◌, ◌-◌, ◌<◌, ◌≤◌, Bool, true, false, List, [], ◌∷◌, ◌++◌, length, take, drop, Option, Some, None, option_map, option_and_then, cond, ltb, refl, sym, ap, subst, ◌∙◌, append_assoc, append-nil, arith}
+use Rattle.std.proofs.Common.{◌≡◌, ℕ, zero, suc, ◌+◌, ◌<◌, ◌≤◌, Bool, true, false, List, [], ◌∷◌, ◌++◌, length, take, drop, Option, Some, None, option_map, option_and_then, cond, ltb, refl, sym, ap, ◌∙◌, append_assoc, append-nil, arith}
 use Rattle.std.proofs.lemmas.Bool.{lt-ltb, le-ltb}
 use Rattle.std.proofs.Math.Numerals.{add-one}
-use Rattle.std.proofs.lemmas.List.{length-append, length-take, length-drop, take-append-drop, take-append-le, drop-append-le, take_all, drop_all, drop-take, drop-drop}
+use Rattle.std.proofs.lemmas.List.{length-append, take_all, drop_all}
 use Rattle.bcder.specs.declared.mode.Mode.{Mode}
 use Rattle.bcder.specs.declared.length.Length.{Length}
 use Rattle.bcder.specs.declared.length.Length.TheVariants as len
 use Rattle.bcder.specs.declared.decode.content.skip.Entry.{Entry}
 use Rattle.bcder.specs.declared.decode.content.skip.Entry.TheVariants.{Definite, Indefinite}
 use Rattle.bcder.specs.Identifier.{AreOctets, Tag}
-use Rattle.bcder.specs.Tree.{Tree, primitive, constructed, Trees, no_trees, ◌∷ₜ◌}
+use Rattle.bcder.specs.Tree.{Tree, constructed, Trees, ◌∷ₜ◌}
 use Rattle.bcder.specs.Preorder.{Heading, preorder, preorders}
 use Rattle.bcder.specs.Reading.{Header, Inside, read_header, read_end, read_contents, read_value, at_end, read_list, read_tree}
 use Rattle.bcder.specs.Stream.{cut, past}
-use Rattle.bcder.specs.Stacked.{Reached, after, lack, is_indefinite, if_all, ends, next_to}
+use Rattle.bcder.specs.Stacked.{Reached, after, lack, is_indefinite, ends, next_to}
 use Rattle.bcder.proofs.Steps.{read_tree_step, read_list_step}
 
 pub from_header : (mode : Mode) (h : Header) (x z : List ℕ) → AreOctets x → read_header mode x ≡ Some (h, z) → read_tree mode x ≡ read_contents (read_list mode) h.tag h.form h.len z

@@ -1,13 +1,12 @@
 -- Kept values that are written, and written values that are kept.
-use Rattle.std.proofs.Common.{◌≡◌, ℕ, List, [], ◌++◌, true, Some, Result, Ok, refl, sym, subst}
-use Rattle.bcder.specs.declared.encode.error.EncodeError.{EncodeError}
+use Rattle.std.proofs.Common.{◌≡◌, ℕ, List, [], true, Some, Result, Ok, refl, sym, subst}
 use Rattle.bcder.specs.declared.encode.error.WriteError.{WriteError}
 use Rattle.bcder.specs.declared.mode.Mode.{Mode}
 use Rattle.bcder.specs.Tree.{no_trees, ◌+++◌}
 use Rattle.bcder.specs.Encoding.{AreEncodings}
 use Rattle.bcder.specs.Captured.{Kept, AreWhole}
-use Rattle.bcder.specs.Meaning.{Encoded, Meaning, IsOne, IsLawful}
-use Rattle.bcder.specs.Encoders.{HasEncoding, DoneOf, WroteOf, WritesEncoding}
+use Rattle.bcder.specs.Meaning.{Meaning, IsLawful}
+use Rattle.bcder.specs.Encoders.{HasEncoding, DoneOf, WritesEncoding}
 use Rattle.bcder.specs.Gathered.{suits, KeptMeans, kept_from_start, GrowsBy}
 use Rattle.bcder.specs.laws.Gathered.{the_encodings}
 use Rattle.bcder.specs.laws.Lists.{AreEncodings-join}

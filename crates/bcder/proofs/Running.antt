@@ -1,6 +1,6 @@
 -- What a run over the values of a value did, step by step.
-use Rattle.std.proofs.Common.{◌≡◌, inl, inr, ℕ, suc, ◌+◌, ◌<◌, ◌≤◌, Bool, true, false, List, [], ◌∷◌, ◌++◌, length, drop, Option, Some, None, Ok, Err, IfSome, refl, sym, ap, subst, ◌∙◌, arith, length-append}
-use Rattle.std.specs.Prelude.{Result, ◌^◌, ◌==◌}
+use Rattle.std.proofs.Common.{◌≡◌, ℕ, ◌+◌, ◌<◌, ◌≤◌, Bool, false, List, [], ◌∷◌, ◌++◌, length, Option, None, Ok, Err, IfSome, refl, sym, ap, subst, ◌∙◌, arith, length-append}
+use Rattle.std.specs.Prelude.{◌^◌, ◌==◌}
 use Rattle.std.proofs.lemmas.List.{length-drop, length-reverse}
 use Rattle.std.proofs.lemmas.Bool.Decides.{nat_tests}
 use Rattle.smallvec.specs.SmallVec.{SmallVec, small_vec_len}
@@ -14,24 +14,24 @@ use Rattle.bcder.specs.declared.decode.content.skip.Halt.{Halt}
 use Rattle.bcder.specs.declared.decode.content.skip.Halt.TheVariants as halt
 use Rattle.bcder.specs.declared.decode.stop.Stop.{Stop}
 use Rattle.bcder.specs.declared.decode.error.ContentError.{ContentError}
-use Rattle.bcder.specs.Cause.{of_source, of_content, of_memory, IsOfContent, stop_cause}
+use Rattle.bcder.specs.Cause.{stop_cause}
 use Rattle.bcder.specs.Identifier.{AreOctets}
 use Rattle.bcder.specs.Encoding.{IsHeader}
 use Rattle.bcder.specs.Preorder.{Heading}
 use Rattle.bcder.specs.Reading.{Header, read_contents, read_list}
 use Rattle.bcder.specs.Stream.{Layer, Stream, Grew, cut, past, limited}
-use Rattle.bcder.specs.Content.{Reading, values, any, Falls, FitsOwed, Enters, EndsAt, Moves, MovesBy, RefusesHeader, failed, source, nothing}
-use Rattle.bcder.specs.Skipping.{Steps, Called, Refused}
+use Rattle.bcder.specs.Content.{Reading, values, any, Falls, FitsOwed, Enters, EndsAt, Moves, RefusesHeader, failed, source, nothing}
+use Rattle.bcder.specs.Skipping.{Steps, Called}
 use Rattle.bcder.specs.Stacked.{entries, remain, due, heading, halt_cause, unwound, TopIs, Passes, GoesInto, octets, Leaves, Counts, PassesCalls, IsUnderWay, IsBroken, StaysOut, refused, wanted, failing, few, VisitedBy, Breaks, by_source, by_content, by_closure, by_memory, RanBy}
 use Rattle.bcder.specs.Stacked as stacked
 use Rattle.bcder.specs.laws.Complete.{header_size}
 use Rattle.bcder.specs.laws.Limits.{first_kept}
 use Rattle.bcder.proofs.Entering.{Within}
-use Rattle.bcder.proofs.Moving.{Falls-refl, open_not_failed}
+use Rattle.bcder.proofs.Moving.{open_not_failed}
 use Rattle.bcder.specs.Content.{NotAtEnd}
 use Rattle.bcder.specs.Walking.{NoValue}
 use Rattle.bcder.proofs.Walking.{no_value_of_nothing, end_of_nothing, moves_faults}
-use Rattle.bcder.proofs.Skips.{calls_on, falls_unwound, source_passes, first_gone, first_broken, IsMet, met, met_gone, met_broken, left, broken, nothing_more, finished, nothing_whole, few_there}
+use Rattle.bcder.proofs.Skips.{calls_on, falls_unwound, source_passes, first_gone, first_broken, IsMet, met, met_gone, met_broken, left, broken, nothing_more, nothing_whole, few_there}
 use Rattle.bcder.proofs.Unwinding.{counts_falls}
 
 -- the closure was called at a header and at headings after it, and these values are open, without a fault

@@ -1,8 +1,7 @@
 -- What skipping promises of content, by what a run over the content of a value did.
-use Rattle.std.proofs.Common.{◌≡◌, ◌≢◌, inl, inr, ℕ, ◌+◌, ◌*◌, ◌≤◌, Bool, true, false, List, [], ◌∷◌, ◌++◌, length, Option, Some, None, Ok, Err, IfOk, IfErr, IfSome, IfNone, refl, sym, ap, subst, ◌∙◌, arith, append_assoc, append-nil, length-append}
+use Rattle.std.proofs.Common.{◌≡◌, ◌≢◌, inl, inr, ℕ, ◌+◌, ◌*◌, ◌≤◌, true, false, List, [], ◌∷◌, ◌++◌, length, Option, Some, None, Ok, Err, refl, sym, ap, subst, ◌∙◌, arith, append_assoc, append-nil, length-append}
 use Rattle.std.specs.Prelude.{Result, IsOk, IsErrAnd, ◌⊎◌, ◌<◌}
 use Rattle.std.proofs.lemmas.List.{append_cancel_right}
-use Rattle.bcder.specs.declared.mode.Mode.{Mode}
 use Rattle.bcder.specs.declared.decode.content.State.TheVariants.{Open, Ended, Failed}
 use Rattle.bcder.specs.declared.decode.content.skip.Halt.{Halt}
 use Rattle.bcder.specs.declared.decode.content.skip.Halt.TheVariants as halt
@@ -21,14 +20,14 @@ use Rattle.bcder.specs.Walking.{HasValue, NoValue, PassesValue, RefusesWalk, Ans
 use Rattle.bcder.specs.Walking as walking
 use Rattle.bcder.specs.Skipping.{Steps, Called, Refused, WereCalls, SkipsValue, RefusesSkip, SkippedBy, AnswersAll, IsShallow, FindsMemory, AnswersSkip, AnswersValue, SkippedValueBy, GoesDeep, RefusesOne, SkippedOneBy, RefusesAll, SkippedAllBy, FoundMemory}
 use Rattle.bcder.specs.Skipping as skipping
-use Rattle.bcder.specs.Stacked.{heading, halt_cause, PassesCalls, IsUnderWay, IsBroken, Breaks, by_source, by_content, by_closure, by_memory, RanBy}
+use Rattle.bcder.specs.Stacked.{heading, halt_cause, PassesCalls, IsUnderWay, IsBroken, Breaks, by_source, by_content, by_closure, by_memory}
 use Rattle.bcder.specs.laws.Complete.{header_complete, header_size, tree_complete, only_at_front}
 use Rattle.bcder.specs.laws.Sound.{none_is, some_inj}
 use Rattle.bcder.specs.laws.Stands.{Stands, tree_sound}
 use Rattle.bcder.proofs.Ends.{from_header}
 use Rattle.bcder.proofs.Entering.{Within, header_not_at_end, header_entered}
 use Rattle.bcder.proofs.Inner.{layers_eq}
-use Rattle.bcder.proofs.Moving.{moves_value, moves_failed, advances_trans, open_not_ended, open_not_failed}
+use Rattle.bcder.proofs.Moving.{moves_value, moves_failed, advances_trans, open_not_failed}
 use Rattle.bcder.proofs.Skips.{cut_falls, past_falls, finished}
 use Rattle.bcder.proofs.Passing.{looked_passes, looked_ends, looked_open, looked_refused}
 use Rattle.bcder.proofs.Walked.{answers_next}

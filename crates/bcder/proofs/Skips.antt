@@ -3,29 +3,29 @@ use Rattle.std.proofs.Common.{◌≡◌, ◌⊎◌, inl, inr, ℕ, zero, suc, �
 use Rattle.std.proofs.lemmas.Bool.{cases_lt}
 use Rattle.std.proofs.lemmas.Grind.{common_steps}
 use Rattle.std.proofs.Math.Seq.{take-append-add, drop-append-add}
-use Rattle.std.proofs.lemmas.List.{take-append-drop, length-take, length-drop, take-append-le, drop-append-le, take_all, drop_all}
+use Rattle.std.proofs.lemmas.List.{take-append-drop, take-append-le, drop-append-le, take_all, drop_all}
 use Rattle.bcder.specs.declared.mode.Mode.{Mode}
 use Rattle.bcder.specs.declared.length.Length.{Length}
 use Rattle.bcder.specs.declared.length.Length.TheVariants as len
 use Rattle.bcder.specs.declared.decode.content.Kind.{Kind}
 use Rattle.bcder.specs.declared.decode.content.Kind.TheVariants as kind
-use Rattle.bcder.specs.declared.decode.content.State.TheVariants.{Open, Ended}
+use Rattle.bcder.specs.declared.decode.content.State.TheVariants.{Open}
 use Rattle.bcder.specs.declared.decode.content.skip.Entry.{Entry}
 use Rattle.bcder.specs.declared.decode.content.skip.Entry.TheVariants.{Definite, Indefinite}
-use Rattle.bcder.specs.Identifier.{AreOctets, Tag, universal}
+use Rattle.bcder.specs.Identifier.{AreOctets, Tag}
 use Rattle.bcder.specs.Tree.{Tree, primitive, constructed, Trees, no_trees, ◌∷ₜ◌}
 use Rattle.bcder.specs.Encoding.{IsHeader, IsEncoding}
 use Rattle.bcder.specs.Preorder.{Heading, preorder, preorders}
 use Rattle.bcder.specs.Growing.{AreOpen, grown}
 use Rattle.bcder.specs.Reading.{Header, read_header, read_end, read_contents, at_end, read_list, read_tree}
 use Rattle.bcder.specs.Stream.{Layer, Stream, cut, past, limit_left}
-use Rattle.bcder.specs.Content.{Reading, values, Octets, Falls, FitsOwed, Form, HasMarker, IsAtEnd, of_octets, of_definite, of_indefinite, of_unbounded, EndsAt, NotAtEnd}
+use Rattle.bcder.specs.Content.{Reading, values, Octets, Falls, FitsOwed, Form, HasMarker, of_octets, of_definite, of_indefinite, of_unbounded, EndsAt, NotAtEnd}
 use Rattle.bcder.specs.Walking.{NoValue}
 use Rattle.bcder.specs.Length.{IsEndOfContents}
 use Rattle.bcder.specs.Calls.{popped}
 use Rattle.bcder.specs.Inside.{limit_inside}
 use Rattle.bcder.specs.Skipping.{IsEndOf, HeaderStands, HeadersStand}
-use Rattle.bcder.specs.Stacked.{Reached, after, lack, joined, unwound, restored, HasLimit, AreLimited, TopIs, is_indefinite, ends, next_to, remain, due, heading, Passes, entry_of, GoesInto, octets, values as open_values, Leaves, Counts, IsPart, PassesCalls, IsUnderWay, IsBroken}
+use Rattle.bcder.specs.Stacked.{Reached, after, lack, joined, unwound, restored, HasLimit, AreLimited, TopIs, is_indefinite, ends, next_to, remain, due, heading, Passes, entry_of, GoesInto, octets, values as open_values, Leaves, IsPart, PassesCalls, IsUnderWay, IsBroken}
 use Rattle.bcder.specs.laws.Complete.{header_complete, header_size}
 use Rattle.bcder.specs.laws.Identifiers.{BeginsValue, BeginsValue-identifier}
 use Rattle.bcder.specs.laws.Lengths.{read_end-complete}
@@ -34,7 +34,7 @@ use Rattle.bcder.specs.laws.Sound.{none_is, some_inj, end_sound}
 use Rattle.bcder.specs.laws.Stands.{tree_sound}
 use Rattle.bcder.proofs.Inner.{layer_is}
 use Rattle.bcder.proofs.Moving.{Falls-refl, Falls-trans, open_not_ended}
-use Rattle.bcder.proofs.Ends.{from_header, drop_front, no_calls, two_calls, definite_ends, indefinite_ends, too_few, goes_on, too_long, octets_there, Restores, definite_there, definite_short, indefinite_there, FirstIs, first_heading, heads, Restores-none, Restores-all, Restores-short}
+use Rattle.bcder.proofs.Ends.{from_header, drop_front, two_calls, definite_ends, indefinite_ends, too_few, goes_on, too_long, octets_there, Restores, definite_there, definite_short, indefinite_there, FirstIs, first_heading, heads, Restores-none, Restores-all, Restores-short}
 use Rattle.bcder.proofs.Growing.{preorders-grown, AreOpen-grown, AreOpen-new}
 
 -- ---- limits

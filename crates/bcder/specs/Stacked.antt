@@ -1,5 +1,5 @@
 -- The values that are open while a value is passed over, and what remains of them.
-use Rattle.std.specs.Prelude.{◌≡◌, ◌⊎◌, ℕ, zero, suc, ◌+◌, ◌-◌, ◌*◌, ◌^◌, ◌<◌, ◌≤◌, Bool, true, false, List, [], ◌∷◌, ◌++◌, length, drop, Option, Some, None, Result, Ok, Err, IfOk, IfErr, OnOk, OnErr, option_map, option_and_then, reverse}
+use Rattle.std.specs.Prelude.{◌≡◌, ℕ, zero, suc, ◌+◌, ◌-◌, ◌*◌, ◌^◌, ◌<◌, ◌≤◌, Bool, true, false, List, [], ◌∷◌, ◌++◌, length, drop, Option, Some, None, Result, Ok, IfErr, OnOk, OnErr, option_map, option_and_then, reverse}
 use Rattle.std.specs.Borrow.{MutBor}
 use denote.Triple.Both.{Both}
 use Rattle.smallvec.specs.SmallVec.{SmallVec}
@@ -18,9 +18,9 @@ use Rattle.bcder.specs.declared.decode.content.skip.Halt.{Halt}
 use Rattle.bcder.specs.declared.decode.content.skip.Halt.TheVariants as halt
 use Rattle.bcder.specs.declared.decode.error.ContentError.{ContentError}
 use Rattle.bcder.specs.Cause.{Cause, of_content, of_memory, of_source, IsOfContent, stop_cause}
-use Rattle.bcder.specs.Tree.{Tree, Trees, no_trees, ◌∷ₜ◌}
+use Rattle.bcder.specs.Tree.{Tree, no_trees, ◌∷ₜ◌}
 use Rattle.bcder.specs.Preorder.{Heading, preorder, preorders}
-use Rattle.bcder.specs.Reading.{Header, read_contents, read_list, read_tree}
+use Rattle.bcder.specs.Reading.{Header, read_contents, read_list}
 use Rattle.bcder.specs.Stream.{Stream, Grew, cut, past, limit_left}
 use Rattle.bcder.specs.Content.{Falls}
 use Rattle.bcder.specs.Calls.{popped}

@@ -1,5 +1,5 @@
 -- Contents octets of object identifiers (X.690, 8.19), and their text.
-use Rattle.std.proofs.Common.{◌≡◌, ℕ, List, [], ◌∷◌, refl}
+use Rattle.std.proofs.Common.{◌≡◌, [], ◌∷◌, refl}
 use Rattle.std.specs.Prelude.{codes}
 use Rattle.bcder.specs.declared.oid.components.Position.TheVariants.{First, Second, Other}
 use Rattle.bcder.specs.ObjectIdentifier.{parts, components}

@@ -1,4 +1,4 @@
-use Rattle.std.proofs.Common.{◌≡◌, ◌∙◌, ◌+◌, ◌≤◌, length, refl, arith}
+use Rattle.std.proofs.Common.{◌∙◌, refl, arith}
 use Rattle.bcder.specs.Cause.{cause_of}
 use Rattle.bcder.specs.Content.{EndsAt, IsDone}
 use Rattle.bcder.specs.Walking.{PassesValue}

@@ -1,4 +1,3 @@
-use Rattle.std.specs.Prelude.{Ok, Some}
 use Rattle.bcder.specs.Cause.{cause_of}
 use Rattle.bcder.specs.Views.{of_constructed}
 use Rattle.bcder.proofs.Carrying.{carries}

@@ -1,4 +1,4 @@
-use Rattle.std.proofs.Common.{◌≡◌, ◌∙◌, sym, ap, refl, arith, Ok, Err, Some, None}
+use Rattle.std.proofs.Common.{refl}
 use Rattle.bcder.specs.Cause.{cause_of, stop_cause}
 use Rattle.bcder.specs.Peek.{header}
 use Rattle.bcder.specs.Stacked.{source_of, limit_in}

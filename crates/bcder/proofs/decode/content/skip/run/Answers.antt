@@ -1,16 +1,13 @@
-use Rattle.std.proofs.Common.{IfSome, ◌^◌, ◌≡◌, ◌∙◌, ◌≤◌, ◌<◌, ◌+◌, sym, ap, refl, arith, reverse, length, true, false, rules, of_calls, subst}
+use Rattle.std.proofs.Common.{◌∙◌, sym, ap, refl, arith, reverse, length, subst}
 use Rattle.std.proofs.lemmas.List.{length-reverse}
-use Rattle.std.proofs.lemmas.Bool.Decides.{nat_tests}
-use Rattle.smallvec.specs.SmallVec.{small_vec_len}
 use Rattle.bcder.specs.Peek.{header}
 use Rattle.bcder.proofs.Entering.{kind_of}
 use Rattle.bcder.proofs.Walking.{moves_kind}
-use Rattle.bcder.specs.Stacked.{TopIs, entries, source_of, limit_in, unwound}
+use Rattle.bcder.specs.Stacked.{TopIs, entries, source_of, limit_in}
 use Rattle.bcder.specs.Views.{of_constructed}
-use Rattle.bcder.proofs.Moving.{open_not_failed}
 use Rattle.bcder.proofs.Names.{within_constructed, moves_constructed_name}
 use Rattle.bcder.proofs.Taking.{allowed_entered}
-use Rattle.bcder.proofs.Running.{some_entry, out_counts, met_entered, entered_fits, began, not_begun, went_in, stayed_out, went_out, went_wrong, went_through, entered_shorter, left_shorter, wrong_counts}
+use Rattle.bcder.proofs.Running.{some_entry, out_counts, met_entered, entered_fits, began, not_begun, went_in, stayed_out, went_out, went_wrong, entered_shorter, left_shorter, wrong_counts}
 use Rattle.bcder.proofs.decode.content.skip.run.Goals as goal
 
 pub returns-in-Err-clause-ran : goal.returns-in-Err-clause-ran

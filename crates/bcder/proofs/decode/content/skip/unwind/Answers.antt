@@ -1,4 +1,4 @@
-use Rattle.std.proofs.Common.{rules, ◌≡◌, ◌∙◌, ap}
+use Rattle.std.proofs.Common.{◌∙◌, ap}
 use Rattle.bcder.specs.Stacked.{entries, unwound}
 use Rattle.bcder.proofs.Unwinding.{popped_entry, unwound_definite, unwound_indefinite, counted}
 use Rattle.bcder.proofs.decode.content.skip.unwind.Goals as goal

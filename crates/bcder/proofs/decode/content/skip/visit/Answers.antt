@@ -1,7 +1,6 @@
-use Rattle.std.proofs.Common.{inl, inr, arith, refl, sym, ◌∙◌, ◌≡◌, reverse, length, ap}
+use Rattle.std.proofs.Common.{inl, inr, arith, refl, sym, ◌∙◌, ◌≡◌, length}
 use Rattle.std.proofs.lemmas.List.{length-reverse}
-use Rattle.smallvec.specs.SmallVec.{small_vec_len}
-use Rattle.bcder.specs.Stacked.{entries, refused, wanted, failing, few, octets, values}
+use Rattle.bcder.specs.Stacked.{entries, refused, failing, few, octets}
 use Rattle.bcder.proofs.Stepping.{stop_reason}
 use Rattle.bcder.proofs.decode.content.skip.visit.Goals as goal
 
