@@ -60,7 +60,7 @@ fn is_end(tag: Tag, constructed: bool, len: Length) -> bool
 
 /// A header whose tag is known: where it is a constant, so is what is asked of it.
 #[inline(always)]
-fn tagged(tag: Tag, header: Header) -> Header
+fn with_tag(tag: Tag, header: Header) -> Header
     requires { header.tag ≡ tag }
     ensures { result ≡ header }
 {
@@ -308,7 +308,7 @@ impl<'a, S: Source> Constructed<'a, S> {
             return Ok(None);
         }
         match self.look_for(tag) {
-            Ok(PeekedIf::Front { header, size }) => self.enter(tagged(tag, header), size),
+            Ok(PeekedIf::Front { header, size }) => self.enter(with_tag(tag, header), size),
             Ok(PeekedIf::Nothing) => Ok(None),
             Ok(PeekedIf::Other) => Ok(None),
             Ok(PeekedIf::Refused) => {
