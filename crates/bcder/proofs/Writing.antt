@@ -6,7 +6,8 @@ use Rattle.bcder.specs.declared.encode.error.EncodeError.{EncodeError}
 use Rattle.bcder.specs.declared.encode.error.EncodeError.TheVariants.{NoMemory, EndOfValueTag, LengthTooLarge, SizeOverflow, CapturedMode, LongCerBitString}
 use Rattle.bcder.specs.declared.encode.error.WriteError.{WriteError}
 use Rattle.bcder.specs.declared.encode.error.WriteError.TheVariants.{Refused, Target}
-use Rattle.bcder.specs.Encoders.{RefusesBy, DoneOf, WroteOf, Writes}
+use Rattle.bcder.specs.declared.encode.slot.Failed.{Failed}
+use Rattle.bcder.specs.Encoders.{RefusesBy, DoneOf, WroteOf, Writes, told}
 
 pub append_not_nil : (a b : List ℕ) → a ≢ [] → a ++ b ≢ []
 append_not_nil [] b h = absurd (h refl)
@@ -74,10 +75,17 @@ module _ {A : Type 0} (M : Result A EncodeError → Type 0) (one : (m n : Result
   ]
 
 -- an error that `?` passes on
-pub passed_on : {lacks : Type 0} {w : List ℕ} {a b : Option (List ℕ)} {e : WriteError} (r : Result (Unit {0}) WriteError)
-    → IsErr r × IsErrAnd r (λ d. d ≡ e) → WroteOf lacks w a b (Err e) → WroteOf lacks w a b r
-passed_on {lacks} {w} {a} {b} (Ok u) is_err h = absurd is_err.1
-passed_on {lacks} {w} {a} {b} (Err d) is_err h = subst (λ x. WroteOf lacks w a b (Err x)) (sym is_err.1) h
+pub halts : {lacks : Type 0} {w : List ℕ} {a b : Option (List ℕ)} {f : Failed} {e : WriteError} (r : Result (Unit {0}) Failed)
+    → IsErr r × IsErrAnd r (λ d. d ≡ f) → WroteOf lacks w a b (Err e) → WroteOf lacks w a b (told r e)
+halts (Ok u) is_err h = absurd is_err.1
+halts (Err d) is_err h = h
+
+-- the same answer under another name
+pub same_answer : {lacks : Type 0} {w : List ℕ} {a b : Option (List ℕ)} {r s : Result (Unit {0}) WriteError} → s ≡ r → WroteOf lacks w a b r → WroteOf lacks w a b s
+same_answer {lacks} {w} {a} {b} e h = subst (λ x. WroteOf lacks w a b x) (sym e) h
+
+pub same_told : {r s : Result (Unit {0}) Failed} (why : WriteError) → r ≡ s → told r why ≡ told s why
+same_told why e = ap (λ x. told x why) e
 
 -- the same octets under another name
 pub same_octets : {lacks : Type 0} {v w : List ℕ} {a b : Option (List ℕ)} {r : Result (Unit {0}) WriteError} → v ≡ w → WroteOf lacks v a b r → WroteOf lacks w a b r

@@ -7,10 +7,11 @@ use Rattle.bcder.specs.declared.encode.error.EncodeError.{EncodeError}
 use Rattle.bcder.specs.declared.encode.error.EncodeError.TheVariants.{NoMemory, EndOfValueTag, LengthTooLarge}
 use Rattle.bcder.specs.declared.encode.error.WriteError.{WriteError}
 use Rattle.bcder.specs.declared.encode.error.WriteError.TheVariants.{Refused, Target}
+use Rattle.bcder.specs.declared.encode.slot.Failed.{Failed}
 use Rattle.bcder.specs.declared.length.Length.{Length}
 use Rattle.bcder.specs.declared.length.Length.TheVariants.{Definite}
 use Rattle.bcder.specs.Identifier.{Tag, IsValueTag, end_of_contents}
-use Rattle.bcder.specs.Octets.{header, length_octets, fits_length}
+use Rattle.bcder.specs.Octets.{header, definite, length_octets, fits_length}
 use Rattle.bcder.specs.Meaning.{Encoded, Meaning, ContentsMeaning, IsOne, octets_of}
 use Rattle.bcder.specs.Target.{AppendsFront, AppendsShorter}
 
@@ -32,6 +33,10 @@ SizeOfValues M lacks r = TellsSize octets_of M lacks r
 abbrev pub SizeOfContents : (ContentsMeaning → Type 0) → Type 0 → Result ℕ EncodeError → Type 0
 SizeOfContents M lacks r = TellsSize (λ w. w) M lacks r
 
+-- n contents octets are meant
+abbrev pub HasContents : (ContentsMeaning → Type 0) → ℕ → Type 0
+HasContents M n = (w : List ℕ) × M (Ok w) × (n ≡ length w)
+
 -- r is the sum of the sizes of what is meant, where it fits `usize`, or the refusal
 abbrev pub TellsSum : (Meaning → Type 0) → Type 0 → Result (Option ℕ) EncodeError → Type 0
 TellsSum M lacks (Ok (Some n)) = (e : Encoded) × M (Ok e) × (n ≡ length e.octets)
@@ -43,6 +48,11 @@ abbrev pub HasEncoding : (Meaning → Type 0) → Type 0
 HasEncoding M = (e : Encoded) × M (Ok e)
 
 -- ---- writing
+
+-- what a step's answer tells, with the error that stands in its slot
+abbrev pub told : Result (Unit {0}) Failed → WriteError → Result (Unit {0}) WriteError
+told (Ok u) why = Ok u
+told (Err f) why = Err why
 
 -- what was written of w: all of it; where the target failed a shorter front; where memory lacked a front
 abbrev pub DoneOf : Type 0 → List ℕ → Option (List ℕ) → Option (List ℕ) → Result (Unit {0}) WriteError → Type 0
@@ -91,6 +101,10 @@ module _ {W : Type 0} (contents : W → Option (List ℕ)) (target : Both (MutBo
   -- of a relation that holds of one meaning at most
   abbrev pub WritesKnown : (Meaning → Type 0) → Type 0 → Result (Unit {0}) WriteError → Type 0
   WritesKnown M lacks r = IsOne M → WritesEncoding M lacks (contents target.entry.now) (contents target.exit.now) r
+
+  -- of a primitive value with these contents octets
+  abbrev pub WritesPrimitive : Tag → (ContentsMeaning → Type 0) → Type 0 → Result (Unit {0}) WriteError → Type 0
+  WritesPrimitive t M lacks r = IsOne M → (w : List ℕ) → M (Ok w) → WroteOf lacks (definite t false w) (contents target.entry.now) (contents target.exit.now) r
 
 -- ---- in memory
 

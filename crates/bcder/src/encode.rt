@@ -4,12 +4,15 @@ pub(crate) mod front;
 mod gather;
 mod header;
 mod primitive;
+pub(crate) mod slot;
 pub(crate) mod target;
 mod values;
 
 pub use error::{EncodeError, WriteError};
 pub use header::{total_encoded_len, write_header};
 pub use primitive::{Primitive, PrimitiveContent};
+#[doc(hidden)]
+pub use slot::Failed;
 pub use values::Values;
 pub use values::choice::{Choice2, Choice3, Nothing};
 pub use values::constructed::{Constructed, sequence, sequence_as, set, set_as};

@@ -6,6 +6,7 @@ ghost use Rattle.bcder.specs.Gathered.{none_kept, kept_from_start, ExtendsBy};
 use crate::NoMemory;
 use crate::captured::Captured;
 use crate::decode::Pos;
+use crate::encode::slot::{Failed, slot};
 use crate::encode::{EncodeError, Values, WriteError};
 use crate::mode::Mode;
 use bytes::Bytes;
@@ -83,11 +84,12 @@ impl CapturedBuilder {
             return Err(EncodeError::NoMemory);
         }
         let before = self.octets.len();
-        match values.write_known(self.mode, &mut self.octets) {
+        let mut why = slot();
+        match values.write_known(self.mode, &mut self.octets, &mut why) {
             Ok(()) => Ok(()),
-            Err(error) => {
+            Err(Failed) => {
                 self.octets.truncate(before);
-                match error {
+                match why {
                     WriteError::Refused(error) => Err(error),
                     WriteError::Target(_) => Err(EncodeError::NoMemory),
                 }

@@ -4,7 +4,8 @@ ghost use Rattle.bcder.specs.Gathered.{suits, KeptMeans, MayWrite};
 ghost use Rattle.bcder.specs.laws.Gathered.{kept_lawful};
 
 use crate::captured::Captured;
-use crate::encode::target::write_all;
+use crate::encode::slot::Failed;
+use crate::encode::target::{put_all, write_all};
 use crate::encode::{EncodeError, Values, WriteError};
 use crate::mode::Mode;
 use std::io;
@@ -29,8 +30,13 @@ impl Values for Captured {
         write_all(target, self.octets.as_slice())
     }
 
-    fn write_known<W: io::Write>(&self, _mode: Mode, target: &mut W) -> Result<(), WriteError> {
-        write_all(target, self.octets.as_slice())
+    fn write_known<W: io::Write>(
+        &self,
+        _mode: Mode,
+        target: &mut W,
+        why: &mut WriteError,
+    ) -> Result<(), Failed> {
+        put_all(target, self.octets.as_slice(), why)
     }
 
     ghost lawful = { λ c mode can. kept_lawful c mode };

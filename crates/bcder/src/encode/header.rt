@@ -4,10 +4,11 @@ ghost use Rattle.bcder.specs.declared.length.Length.TheVariants.{Definite};
 ghost use Rattle.bcder.specs.Identifier.{IsValueTag, end_of_contents};
 ghost use Rattle.bcder.specs.Octets.{header, fits_length};
 ghost use Rattle.bcder.specs.Encoders.{HasHeader, RefusesHeader, HeaderMeans};
-ghost use Rattle.bcder.specs.Encoders.{WroteOctets, WritesContents};
+ghost use Rattle.bcder.specs.Encoders.{WroteOctets, WritesContents, told};
 
 use crate::encode::front::Front;
-use crate::encode::target::write_all;
+use crate::encode::slot::{Failed, slot, told};
+use crate::encode::target::put_all;
 use crate::encode::{EncodeError, WriteError};
 use crate::length::Length;
 use crate::tag::Tag;
@@ -52,7 +53,9 @@ pub fn write_header<W: io::Write>(
     if len > 0xFFFF_FFFF {
         return Err(WriteError::Refused(EncodeError::LengthTooLarge));
     }
-    put_header(target, tag, constructed, Length::Definite(len))
+    let mut why = slot();
+    let outcome = put_header(target, tag, constructed, Length::Definite(len), &mut why);
+    told(outcome, why)
 }
 
 /// Writes a header with a length that four octets tell, by one call of the target's `write` where
@@ -63,12 +66,14 @@ pub(crate) fn put_header<W: io::Write>(
     tag: Tag,
     constructed: bool,
     len: Length,
-) -> Result<(), WriteError>
+    why: &mut WriteError,
+) -> Result<(), Failed>
     requires { fits_length len ≡ true }
-    ensures { WroteOctets W.contents target (header tag constructed len) result }
+    ensures { WroteOctets W.contents target (header tag constructed len)
+        (told result why.new) }
 {
     let mut front = Front::new();
     tag.spell(constructed, &mut front);
     len.spell(&mut front);
-    write_all(target, front.as_slice())
+    put_all(target, front.as_slice(), why)
 }

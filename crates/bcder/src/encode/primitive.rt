@@ -6,6 +6,7 @@ ghost use Rattle.bcder.specs.Meaning.{ContentsMeaning, IsLawfulContents, ValueMe
 ghost use Rattle.bcder.specs.Meaning.{primitive_meaning};
 ghost use Rattle.bcder.specs.Enclosing.{ContentsSize};
 ghost use Rattle.bcder.specs.Encoders.{SizeOfContents, WritesContents, GathersContents};
+ghost use Rattle.bcder.specs.Encoders.{WritesValues, HasContents, WritesPrimitive, told};
 ghost use Rattle.bcder.specs.laws.Meanings.{primitive_lawful};
 
 mod identifier;
@@ -15,6 +16,7 @@ mod plain;
 
 use crate::encode::gather::gather_contents;
 use crate::encode::header::put_header;
+use crate::encode::slot::{Failed, kept, refused, slot, told};
 use crate::encode::values::Values;
 use crate::encode::{EncodeError, WriteError};
 use crate::length::Length;
@@ -60,6 +62,30 @@ pub trait PrimitiveContent: Sized {
     fn write_encoded<W: io::Write>(&self, mode: Mode, target: &mut W) -> Result<(), WriteError>
         ensures { WritesContents W.contents target
             (means self.now mode) (may_lack self.now mode) result };
+
+    /// Writes a primitive value with these contents octets, `len` of them.
+    ///
+    /// # Errors
+    ///
+    /// `NoMemory` or the target's, as `write_encoded`.
+    #[doc(hidden)]
+    #[inline(always)]
+    fn write_value<W: io::Write>(
+        &self,
+        tag: Tag,
+        len: usize,
+        mode: Mode,
+        target: &mut W,
+        why: &mut WriteError,
+    ) -> Result<(), Failed>
+        requires contents { HasContents (means self.now mode) len }
+        requires fits { len < 2 ^ 32 }
+        ensures { WritesPrimitive W.contents target tag
+            (means self.now mode) (may_lack self.now mode) (told result why.new) }
+    {
+        put_header(target, tag, false, Length::Definite(len), why)?;
+        kept(self.write_encoded(mode, target), why)
+    }
 
     /// There is one meaning at most, and it is a refusal or octets.
     ghost lawful: { (x : Self) (mode : Mode) → IsLawfulContents (means x mode) };
@@ -125,6 +151,18 @@ impl<P: PrimitiveContent> PrimitiveContent for &'_ P {
         (**self).write_encoded(mode, target)
     }
 
+    #[inline(always)]
+    fn write_value<W: io::Write>(
+        &self,
+        tag: Tag,
+        len: usize,
+        mode: Mode,
+        target: &mut W,
+        why: &mut WriteError,
+    ) -> Result<(), Failed> {
+        (**self).write_value(tag, len, mode, target, why)
+    }
+
     ghost lawful = { λ x mode. P.lawful x.now mode };
 }
 
@@ -150,6 +188,25 @@ fn contents_len<P: PrimitiveContent>(tag: Tag, prim: &P, mode: Mode) -> Result<u
     Ok(len)
 }
 
+/// Writes the value, if it has an encoding.
+#[inline(always)]
+fn put_value<P: PrimitiveContent, W: io::Write>(
+    tag: Tag,
+    prim: &P,
+    mode: Mode,
+    target: &mut W,
+    why: &mut WriteError,
+) -> Result<(), Failed>
+    ensures { WritesValues W.contents target
+        (ValueMeans tag (primitive_meaning tag) (P.means prim.now mode))
+        (P.may_lack prim.now mode) (told result why.new) }
+{
+    match contents_len(tag, prim, mode) {
+        Ok(len) => prim.write_value(tag, len, mode, target, why),
+        Err(error) => Err(refused(why, error)),
+    }
+}
+
 impl<P: PrimitiveContent> Values for Primitive<P> {
     ghost means = { λ x mode. ValueMeans x.tag (primitive_meaning x.tag) (P.means x.prim mode) };
 
@@ -163,9 +220,19 @@ impl<P: PrimitiveContent> Values for Primitive<P> {
 
     #[inline(always)]
     fn write_encoded<W: io::Write>(&self, mode: Mode, target: &mut W) -> Result<(), WriteError> {
-        let len = contents_len(self.tag, &self.prim, mode)?;
-        put_header(target, self.tag, false, Length::Definite(len))?;
-        self.prim.write_encoded(mode, target)
+        let mut why = slot();
+        let outcome = put_value(self.tag, &self.prim, mode, target, &mut why);
+        told(outcome, why)
+    }
+
+    #[inline(always)]
+    fn write_known<W: io::Write>(
+        &self,
+        mode: Mode,
+        target: &mut W,
+        why: &mut WriteError,
+    ) -> Result<(), Failed> {
+        put_value(self.tag, &self.prim, mode, target, why)
     }
 
     ghost lawful = { λ x mode can. primitive_lawful x.tag mode (P.lawful x.prim mode) };

@@ -1,9 +1,10 @@
 //! The loop that writes octets to a target.
 ghost use Rattle.std.specs.Prelude.{OnOk, OnErr};
-ghost use Rattle.bcder.specs.Encoders.{WroteOctets};
+ghost use Rattle.bcder.specs.Encoders.{WroteOctets, told};
 ghost use Rattle.bcder.specs.Target.{Appended, AppendedShorter};
 
 use crate::encode::WriteError;
+use crate::encode::slot::{Failed, target_failed};
 use std::io;
 use std::io::{Error, ErrorKind, Write};
 
@@ -35,4 +36,19 @@ pub(crate) fn write_all<W: Write>(target: &mut W, octets: &[u8]) -> Result<(), W
 {
     write_octets(target, octets)?;
     Ok(())
+}
+
+/// The same with a slot for the error.
+#[inline(always)]
+pub(crate) fn put_all<W: Write>(
+    target: &mut W,
+    octets: &[u8],
+    why: &mut WriteError,
+) -> Result<(), Failed>
+    ensures { WroteOctets W.contents target octets.now (told result why.new) }
+{
+    match write_octets(target, octets) {
+        Ok(()) => Ok(()),
+        Err(error) => Err(target_failed(why, error)),
+    }
 }

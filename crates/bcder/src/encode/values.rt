@@ -3,6 +3,7 @@ ghost use Rattle.std.specs.Prelude.{◌≡◌, ⊤};
 ghost use Rattle.bcder.specs.declared.mode.Mode.{Mode};
 ghost use Rattle.bcder.specs.Meaning.{Meaning, IsLawful};
 ghost use Rattle.bcder.specs.Encoders.{HasEncoding, SizeOfValues, WritesValues, WritesKnown};
+ghost use Rattle.bcder.specs.Encoders.{told};
 ghost use Rattle.bcder.specs.Gathered.{GathersValues};
 
 pub(crate) mod choice;
@@ -16,6 +17,7 @@ pub(crate) mod slice;
 mod tuples;
 
 use crate::captured::Captured;
+use crate::encode::slot::{Failed, kept};
 use crate::encode::values::constructed::Constructed;
 use crate::encode::{EncodeError, WriteError};
 use crate::mode::Mode;
@@ -66,13 +68,18 @@ pub trait Values {
     /// `NoMemory` or the target's, as `write_encoded`.
     #[doc(hidden)]
     #[inline(always)]
-    fn write_known<W: io::Write>(&self, mode: Mode, target: &mut W) -> Result<(), WriteError>
+    fn write_known<W: io::Write>(
+        &self,
+        mode: Mode,
+        target: &mut W,
+        why: &mut WriteError,
+    ) -> Result<(), Failed>
         requires can { can_encode self.now }
         requires known { HasEncoding (means self.now mode) }
         ensures { WritesKnown W.contents target
-            (means self.now mode) (may_lack self.now mode) result }
+            (means self.now mode) (may_lack self.now mode) (told result why.new) }
     {
-        self.write_encoded(mode, target)
+        kept(self.write_encoded(mode, target), why)
     }
 
     /// There is one meaning at most, and it is a refusal or an encoding.
@@ -120,8 +127,13 @@ impl<V: Values> Values for &'_ V {
     }
 
     #[inline(always)]
-    fn write_known<W: io::Write>(&self, mode: Mode, target: &mut W) -> Result<(), WriteError> {
-        (**self).write_known(mode, target)
+    fn write_known<W: io::Write>(
+        &self,
+        mode: Mode,
+        target: &mut W,
+        why: &mut WriteError,
+    ) -> Result<(), Failed> {
+        (**self).write_known(mode, target, why)
     }
 
     ghost lawful = { λ x mode can. V.lawful x.now mode can };

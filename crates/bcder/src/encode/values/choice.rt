@@ -5,6 +5,7 @@ ghost use Rattle.bcder.specs.Choices.{EitherMeans, EitherHolds, either_lawful};
 ghost use Rattle.bcder.specs.Choices.{AnyMeans, AnyHolds, any_lawful};
 ghost use Rattle.bcder.specs.laws.Joined.{NoValues_lawful};
 
+use crate::encode::slot::Failed;
 use crate::encode::values::Values;
 use crate::encode::{EncodeError, WriteError};
 use crate::mode::Mode;
@@ -52,10 +53,15 @@ impl<V: Values> Values for Option<V> {
         }
     }
 
-    fn write_known<W: io::Write>(&self, mode: Mode, target: &mut W) -> Result<(), WriteError> {
+    fn write_known<W: io::Write>(
+        &self,
+        mode: Mode,
+        target: &mut W,
+        why: &mut WriteError,
+    ) -> Result<(), Failed> {
         match self {
-            Some(values) => values.write_known(mode, target),
-            None => Nothing.write_known(mode, target),
+            Some(values) => values.write_known(mode, target, why),
+            None => Nothing.write_known(mode, target, why),
         }
     }
 
@@ -93,10 +99,15 @@ impl<L: Values, R: Values> Values for Choice2<L, R> {
         }
     }
 
-    fn write_known<W: io::Write>(&self, mode: Mode, target: &mut W) -> Result<(), WriteError> {
+    fn write_known<W: io::Write>(
+        &self,
+        mode: Mode,
+        target: &mut W,
+        why: &mut WriteError,
+    ) -> Result<(), Failed> {
         match self {
-            Choice2::One(values) => values.write_known(mode, target),
-            Choice2::Two(values) => values.write_known(mode, target),
+            Choice2::One(values) => values.write_known(mode, target, why),
+            Choice2::Two(values) => values.write_known(mode, target, why),
         }
     }
 
@@ -142,11 +153,16 @@ impl<L: Values, C: Values, R: Values> Values for Choice3<L, C, R> {
         }
     }
 
-    fn write_known<W: io::Write>(&self, mode: Mode, target: &mut W) -> Result<(), WriteError> {
+    fn write_known<W: io::Write>(
+        &self,
+        mode: Mode,
+        target: &mut W,
+        why: &mut WriteError,
+    ) -> Result<(), Failed> {
         match self {
-            Choice3::One(values) => values.write_known(mode, target),
-            Choice3::Two(values) => values.write_known(mode, target),
-            Choice3::Three(values) => values.write_known(mode, target),
+            Choice3::One(values) => values.write_known(mode, target, why),
+            Choice3::Two(values) => values.write_known(mode, target, why),
+            Choice3::Three(values) => values.write_known(mode, target, why),
         }
     }
 

@@ -3,12 +3,13 @@ ghost use Rattle.std.specs.Prelude.{◌≡◌, true};
 ghost use Rattle.bcder.specs.Identifier.{sequence_tag, set_tag};
 ghost use Rattle.bcder.specs.Octets.{fits_length, constructed_length, closing};
 ghost use Rattle.bcder.specs.Meaning.{ValueMeans, constructed_meaning};
-ghost use Rattle.bcder.specs.Encoders.{HasEncoding, WroteOctets};
+ghost use Rattle.bcder.specs.Encoders.{HasEncoding, WroteOctets, told};
 ghost use Rattle.bcder.specs.Enclosing.{EnclosedSize, InsideSizes, KnownLength, WritesEnclosed};
 ghost use Rattle.bcder.specs.laws.Meanings.{constructed_lawful};
 
 use crate::encode::header::put_header;
-use crate::encode::target::write_all;
+use crate::encode::slot::{Failed, refused, slot, told};
+use crate::encode::target::put_all;
 use crate::encode::values::Values;
 use crate::encode::{EncodeError, WriteError};
 use crate::length::Length;
@@ -127,32 +128,33 @@ fn known_length<V: Values>(inner: &V, mode: Mode) -> Result<Length, EncodeError>
 
 /// Writes the end-of-contents octets, if the mode has them behind its constructed values.
 #[inline(always)]
-fn write_closing<W: io::Write>(mode: Mode, target: &mut W) -> Result<(), WriteError>
-    ensures { WroteOctets W.contents target (closing mode) result }
+fn put_closing<W: io::Write>(mode: Mode, target: &mut W, why: &mut WriteError) -> Result<(), Failed>
+    ensures { WroteOctets W.contents target (closing mode) (told result why.new) }
 {
     match mode {
-        Mode::Cer => write_all(target, &[0x00, 0x00]),
-        Mode::Ber | Mode::Der => write_all(target, &[]),
+        Mode::Cer => put_all(target, &[0x00, 0x00], why),
+        Mode::Ber | Mode::Der => put_all(target, &[], why),
     }
 }
 
 /// Writes the value with this length and these values inside.
-fn write_enclosed<V: Values, W: io::Write>(
+fn put_enclosed<V: Values, W: io::Write>(
     tag: Tag,
     len: Length,
     inner: &V,
     mode: Mode,
     target: &mut W,
-) -> Result<(), WriteError>
+    why: &mut WriteError,
+) -> Result<(), Failed>
     requires fits { fits_length len ≡ true }
     requires can { V.can_encode inner.now }
     requires known { HasEncoding (V.means inner.now mode) }
     ensures { WritesEnclosed W.contents target tag len mode
-        (V.means inner.now mode) (V.may_lack inner.now mode) result }
+        (V.means inner.now mode) (V.may_lack inner.now mode) (told result why.new) }
 {
-    put_header(target, tag, true, len)?;
-    inner.write_known(mode, target)?;
-    write_closing(mode, target)
+    put_header(target, tag, true, len, why)?;
+    inner.write_known(mode, target, why)?;
+    put_closing(mode, target, why)
 }
 
 impl<V: Values> Values for Constructed<V> {
@@ -170,12 +172,21 @@ impl<V: Values> Values for Constructed<V> {
     fn write_encoded<W: io::Write>(&self, mode: Mode, target: &mut W) -> Result<(), WriteError> {
         let sizes = find_sizes(self.tag, &self.inner, mode)?;
         let len = constructed_length(mode, sizes.contents);
-        write_enclosed(self.tag, len, &self.inner, mode, target)
+        let mut why = slot();
+        let outcome = put_enclosed(self.tag, len, &self.inner, mode, target, &mut why);
+        told(outcome, why)
     }
 
-    fn write_known<W: io::Write>(&self, mode: Mode, target: &mut W) -> Result<(), WriteError> {
-        let len = known_length(&self.inner, mode)?;
-        write_enclosed(self.tag, len, &self.inner, mode, target)
+    fn write_known<W: io::Write>(
+        &self,
+        mode: Mode,
+        target: &mut W,
+        why: &mut WriteError,
+    ) -> Result<(), Failed> {
+        match known_length(&self.inner, mode) {
+            Ok(len) => put_enclosed(self.tag, len, &self.inner, mode, target, why),
+            Err(error) => Err(refused(why, error)),
+        }
     }
 
     ghost lawful = { λ x mode can. constructed_lawful x.tag (V.lawful x.inner mode can) };

@@ -5,6 +5,7 @@ ghost use Rattle.bcder.specs.Joined.{Joined};
 ghost use Rattle.bcder.specs.laws.Joined.{Joined_lawful};
 
 use crate::NoMemory;
+use crate::encode::slot::{Failed, refused};
 use crate::encode::values::Values;
 use crate::encode::values::parts::{Parts, add_len, joined_len, write_joined, write_known_parts};
 use crate::encode::{EncodeError, WriteError};
@@ -68,13 +69,18 @@ where
         Ok(sum)
     }
 
-    fn write_parts<W: io::Write>(&self, mode: Mode, target: &mut W) -> Result<(), WriteError> {
+    fn write_parts<W: io::Write>(
+        &self,
+        mode: Mode,
+        target: &mut W,
+        why: &mut WriteError,
+    ) -> Result<(), Failed> {
         let items = match self.items() {
             Ok(items) => items,
-            Err(_) => return Err(WriteError::Refused(EncodeError::NoMemory)),
+            Err(_) => return Err(refused(why, EncodeError::NoMemory)),
         };
         for item in items {
-            item.write_known(mode, target)?;
+            item.write_known(mode, target, why)?;
         }
         Ok(())
     }
@@ -102,8 +108,13 @@ where
         write_joined(self, mode, target)
     }
 
-    fn write_known<W: io::Write>(&self, mode: Mode, target: &mut W) -> Result<(), WriteError> {
-        write_known_parts(self, mode, target)
+    fn write_known<W: io::Write>(
+        &self,
+        mode: Mode,
+        target: &mut W,
+        why: &mut WriteError,
+    ) -> Result<(), Failed> {
+        write_known_parts(self, mode, target, why)
     }
 
     ghost lawful = { λ x mode can.

@@ -3,6 +3,7 @@ ghost use Rattle.std.specs.Prelude.{Any, All};
 ghost use Rattle.bcder.specs.Joined.{EachOf, Joined};
 ghost use Rattle.bcder.specs.laws.Joined.{EachOf_lawful, Joined_lawful};
 
+use crate::encode::slot::Failed;
 use crate::encode::values::Values;
 use crate::encode::values::parts::{Parts, add_len, joined_len, write_joined, write_known_parts};
 use crate::encode::{EncodeError, WriteError};
@@ -31,9 +32,14 @@ impl<'a, V: Values> Parts for Items<'a, V> {
         Ok(sum)
     }
 
-    fn write_parts<W: io::Write>(&self, mode: Mode, target: &mut W) -> Result<(), WriteError> {
+    fn write_parts<W: io::Write>(
+        &self,
+        mode: Mode,
+        target: &mut W,
+        why: &mut WriteError,
+    ) -> Result<(), Failed> {
         for item in self.items {
-            item.write_known(mode, target)?;
+            item.write_known(mode, target, why)?;
         }
         Ok(())
     }
@@ -57,8 +63,13 @@ impl<V: Values> Values for &'_ [V] {
         write_joined(&Items { items: *self }, mode, target)
     }
 
-    fn write_known<W: io::Write>(&self, mode: Mode, target: &mut W) -> Result<(), WriteError> {
-        write_known_parts(&Items { items: *self }, mode, target)
+    fn write_known<W: io::Write>(
+        &self,
+        mode: Mode,
+        target: &mut W,
+        why: &mut WriteError,
+    ) -> Result<(), Failed> {
+        write_known_parts(&Items { items: *self }, mode, target, why)
     }
 
     ghost lawful = { λ x mode can.
@@ -80,8 +91,13 @@ impl<V: Values> Values for Vec<V> {
         self.as_slice().write_encoded(mode, target)
     }
 
-    fn write_known<W: io::Write>(&self, mode: Mode, target: &mut W) -> Result<(), WriteError> {
-        self.as_slice().write_known(mode, target)
+    fn write_known<W: io::Write>(
+        &self,
+        mode: Mode,
+        target: &mut W,
+        why: &mut WriteError,
+    ) -> Result<(), Failed> {
+        self.as_slice().write_known(mode, target, why)
     }
 
     ghost lawful = { λ x mode can.

@@ -1,10 +1,11 @@
 //! The items of a slice, each encoded as what a closure gives for it.
 ghost use Rattle.std.specs.Prelude.{◌≡◌, All, Any};
-ghost use Rattle.bcder.specs.Encoders.{HasEncoding, SizeOfValues, WritesParts};
+ghost use Rattle.bcder.specs.Encoders.{HasEncoding, SizeOfValues, WritesParts, told};
 ghost use Rattle.bcder.specs.Joined.{EachOf, Joined};
 ghost use Rattle.bcder.specs.Slices.{TakesItem, Gives, ItemMeans, ItemLacks, MayMap, item_lawful};
 ghost use Rattle.bcder.specs.laws.Joined.{EachOf_lawful, Joined_lawful};
 
+use crate::encode::slot::Failed;
 use crate::encode::values::Values;
 use crate::encode::values::parts::{Parts, add_len, joined_len, write_joined, write_known_parts};
 use crate::encode::{EncodeError, WriteError};
@@ -66,14 +67,15 @@ fn write_item<U, V: Values + Drop, F: Fn(&U) -> V, W: io::Write>(
     item: &U,
     mode: Mode,
     target: &mut W,
-) -> Result<(), WriteError>
+    why: &mut WriteError,
+) -> Result<(), Failed>
     requires may { MayMap F.Fn f.now V.can_encode V.means item.now }
     requires known { HasEncoding (ItemMeans F.Fn f.now V.means mode item.now) }
     ensures { WritesParts W.contents target (ItemMeans F.Fn f.now V.means mode item.now)
-        (ItemLacks F.Fn f.now V.may_lack mode item.now) result }
+        (ItemLacks F.Fn f.now V.may_lack mode item.now) (told result why.new) }
 {
     let value = call_on(f, item);
-    value.write_known(mode, target)
+    value.write_known(mode, target, why)
 }
 
 /// The items and the closure.
@@ -100,9 +102,14 @@ impl<'a, F: Fn(&U) -> V, U, V: Values + Drop> Parts for Mapped<'a, F, U, V> {
         Ok(sum)
     }
 
-    fn write_parts<W: io::Write>(&self, mode: Mode, target: &mut W) -> Result<(), WriteError> {
+    fn write_parts<W: io::Write>(
+        &self,
+        mode: Mode,
+        target: &mut W,
+        why: &mut WriteError,
+    ) -> Result<(), Failed> {
         for item in self.items {
-            write_item(self.f, item, mode, target)?;
+            write_item(self.f, item, mode, target, why)?;
         }
         Ok(())
     }
@@ -139,14 +146,19 @@ impl<T: AsSlice<U>, F: Fn(&U) -> V, U, V: Values + Drop> Values for Slice<T, F, 
         write_joined(&parts, mode, target)
     }
 
-    fn write_known<W: io::Write>(&self, mode: Mode, target: &mut W) -> Result<(), WriteError> {
+    fn write_known<W: io::Write>(
+        &self,
+        mode: Mode,
+        target: &mut W,
+        why: &mut WriteError,
+    ) -> Result<(), Failed> {
         let items = self.value.as_slice();
         let parts = Mapped {
             items,
             f: &self.f,
             marker: PhantomData,
         };
-        write_known_parts(&parts, mode, target)
+        write_known_parts(&parts, mode, target, why)
     }
 
     ghost lawful = { λ x mode can. Joined_lawful (EachOf_lawful mode

@@ -3,10 +3,11 @@ ghost use Rattle.std.specs.Prelude.{◌≡◌, ℕ, ◌+◌, ⊤, ◌⊎◌};
 ghost use Rattle.bcder.specs.declared.mode.Mode.{Mode};
 ghost use Rattle.bcder.specs.Meaning.{Meaning, IsLawful};
 ghost use Rattle.bcder.specs.Encoders.{HasEncoding, SizeOfValues, WritesValues, WritesParts};
-ghost use Rattle.bcder.specs.Encoders.{TellsSum, WritesKnown};
+ghost use Rattle.bcder.specs.Encoders.{TellsSum, WritesKnown, told};
 ghost use Rattle.bcder.specs.Joined.{Then, NoValues, Joined, IsSum};
 ghost use Rattle.bcder.specs.laws.Joined.{Then_lawful, NoValues_lawful};
 
+use crate::encode::slot::{Failed, slot, told};
 use crate::encode::values::Values;
 use crate::encode::{EncodeError, WriteError};
 use crate::mode::Mode;
@@ -26,11 +27,16 @@ pub(crate) trait Parts {
         ensures { TellsSum (all self.now mode) (may_lack self.now mode) result };
 
     /// Writes the parts where it is known that none is refused.
-    fn write_parts<W: io::Write>(&self, mode: Mode, target: &mut W) -> Result<(), WriteError>
+    fn write_parts<W: io::Write>(
+        &self,
+        mode: Mode,
+        target: &mut W,
+        why: &mut WriteError,
+    ) -> Result<(), Failed>
         requires can { can_encode self.now }
         requires known { HasEncoding (all self.now mode) }
         ensures { WritesParts W.contents target
-            (all self.now mode) (may_lack self.now mode) result };
+            (all self.now mode) (may_lack self.now mode) (told result why.new) };
 
     ghost all_lawful: { (x : Self) (mode : Mode) → can_encode x → IsLawful mode (all x mode) };
 }
@@ -57,7 +63,9 @@ pub(crate) fn write_joined<P: Parts, W: io::Write>(
         (Joined (P.all parts.now mode)) (P.may_lack parts.now mode) result }
 {
     joined_len(parts, mode)?;
-    parts.write_parts(mode, target)
+    let mut why = slot();
+    let outcome = parts.write_parts(mode, target, &mut why);
+    told(outcome, why)
 }
 
 /// Writes the parts where it is known that there is an encoding.
@@ -65,13 +73,14 @@ pub(crate) fn write_known_parts<P: Parts, W: io::Write>(
     parts: &P,
     mode: Mode,
     target: &mut W,
-) -> Result<(), WriteError>
+    why: &mut WriteError,
+) -> Result<(), Failed>
     requires can { P.can_encode parts.now }
     requires known { HasEncoding (Joined (P.all parts.now mode)) }
     ensures { WritesKnown W.contents target
-        (Joined (P.all parts.now mode)) (P.may_lack parts.now mode) result }
+        (Joined (P.all parts.now mode)) (P.may_lack parts.now mode) (told result why.new) }
 {
-    parts.write_parts(mode, target)
+    parts.write_parts(mode, target, why)
 }
 
 /// A sum of sizes with one more.
@@ -100,7 +109,12 @@ impl Parts for End {
         Ok(Some(0))
     }
 
-    fn write_parts<W: io::Write>(&self, _mode: Mode, _target: &mut W) -> Result<(), WriteError> {
+    fn write_parts<W: io::Write>(
+        &self,
+        _mode: Mode,
+        _target: &mut W,
+        _why: &mut WriteError,
+    ) -> Result<(), Failed> {
         Ok(())
     }
 
@@ -130,9 +144,14 @@ impl<'a, V: Values, R: Parts> Parts for Chain<'a, V, R> {
         }
     }
 
-    fn write_parts<W: io::Write>(&self, mode: Mode, target: &mut W) -> Result<(), WriteError> {
-        self.first.write_known(mode, target)?;
-        self.rest.write_parts(mode, target)
+    fn write_parts<W: io::Write>(
+        &self,
+        mode: Mode,
+        target: &mut W,
+        why: &mut WriteError,
+    ) -> Result<(), Failed> {
+        self.first.write_known(mode, target, why)?;
+        self.rest.write_parts(mode, target, why)
     }
 
     ghost all_lawful = { λ x mode can.
@@ -150,8 +169,13 @@ impl<R: Parts> Parts for &'_ R {
         (**self).parts_len(mode)
     }
 
-    fn write_parts<W: io::Write>(&self, mode: Mode, target: &mut W) -> Result<(), WriteError> {
-        (**self).write_parts(mode, target)
+    fn write_parts<W: io::Write>(
+        &self,
+        mode: Mode,
+        target: &mut W,
+        why: &mut WriteError,
+    ) -> Result<(), Failed> {
+        (**self).write_parts(mode, target, why)
     }
 
     ghost all_lawful = { λ x mode can. R.all_lawful x.now mode can };
@@ -198,7 +222,12 @@ impl<'a, A: Values, B: Values, C: Values, D: Values, R: Parts> Parts for Four<'a
         all.parts_len(mode)
     }
 
-    fn write_parts<W: io::Write>(&self, mode: Mode, target: &mut W) -> Result<(), WriteError> {
+    fn write_parts<W: io::Write>(
+        &self,
+        mode: Mode,
+        target: &mut W,
+        why: &mut WriteError,
+    ) -> Result<(), Failed> {
         let rest = &self.rest;
         let rest = Chain {
             first: self.d,
@@ -216,7 +245,7 @@ impl<'a, A: Values, B: Values, C: Values, D: Values, R: Parts> Parts for Four<'a
             first: self.a,
             rest,
         };
-        all.write_parts(mode, target)
+        all.write_parts(mode, target, why)
     }
 
     ghost all_lawful = { λ x mode can. Then_lawful (A.lawful x.a.now mode can.0)

@@ -3,6 +3,7 @@ ghost use Rattle.std.specs.Prelude.{◌⊎◌, ⊤};
 ghost use Rattle.bcder.specs.Joined.{Then, NoValues, Joined};
 ghost use Rattle.bcder.specs.laws.Joined.{Then_lawful, NoValues_lawful, Joined_lawful};
 
+use crate::encode::slot::Failed;
 use crate::encode::values::Values;
 use crate::encode::values::parts::{Chain, End, Four, joined_len, write_joined, write_known_parts};
 use crate::encode::{EncodeError, WriteError};
@@ -39,7 +40,12 @@ impl<A: Values> Values for (A,) {
         )
     }
 
-    fn write_known<W: io::Write>(&self, mode: Mode, target: &mut W) -> Result<(), WriteError> {
+    fn write_known<W: io::Write>(
+        &self,
+        mode: Mode,
+        target: &mut W,
+        why: &mut WriteError,
+    ) -> Result<(), Failed> {
         let (a,) = self;
         write_known_parts(
             &Chain {
@@ -48,6 +54,7 @@ impl<A: Values> Values for (A,) {
             },
             mode,
             target,
+            why,
         )
     }
 
@@ -91,7 +98,12 @@ impl<A: Values, B: Values> Values for (A, B) {
         )
     }
 
-    fn write_known<W: io::Write>(&self, mode: Mode, target: &mut W) -> Result<(), WriteError> {
+    fn write_known<W: io::Write>(
+        &self,
+        mode: Mode,
+        target: &mut W,
+        why: &mut WriteError,
+    ) -> Result<(), Failed> {
         let (a, b) = self;
         write_known_parts(
             &Chain {
@@ -103,6 +115,7 @@ impl<A: Values, B: Values> Values for (A, B) {
             },
             mode,
             target,
+            why,
         )
     }
 
@@ -154,7 +167,12 @@ impl<A: Values, B: Values, C: Values> Values for (A, B, C) {
         )
     }
 
-    fn write_known<W: io::Write>(&self, mode: Mode, target: &mut W) -> Result<(), WriteError> {
+    fn write_known<W: io::Write>(
+        &self,
+        mode: Mode,
+        target: &mut W,
+        why: &mut WriteError,
+    ) -> Result<(), Failed> {
         let (a, b, c) = self;
         write_known_parts(
             &Chain {
@@ -169,6 +187,7 @@ impl<A: Values, B: Values, C: Values> Values for (A, B, C) {
             },
             mode,
             target,
+            why,
         )
     }
 
@@ -216,7 +235,12 @@ impl<A: Values, B: Values, C: Values, D: Values> Values for (A, B, C, D) {
         )
     }
 
-    fn write_known<W: io::Write>(&self, mode: Mode, target: &mut W) -> Result<(), WriteError> {
+    fn write_known<W: io::Write>(
+        &self,
+        mode: Mode,
+        target: &mut W,
+        why: &mut WriteError,
+    ) -> Result<(), Failed> {
         let (a, b, c, d) = self;
         write_known_parts(
             &Four {
@@ -228,6 +252,7 @@ impl<A: Values, B: Values, C: Values, D: Values> Values for (A, B, C, D) {
             },
             mode,
             target,
+            why,
         )
     }
 
@@ -281,7 +306,12 @@ impl<A: Values, B: Values, C: Values, D: Values, E: Values> Values for (A, B, C,
         )
     }
 
-    fn write_known<W: io::Write>(&self, mode: Mode, target: &mut W) -> Result<(), WriteError> {
+    fn write_known<W: io::Write>(
+        &self,
+        mode: Mode,
+        target: &mut W,
+        why: &mut WriteError,
+    ) -> Result<(), Failed> {
         let (a, b, c, d, e) = self;
         write_known_parts(
             &Four {
@@ -296,6 +326,7 @@ impl<A: Values, B: Values, C: Values, D: Values, E: Values> Values for (A, B, C,
             },
             mode,
             target,
+            why,
         )
     }
 
@@ -359,7 +390,12 @@ impl<A: Values, B: Values, C: Values, D: Values, E: Values, F: Values> Values
         )
     }
 
-    fn write_known<W: io::Write>(&self, mode: Mode, target: &mut W) -> Result<(), WriteError> {
+    fn write_known<W: io::Write>(
+        &self,
+        mode: Mode,
+        target: &mut W,
+        why: &mut WriteError,
+    ) -> Result<(), Failed> {
         let (a, b, c, d, e, f) = self;
         write_known_parts(
             &Four {
@@ -377,6 +413,7 @@ impl<A: Values, B: Values, C: Values, D: Values, E: Values, F: Values> Values
             },
             mode,
             target,
+            why,
         )
     }
 
@@ -447,7 +484,12 @@ impl<A: Values, B: Values, C: Values, D: Values, E: Values, F: Values, G: Values
         )
     }
 
-    fn write_known<W: io::Write>(&self, mode: Mode, target: &mut W) -> Result<(), WriteError> {
+    fn write_known<W: io::Write>(
+        &self,
+        mode: Mode,
+        target: &mut W,
+        why: &mut WriteError,
+    ) -> Result<(), Failed> {
         let (a, b, c, d, e, f, g) = self;
         write_known_parts(
             &Four {
@@ -468,6 +510,7 @@ impl<A: Values, B: Values, C: Values, D: Values, E: Values, F: Values, G: Values
             },
             mode,
             target,
+            why,
         )
     }
 
@@ -535,7 +578,12 @@ impl<A: Values, B: Values, C: Values, D: Values, E: Values, F: Values, G: Values
         )
     }
 
-    fn write_known<W: io::Write>(&self, mode: Mode, target: &mut W) -> Result<(), WriteError> {
+    fn write_known<W: io::Write>(
+        &self,
+        mode: Mode,
+        target: &mut W,
+        why: &mut WriteError,
+    ) -> Result<(), Failed> {
         let (a, b, c, d, e, f, g, h) = self;
         write_known_parts(
             &Four {
@@ -553,6 +601,7 @@ impl<A: Values, B: Values, C: Values, D: Values, E: Values, F: Values, G: Values
             },
             mode,
             target,
+            why,
         )
     }
 
@@ -637,7 +686,12 @@ impl<
         )
     }
 
-    fn write_known<W: io::Write>(&self, mode: Mode, target: &mut W) -> Result<(), WriteError> {
+    fn write_known<W: io::Write>(
+        &self,
+        mode: Mode,
+        target: &mut W,
+        why: &mut WriteError,
+    ) -> Result<(), Failed> {
         let (a, b, c, d, e, f, g, h, i) = self;
         write_known_parts(
             &Four {
@@ -658,6 +712,7 @@ impl<
             },
             mode,
             target,
+            why,
         )
     }
 
@@ -750,7 +805,12 @@ impl<
         )
     }
 
-    fn write_known<W: io::Write>(&self, mode: Mode, target: &mut W) -> Result<(), WriteError> {
+    fn write_known<W: io::Write>(
+        &self,
+        mode: Mode,
+        target: &mut W,
+        why: &mut WriteError,
+    ) -> Result<(), Failed> {
         let (a, b, c, d, e, f, g, h, i, j) = self;
         write_known_parts(
             &Four {
@@ -774,6 +834,7 @@ impl<
             },
             mode,
             target,
+            why,
         )
     }
 
@@ -876,7 +937,12 @@ impl<
         )
     }
 
-    fn write_known<W: io::Write>(&self, mode: Mode, target: &mut W) -> Result<(), WriteError> {
+    fn write_known<W: io::Write>(
+        &self,
+        mode: Mode,
+        target: &mut W,
+        why: &mut WriteError,
+    ) -> Result<(), Failed> {
         let (a, b, c, d, e, f, g, h, i, j, k) = self;
         write_known_parts(
             &Four {
@@ -903,6 +969,7 @@ impl<
             },
             mode,
             target,
+            why,
         )
     }
 
@@ -1003,7 +1070,12 @@ impl<
         )
     }
 
-    fn write_known<W: io::Write>(&self, mode: Mode, target: &mut W) -> Result<(), WriteError> {
+    fn write_known<W: io::Write>(
+        &self,
+        mode: Mode,
+        target: &mut W,
+        why: &mut WriteError,
+    ) -> Result<(), Failed> {
         let (a, b, c, d, e, f, g, h, i, j, k, l) = self;
         write_known_parts(
             &Four {
@@ -1027,6 +1099,7 @@ impl<
             },
             mode,
             target,
+            why,
         )
     }
 

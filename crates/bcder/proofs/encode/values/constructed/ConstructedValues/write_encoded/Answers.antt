@@ -2,10 +2,11 @@ use Rattle.std.proofs.Common.{ap, sym, ◌∙◌, inl}
 use Rattle.bcder.specs.Octets.{fits_length, constructed_length}
 use Rattle.bcder.specs.Meaning.{constructed_encoded, fits_enclosed}
 use Rattle.bcder.proofs.Enclosing.{constructed_given, length_fits}
+use Rattle.bcder.proofs.Writing.{same_answer}
 use Rattle.bcder.proofs.encode.values.constructed.ConstructedValues.write_encoded.Goals as goal
 
-pub write_enclosed-requires : goal.write_enclosed-requires
-write_enclosed-requires g c =
+pub put_enclosed-outcome-requires : goal.put_enclosed-outcome-requires
+put_enclosed-outcome-requires g c =
     let (x, meant, len_is, whole_is, fits, value) = c.in_ok-sizes.ensures in
     record { fits = ap fits_length c.constructed_length-len.ensures ∙ length_fits c.args.mode c.args.self.now.tag _ fits; can = c.requires; known = (x, meant) }
 
@@ -17,5 +18,5 @@ returns g c =
     inl (record {
       what = constructed_encoded mode t x;
       meant = constructed_given t mode _ x meant (ap (fits_enclosed mode t) (sym len_is) ∙ fits) value;
-      wrote = c.write_enclosed.ensures x meant (c.constructed_length-len.ensures ∙ ap (constructed_length mode) len_is);
+      wrote = same_answer c.told.ensures (c.put_enclosed-outcome.ensures x meant (c.constructed_length-len.ensures ∙ ap (constructed_length mode) len_is));
     })

@@ -1,11 +1,11 @@
 use Rattle.std.proofs.Common.{subst, List, Any}
 use Rattle.bcder.specs.Joined.{EachOf, Joined}
-use Rattle.bcder.specs.Encoders.{WritesEncoding}
+use Rattle.bcder.specs.Encoders.{WritesEncoding, told}
 use Rattle.bcder.specs.Meaning.{IsOne}
 use Rattle.bcder.proofs.encode.values.lists.VecValues.write_known.Goals as goal
 
 pub returns : goal.returns
 returns g c =
     subst (λ (xs : List g.row.V.Denot). IsOne (Joined (EachOf (λ v. g.V.Values.means v c.args.mode) xs))
-    → WritesEncoding (Joined (EachOf (λ v. g.V.Values.means v c.args.mode) xs)) (Any (λ v. g.V.Values.may_lack v c.args.mode) xs) (g.W.Write.contents c.args.target.now) (g.W.Write.contents c.write_known.new.target) c.write_known.result)
+    → WritesEncoding (Joined (EachOf (λ v. g.V.Values.means v c.args.mode) xs)) (Any (λ v. g.V.Values.may_lack v c.args.mode) xs) (g.W.Write.contents c.args.target.now) (g.W.Write.contents c.write_known.new.target) (told c.write_known.result c.write_known.new.why))
     c.as_slice.ensures.value c.write_known.ensures
