@@ -1,12 +1,12 @@
 -- The meaning of a value, from what is inside.
-use Rattle.std.proofs.Common.{◌≡◌, ℕ, ◌+◌, ◌<◌, ◌^◌, List, ◌++◌, Bool, true, false, length, nat_lt, Ok, Err, refl, sym, ap, ◌∙◌, inl, inr, length-append, if◌then◌else◌}
+use Rattle.std.proofs.Common.{◌≡◌, ℕ, ◌+◌, ◌<◌, ◌^◌, List, [], ◌∷◌, ◌++◌, Bool, true, false, length, nat_lt, Ok, Err, refl, sym, ap, ◌∙◌, inl, inr, length-append, if◌then◌else◌}
 use Rattle.std.proofs.lemmas.Bool.{lt-ltb}
 use Rattle.bcder.specs.declared.mode.Mode.{Mode}
 use Rattle.bcder.specs.declared.mode.Mode.TheVariants.{Ber, Cer, Der}
 use Rattle.bcder.specs.declared.length.Length.{Length}
 use Rattle.bcder.specs.declared.length.Length.TheVariants.{Definite}
 use Rattle.bcder.specs.Identifier.{Tag, identifier, IsValueTag}
-use Rattle.bcder.specs.Octets.{length_octets, fits_length, header, definite, constructed_length, closing, enclosed, enclosed_size}
+use Rattle.bcder.specs.Octets.{definite_length, length_octets, fits_length, header, definite, constructed_length, closing, enclosed, enclosed_size}
 use Rattle.bcder.specs.Encoders.{LengthMeans}
 use Rattle.bcder.specs.Meaning.{Encoded, Meaning, ContentsMeaning, ValueMeans, primitive_encoded, primitive_meaning, constructed_encoded, constructed_meaning, fits_enclosed, enclosed_refusal}
 
@@ -60,3 +60,11 @@ pub length_fits : (mode : Mode) (t : Tag) (n : ℕ) → fits_enclosed mode t n �
 length_fits Ber t n h = h
 length_fits Cer t n h = refl
 length_fits Der t n h = h
+
+-- ---- a short primitive value
+
+pub short_definite : (t : Tag) (i : ℕ) (w : List ℕ) → identifier t false ≡ i ∷ [] → length w < 128 → definite t false w ≡ i ∷ length w ∷ w
+unfolding definite_length
+short_definite t i w one few =
+    let d : definite_length (length w) ≡ length w ∷ [] = rw (lt-ltb (length w) 128 few) refl in
+    ap (λ v. (v ++ definite_length (length w)) ++ w) one ∙ ap (λ v. (i ∷ v) ++ w) d

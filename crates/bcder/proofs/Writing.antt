@@ -1,5 +1,5 @@
 -- How writings follow one another.
-use Rattle.std.proofs.Common.{◌≡◌, ◌≢◌, ℕ, List, [], ◌∷◌, ◌++◌, Option, None, Some, Result, Ok, Err, refl, sym, ap, ◌∙◌, subst, append_assoc, append-nil, ◌⊎◌, inl, inr, IsErr, IsErrAnd}
+use Rattle.std.proofs.Common.{false, ◌≡◌, ◌≢◌, ℕ, List, [], ◌∷◌, ◌++◌, Option, None, Some, Result, Ok, Err, refl, sym, ap, ◌∙◌, subst, append_assoc, append-nil, ◌⊎◌, inl, inr, IsErr, IsErrAnd}
 use Rattle.std.specs.Io.KnownBytes.{Appends, Keeps}
 use Rattle.std.proofs.KnownBytes.{Appends-trans, Appends-nil}
 use Rattle.bcder.specs.declared.encode.error.EncodeError.{EncodeError}
@@ -7,6 +7,9 @@ use Rattle.bcder.specs.declared.encode.error.EncodeError.TheVariants.{NoMemory, 
 use Rattle.bcder.specs.declared.encode.error.WriteError.{WriteError}
 use Rattle.bcder.specs.declared.encode.error.WriteError.TheVariants.{Refused, Target}
 use Rattle.bcder.specs.declared.encode.slot.Failed.{Failed}
+use Rattle.bcder.specs.Identifier.{Tag}
+use Rattle.bcder.specs.Octets.{definite}
+use Rattle.bcder.specs.Meaning.{Exactly}
 use Rattle.bcder.specs.Encoders.{RefusesBy, DoneOf, WroteOf, Writes, told}
 
 pub append_not_nil : (a b : List ℕ) → a ≢ [] → a ++ b ≢ []
@@ -90,3 +93,8 @@ same_told why e = ap (λ x. told x why) e
 -- the same octets under another name
 pub same_octets : {lacks : Type 0} {v w : List ℕ} {a b : Option (List ℕ)} {r : Result (Unit {0}) WriteError} → v ≡ w → WroteOf lacks v a b r → WroteOf lacks w a b r
 same_octets {lacks} {v} {w} {a} {b} {r} e h = subst (λ x. WroteOf lacks x a b r) e h
+
+-- a value with these octets is one of those that are meant
+pub exactly : {lacks : Type 0} {v : List ℕ} (t : Tag) {u : List ℕ} {a b : Option (List ℕ)} {r : Result (Unit {0}) WriteError} → u ≡ v → WroteOf lacks (definite t false u) a b r
+    → (w : List ℕ) → Exactly v (Ok w) → WroteOf lacks (definite t false w) a b r
+exactly {lacks} {v} t {u} {a} {b} {r} is h w m = let e : u ≡ w = cc in same_octets (ap (definite t false) e) h

@@ -1,5 +1,5 @@
 -- Contents octets of integers and booleans (ITU-T X.690, 8.2, 8.3, 11.1).
-use Rattle.std.specs.Prelude.{◌≡◌, ℕ, zero, suc, ◌/◌, ◌%◌, ◌-◌, ◌^◌, ◌≤◌, ◌<◌, ℤ, pos, negsuc, ◌-ℤ◌, Bool, true, false, List, [], ◌∷◌, ◌++◌, length, nat_lt, nat_le, not, ◌==◌, if◌then◌else◌, Option, Some, None}
+use Rattle.std.specs.Prelude.{◌≡◌, ℕ, zero, suc, ◌+◌, ◌/◌, ◌%◌, ◌-◌, ◌^◌, ◌≤◌, ◌<◌, ℤ, pos, negsuc, ◌-ℤ◌, Bool, true, false, List, [], ◌∷◌, ◌++◌, length, nat_lt, nat_le, not, ◌==◌, if◌then◌else◌, Option, Some, None}
 use Rattle.bcder.specs.declared.mode.Mode.{Mode}
 use Rattle.bcder.specs.declared.mode.Mode.TheVariants.{Ber, Cer, Der}
 use Rattle.std.specs.declared.cmp.Ordering.{Ordering}
@@ -34,6 +34,11 @@ pub record AreInteger (z : ℤ) (w : List ℕ) : Type 0 where
 -- an octet of n, or of -1 - n
 abbrev pub octet : Bool → ℕ → ℕ
 octet negative n = if negative then 255 - n else n
+
+-- x is n, or all bits of it turned in k octets
+abbrev pub IsTurned : Bool → ℕ → ℕ → ℕ → Type 0
+IsTurned false k n x = x ≡ n
+IsTurned true k n x = x + n + 1 ≡ 256 ^ k
 
 -- the octets of n, or of -1 - n, at most k of them behind the first
 abbrev pub octets_within : ℕ → Bool → ℕ → List ℕ

@@ -4,6 +4,7 @@ pub(crate) mod front;
 mod gather;
 mod header;
 mod primitive;
+pub(crate) mod short;
 pub(crate) mod slot;
 pub(crate) mod target;
 mod values;

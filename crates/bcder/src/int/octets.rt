@@ -1,44 +1,58 @@
 //! The contents octets of a number, which readers and encoders share.
-ghost use Rattle.std.specs.Prelude.{◌≡◌, ◌<◌, length, drop};
-ghost use Rattle.std.specs.Int.{complement_if};
-ghost use Rattle.bcder.specs.Integer.{AreInteger, integer_octets};
+ghost use Rattle.std.specs.Prelude.{◌≡◌, ◌≤◌, ◌<◌, ◌+◌, ◌++◌, ◌∷◌, [], length, drop, replicate};
+ghost use Rattle.std.specs.Int.{complement_if, to_be_bytes, w128};
+ghost use Rattle.bcder.specs.Integer.{AreInteger, IsTurned, integer_octets};
 
 use crate::int::number::turned;
 
-/// The contents octets of a number, at the end of a buffer (X.690, 8.3).
+/// Short contents octets, as those of a number (X.690, 8.3), at the end of a buffer that has room
+/// for a header before them.
 #[derive(Clone, Copy)]
 pub(crate) struct Octets {
-    buffer: [u8; 17],
+    buffer: [u8; 24],
     start: usize,
-    ghost in_buffer: { start < 17 },
+    ghost in_buffer: { start ≤ 24 },
+}
+
+/// A number in 16 octets, or all bits of it turned.
+#[inline(always)]
+fn bits_of(negative: bool, magnitude: u128) -> u128
+    ensures { IsTurned negative 16 magnitude result }
+{
+    if negative { !magnitude } else { magnitude }
+}
+
+/// The octets of a number, behind others that are all the same.
+#[inline(always)]
+fn behind(lead: u8, bits: u128) -> [u8; 24]
+    ensures { result ≡ replicate 8 lead ++ to_be_bytes w128 bits }
+{
+    let [a, b, c, d, e, f, g, h, i, j, k, l, m, n, o, p] = bits.to_be_bytes();
+    [
+        lead, lead, lead, lead, lead, lead, lead, lead, a, b, c, d, e, f, g, h, i, j, k, l, m, n,
+        o, p,
+    ]
 }
 
 impl Octets {
     /// Those of `magnitude`, or of -1 less it where the number is negative.
+    ///
+    /// Behind the first octet there are as many as have a bit of the magnitude, less one bit, which
+    /// tells the sign.
     #[inline(always)]
     pub(crate) fn of(negative: bool, magnitude: u128) -> Octets
         ensures octets { drop result.start result.buffer
             ≡ integer_octets (complement_if negative magnitude) }
         ensures integer { AreInteger (complement_if negative magnitude)
             (drop result.start result.buffer) }
+        ensures room { 7 ≤ result.start }
     {
-        let mut buffer = [0u8; 17];
-        let mut start = 16;
-        let mut rest = magnitude;
-        while rest > u64::MAX as u128 {
-            buffer[start] = turned(negative, (rest % 256) as u8);
-            rest /= 256;
-            start -= 1;
+        let others = (128 - magnitude.leading_zeros()) as usize / 8;
+        let buffer = behind(turned(negative, 0), bits_of(negative, magnitude));
+        Octets {
+            buffer,
+            start: 23 - others,
         }
-        // What is left is divided in one register.
-        let mut low = rest as u64;
-        while low >= 128 {
-            buffer[start] = turned(negative, (low % 256) as u8);
-            low /= 256;
-            start -= 1;
-        }
-        buffer[start] = turned(negative, low as u8);
-        Octets { buffer, start }
     }
 
     /// Those of a signed integer.
@@ -46,12 +60,47 @@ impl Octets {
     pub(crate) fn of_signed(x: i128) -> Octets
         ensures octets { drop result.start result.buffer ≡ integer_octets x }
         ensures integer { AreInteger x (drop result.start result.buffer) }
+        ensures room { 7 ≤ result.start }
     {
         if x < 0 {
             Octets::of(true, (-1 - x) as u128)
         } else {
             Octets::of(false, x as u128)
         }
+    }
+
+    /// None.
+    #[inline(always)]
+    pub(crate) fn none() -> Octets
+        ensures octets { drop result.start result.buffer ≡ [] }
+        ensures room { 7 ≤ result.start }
+    {
+        Octets {
+            buffer: [0; 24],
+            start: 24,
+        }
+    }
+
+    /// Puts an octet before them.
+    #[inline(always)]
+    pub(crate) fn put_before(&mut self, octet: u8)
+        requires { 0 < self.old.start }
+        ensures octets { drop self.new.start self.new.buffer
+            ≡ octet ∷ drop self.old.start self.old.buffer }
+        ensures start { self.new.start + 1 ≡ self.old.start }
+    {
+        let before = self.start - 1;
+        self.buffer[before] = octet;
+        self.start = before;
+    }
+
+    /// How many there are.
+    #[inline(always)]
+    pub(crate) fn len(&self) -> usize
+        ensures value { result ≡ length (drop self.now.start self.now.buffer) }
+        ensures limit { result + self.now.start ≡ 24 }
+    {
+        24 - self.start
     }
 
     /// These octets.

@@ -1,7 +1,8 @@
 //! Writing identifier octets (X.690, 8.1.2).
 #![tactic(auto, using(crate::proofs::nat_tests), unfolding(crate::specs::Identifier::identifier))]
 
-ghost use Rattle.std.specs.Prelude.{◌≡◌, ◌<◌, ◌+◌, ◌++◌, Bool, length, OnOk, OnErr};
+ghost use Rattle.std.specs.Prelude.{◌≡◌, ◌<◌, ◌+◌, ◌++◌, Bool, false, length, OnOk, OnErr};
+ghost use Rattle.std.specs.Prelude.{IfSome, [], ◌∷◌};
 ghost use Rattle.bcder.specs.Classes.{class_meant};
 ghost use Rattle.bcder.specs.Front.{front_of};
 ghost use Rattle.bcder.specs.Identifier.{class_bits, form_bit, identifier};
@@ -52,6 +53,18 @@ impl Tag {
     {
         let mark = if constructed { 0x20 } else { 0x00 };
         self.class.bits() + mark + low
+    }
+
+    /// The identifier octet of a primitive encoding, where there is one alone (8.1.2.2).
+    #[inline(always)]
+    pub(crate) fn primitive_octet(self) -> Option<u8>
+        ensures { IfSome result (λ octet. identifier self false ≡ octet ∷ []) }
+    {
+        if self.number < 31 {
+            Some(self.leading(false, self.number as u8))
+        } else {
+            None
+        }
     }
 
     /// Writes the identifier octets of the tag, for a constructed or a primitive encoding (8.1.2).

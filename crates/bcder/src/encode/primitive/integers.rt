@@ -2,12 +2,14 @@
 ghost use Rattle.std.specs.Prelude.{pos};
 ghost use Rattle.bcder.specs.Identifier.{universal};
 ghost use Rattle.bcder.specs.Integer.{integer_octets};
-ghost use Rattle.bcder.specs.Encoders.{SizeOfContents, WritesContents};
+ghost use Rattle.bcder.specs.Encoders.{SizeOfContents, WritesContents, WritesPrimitive, told};
 ghost use Rattle.bcder.specs.Meaning.{Exactly};
 ghost use Rattle.bcder.specs.laws.Integers.{integer_octets_are};
 ghost use Rattle.bcder.specs.laws.Meanings.{Exactly_lawful};
 
 use super::PrimitiveContent;
+use crate::encode::short::put_short;
+use crate::encode::slot::Failed;
 use crate::encode::target::write_all;
 use crate::encode::{EncodeError, WriteError};
 use crate::int::octets::Octets;
@@ -20,7 +22,7 @@ use std::io;
 fn unsigned_len(x: u128) -> Result<usize, EncodeError>
     ensures { SizeOfContents (Exactly (integer_octets (pos x))) ⊥ result }
 {
-    Ok(Octets::of(false, x).as_slice().len())
+    Ok(Octets::of(false, x).len())
 }
 
 /// Writes the octets of an unsigned integer.
@@ -36,7 +38,7 @@ fn write_unsigned<W: io::Write>(x: u128, target: &mut W) -> Result<(), WriteErro
 fn signed_len(x: i128) -> Result<usize, EncodeError>
     ensures { SizeOfContents (Exactly (integer_octets x)) ⊥ result }
 {
-    Ok(Octets::of_signed(x).as_slice().len())
+    Ok(Octets::of_signed(x).len())
 }
 
 /// Writes the octets of an integer.
@@ -45,6 +47,34 @@ fn write_signed<W: io::Write>(x: i128, target: &mut W) -> Result<(), WriteError>
     ensures { WritesContents W.contents target (Exactly (integer_octets x)) ⊥ result }
 {
     write_all(target, Octets::of_signed(x).as_slice())
+}
+
+/// Writes an unsigned integer as a value.
+#[inline(always)]
+fn put_unsigned<W: io::Write>(
+    x: u128,
+    tag: Tag,
+    target: &mut W,
+    why: &mut WriteError,
+) -> Result<(), Failed>
+    ensures { WritesPrimitive W.contents target tag (Exactly (integer_octets (pos x))) ⊥
+        (told result why.new) }
+{
+    put_short(tag, Octets::of(false, x), target, why)
+}
+
+/// Writes an integer as a value.
+#[inline(always)]
+fn put_signed<W: io::Write>(
+    x: i128,
+    tag: Tag,
+    target: &mut W,
+    why: &mut WriteError,
+) -> Result<(), Failed>
+    ensures { WritesPrimitive W.contents target tag (Exactly (integer_octets x)) ⊥
+        (told result why.new) }
+{
+    put_short(tag, Octets::of_signed(x), target, why)
 }
 
 impl PrimitiveContent for u8 {
@@ -58,12 +88,26 @@ impl PrimitiveContent for u8 {
         Tag::INTEGER
     }
 
+    #[inline(always)]
     fn encoded_len(&self, _mode: Mode) -> Result<usize, EncodeError> {
         unsigned_len(u128::from(*self))
     }
 
+    #[inline(always)]
     fn write_encoded<W: io::Write>(&self, _mode: Mode, target: &mut W) -> Result<(), WriteError> {
         write_unsigned(u128::from(*self), target)
+    }
+
+    #[inline(always)]
+    fn write_value<W: io::Write>(
+        &self,
+        tag: Tag,
+        _len: usize,
+        _mode: Mode,
+        target: &mut W,
+        why: &mut WriteError,
+    ) -> Result<(), Failed> {
+        put_unsigned(u128::from(*self), tag, target, why)
     }
 
     ghost lawful = { λ x _. Exactly_lawful (integer_octets (pos x)) (integer_octets_are (pos x)) };
@@ -80,12 +124,26 @@ impl PrimitiveContent for u16 {
         Tag::INTEGER
     }
 
+    #[inline(always)]
     fn encoded_len(&self, _mode: Mode) -> Result<usize, EncodeError> {
         unsigned_len(u128::from(*self))
     }
 
+    #[inline(always)]
     fn write_encoded<W: io::Write>(&self, _mode: Mode, target: &mut W) -> Result<(), WriteError> {
         write_unsigned(u128::from(*self), target)
+    }
+
+    #[inline(always)]
+    fn write_value<W: io::Write>(
+        &self,
+        tag: Tag,
+        _len: usize,
+        _mode: Mode,
+        target: &mut W,
+        why: &mut WriteError,
+    ) -> Result<(), Failed> {
+        put_unsigned(u128::from(*self), tag, target, why)
     }
 
     ghost lawful = { λ x _. Exactly_lawful (integer_octets (pos x)) (integer_octets_are (pos x)) };
@@ -102,12 +160,26 @@ impl PrimitiveContent for u32 {
         Tag::INTEGER
     }
 
+    #[inline(always)]
     fn encoded_len(&self, _mode: Mode) -> Result<usize, EncodeError> {
         unsigned_len(u128::from(*self))
     }
 
+    #[inline(always)]
     fn write_encoded<W: io::Write>(&self, _mode: Mode, target: &mut W) -> Result<(), WriteError> {
         write_unsigned(u128::from(*self), target)
+    }
+
+    #[inline(always)]
+    fn write_value<W: io::Write>(
+        &self,
+        tag: Tag,
+        _len: usize,
+        _mode: Mode,
+        target: &mut W,
+        why: &mut WriteError,
+    ) -> Result<(), Failed> {
+        put_unsigned(u128::from(*self), tag, target, why)
     }
 
     ghost lawful = { λ x _. Exactly_lawful (integer_octets (pos x)) (integer_octets_are (pos x)) };
@@ -124,12 +196,26 @@ impl PrimitiveContent for u64 {
         Tag::INTEGER
     }
 
+    #[inline(always)]
     fn encoded_len(&self, _mode: Mode) -> Result<usize, EncodeError> {
         unsigned_len(u128::from(*self))
     }
 
+    #[inline(always)]
     fn write_encoded<W: io::Write>(&self, _mode: Mode, target: &mut W) -> Result<(), WriteError> {
         write_unsigned(u128::from(*self), target)
+    }
+
+    #[inline(always)]
+    fn write_value<W: io::Write>(
+        &self,
+        tag: Tag,
+        _len: usize,
+        _mode: Mode,
+        target: &mut W,
+        why: &mut WriteError,
+    ) -> Result<(), Failed> {
+        put_unsigned(u128::from(*self), tag, target, why)
     }
 
     ghost lawful = { λ x _. Exactly_lawful (integer_octets (pos x)) (integer_octets_are (pos x)) };
@@ -146,12 +232,26 @@ impl PrimitiveContent for u128 {
         Tag::INTEGER
     }
 
+    #[inline(always)]
     fn encoded_len(&self, _mode: Mode) -> Result<usize, EncodeError> {
         unsigned_len(*self)
     }
 
+    #[inline(always)]
     fn write_encoded<W: io::Write>(&self, _mode: Mode, target: &mut W) -> Result<(), WriteError> {
         write_unsigned(*self, target)
+    }
+
+    #[inline(always)]
+    fn write_value<W: io::Write>(
+        &self,
+        tag: Tag,
+        _len: usize,
+        _mode: Mode,
+        target: &mut W,
+        why: &mut WriteError,
+    ) -> Result<(), Failed> {
+        put_unsigned(*self, tag, target, why)
     }
 
     ghost lawful = { λ x _. Exactly_lawful (integer_octets (pos x)) (integer_octets_are (pos x)) };
@@ -168,12 +268,26 @@ impl PrimitiveContent for i8 {
         Tag::INTEGER
     }
 
+    #[inline(always)]
     fn encoded_len(&self, _mode: Mode) -> Result<usize, EncodeError> {
         signed_len(i128::from(*self))
     }
 
+    #[inline(always)]
     fn write_encoded<W: io::Write>(&self, _mode: Mode, target: &mut W) -> Result<(), WriteError> {
         write_signed(i128::from(*self), target)
+    }
+
+    #[inline(always)]
+    fn write_value<W: io::Write>(
+        &self,
+        tag: Tag,
+        _len: usize,
+        _mode: Mode,
+        target: &mut W,
+        why: &mut WriteError,
+    ) -> Result<(), Failed> {
+        put_signed(i128::from(*self), tag, target, why)
     }
 
     ghost lawful = { λ x _. Exactly_lawful (integer_octets x) (integer_octets_are x) };
@@ -190,12 +304,26 @@ impl PrimitiveContent for i16 {
         Tag::INTEGER
     }
 
+    #[inline(always)]
     fn encoded_len(&self, _mode: Mode) -> Result<usize, EncodeError> {
         signed_len(i128::from(*self))
     }
 
+    #[inline(always)]
     fn write_encoded<W: io::Write>(&self, _mode: Mode, target: &mut W) -> Result<(), WriteError> {
         write_signed(i128::from(*self), target)
+    }
+
+    #[inline(always)]
+    fn write_value<W: io::Write>(
+        &self,
+        tag: Tag,
+        _len: usize,
+        _mode: Mode,
+        target: &mut W,
+        why: &mut WriteError,
+    ) -> Result<(), Failed> {
+        put_signed(i128::from(*self), tag, target, why)
     }
 
     ghost lawful = { λ x _. Exactly_lawful (integer_octets x) (integer_octets_are x) };
@@ -212,12 +340,26 @@ impl PrimitiveContent for i32 {
         Tag::INTEGER
     }
 
+    #[inline(always)]
     fn encoded_len(&self, _mode: Mode) -> Result<usize, EncodeError> {
         signed_len(i128::from(*self))
     }
 
+    #[inline(always)]
     fn write_encoded<W: io::Write>(&self, _mode: Mode, target: &mut W) -> Result<(), WriteError> {
         write_signed(i128::from(*self), target)
+    }
+
+    #[inline(always)]
+    fn write_value<W: io::Write>(
+        &self,
+        tag: Tag,
+        _len: usize,
+        _mode: Mode,
+        target: &mut W,
+        why: &mut WriteError,
+    ) -> Result<(), Failed> {
+        put_signed(i128::from(*self), tag, target, why)
     }
 
     ghost lawful = { λ x _. Exactly_lawful (integer_octets x) (integer_octets_are x) };
@@ -234,12 +376,26 @@ impl PrimitiveContent for i64 {
         Tag::INTEGER
     }
 
+    #[inline(always)]
     fn encoded_len(&self, _mode: Mode) -> Result<usize, EncodeError> {
         signed_len(i128::from(*self))
     }
 
+    #[inline(always)]
     fn write_encoded<W: io::Write>(&self, _mode: Mode, target: &mut W) -> Result<(), WriteError> {
         write_signed(i128::from(*self), target)
+    }
+
+    #[inline(always)]
+    fn write_value<W: io::Write>(
+        &self,
+        tag: Tag,
+        _len: usize,
+        _mode: Mode,
+        target: &mut W,
+        why: &mut WriteError,
+    ) -> Result<(), Failed> {
+        put_signed(i128::from(*self), tag, target, why)
     }
 
     ghost lawful = { λ x _. Exactly_lawful (integer_octets x) (integer_octets_are x) };
@@ -256,12 +412,26 @@ impl PrimitiveContent for i128 {
         Tag::INTEGER
     }
 
+    #[inline(always)]
     fn encoded_len(&self, _mode: Mode) -> Result<usize, EncodeError> {
         signed_len(*self)
     }
 
+    #[inline(always)]
     fn write_encoded<W: io::Write>(&self, _mode: Mode, target: &mut W) -> Result<(), WriteError> {
         write_signed(*self, target)
+    }
+
+    #[inline(always)]
+    fn write_value<W: io::Write>(
+        &self,
+        tag: Tag,
+        _len: usize,
+        _mode: Mode,
+        target: &mut W,
+        why: &mut WriteError,
+    ) -> Result<(), Failed> {
+        put_signed(*self, tag, target, why)
     }
 
     ghost lawful = { λ x _. Exactly_lawful (integer_octets x) (integer_octets_are x) };

@@ -8,8 +8,11 @@ ghost use Rattle.bcder.specs.laws.Meanings.{Exactly_lawful, ExactlyOctets_lawful
 ghost use Rattle.bcder.specs.laws.Meanings.{truth_octets_are};
 
 use super::PrimitiveContent;
+use crate::encode::short::put_short;
+use crate::encode::slot::Failed;
 use crate::encode::target::write_all;
 use crate::encode::{EncodeError, WriteError};
+use crate::int::octets::Octets;
 use crate::mode::Mode;
 use crate::tag::Tag;
 use std::io;
@@ -32,6 +35,18 @@ impl PrimitiveContent for () {
 
     fn write_encoded<W: io::Write>(&self, _mode: Mode, target: &mut W) -> Result<(), WriteError> {
         write_all(target, &[])
+    }
+
+    #[inline(always)]
+    fn write_value<W: io::Write>(
+        &self,
+        tag: Tag,
+        _len: usize,
+        _mode: Mode,
+        target: &mut W,
+        why: &mut WriteError,
+    ) -> Result<(), Failed> {
+        put_short(tag, Octets::none(), target, why)
     }
 
     ghost lawful = { λ _ _. Exactly_lawful [] AreOctets-nil };
@@ -59,6 +74,20 @@ impl PrimitiveContent for bool {
         } else {
             write_all(target, &[0x00])
         }
+    }
+
+    #[inline(always)]
+    fn write_value<W: io::Write>(
+        &self,
+        tag: Tag,
+        _len: usize,
+        _mode: Mode,
+        target: &mut W,
+        why: &mut WriteError,
+    ) -> Result<(), Failed> {
+        let mut octets = Octets::none();
+        octets.put_before(if *self { 0xFF } else { 0x00 });
+        put_short(tag, octets, target, why)
     }
 
     ghost lawful = { λ x _. Exactly_lawful (truth_octets x) (truth_octets_are x) };
