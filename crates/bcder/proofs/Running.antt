@@ -1,5 +1,5 @@
 -- What a run over the values of a value did, step by step.
-use Rattle.std.proofs.Common.{◌≡◌, ℕ, ◌+◌, ◌<◌, ◌≤◌, Bool, false, List, [], ◌∷◌, ◌++◌, length, Option, None, Ok, Err, IfSome, refl, sym, ap, subst, ◌∙◌, arith, length-append}
+use Rattle.std.proofs.Common.{◌≡◌, ◌⊎◌, inl, inr, ℕ, ◌+◌, ◌<◌, ◌≤◌, Bool, false, List, [], ◌∷◌, ◌++◌, length, drop, Option, Some, None, Ok, Err, IfSome, refl, sym, ap, subst, ◌∙◌, arith, length-append}
 use Rattle.std.specs.Prelude.{◌^◌, ◌==◌}
 use Rattle.std.proofs.lemmas.List.{length-drop, length-reverse}
 use Rattle.std.proofs.lemmas.Bool.Decides.{nat_tests}
@@ -14,7 +14,8 @@ use Rattle.bcder.specs.declared.decode.content.skip.Halt.{Halt}
 use Rattle.bcder.specs.declared.decode.content.skip.Halt.TheVariants as halt
 use Rattle.bcder.specs.declared.decode.stop.Stop.{Stop}
 use Rattle.bcder.specs.declared.decode.error.ContentError.{ContentError}
-use Rattle.bcder.specs.Cause.{stop_cause}
+use Rattle.bcder.specs.Cause.{stop_cause, of_source, IsOfContent, MatchStop}
+use Rattle.bcder.specs.Calls.{popped}
 use Rattle.bcder.specs.Identifier.{AreOctets}
 use Rattle.bcder.specs.Encoding.{IsHeader}
 use Rattle.bcder.specs.Preorder.{Heading}
@@ -28,6 +29,7 @@ use Rattle.bcder.specs.laws.Complete.{header_size}
 use Rattle.bcder.specs.laws.Limits.{first_kept}
 use Rattle.bcder.proofs.Entering.{Within}
 use Rattle.bcder.proofs.Moving.{open_not_failed}
+use Rattle.bcder.proofs.Stepping.{stop_reason}
 use Rattle.bcder.specs.Content.{NotAtEnd}
 use Rattle.bcder.specs.Walking.{NoValue}
 use Rattle.bcder.proofs.Walking.{no_value_of_nothing, end_of_nothing, moves_faults}
@@ -222,3 +224,20 @@ pub left_shorter : (t v : Stream) (p q : Option ℕ) (c d : Reading) (cs : c.str
 left_shorter t v p q c d cs co ds do' m =
     let a = passing t v p q c d cs co ds do' m in
     omega (arith, passes_shorter t a.octets v a.passes)
+
+-- ---- a primitive value, which needs no stack
+
+module _ {F X : Type 0} (step : Steps F ContentError) (mode : Mode) (h : Header) (s : Stream) (o : Option ℕ) (f : F) (form : h.form ≡ false) where
+  pub octets_refused : (x : ContentError) (g : F) → step f h.tag h.form 0 (Err x) g → RanBy {X = X} step {T = Unit {0}} mode h s o f (Err (halt.Refused x)) g s o
+  octets_refused x g r = not_begun step mode h s o f (halt.Refused x) g [] [] s o refl (record { answered = tt; goes = tt; no_fault = tt; stays = refused x r refl; entries = refl; rest = refl; limit = refl; kept = refl; faults = omega arith })
+
+  module _ (g : F) (t : Stream) (p : Option ℕ) (n : ℕ) (tells : h.len ≡ len.Definite n) (called : step f h.tag h.form 0 (Ok tt) g) (kept : t.kept ≡ s.kept) (least : s.faults ≤ t.faults) where
+    pub octets_passed : FitsOwed h.len o → n ≤ length s.rest → t.rest ≡ drop n s.rest → p ≡ popped o n (Some 0) → t.faults ≡ s.faults → RanBy {X = X} step {T = Unit {0}} mode h s o f (Ok tt) g t p
+    octets_passed fits enough rest limit nf = went_through step mode h s o f tt [] g t p refl (began step mode h s o f {X = X} tt g [] [] t p refl fits (record { answered = called; goes = octets n form tells enough refl rest kept limit; no_fault = nf; stays = tt; entries = tt; rest = tt; limit = tt; kept = kept; faults = least }))
+
+    pub octets_stopped : (e : Stop X) → MatchStop e (Grew s.faults t.faults) (length s.rest < n) → t.rest ≡ s.rest → p ≡ o → RanBy {X = X} step {T = Unit {0}} mode h s o f (Err (halt.Stopped e)) g t p
+    octets_stopped e why rest limit = not_begun step mode h s o f (halt.Stopped e) g [] [] t p refl (record { answered = tt; goes = tt; no_fault = tt; stays = go (stop_reason _ _ e why); entries = refl; rest = rest; limit = limit; kept = kept; faults = least })
+      where
+        go : (stop_cause e ≡ of_source) × Grew s.faults t.faults ⊎ (length s.rest < n) × IsOfContent (stop_cause e) → StaysOut step h 0 s f (halt.Stopped e) g t
+        go (inl x) = failing called x.0 x.1
+        go (inr x) = few n called form tells x.0 x.1

@@ -150,6 +150,23 @@ fn short_header(octets: &[u8]) -> Option<Header>
     }
 }
 
+/// The header of two octets at the front with the indefinite length, if there is one: a tag that
+/// the leading octet tells alone.
+#[tactic(auto, using(crate::proofs::nat_tests))]
+#[inline(always)]
+fn short_indefinite(octets: &[u8]) -> Option<Header>
+    ensures { IfSome result (λ h. StandsShort h octets.now) }
+{
+    match octets {
+        [leading, len, ..] if *leading % 32 < 31 && *len == 0x80 => Some(Header {
+            tag: tag_of_leading(*leading),
+            constructed: mark_of_leading(*leading),
+            len: Length::Indefinite,
+        }),
+        _ => None,
+    }
+}
+
 /// What stands at the front of a source. It asks for no more octets than the header has, for two at
 /// least, and takes none. An error is the source's own.
 #[inline(always)]
@@ -162,7 +179,11 @@ pub(crate) fn peek<S: Source>(source: &mut S, mode: Mode) -> Result<Peeked, S::E
     ensures kept { (S.stream source.new).kept ≡ (S.stream source.old).kept }
 {
     let found = source.request(2)?;
-    if let Some(header) = short_header(&source.slice()[..found]) {
+    let octets = &source.slice()[..found];
+    if let Some(header) = short_header(octets) {
+        return Ok(Peeked::Front { header, size: 2 });
+    }
+    if let Some(header) = short_indefinite(octets) {
         return Ok(Peeked::Front { header, size: 2 });
     }
     peek_long(source, mode)

@@ -9,6 +9,7 @@ ghost use Rattle.bcder.specs.Encoding.{may_have};
 ghost use Rattle.bcder.specs.Inside.{kind_behind, limit_inside};
 ghost use Rattle.bcder.specs.Stacked.{Counts, Leaves, Ran, RanOverSource, TopIs, Visited, entries};
 ghost use Rattle.bcder.specs.Skipping.{ExactlyAll, ExactlySkipped, ExactlyValue, FoundMemory};
+ghost use Rattle.bcder.specs.Skipping.{MovedBehind, SkippedBehind};
 ghost use Rattle.bcder.specs.Skipping.{SkippedAll, SkippedNext, SkippedOne, SkippedValue};
 ghost use Rattle.bcder.specs.Stacked.{entry_of, halt_cause, joined, limit_in, unwound};
 ghost use Rattle.bcder.specs.Stream.{limit_left};
@@ -264,7 +265,7 @@ where
 }
 
 /// The same over a source.
-#[inline(never)]
+#[inline(always)]
 fn skip_content<S: Source, F>(
     source: &mut LimitedSource<S>,
     mode: Mode,
@@ -291,57 +292,6 @@ where
     run(&mut cons, alloc, header, op)
 }
 
-/// The same of a primitive value, which needs no stack.
-#[inline(always)]
-fn skip_octets<S: Source, F>(
-    source: &mut LimitedSource<S>,
-    header: Header,
-    op: &mut F,
-) -> Result<(), Halt<S::Error>>
-where
-    F: FnMut(Tag, bool, usize) -> Result<(), ContentError>,
-    requires callable { F.IsAlwaysCallable op.old }
-    requires primitive { header.constructed ≡ false }
-    requires definite { header.len ≡ Length.Indefinite → ⊥ }
-    requires fits { FitsOwed header.len source.old.limit }
-    ensures { (mode : ModeValue) → RanOverSource S.stream F.step source mode header op result }
-{
-    if let Err(error) = op(header.tag, header.constructed, 0) {
-        return Err(Halt::Refused(error));
-    }
-    match header.len {
-        Length::Definite(len) => match source.skip_owed(len) {
-            Ok(()) => Ok(()),
-            Err(stop) => Err(Halt::Stopped(stop)),
-        },
-        // No primitive value has it (X.690, 8.1.3.2), and none is passed over here.
-        Length::Indefinite => Err(Halt::NoMemory),
-    }
-}
-
-/// Passes over the content of a value whose header was passed over, in the way that its form needs.
-#[inline(always)]
-fn skip_behind<S: Source, F>(
-    source: &mut LimitedSource<S>,
-    mode: Mode,
-    alloc: Global,
-    header: Header,
-    op: &mut F,
-) -> Result<(), Halt<S::Error>>
-where
-    F: FnMut(Tag, bool, usize) -> Result<(), ContentError>,
-    requires callable { F.IsAlwaysCallable op.old }
-    requires allowed { may_have mode header.constructed header.len ≡ true }
-    requires fits { FitsOwed header.len source.old.limit }
-    ensures { RanOverSource S.stream F.step source mode header op result }
-{
-    if header.constructed {
-        skip_content(source, mode, alloc, header, op)
-    } else {
-        skip_octets(source, header, op)
-    }
-}
-
 impl<'a, S: Source> Constructed<'a, S> {
     /// The error that a halt is, at the present position.
     #[cold]
@@ -355,6 +305,91 @@ impl<'a, S: Source> Constructed<'a, S> {
             Halt::Stopped(stop) => self.stopped(stop),
             Halt::Refused(error) => self.source.content_err(error),
             Halt::NoMemory => DecodeError::no_memory(),
+        }
+    }
+
+    /// Passes over the content of a primitive value whose header was passed over, which needs no
+    /// stack.
+    #[inline(always)]
+    fn skip_octets<F>(
+        &mut self,
+        header: Header,
+        op: &mut F,
+    ) -> Result<Option<()>, DecodeError<S::Error>>
+    where
+        F: FnMut(Tag, bool, usize) -> Result<(), ContentError>,
+        requires callable { F.IsAlwaysCallable op.old }
+        requires primitive { header.constructed ≡ false }
+        requires definite { header.len ≡ Length.Indefinite → ⊥ }
+        requires fits { FitsOwed header.len (limit_in self.old) }
+        ensures moves { MovedBehind S.stream self header }
+        ensures skipped { SkippedBehind S.stream F.step self header op result }
+    {
+        if let Err(error) = op(header.tag, header.constructed, 0) {
+            return Err(self.halted(Halt::Refused(error)));
+        }
+        match header.len {
+            Length::Definite(len) => match self.source.skip_owed(len) {
+                Ok(()) => {
+                    self.state = State::Open;
+                    Ok(Some(()))
+                }
+                Err(stop) => Err(self.halted(Halt::Stopped(stop))),
+            },
+            // No primitive value has it (X.690, 8.1.3.2), and none is passed over here.
+            Length::Indefinite => Err(self.halted(Halt::NoMemory)),
+        }
+    }
+
+    /// The same of a constructed value.
+    #[inline(never)]
+    fn skip_values<F>(
+        &mut self,
+        alloc: Global,
+        header: Header,
+        op: &mut F,
+    ) -> Result<Option<()>, DecodeError<S::Error>>
+    where
+        F: FnMut(Tag, bool, usize) -> Result<(), ContentError>,
+        requires callable { F.IsAlwaysCallable op.old }
+        requires allowed { may_have self.old.mode header.constructed header.len ≡ true }
+        requires fits { FitsOwed header.len (limit_in self.old) }
+        ensures moves { MovedBehind S.stream self header }
+        ensures skipped { SkippedBehind S.stream F.step self header op result }
+    {
+        match skip_content(self.source, self.mode, alloc, header, op) {
+            Ok(()) => {
+                self.state = State::Open;
+                Ok(Some(()))
+            }
+            Err(halt) => Err(self.halted(halt)),
+        }
+    }
+
+    /// Passes over the content of a value whose header was passed over, in the way that its form
+    /// needs.
+    #[inline(always)]
+    fn skip_behind<F>(
+        &mut self,
+        alloc: Global,
+        header: Header,
+        op: &mut F,
+    ) -> Result<Option<()>, DecodeError<S::Error>>
+    where
+        F: FnMut(Tag, bool, usize) -> Result<(), ContentError>,
+        requires callable { F.IsAlwaysCallable op.old }
+        requires allowed { may_have self.old.mode header.constructed header.len ≡ true }
+        requires fits { FitsOwed header.len (limit_in self.old) }
+        ensures moves { MovedBehind S.stream self header }
+        ensures skipped { SkippedBehind S.stream F.step self header op result }
+    {
+        if header.constructed {
+            match self.skip_values(alloc, header, op) {
+                Ok(skipped) => Ok(skipped),
+                Err(error) => Err(error),
+            }
+        } else {
+            self.skip_octets(header, op)
         }
     }
 
@@ -390,13 +425,7 @@ impl<'a, S: Source> Constructed<'a, S> {
         ensures exact { ExactlySkipped S.stream F.step self op result }
     {
         match self.next_header() {
-            Ok(Some(header)) => match skip_behind(self.source, self.mode, alloc, header, op) {
-                Ok(()) => {
-                    self.state = State::Open;
-                    Ok(Some(()))
-                }
-                Err(halt) => Err(self.halted(halt)),
-            },
+            Ok(Some(header)) => self.skip_behind(alloc, header, op),
             Ok(None) => Ok(None),
             Err(stop) => Err(self.stopped(stop)),
         }
@@ -469,7 +498,10 @@ impl<'a, S: Source> Constructed<'a, S> {
     {
         match self.pass_at_hand(Looked::Short) {
             Ok(true) => Ok(Some(())),
-            Ok(false) => self.skip_any(alloc),
+            Ok(false) => match self.skip_any(alloc) {
+                Ok(passed) => Ok(passed),
+                Err(error) => Err(error),
+            },
             Err(stop) => Err(self.stopped(stop)),
         }
     }
