@@ -186,7 +186,7 @@ pub(crate) fn peek<S: Source>(source: &mut S, mode: Mode) -> Result<Peeked, S::E
     if let Some(header) = short_indefinite(octets) {
         return Ok(Peeked::Front { header, size: 2 });
     }
-    peek_long(source, mode)
+    peek_on(source, mode)
 }
 
 /// The same, whatever size the header has.
@@ -217,6 +217,20 @@ fn peek_long<S: Source>(source: &mut S, mode: Mode) -> Result<Peeked, S::Error>
             }
         }
     }
+}
+
+/// The same, with room for the answer that is cleared here, and not before the first look.
+#[inline(always)]
+fn peek_on<S: Source>(source: &mut S, mode: Mode) -> Result<Peeked, S::Error>
+    ensures peeked { IfOk result (λ p. Peeks mode p (S.stream source.new)) }
+    ensures no_fault { OnOk result ((S.stream source.new).faults ≡ (S.stream source.old).faults) }
+    ensures fault { OnErr result (Grew (S.stream source.old).faults (S.stream source.new).faults) }
+    ensures rest { (S.stream source.new).rest ≡ (S.stream source.old).rest }
+    ensures position { (S.stream source.new).position ≡ (S.stream source.old).position }
+    ensures kept { (S.stream source.new).kept ≡ (S.stream source.old).kept }
+{
+    let peeked = peek_long(source, mode);
+    peeked
 }
 
 /// What stands at the front of a source, where a tag is looked for. It asks for no more octets than

@@ -265,7 +265,7 @@ where
 }
 
 /// The same over a source.
-#[inline(always)]
+#[inline(never)]
 fn skip_content<S: Source, F>(
     source: &mut LimitedSource<S>,
     mode: Mode,
@@ -295,7 +295,7 @@ where
 impl<'a, S: Source> Constructed<'a, S> {
     /// The error that a halt is, at the present position.
     #[cold]
-    fn halted(&self, halt: Halt<S::Error>) -> DecodeError<S::Error>
+    fn error_of(&self, halt: Halt<S::Error>) -> DecodeError<S::Error>
         ensures content { IsOfContent (halt_cause halt) → IsRefusal result }
         ensures source { halt_cause halt ≡ of_source → cause_of result ≡ of_source }
         ensures memory { halt_cause halt ≡ of_memory → cause_of result ≡ of_memory }
@@ -306,6 +306,18 @@ impl<'a, S: Source> Constructed<'a, S> {
             Halt::Refused(error) => self.source.content_err(error),
             Halt::NoMemory => DecodeError::no_memory(),
         }
+    }
+
+    /// The same, with room for the error that is cleared here, and not where nothing halts.
+    #[inline(always)]
+    fn halted(&self, halt: Halt<S::Error>) -> DecodeError<S::Error>
+        ensures content { IsOfContent (halt_cause halt) → IsRefusal result }
+        ensures source { halt_cause halt ≡ of_source → cause_of result ≡ of_source }
+        ensures memory { halt_cause halt ≡ of_memory → cause_of result ≡ of_memory }
+        ensures closure { (x : _) → halt ≡ Halt.Refused x → cause_of result ≡ of_content x }
+    {
+        let error = self.error_of(halt);
+        error
     }
 
     /// Passes over the content of a primitive value whose header was passed over, which needs no
@@ -342,7 +354,7 @@ impl<'a, S: Source> Constructed<'a, S> {
     }
 
     /// The same of a constructed value.
-    #[inline(never)]
+    #[inline(always)]
     fn skip_values<F>(
         &mut self,
         alloc: Global,
@@ -384,10 +396,7 @@ impl<'a, S: Source> Constructed<'a, S> {
         ensures skipped { SkippedBehind S.stream F.step self header op result }
     {
         if header.constructed {
-            match self.skip_values(alloc, header, op) {
-                Ok(skipped) => Ok(skipped),
-                Err(error) => Err(error),
-            }
+            self.skip_values(alloc, header, op)
         } else {
             self.skip_octets(header, op)
         }
@@ -479,6 +488,16 @@ impl<'a, S: Source> Constructed<'a, S> {
         }
     }
 
+    /// The same, with room for the answer that is cleared here, and not before the first look.
+    #[inline(always)]
+    fn skip_on(&mut self, alloc: Global) -> Result<Option<()>, DecodeError<S::Error>>
+        ensures moves { Moves (before S.stream self) (after S.stream self) }
+        ensures skipped { SkippedOne S.stream self result }
+    {
+        let skipped = self.skip_any(alloc);
+        skipped
+    }
+
     /// Passes over the next value, or answers `None` at the end of the content, whose marker it
     /// takes.
     ///
@@ -498,10 +517,7 @@ impl<'a, S: Source> Constructed<'a, S> {
     {
         match self.pass_at_hand(Looked::Short) {
             Ok(true) => Ok(Some(())),
-            Ok(false) => match self.skip_any(alloc) {
-                Ok(passed) => Ok(passed),
-                Err(error) => Err(error),
-            },
+            Ok(false) => self.skip_on(alloc),
             Err(stop) => Err(self.stopped(stop)),
         }
     }
