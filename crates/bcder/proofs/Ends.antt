@@ -6,8 +6,8 @@ use Rattle.std.proofs.lemmas.List.{length-append, take_all, drop_all}
 use Rattle.bcder.specs.declared.mode.Mode.{Mode}
 use Rattle.bcder.specs.declared.length.Length.{Length}
 use Rattle.bcder.specs.declared.length.Length.TheVariants as len
-use Rattle.bcder.specs.declared.decode.content.skip.Entry.{Entry}
-use Rattle.bcder.specs.declared.decode.content.skip.Entry.TheVariants.{Definite, Indefinite}
+use Rattle.bcder.specs.Stacked.{Entry}
+use Rattle.bcder.specs.Stacked.{Definite, Indefinite}
 use Rattle.bcder.specs.Identifier.{AreOctets, Tag}
 use Rattle.bcder.specs.Tree.{Tree, constructed, Trees, ◌∷ₜ◌}
 use Rattle.bcder.specs.Preorder.{Heading, preorder, preorders}

@@ -2,6 +2,7 @@
 use Rattle.std.proofs.Common.{◌≡◌, ◌≢◌, inl, inr, ℕ, ◌+◌, ◌*◌, ◌≤◌, true, false, List, [], ◌∷◌, ◌++◌, length, Option, Some, None, Ok, Err, refl, sym, ap, subst, ◌∙◌, arith, append_assoc, append-nil, length-append}
 use Rattle.std.specs.Prelude.{Result, IsOk, IsErrAnd, ◌⊎◌, ◌<◌}
 use Rattle.std.proofs.lemmas.List.{append_cancel_right}
+use Rattle.bcder.specs.declared.mode.Mode.{Mode}
 use Rattle.bcder.specs.declared.decode.content.State.TheVariants.{Open, Ended, Failed}
 use Rattle.bcder.specs.declared.decode.content.skip.Halt.{Halt}
 use Rattle.bcder.specs.declared.decode.content.skip.Halt.TheVariants as halt
@@ -18,16 +19,16 @@ use Rattle.bcder.specs.Content.{Reading, Octets, Resembles, any, Falls, Moves, A
 use Rattle.bcder.specs.Grammar.{IsOnly}
 use Rattle.bcder.specs.Walking.{HasValue, NoValue, PassesValue, RefusesWalk, AnswersNext, HasValues, Walks}
 use Rattle.bcder.specs.Walking as walking
-use Rattle.bcder.specs.Skipping.{Steps, Called, Refused, WereCalls, SkipsValue, RefusesSkip, SkippedBy, AnswersAll, IsShallow, FindsMemory, AnswersSkip, AnswersValue, SkippedValueBy, GoesDeep, RefusesOne, SkippedOneBy, RefusesAll, SkippedAllBy, FoundMemory}
+use Rattle.bcder.specs.Skipping.{IsPast, Steps, Called, Refused, WereCalls, SkipsValue, RefusesSkip, SkippedBy, AnswersAll, IsShallow, FindsMemory, AnswersSkip, AnswersValue, SkippedValueBy, GoesDeep, RefusesOne, SkippedOneBy, RefusesAll, SkippedAllBy, FoundMemory}
 use Rattle.bcder.specs.Skipping as skipping
-use Rattle.bcder.specs.Stacked.{heading, halt_cause, PassesCalls, IsUnderWay, IsBroken, Breaks, by_source, by_content, by_closure, by_memory}
+use Rattle.bcder.specs.Stacked.{heading, halt_cause, PassesCalls, IsUnderWay, IsBroken, RanBy, Breaks, by_source, by_content, by_closure, by_memory}
 use Rattle.bcder.specs.laws.Complete.{header_complete, header_size, tree_complete, only_at_front}
 use Rattle.bcder.specs.laws.Sound.{none_is, some_inj}
 use Rattle.bcder.specs.laws.Stands.{Stands, tree_sound}
 use Rattle.bcder.proofs.Ends.{from_header}
 use Rattle.bcder.proofs.Entering.{Within, header_not_at_end, header_entered}
 use Rattle.bcder.proofs.Inner.{layers_eq}
-use Rattle.bcder.proofs.Moving.{moves_value, moves_failed, advances_trans, open_not_failed}
+use Rattle.bcder.proofs.Moving.{moves_value, moves_failed, advances_trans, open_not_ended, open_not_failed}
 use Rattle.bcder.proofs.Skips.{cut_falls, past_falls, finished}
 use Rattle.bcder.proofs.Passing.{looked_passes, looked_ends, looked_open, looked_refused}
 use Rattle.bcder.proofs.Walked.{answers_next}
@@ -180,6 +181,32 @@ module _ (c d e : Reading) (k : Header) (s t : Stream) (o p : Option ℕ) (withi
 
         go : (calls : List Heading) × PassesCalls c.mode s o calls t p → Moves c e
         go q = moves_failed c e (x.octets ++ q.1.passed) (advances_whole q.0 q.1 l) (λ z. ea ∙ x.unmarked ∙ z) ends st
+
+-- ---- the same of content of which only the header was passed
+
+past_within : (c d : Reading) (k : Header) → IsPast c k d → Within c
+past_within c d k i = record { fits = i.fits; octets = i.octets }
+
+module _ (c d e : Reading) (k : Header) (m : Mode) (s t : Stream) (o p : Option ℕ) (i : IsPast c k d) (dm : d.mode ≡ m)
+    (ds : d.stream ≡ limited o s) (do' : d.owed ≡ o) (es : e.stream ≡ limited p t) (eo : e.owed ≡ p)
+    (ek : e.kind ≡ d.kind) (em : e.mode ≡ d.mode) (en : e.name ≡ d.name) (ea : e.marked ≡ d.marked)
+    {F X : Type 0} (step : Steps F ContentError) (f g : F) where
+  of_content_mode : {T : Type 0} (r : Result T (Halt X)) → RanBy step m k s o f r g t p → RanBy step c.mode k s o f r g t p
+  of_content_mode r x = subst (λ z. RanBy step z k s o f r g t p) (sym dm ∙ i.enters.advances.mode) x
+
+  pub behind_moved : {T : Type 0} (y : T) → RanBy {X = X} step m k s o f (Ok y) g t p → e.state ≡ Open → Moves c e
+  behind_moved y x st = (let r = of_content_mode (Ok y) x in skips_moves c d e k s t o p (past_within c d k i) i.enters ds do' es eo ek em en ea r.whole.0 r.whole.2 st r.faults)
+
+  pub behind_passed : {T U Y : Type 0} (why : Y → Cause ContentError) (y : T) (z : U) → RanBy {X = X} step m k s o f (Ok y) g t p → e.state ≡ Open → SkippedBy why step c f (Ok (Some z)) g e
+  behind_passed why y z x st = (let r = of_content_mode (Ok y) x in skipped_value c d e k s t o p (past_within c d k i) i.enters ds do' es eo ek em en ea r.whole.0 r.whole.2 st why step f g z r.no_fault i.no_fault r.whole.1)
+
+  module _ {Y : Type 0} (why : Y → Cause ContentError) (h : Halt X) (y : Y) (st : e.state ≡ d.state)
+      (hc : IsOfContent (halt_cause h) → IsOfContent (why y)) (hs : halt_cause h ≡ of_source → why y ≡ of_source) (hm : halt_cause h ≡ of_memory → why y ≡ of_memory) (hx : (z : ContentError) → h ≡ halt.Refused z → why y ≡ of_content z) where
+    pub behind_stopped : {T : Type 0} → RanBy step {T = T} m k s o f (Err h) g t p → Moves c e
+    behind_stopped x = (let r = of_content_mode (Err h) x in breaks_moves c d e k s t o p (past_within c d k i) i.enters ds do' es eo ek em en ea step f g why h y (st ∙ i.enters.opened) i.no_fault (open_not_ended _ i.enters.usable) hc hs hm hx r.faults r.breaks)
+
+    pub behind_refused : {T U : Type 0} → RanBy step {T = T} m k s o f (Err h) g t p → SkippedBy {T = U} why step c f (Err y) g e
+    behind_refused x = (let r = of_content_mode (Err h) x in skipped_not c d e k s t o p (past_within c d k i) i.enters ds do' es eo ek em en ea step f g why h y (st ∙ i.enters.opened) i.no_fault (open_not_ended _ i.enters.usable) hc hs hm hx r.breaks)
 
 -- ---- no header was passed
 

@@ -10,8 +10,8 @@ use Rattle.bcder.specs.declared.length.Length.TheVariants as len
 use Rattle.bcder.specs.declared.decode.content.Kind.{Kind}
 use Rattle.bcder.specs.declared.decode.content.Kind.TheVariants as kind
 use Rattle.bcder.specs.declared.decode.content.State.TheVariants.{Open}
-use Rattle.bcder.specs.declared.decode.content.skip.Entry.{Entry}
-use Rattle.bcder.specs.declared.decode.content.skip.Entry.TheVariants.{Definite, Indefinite}
+use Rattle.bcder.specs.Stacked.{Entry}
+use Rattle.bcder.specs.Stacked.{Definite, Indefinite}
 use Rattle.bcder.specs.Identifier.{AreOctets, Tag}
 use Rattle.bcder.specs.Tree.{Tree, primitive, constructed, Trees, no_trees, ◌∷ₜ◌}
 use Rattle.bcder.specs.Encoding.{IsHeader, IsEncoding}

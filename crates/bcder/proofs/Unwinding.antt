@@ -1,15 +1,66 @@
 -- The limit around open values.
-use Rattle.std.proofs.Common.{◌≡◌, ℕ, ◌+◌, ◌^◌, ◌<◌, ◌≤◌, true, List, [], ◌∷◌, ◌++◌, Option, Some, None, is_some, IfSome, reverse, sym, ap, ◌∙◌, refl, arith}
-use Rattle.std.proofs.lemmas.List.{reverse-append}
-use Rattle.bcder.specs.declared.decode.content.skip.Entry.{Entry}
-use Rattle.bcder.specs.declared.decode.content.skip.Entry.TheVariants.{Definite, Indefinite}
-use Rattle.bcder.specs.Stacked.{joined, unwound, Counts}
+use Rattle.std.proofs.Common.{◌≡◌, ℕ, zero, suc, ◌+◌, ◌^◌, ◌<◌, ◌≤◌, true, List, [], ◌∷◌, ◌++◌, Option, Some, None, is_some, IfSome, length, reverse, sym, ap, ◌∙◌, refl, arith}
+use Rattle.std.proofs.lemmas.List.{length-reverse, reverse-append}
+use Rattle.bcder.specs.Stacked.{Entry}
+use Rattle.bcder.specs.Stacked.{Definite, Indefinite}
+use Rattle.bcder.specs.declared.decode.content.Kind.{Kind}
+use Rattle.bcder.specs.declared.decode.content.Kind.TheVariants as kind
+use Rattle.smallvec.specs.SmallVec.{SmallVec, HasRoomFor, small_vec_len}
+use Rattle.std.proofs.Common.{inl, inr, Ok, Err, Result, is_err, IsOk}
+use Rattle.std.proofs.lemmas.Bool.{cases_lt}
+use Rattle.bcder.specs.declared.decode.content.skip.Frame.{Frame}
+use Rattle.bcder.specs.declared.decode.content.skip.Opened.{Opened}
+use Rattle.bcder.specs.Stacked.{joined, unwound, Counts, indefinites, around, framed, entries, IsCounted, TopIs}
 use Rattle.bcder.specs.Content.{Falls}
 use Rattle.bcder.specs.laws.Sound.{none_is, some_inj}
 
--- the last entry that was put on the stack is the innermost
-pub popped_entry : (xs ys : List Entry) (top : Entry) → xs ≡ ys ++ top ∷ [] → reverse xs ≡ top ∷ reverse ys
-popped_entry xs ys top e = ap reverse e ∙ reverse-append ys (top ∷ [])
+-- what was put on the stack last is the innermost
+pub popped_last : {A : Type 0} (xs ys : List A) (top : A) → xs ≡ ys ++ top ∷ [] → reverse xs ≡ top ∷ reverse ys
+popped_last xs ys top e = ap reverse e ∙ reverse-append ys (top ∷ [])
+
+-- ---- values of indefinite length
+
+pub one_more : (n m : ℕ) (es : List Entry) → m ≡ n + 1 → indefinites m es ≡ Indefinite ∷ indefinites n es
+one_more n zero es e = absurd (omega arith)
+one_more n (suc m) es e = ap (λ k. Indefinite ∷ indefinites k es) (let x : m ≡ n = omega arith in x)
+
+pub unwound_indefinites : (n : ℕ) (es : List Entry) (o : Option ℕ) → unwound (indefinites n es) o ≡ unwound es o
+unwound_indefinites zero es o = refl
+unwound_indefinites (suc n) es o = unwound_indefinites n es o
+
+pub indefinites_count : (n : ℕ) (es : List Entry) → length (indefinites n es) ≡ n + length es
+indefinites_count zero es = omega arith
+indefinites_count (suc n) es = (let x = indefinites_count n es in omega (arith, x))
+
+pub around_count : (fs : List Frame) → length fs ≤ length (around fs)
+around_count [] = omega arith
+around_count (f ∷ fs) = (let x = around_count fs in omega (arith, x, indefinites_count f.around (around fs)))
+
+pub inner_least : (v : Opened) → IsCounted v → v.inner ≤ v.depth
+inner_least v c = omega (arith, c.depth, indefinites_count v.inner (framed v.frames))
+
+-- what was refused had no room
+pub no_room : {T E : Type 0} (v : SmallVec Frame) (r : Result T E) → (HasRoomFor v 1 → IsOk r) → is_err r ≡ true → v.capacity ≤ small_vec_len v
+no_room v r h e = elim (cases_lt (small_vec_len v) v.capacity) [
+  | inl x ↦ absurd (wrong r (h (omega arith)) e)
+  | inr x ↦ x
+]
+  where
+    wrong : {T E : Type 0} (r : Result T E) → IsOk r → is_err r ≡ true → ⊥
+    wrong (Ok x) a b = cc
+    wrong (Err x) a b = cc
+
+pub full_deep : (v : Opened) → IsCounted v → v.frames.capacity ≤ small_vec_len v.frames → 4 ≤ v.depth
+full_deep v c l = (let x : 4 ≤ v.frames.capacity = c.inline in omega (arith, c.depth, indefinites_count v.inner (framed v.frames), around_count (reverse v.frames.items), length-reverse v.frames.items))
+
+pub top_indefinite : (n : ℕ) (es : List Entry) (k : Kind) → 0 < n → k ≡ kind.Indefinite → TopIs (indefinites n es) k
+top_indefinite zero es k l e = absurd (omega arith)
+top_indefinite (suc n) es k l e = e
+
+pub top_definite : (n : ℕ) (fs : List Frame) (k : Kind) → n ≤ 0 → k ≡ kind.Definite → TopIs (indefinites n (around fs)) k
+top_definite zero [] k l e = refl
+top_definite zero (f ∷ fs) k l e = e
+top_definite (suc n) fs k l e = absurd (omega arith)
 
 unwound_none : (es : List Entry) → unwound es None ≡ None
 unwound_none [] = refl
@@ -23,11 +74,8 @@ unwound_least (Definite None ∷ es) n m e = absurd (none_is m (sym (unwound_non
 unwound_least (Definite (Some b) ∷ es) n m e = let x : b + n ≤ m = unwound_least es (b + n) m e in omega arith
 unwound_least (Indefinite ∷ es) n m e = unwound_least es n m e
 
-pub unwound_definite : (es fs : List Entry) (top : Entry) (b o u : Option ℕ) → es ≡ top ∷ fs → top ≡ Definite b → unwound es o ≡ u → unwound fs (joined b o) ≡ u
-unwound_definite es fs top b o u e f h = sym (ap (λ x. unwound (x ∷ fs) o) f) ∙ sym (ap (λ x. unwound x o) e) ∙ h
-
-pub unwound_indefinite : (es fs : List Entry) (top : Entry) (o u : Option ℕ) → es ≡ top ∷ fs → top ≡ Indefinite → unwound es o ≡ u → unwound fs o ≡ u
-unwound_indefinite es fs top o u e f h = sym (ap (λ x. unwound (x ∷ fs) o) f) ∙ sym (ap (λ x. unwound x o) e) ∙ h
+pub unwound_frame : (es fs : List Frame) (top : Frame) (o u : Option ℕ) → es ≡ top ∷ fs → unwound (around es) o ≡ u → unwound (around fs) (joined top.behind o) ≡ u
+unwound_frame es fs top o u e h = sym (unwound_indefinites top.around (around fs) (joined top.behind o)) ∙ sym (ap (λ x. unwound (around x) o) e) ∙ h
 
 pub counted : (es : List Entry) (o outer u : Option ℕ) → Counts outer u → is_some outer ≡ true → unwound es o ≡ u → IfSome o (λ n. n < 2 ^ 64)
 counted es None outer u c s e = tt

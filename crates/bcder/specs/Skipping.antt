@@ -1,6 +1,6 @@
 -- Passing over values while a closure is told of each: the calls that it gets, and what a call that does so promises.
 use Rattle.std.specs.Borrow.{MutBor}
-use Rattle.std.specs.Prelude.{◌≡◌, ◌⊎◌, ℕ, ◌+◌, ◌*◌, ◌<◌, ◌≤◌, Bool, true, List, [], ◌∷◌, ◌++◌, length, Option, Result, Ok, Err, IsOk, IsOkAnd, IsErrAnd, IfOk, IfErr, OnOk, OnErr, IfSome, IfNone, IsTrue, is_some, is_none}
+use Rattle.std.specs.Prelude.{◌≡◌, ◌⊎◌, ℕ, ◌+◌, ◌*◌, ◌<◌, ◌≤◌, Bool, true, List, [], ◌∷◌, ◌++◌, length, Option, Some, Result, Ok, Err, IsOk, IsOkAnd, IsErrAnd, IfOk, IfErr, OnOk, OnErr, IfSome, IfNone, IsTrue, is_some, is_none}
 use Rattle.std.specs.List.{FoldsTo}
 use denote.Triple.Both.{Both}
 use Rattle.bcder.specs.declared.mode.Mode.{Mode}
@@ -10,12 +10,15 @@ use Rattle.bcder.specs.declared.decode.content.Constructed.{Constructed}
 use Rattle.bcder.specs.declared.decode.error.ContentError.{ContentError}
 use Rattle.bcder.specs.declared.decode.error.DecodeError.{DecodeError}
 use Rattle.bcder.specs.Cause.{Cause, cause_of, of_content, of_memory, IsRefusal}
-use Rattle.bcder.specs.Identifier.{Tag}
+use Rattle.bcder.specs.Identifier.{AreOctets, Tag}
 use Rattle.bcder.specs.Tree.{Tree}
 use Rattle.bcder.specs.Encoding.{IsHeader}
 use Rattle.bcder.specs.Preorder.{Heading, preorder}
 use Rattle.bcder.specs.Stream.{Stream, Grew}
-use Rattle.bcder.specs.Content.{any, Reading, EndsBefore, EndsAt, IsDone, NotAtEnd}
+use Rattle.bcder.specs.declared.decode.header.Header.{Header as Kept}
+use Rattle.bcder.specs.Peek.{header as header_of}
+use Rattle.bcder.specs.Reading.{Header}
+use Rattle.bcder.specs.Content.{any, Enters, Moves, Reading, EndsBefore, EndsAt, IsDone, NotAtEnd}
 use Rattle.bcder.specs.Walking.{HasValue, PassesValue, RefusesWalk, HasValues, Walks, RefusesValues}
 use Rattle.bcder.specs.Takes.{HasNone}
 use Rattle.bcder.specs.Views.{of_constructed}
@@ -180,6 +183,13 @@ pub record SkippedAllBy {T X : Type 0} (why : X → Cause ContentError) (c : Rea
 abbrev pub FoundMemory : {T X : Type 0} → Result T (DecodeError X) → Type 0
 FoundMemory r = IsErrAnd r (λ e. cause_of e ≡ of_memory) → ⊥
 
+-- c is what content b is behind a header, over which it passed without a fault
+pub record IsPast (b : Reading) (h : Header) (c : Reading) : Type 0 where
+  pub enters : Enters b h c
+  pub no_fault : c.stream.faults ≡ b.stream.faults
+  pub octets : AreOctets b.stream.rest
+  pub fits : (n : ℕ) → b.owed ≡ Some n → length b.stream.rest ≤ n
+
 -- ---- the same of parameters
 
 module _ {S F : Type 0} (stream : S → Stream) (step : Steps F ContentError) (c : Both (MutBor (Constructed S)) (MutBor (Constructed S))) (op : Both (MutBor F) (MutBor F)) where
@@ -198,6 +208,14 @@ module _ {S F : Type 0} (stream : S → Stream) (step : Steps F ContentError) (c
   -- unless the source failed, Ok is answered exactly where a value stands in front at whose headings the closure answers Ok
   abbrev pub ExactlyValue : {T X : Type 0} → Result T (DecodeError X) → Type 0
   ExactlyValue r = (Grew (of_constructed stream c.entry.now).stream.faults (of_constructed stream c.exit.now).stream.faults → ⊥) → AnswersValue cause_of step (of_constructed stream c.entry.now) op.entry.now r (of_constructed stream c.exit.now)
+
+-- the same where the header of the value was passed before
+module _ {S : Type 0} (stream : S → Stream) where
+  abbrev pub MovedBehind : Both (MutBor (Constructed S)) (MutBor (Constructed S)) → Kept → Type 0
+  MovedBehind c h = (b : Reading) → IsPast b (header_of h) (of_constructed stream c.entry.now) → Moves b (of_constructed stream c.exit.now)
+
+  abbrev pub SkippedBehind : {F T X : Type 0} → Steps F ContentError → Both (MutBor (Constructed S)) (MutBor (Constructed S)) → Kept → Both (MutBor F) (MutBor F) → Result (Option T) (DecodeError X) → Type 0
+  SkippedBehind step c h op r = (b : Reading) → IsPast b (header_of h) (of_constructed stream c.entry.now) → SkippedBy cause_of step b op.entry.now r op.exit.now (of_constructed stream c.exit.now)
 
 module _ {S : Type 0} (stream : S → Stream) (c : Both (MutBor (Constructed S)) (MutBor (Constructed S))) where
   abbrev pub SkippedOne : {T X : Type 0} → Result (Option T) (DecodeError X) → Type 0

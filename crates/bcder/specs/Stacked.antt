@@ -12,8 +12,10 @@ use Rattle.bcder.specs.declared.length.Length.{Length}
 use Rattle.bcder.specs.declared.length.Length.TheVariants as len
 use Rattle.bcder.specs.declared.decode.content.Kind.{Kind}
 use Rattle.bcder.specs.declared.decode.content.Kind.TheVariants as kind
-use Rattle.bcder.specs.declared.decode.content.skip.Entry.{Entry}
-use Rattle.bcder.specs.declared.decode.content.skip.Entry.TheVariants.{Definite, Indefinite}
+use Rattle.bcder.specs.declared.decode.content.skip.Frame.{Frame}
+use Rattle.bcder.specs.declared.decode.content.skip.Opened.{Opened}
+use Rattle.bcder.specs.declared.decode.content.skip.Bar.{Bar}
+use Rattle.bcder.specs.declared.decode.content.skip.Bar.TheVariants as bar
 use Rattle.bcder.specs.declared.decode.content.skip.Halt.{Halt}
 use Rattle.bcder.specs.declared.decode.content.skip.Halt.TheVariants as halt
 use Rattle.bcder.specs.declared.decode.error.ContentError.{ContentError}
@@ -28,11 +30,19 @@ use Rattle.bcder.specs.Inside.{limit_inside}
 use Rattle.bcder.specs.Growing.{AreOpen}
 use Rattle.bcder.specs.Skipping.{Steps, Called, Refused, HeadersStand}
 
--- why passing over a value halted
+-- how an open value ends: where nothing is owed any more, behind which so many octets are owed, if there is a limit, or by end-of-contents octets
+pub data Entry : Type 0 where
+  Definite : Option ℕ → Entry
+  Indefinite : Entry
+
+-- why the content of a value wasn't gone into, and why passing over a value halted
+abbrev pub bar_cause : {S : Type 0} → Bar S → Cause ContentError
+bar_cause (bar.Stopped s) = stop_cause s
+bar_cause bar.NoMemory = of_memory
+
 abbrev pub halt_cause : {S : Type 0} → Halt S → Cause ContentError
-halt_cause (halt.Stopped s) = stop_cause s
 halt_cause (halt.Refused e) = of_content e
-halt_cause halt.NoMemory = of_memory
+halt_cause (halt.Barred b) = bar_cause b
 
 -- ---- limits
 
@@ -174,6 +184,23 @@ pub record IsBroken (mode : Mode) (h : Header) (s : Stream) (o : Option ℕ) (ca
 
 -- ---- what calls over the stack did
 
+-- why the content of a header wasn't gone into, after n values were open
+pub data StaysAt {X : Type 0} (h : Header) (n : ℕ) (s : Stream) (e : Bar X) (t : Stream) : Type 0 where
+  for_memory : h.form ≡ true → 4 ≤ n → bar_cause e ≡ of_memory → StaysAt h n s e t
+  by_failure : bar_cause e ≡ of_source → Grew s.faults t.faults → StaysAt h n s e t
+  too_few : (m : ℕ) → h.form ≡ false → h.len ≡ len.Definite m → length s.rest < m → IsOfContent (bar_cause e) → StaysAt h n s e t
+
+-- the content of a header was gone into, or not
+pub record GoneBy {T X : Type 0} (h : Header) (es : List Entry) (s : Stream) (o : Option ℕ) (r : Result T (Bar X)) (fs : List Entry) (t : Stream) (p : Option ℕ) : Type 0 where
+  pub goes : OnOk r (GoesInto h es s o fs t p)
+  pub no_fault : OnOk r (t.faults ≡ s.faults)
+  pub stays : IfErr r (λ e. StaysAt h (length es) s e t)
+  pub entries : OnErr r (fs ≡ es)
+  pub rest : OnErr r (t.rest ≡ s.rest)
+  pub limit : OnErr r (p ≡ o)
+  pub kept : t.kept ≡ s.kept
+  pub faults : s.faults ≤ t.faults
+
 module _ {F X : Type 0} (step : Steps F ContentError) where
   -- why the content of a header wasn't gone into, after n values were open
   pub data StaysOut (h : Header) (n : ℕ) (s : Stream) (f : F) (e : Halt X) (g : F) (t : Stream) : Type 0 where
@@ -210,9 +237,26 @@ module _ {F X : Type 0} (step : Steps F ContentError) where
 
 -- ---- the same of parameters
 
+-- so many values of indefinite length, inside others
+abbrev pub indefinites : ℕ → List Entry → List Entry
+indefinites zero es = es
+indefinites (suc n) es = Indefinite ∷ indefinites n es
+
+-- values of definite length, the innermost first, and those of indefinite length around them
+abbrev pub around : List Frame → List Entry
+around [] = []
+around (f ∷ fs) = Definite f.behind ∷ indefinites f.around (around fs)
+
+abbrev pub framed : SmallVec Frame → List Entry
+framed v = around (reverse v.items)
+
 -- the open values, the innermost first
-abbrev pub entries : SmallVec Entry → List Entry
-entries v = reverse v.items
+abbrev pub entries : Opened → List Entry
+entries v = indefinites v.inner (framed v.frames)
+
+pub record IsCounted (v : Opened) : Type 0 where
+  pub depth : v.depth ≡ length (entries v)
+  pub inline : 4 ≤ v.frames.capacity
 
 -- the source inside content, and its limit
 abbrev pub source_of : {S : Type 0} → (S → Stream) → Constructed S → Stream
@@ -221,10 +265,11 @@ source_of stream c = stream c.source.now.source
 abbrev pub limit_in : {S : Type 0} → Constructed S → Option ℕ
 limit_in c = c.source.now.limit
 
-module _ {S F : Type 0} (stream : S → Stream) (step : Steps F ContentError) where
-  abbrev pub Visited : {T X : Type 0} → Both (MutBor (Constructed S)) (MutBor (Constructed S)) → Both (MutBor (SmallVec Entry)) (MutBor (SmallVec Entry)) → Kept → Both (MutBor F) (MutBor F) → Result T (Halt X) → Type 0
-  Visited c es h op r = VisitedBy step (header_of h) (entries es.entry.now) (source_of stream c.entry.now) (limit_in c.entry.now) op.entry.now r op.exit.now (entries es.exit.now) (source_of stream c.exit.now) (limit_in c.exit.now)
+module _ {S : Type 0} (stream : S → Stream) where
+  abbrev pub Gone : {T X : Type 0} → Both (MutBor (Constructed S)) (MutBor (Constructed S)) → Both (MutBor Opened) (MutBor Opened) → Kept → Result T (Bar X) → Type 0
+  Gone c es h r = GoneBy (header_of h) (entries es.entry.now) (source_of stream c.entry.now) (limit_in c.entry.now) r (entries es.exit.now) (source_of stream c.exit.now) (limit_in c.exit.now)
 
+module _ {S F : Type 0} (stream : S → Stream) (step : Steps F ContentError) where
   abbrev pub Ran : {T X : Type 0} → Both (MutBor (Constructed S)) (MutBor (Constructed S)) → Kept → Both (MutBor F) (MutBor F) → Result T (Halt X) → Type 0
   Ran c h op r = RanBy step c.entry.now.mode (header_of h) (source_of stream c.entry.now) (limit_in c.entry.now) op.entry.now r op.exit.now (source_of stream c.exit.now) (limit_in c.exit.now)
 

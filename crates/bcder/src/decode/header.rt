@@ -150,6 +150,23 @@ fn short_header(octets: &[u8]) -> Option<Header>
     }
 }
 
+/// The header of two octets at the front with the indefinite length, if there is one: a tag that
+/// the leading octet tells alone.
+#[tactic(auto, using(crate::proofs::nat_tests))]
+#[inline(always)]
+fn short_indefinite(octets: &[u8]) -> Option<Header>
+    ensures { IfSome result (λ h. StandsShort h octets.now) }
+{
+    match octets {
+        [leading, len, ..] if *leading % 32 < 31 && *len == 0x80 => Some(Header {
+            tag: tag_of_leading(*leading),
+            constructed: mark_of_leading(*leading),
+            len: Length::Indefinite,
+        }),
+        _ => None,
+    }
+}
+
 /// What stands at the front of a source. It asks for no more octets than the header has, for two at
 /// least, and takes none. An error is the source's own.
 #[inline(always)]
@@ -162,10 +179,14 @@ pub(crate) fn peek<S: Source>(source: &mut S, mode: Mode) -> Result<Peeked, S::E
     ensures kept { (S.stream source.new).kept ≡ (S.stream source.old).kept }
 {
     let found = source.request(2)?;
-    if let Some(header) = short_header(&source.slice()[..found]) {
+    let octets = &source.slice()[..found];
+    if let Some(header) = short_header(octets) {
         return Ok(Peeked::Front { header, size: 2 });
     }
-    peek_long(source, mode)
+    if let Some(header) = short_indefinite(octets) {
+        return Ok(Peeked::Front { header, size: 2 });
+    }
+    peek_on(source, mode)
 }
 
 /// The same, whatever size the header has.
@@ -196,6 +217,20 @@ fn peek_long<S: Source>(source: &mut S, mode: Mode) -> Result<Peeked, S::Error>
             }
         }
     }
+}
+
+/// The same, with room for the answer that is cleared here, and not before the first look.
+#[inline(always)]
+fn peek_on<S: Source>(source: &mut S, mode: Mode) -> Result<Peeked, S::Error>
+    ensures peeked { IfOk result (λ p. Peeks mode p (S.stream source.new)) }
+    ensures no_fault { OnOk result ((S.stream source.new).faults ≡ (S.stream source.old).faults) }
+    ensures fault { OnErr result (Grew (S.stream source.old).faults (S.stream source.new).faults) }
+    ensures rest { (S.stream source.new).rest ≡ (S.stream source.old).rest }
+    ensures position { (S.stream source.new).position ≡ (S.stream source.old).position }
+    ensures kept { (S.stream source.new).kept ≡ (S.stream source.old).kept }
+{
+    let peeked = peek_long(source, mode);
+    peeked
 }
 
 /// What stands at the front of a source, where a tag is looked for. It asks for no more octets than

@@ -1,16 +1,17 @@
 //! Passing over values with a stack of limits, and a closure that is told of each.
-ghost use Rattle.std.specs.Prelude.{◌≡◌, ◌+◌, ◌^◌, ◌<◌, ◌≤◌, ◌∷◌, true, false, IfSome, OnOk};
-ghost use Rattle.smallvec.specs.SmallVec.{small_vec_len};
+ghost use Rattle.std.specs.Prelude.{◌≡◌, ◌+◌, ◌^◌, ◌<◌, ◌≤◌, [], ◌∷◌, true, false, IfSome, OnOk};
 ghost use Rattle.bcder.specs.declared.mode.Mode.{Mode as ModeValue};
 ghost use Rattle.bcder.specs.Cause.{cause_of, of_content, of_memory, of_source, IsOfContent};
 ghost use Rattle.bcder.specs.Cause.{IsRefusal};
 ghost use Rattle.bcder.specs.Content.{FitsOwed, Moves};
 ghost use Rattle.bcder.specs.Encoding.{may_have};
 ghost use Rattle.bcder.specs.Inside.{kind_behind, limit_inside};
-ghost use Rattle.bcder.specs.Stacked.{Counts, Leaves, Ran, RanOverSource, TopIs, Visited, entries};
+ghost use Rattle.bcder.specs.Stacked.{Counts, Gone, IsCounted, Leaves, Ran, RanOverSource, TopIs};
 ghost use Rattle.bcder.specs.Skipping.{ExactlyAll, ExactlySkipped, ExactlyValue, FoundMemory};
+ghost use Rattle.bcder.specs.Skipping.{MovedBehind, SkippedBehind};
 ghost use Rattle.bcder.specs.Skipping.{SkippedAll, SkippedNext, SkippedOne, SkippedValue};
-ghost use Rattle.bcder.specs.Stacked.{entry_of, halt_cause, joined, limit_in, unwound};
+ghost use Rattle.bcder.specs.Stacked.{entries, entry_of, framed, halt_cause, joined, limit_in};
+ghost use Rattle.bcder.specs.Stacked.{unwound};
 ghost use Rattle.bcder.specs.Stream.{limit_left};
 ghost use Rattle.bcder.specs.Views.{after, before, Moved};
 ghost use Rattle.bcder.specs.Walking.{ExactlyNext};
@@ -28,32 +29,54 @@ use crate::tag::Tag;
 use smallvec::SmallVec;
 use std::alloc::Global;
 
-/// How an open value ends.
+/// An open value of definite length.
 #[derive(Clone, Copy)]
-enum Entry {
-    /// Where nothing is owed any more. So many octets are owed behind it, if there is a limit.
-    Definite(Option<usize>),
+struct Frame {
+    /// How many octets are owed behind it, if there is a limit.
+    behind: Option<usize>,
 
-    /// By end-of-contents octets.
-    Indefinite,
+    /// How many values of indefinite length are open around it, up to the next of definite length.
+    around: usize,
 }
 
-impl Default for Entry {
-    fn default() -> Entry {
-        Entry::Indefinite
+impl Default for Frame {
+    fn default() -> Frame {
+        Frame {
+            behind: None,
+            around: 0,
+        }
     }
+}
+
+/// The values that are open. Those of definite length take memory, the others are counted.
+#[derive(Drop)]
+struct Opened {
+    /// How many they are.
+    depth: usize,
+
+    /// How many of indefinite length are open inside the innermost of definite length.
+    inner: usize,
+
+    /// Those of definite length, the innermost last.
+    frames: SmallVec<Frame, 4>,
+}
+
+/// Why the content of a value wasn't gone into.
+enum Bar<E> {
+    /// A step over content stopped.
+    Stopped(Stop<E>),
+
+    /// There was no memory for another open value.
+    NoMemory,
 }
 
 /// Why passing over a value halted.
 enum Halt<E> {
-    /// A step over content stopped.
-    Stopped(Stop<E>),
-
     /// The closure refused a header.
     Refused(ContentError),
 
-    /// There was no memory for another open value.
-    NoMemory,
+    /// The content of a value wasn't gone into.
+    Barred(Bar<E>),
 }
 
 /// What is owed behind a value of so many octets.
@@ -64,17 +87,6 @@ fn owed_behind(owed: Option<usize>, len: usize) -> Option<usize>
     match owed {
         Some(owed) => Some(owed.saturating_sub(len)),
         None => None,
-    }
-}
-
-/// How a value of this length ends, where so much is owed behind its header.
-#[inline(always)]
-fn entry_of(len: Length, owed: Option<usize>) -> Entry
-    ensures { result ≡ entry_of len owed }
-{
-    match len {
-        Length::Definite(len) => Entry::Definite(owed_behind(owed, len)),
-        Length::Indefinite => Entry::Indefinite,
     }
 }
 
@@ -90,60 +102,133 @@ fn joined(behind: Option<usize>, left: Option<usize>) -> Option<usize>
     }
 }
 
+impl Opened {
+    /// No values.
+    #[inline(always)]
+    fn new(alloc: Global) -> Opened
+        ensures counted { IsCounted result }
+        ensures none { entries result ≡ [] }
+    {
+        Opened {
+            depth: 0,
+            inner: 0,
+            frames: SmallVec::new(alloc),
+        }
+    }
+
+    /// Opens a value of this length, where so much is owed behind its header, if there is memory
+    /// for it.
+    #[inline(always)]
+    fn open(&mut self, len: Length, owed: Option<usize>) -> bool
+        requires { IsCounted self.old }
+        ensures counted { IsCounted self.new }
+        ensures entries { result ≡ true → entries self.new ≡ entry_of len owed ∷ entries self.old }
+        ensures full { result ≡ false → 4 ≤ self.old.depth }
+        ensures same { result ≡ false → entries self.new ≡ entries self.old }
+    {
+        let Some(depth) = self.depth.checked_add(1) else {
+            return false;
+        };
+        match len {
+            Length::Definite(len) => {
+                let frame = Frame {
+                    behind: owed_behind(owed, len),
+                    around: self.inner,
+                };
+                if self.frames.push(frame).is_err() {
+                    return false;
+                }
+                self.inner = 0;
+            }
+            Length::Indefinite => self.inner += 1,
+        }
+        self.depth = depth;
+        true
+    }
+
+    /// Leaves the innermost value, and answers the limit behind it, where this is the limit at its
+    /// end.
+    #[inline(always)]
+    fn close(&mut self, limit: Option<usize>) -> Option<usize>
+        requires counted { IsCounted self.old }
+        requires some { 0 < self.old.depth }
+        ensures counted { IsCounted self.new }
+        ensures leaves { Leaves (entries self.old) limit (entries self.new) result }
+        ensures fewer { self.new.depth + 1 ≡ self.old.depth }
+    {
+        self.depth -= 1;
+        if self.inner > 0 {
+            self.inner -= 1;
+            return limit;
+        }
+        match self.frames.pop() {
+            Some(frame) => {
+                self.inner = frame.around;
+                frame.behind
+            }
+            None => limit,
+        }
+    }
+
+    /// How the end of the innermost value is known.
+    #[inline(always)]
+    fn kind(&self) -> Kind
+        ensures { TopIs (entries self.now) result }
+    {
+        if self.inner > 0 {
+            Kind::Indefinite
+        } else {
+            Kind::Definite
+        }
+    }
+}
+
 /// Opens a value whose header was passed over, if there is memory for it.
 #[inline(always)]
-fn open<S>(cons: &mut Constructed<'_, S>, stack: &mut SmallVec<Entry, 4>, len: Length) -> bool
+fn open<S>(cons: &mut Constructed<'_, S>, opened: &mut Opened, len: Length) -> bool
+    requires { IsCounted opened.old }
+    ensures counted { IsCounted opened.new }
     ensures entries { result ≡ true
-        → entries stack.new ≡ entry_of len (limit_in cons.old) ∷ entries stack.old }
+        → entries opened.new ≡ entry_of len (limit_in cons.old) ∷ entries opened.old }
     ensures limit { result ≡ true → limit_in cons.new ≡ limit_inside len (limit_in cons.old) }
     ensures kind { result ≡ true → cons.new.kind ≡ kind_behind len }
-    ensures full { result ≡ false → stack.old.capacity ≤ small_vec_len stack.old }
-    ensures same_entries { result ≡ false → stack.new ≡ stack.old }
+    ensures state { result ≡ true → cons.new.state ≡ State.Open }
+    ensures full { result ≡ false → 4 ≤ opened.old.depth }
+    ensures same_entries { result ≡ false → entries opened.new ≡ entries opened.old }
     ensures same_limit { result ≡ false → limit_in cons.new ≡ limit_in cons.old }
-    ensures capacity { stack.old.capacity ≤ stack.new.capacity }
     ensures source { cons.new.source.now.source ≡ cons.old.source.now.source }
     ensures name { cons.new.source.ghost_name ≡ cons.old.source.ghost_name }
     ensures mode { cons.new.mode ≡ cons.old.mode }
     ensures marked { cons.new.marked ≡ cons.old.marked }
 {
-    if stack.push(entry_of(len, cons.source.limit())).is_err() {
+    if !opened.open(len, cons.source.limit()) {
         return false;
     }
     go_inside(cons.source, len);
     cons.kind = kind_behind(len);
+    cons.state = State::Open;
     true
-}
-
-/// How the end of the innermost open value is known.
-#[inline(always)]
-fn kind_of_top(stack: &SmallVec<Entry, 4>) -> Kind
-    ensures { TopIs (entries stack.now) result }
-{
-    match stack.as_slice().last() {
-        Some(Entry::Indefinite) => Kind::Indefinite,
-        _ => Kind::Definite,
-    }
 }
 
 /// Goes on behind the innermost open value, which ended.
 #[inline(always)]
-fn leave<S>(cons: &mut Constructed<'_, S>, stack: &mut SmallVec<Entry, 4>)
-    requires { 0 < small_vec_len stack.old }
-    ensures leaves { Leaves (entries stack.old) (limit_in cons.old)
-        (entries stack.new) (limit_in cons.new) }
-    ensures fewer { small_vec_len stack.new + 1 ≡ small_vec_len stack.old }
-    ensures capacity { stack.new.capacity ≡ stack.old.capacity }
-    ensures kind { TopIs (entries stack.new) cons.new.kind }
+fn leave<S>(cons: &mut Constructed<'_, S>, opened: &mut Opened)
+    requires counted { IsCounted opened.old }
+    requires some { 0 < opened.old.depth }
+    ensures counted { IsCounted opened.new }
+    ensures leaves { Leaves (entries opened.old) (limit_in cons.old)
+        (entries opened.new) (limit_in cons.new) }
+    ensures fewer { opened.new.depth + 1 ≡ opened.old.depth }
+    ensures kind { TopIs (entries opened.new) cons.new.kind }
     ensures state { cons.new.state ≡ State.Open }
     ensures source { cons.new.source.now.source ≡ cons.old.source.now.source }
     ensures name { cons.new.source.ghost_name ≡ cons.old.source.ghost_name }
     ensures mode { cons.new.mode ≡ cons.old.mode }
     ensures marked { cons.new.marked ≡ cons.old.marked }
 {
-    if let Some(Entry::Definite(behind)) = stack.pop() {
-        cons.source.set_limit(behind);
-    }
-    cons.kind = kind_of_top(stack);
+    let limit = opened.close(cons.source.limit());
+    cons.source.set_limit(limit);
+    cons.kind = opened.kind();
     cons.state = State::Open;
 }
 
@@ -159,58 +244,48 @@ fn owed<S>(source: &LimitedSource<S>) -> Option<usize>
     }
 }
 
-/// Gives the limit back that was there before the open values were entered.
+/// Gives the limit back that was there before the open values were entered, of which those of
+/// definite length are these.
 #[inline(never)]
-fn unwind<S>(source: &mut LimitedSource<S>, stack: &mut SmallVec<Entry, 4>, outer: Option<usize>)
-    requires { Counts outer (unwound (entries stack.old) source.old.limit) }
-    ensures limit { source.new.limit ≡ unwound (entries stack.old) source.old.limit }
+fn unwind<S>(source: &mut LimitedSource<S>, frames: &mut SmallVec<Frame, 4>, outer: Option<usize>)
+    requires { Counts outer (unwound (framed frames.old) source.old.limit) }
+    ensures limit { source.new.limit ≡ unwound (framed frames.old) source.old.limit }
     ensures source { source.new.source ≡ source.old.source }
 {
     if outer.is_none() {
         source.set_limit(None);
         return;
     }
-    while let Some(entry) = stack.pop() {
-        match entry {
-            Entry::Definite(behind) => source.set_limit(joined(behind, source.limit())),
-            Entry::Indefinite => {}
-        }
+    while let Some(frame) = frames.pop() {
+        source.set_limit(joined(frame.behind, source.limit()));
     }
 }
 
-/// Calls the closure at a header that was passed over, and goes into its content.
+/// Goes into the content of a value whose header was passed over: past its octets, or to the values
+/// inside it.
 #[inline(always)]
-fn visit<S: Source, F>(
+fn go_into<S: Source>(
     cons: &mut Constructed<'_, S>,
-    stack: &mut SmallVec<Entry, 4>,
+    opened: &mut Opened,
     header: Header,
-    op: &mut F,
-) -> Result<(), Halt<S::Error>>
-where
-    F: FnMut(Tag, bool, usize) -> Result<(), ContentError>,
-    requires callable { F.IsAlwaysCallable op.old }
+) -> Result<(), Bar<S::Error>>
+    requires counted { IsCounted opened.old }
     requires allowed { may_have cons.old.mode header.constructed header.len ≡ true }
     requires fits { FitsOwed header.len (limit_in cons.old) }
-    requires inline { 4 ≤ stack.old.capacity }
-    ensures callable { F.IsAlwaysCallable op.new }
-    ensures visited { Visited S.stream F.step cons stack header op result }
-    ensures inline { 4 ≤ stack.new.capacity }
-    ensures kind { OnOk result
-        (TopIs (entries stack.old) cons.old.kind → TopIs (entries stack.new) cons.new.kind) }
+    ensures counted { IsCounted opened.new }
+    ensures gone { Gone S.stream cons opened header result }
+    ensures kind { OnOk result (TopIs (entries opened.old) cons.old.kind
+        → TopIs (entries opened.new) cons.new.kind) }
     ensures state { OnOk result (cons.new.state ≡ State.Open) }
     ensures name { cons.new.source.ghost_name ≡ cons.old.source.ghost_name }
     ensures mode { cons.new.mode ≡ cons.old.mode }
     ensures marked { cons.new.marked ≡ cons.old.marked }
 {
-    if let Err(error) = op(header.tag, header.constructed, stack.len()) {
-        return Err(Halt::Refused(error));
-    }
     if header.constructed {
-        if open(cons, stack, header.len) {
-            cons.state = State::Open;
+        if open(cons, opened, header.len) {
             return Ok(());
         }
-        return Err(Halt::NoMemory);
+        return Err(Bar::NoMemory);
     }
     match header.len {
         Length::Definite(len) => match cons.source.skip_owed(len) {
@@ -218,14 +293,15 @@ where
                 cons.state = State::Open;
                 Ok(())
             }
-            Err(stop) => Err(Halt::Stopped(stop)),
+            Err(stop) => Err(Bar::Stopped(stop)),
         },
         // No primitive value has it (X.690, 8.1.3.2), and none is passed over here.
-        Length::Indefinite => Err(Halt::NoMemory),
+        Length::Indefinite => Err(Bar::NoMemory),
     }
 }
 
 /// Passes over the content of a value whose header was passed over.
+#[inline(always)]
 fn run<S: Source, F>(
     cons: &mut Constructed<'_, S>,
     alloc: Global,
@@ -241,22 +317,29 @@ where
     ensures name { cons.new.source.ghost_name ≡ cons.old.source.ghost_name }
 {
     let outer = owed(cons.source);
-    let mut stack: SmallVec<Entry, 4> = SmallVec::new(alloc);
-    if let Err(halt) = visit(cons, &mut stack, header, op) {
-        return Err(halt);
+    let mut opened = Opened::new(alloc);
+    if let Err(error) = op(header.tag, header.constructed, 0) {
+        return Err(Halt::Refused(error));
     }
-    while !stack.is_empty() {
+    if let Err(bar) = go_into(cons, &mut opened, header) {
+        return Err(Halt::Barred(bar));
+    }
+    while opened.depth > 0 {
         match cons.next_header() {
             Ok(Some(header)) => {
-                if let Err(halt) = visit(cons, &mut stack, header, op) {
-                    unwind(cons.source, &mut stack, outer);
-                    return Err(halt);
+                if let Err(error) = op(header.tag, header.constructed, opened.depth) {
+                    unwind(cons.source, &mut opened.frames, outer);
+                    return Err(Halt::Refused(error));
+                }
+                if let Err(bar) = go_into(cons, &mut opened, header) {
+                    unwind(cons.source, &mut opened.frames, outer);
+                    return Err(Halt::Barred(bar));
                 }
             }
-            Ok(None) => leave(cons, &mut stack),
+            Ok(None) => leave(cons, &mut opened),
             Err(stop) => {
-                unwind(cons.source, &mut stack, outer);
-                return Err(Halt::Stopped(stop));
+                unwind(cons.source, &mut opened.frames, outer);
+                return Err(Halt::Barred(Bar::Stopped(stop)));
             }
         }
     }
@@ -291,70 +374,113 @@ where
     run(&mut cons, alloc, header, op)
 }
 
-/// The same of a primitive value, which needs no stack.
-#[inline(always)]
-fn skip_octets<S: Source, F>(
-    source: &mut LimitedSource<S>,
-    header: Header,
-    op: &mut F,
-) -> Result<(), Halt<S::Error>>
-where
-    F: FnMut(Tag, bool, usize) -> Result<(), ContentError>,
-    requires callable { F.IsAlwaysCallable op.old }
-    requires primitive { header.constructed ≡ false }
-    requires definite { header.len ≡ Length.Indefinite → ⊥ }
-    requires fits { FitsOwed header.len source.old.limit }
-    ensures { (mode : ModeValue) → RanOverSource S.stream F.step source mode header op result }
-{
-    if let Err(error) = op(header.tag, header.constructed, 0) {
-        return Err(Halt::Refused(error));
-    }
-    match header.len {
-        Length::Definite(len) => match source.skip_owed(len) {
-            Ok(()) => Ok(()),
-            Err(stop) => Err(Halt::Stopped(stop)),
-        },
-        // No primitive value has it (X.690, 8.1.3.2), and none is passed over here.
-        Length::Indefinite => Err(Halt::NoMemory),
-    }
-}
-
-/// Passes over the content of a value whose header was passed over, in the way that its form needs.
-#[inline(always)]
-fn skip_behind<S: Source, F>(
-    source: &mut LimitedSource<S>,
-    mode: Mode,
-    alloc: Global,
-    header: Header,
-    op: &mut F,
-) -> Result<(), Halt<S::Error>>
-where
-    F: FnMut(Tag, bool, usize) -> Result<(), ContentError>,
-    requires callable { F.IsAlwaysCallable op.old }
-    requires allowed { may_have mode header.constructed header.len ≡ true }
-    requires fits { FitsOwed header.len source.old.limit }
-    ensures { RanOverSource S.stream F.step source mode header op result }
-{
-    if header.constructed {
-        skip_content(source, mode, alloc, header, op)
-    } else {
-        skip_octets(source, header, op)
-    }
-}
-
 impl<'a, S: Source> Constructed<'a, S> {
     /// The error that a halt is, at the present position.
     #[cold]
-    fn halted(&self, halt: Halt<S::Error>) -> DecodeError<S::Error>
+    fn error_of(&self, halt: Halt<S::Error>) -> DecodeError<S::Error>
         ensures content { IsOfContent (halt_cause halt) → IsRefusal result }
         ensures source { halt_cause halt ≡ of_source → cause_of result ≡ of_source }
         ensures memory { halt_cause halt ≡ of_memory → cause_of result ≡ of_memory }
         ensures closure { (x : _) → halt ≡ Halt.Refused x → cause_of result ≡ of_content x }
     {
         match halt {
-            Halt::Stopped(stop) => self.stopped(stop),
             Halt::Refused(error) => self.source.content_err(error),
-            Halt::NoMemory => DecodeError::no_memory(),
+            Halt::Barred(Bar::Stopped(stop)) => self.stopped(stop),
+            Halt::Barred(Bar::NoMemory) => DecodeError::no_memory(),
+        }
+    }
+
+    /// The same, with room for the error that is cleared here, and not where nothing halts.
+    #[inline(always)]
+    fn halted(&self, halt: Halt<S::Error>) -> DecodeError<S::Error>
+        ensures content { IsOfContent (halt_cause halt) → IsRefusal result }
+        ensures source { halt_cause halt ≡ of_source → cause_of result ≡ of_source }
+        ensures memory { halt_cause halt ≡ of_memory → cause_of result ≡ of_memory }
+        ensures closure { (x : _) → halt ≡ Halt.Refused x → cause_of result ≡ of_content x }
+    {
+        let error = self.error_of(halt);
+        error
+    }
+
+    /// Passes over the content of a primitive value whose header was passed over, which needs no
+    /// stack.
+    #[inline(always)]
+    fn skip_octets<F>(
+        &mut self,
+        header: Header,
+        op: &mut F,
+    ) -> Result<Option<()>, DecodeError<S::Error>>
+    where
+        F: FnMut(Tag, bool, usize) -> Result<(), ContentError>,
+        requires callable { F.IsAlwaysCallable op.old }
+        requires primitive { header.constructed ≡ false }
+        requires definite { header.len ≡ Length.Indefinite → ⊥ }
+        requires fits { FitsOwed header.len (limit_in self.old) }
+        ensures moves { MovedBehind S.stream self header }
+        ensures skipped { SkippedBehind S.stream F.step self header op result }
+    {
+        if let Err(error) = op(header.tag, header.constructed, 0) {
+            return Err(self.halted(Halt::Refused(error)));
+        }
+        match header.len {
+            Length::Definite(len) => match self.source.skip_owed(len) {
+                Ok(()) => {
+                    self.state = State::Open;
+                    Ok(Some(()))
+                }
+                Err(stop) => Err(self.halted(Halt::Barred(Bar::Stopped(stop)))),
+            },
+            // No primitive value has it (X.690, 8.1.3.2), and none is passed over here.
+            Length::Indefinite => Err(self.halted(Halt::Barred(Bar::NoMemory))),
+        }
+    }
+
+    /// The same of a constructed value.
+    #[inline(always)]
+    fn skip_values<F>(
+        &mut self,
+        alloc: Global,
+        header: Header,
+        op: &mut F,
+    ) -> Result<Option<()>, DecodeError<S::Error>>
+    where
+        F: FnMut(Tag, bool, usize) -> Result<(), ContentError>,
+        requires callable { F.IsAlwaysCallable op.old }
+        requires allowed { may_have self.old.mode header.constructed header.len ≡ true }
+        requires fits { FitsOwed header.len (limit_in self.old) }
+        ensures moves { MovedBehind S.stream self header }
+        ensures skipped { SkippedBehind S.stream F.step self header op result }
+    {
+        match skip_content(self.source, self.mode, alloc, header, op) {
+            Ok(()) => {
+                self.state = State::Open;
+                Ok(Some(()))
+            }
+            Err(halt) => Err(self.halted(halt)),
+        }
+    }
+
+    /// Passes over the content of a value whose header was passed over, in the way that its form
+    /// needs.
+    #[inline(always)]
+    fn skip_behind<F>(
+        &mut self,
+        alloc: Global,
+        header: Header,
+        op: &mut F,
+    ) -> Result<Option<()>, DecodeError<S::Error>>
+    where
+        F: FnMut(Tag, bool, usize) -> Result<(), ContentError>,
+        requires callable { F.IsAlwaysCallable op.old }
+        requires allowed { may_have self.old.mode header.constructed header.len ≡ true }
+        requires fits { FitsOwed header.len (limit_in self.old) }
+        ensures moves { MovedBehind S.stream self header }
+        ensures skipped { SkippedBehind S.stream F.step self header op result }
+    {
+        if header.constructed {
+            self.skip_values(alloc, header, op)
+        } else {
+            self.skip_octets(header, op)
         }
     }
 
@@ -390,13 +516,7 @@ impl<'a, S: Source> Constructed<'a, S> {
         ensures exact { ExactlySkipped S.stream F.step self op result }
     {
         match self.next_header() {
-            Ok(Some(header)) => match skip_behind(self.source, self.mode, alloc, header, op) {
-                Ok(()) => {
-                    self.state = State::Open;
-                    Ok(Some(()))
-                }
-                Err(halt) => Err(self.halted(halt)),
-            },
+            Ok(Some(header)) => self.skip_behind(alloc, header, op),
             Ok(None) => Ok(None),
             Err(stop) => Err(self.stopped(stop)),
         }
@@ -450,6 +570,16 @@ impl<'a, S: Source> Constructed<'a, S> {
         }
     }
 
+    /// The same, with room for the answer that is cleared here, and not before the first look.
+    #[inline(always)]
+    fn skip_on(&mut self, alloc: Global) -> Result<Option<()>, DecodeError<S::Error>>
+        ensures moves { Moves (before S.stream self) (after S.stream self) }
+        ensures skipped { SkippedOne S.stream self result }
+    {
+        let skipped = self.skip_any(alloc);
+        skipped
+    }
+
     /// Passes over the next value, or answers `None` at the end of the content, whose marker it
     /// takes.
     ///
@@ -469,7 +599,7 @@ impl<'a, S: Source> Constructed<'a, S> {
     {
         match self.pass_at_hand(Looked::Short) {
             Ok(true) => Ok(Some(())),
-            Ok(false) => self.skip_any(alloc),
+            Ok(false) => self.skip_on(alloc),
             Err(stop) => Err(self.stopped(stop)),
         }
     }

@@ -1,12 +1,10 @@
 use Rattle.std.proofs.Common.{refl}
 use Rattle.bcder.specs.Cause.{cause_of, stop_cause}
 use Rattle.bcder.specs.Peek.{header}
-use Rattle.bcder.specs.Stacked.{source_of, limit_in}
 use Rattle.bcder.specs.Views.{of_constructed}
 use Rattle.bcder.proofs.Carrying.{carries}
 use Rattle.bcder.proofs.Names.{within_constructed}
-use Rattle.bcder.proofs.Moving.{open_not_ended}
-use Rattle.bcder.proofs.Skipped.{skips_moves, skipped_value, breaks_moves, skipped_not, skipped_end, skipped_none, answers_skip}
+use Rattle.bcder.proofs.Skipped.{skipped_end, skipped_none, answers_skip}
 use Rattle.bcder.proofs.Stepping.{next_refused}
 use Rattle.bcder.proofs.Stopping.{walk_stopped}
 use Rattle.bcder.proofs.Taking.{allowed_entered}
@@ -25,47 +23,26 @@ skip_behind-requires-clause-fits g c =
     let e = rw c.in-Ok-Some.field-0-is at c.in-Ok-Some.ensures.entered in
     entered_fits (of_constructed g.S.Source.stream c.args.self.now) (of_constructed g.S.Source.stream c.next_header.new.self) (header c.in-Ok-Some.header) _ refl e.1
 
-pub returns-in-Ok-clause-moves : goal.returns-in-Ok-clause-moves
+pub returns-in-Ok-Some-clause-moves : goal.returns-in-Ok-Some-clause-moves
 unfolding of_constructed
-returns-in-Ok-clause-moves g c =
+returns-in-Ok-Some-clause-moves g c =
     let e = rw c.in-Ok-Some.field-0-is at c.in-Ok-Some.ensures.entered in
-    let r = rw c.next_header.ensures.mode at c.in-Ok.ensures.whole in
-    carries _ _ (skips_moves (of_constructed g.S.Source.stream c.args.self.now) (of_constructed g.S.Source.stream c.next_header.new.self) _ (header c.in-Ok-Some.header) (source_of g.S.Source.stream c.next_header.new.self) (g.S.Source.stream c.skip_behind.new.source.source) (limit_in c.next_header.new.self) c.skip_behind.new.source.limit (within_constructed g.S.Source.stream g.met.S.Source.sound c.args.self.now) e.1 refl refl refl refl refl refl refl refl r.0 r.2 refl c.skip_behind.ensures.faults)
+    let w = within_constructed g.S.Source.stream g.met.S.Source.sound c.args.self.now in
+    carries _ _ (c.skip_behind.ensures.moves (of_constructed g.S.Source.stream c.args.self.now) (record { enters = e.1; no_fault = c.in-Ok-Some.ensures.no_fault; octets = w.octets; fits = w.fits }))
 
-pub returns-in-Ok-clause-skipped : goal.returns-in-Ok-clause-skipped
+pub returns-in-Ok-Some-clause-skipped : goal.returns-in-Ok-Some-clause-skipped
 unfolding of_constructed
-returns-in-Ok-clause-skipped g c =
+returns-in-Ok-Some-clause-skipped g c =
     let e = rw c.in-Ok-Some.field-0-is at c.in-Ok-Some.ensures.entered in
-    let r = rw c.next_header.ensures.mode at c.in-Ok.ensures.whole in
-    skipped_value (of_constructed g.S.Source.stream c.args.self.now) (of_constructed g.S.Source.stream c.next_header.new.self) _ (header c.in-Ok-Some.header) (source_of g.S.Source.stream c.next_header.new.self) (g.S.Source.stream c.skip_behind.new.source.source) (limit_in c.next_header.new.self) c.skip_behind.new.source.limit (within_constructed g.S.Source.stream g.met.S.Source.sound c.args.self.now) e.1 refl refl refl refl refl refl refl refl r.0 r.2 refl cause_of _ c.args.op.now c.skip_behind.new.op _ c.in-Ok.ensures.no_fault c.in-Ok-Some.ensures.no_fault r.1
+    let w = within_constructed g.S.Source.stream g.met.S.Source.sound c.args.self.now in
+    c.skip_behind.ensures.skipped (of_constructed g.S.Source.stream c.args.self.now) (record { enters = e.1; no_fault = c.in-Ok-Some.ensures.no_fault; octets = w.octets; fits = w.fits })
 
-pub returns-in-Ok-clause-exact : goal.returns-in-Ok-clause-exact
+pub returns-in-Ok-Some-clause-exact : goal.returns-in-Ok-Some-clause-exact
 unfolding of_constructed
-returns-in-Ok-clause-exact g c =
+returns-in-Ok-Some-clause-exact g c =
     let e = rw c.in-Ok-Some.field-0-is at c.in-Ok-Some.ensures.entered in
-    let r = rw c.next_header.ensures.mode at c.in-Ok.ensures.whole in
-    λ n. answers_skip cause_of _ _ _ _ _ (within_constructed g.S.Source.stream g.met.S.Source.sound c.args.self.now) n _ (skipped_value (of_constructed g.S.Source.stream c.args.self.now) (of_constructed g.S.Source.stream c.next_header.new.self) _ (header c.in-Ok-Some.header) (source_of g.S.Source.stream c.next_header.new.self) (g.S.Source.stream c.skip_behind.new.source.source) (limit_in c.next_header.new.self) c.skip_behind.new.source.limit (within_constructed g.S.Source.stream g.met.S.Source.sound c.args.self.now) e.1 refl refl refl refl refl refl refl refl r.0 r.2 refl cause_of _ c.args.op.now c.skip_behind.new.op _ c.in-Ok.ensures.no_fault c.in-Ok-Some.ensures.no_fault r.1)
-
-pub returns-in-Err-skip_behind-clause-moves : goal.returns-in-Err-skip_behind-clause-moves
-unfolding of_constructed
-returns-in-Err-skip_behind-clause-moves g c =
-    let e = rw c.in-Ok-Some.field-0-is at c.in-Ok-Some.ensures.entered in
-    let b = rw c.next_header.ensures.mode at c.in-Err-skip_behind.ensures.breaks in
-    carries _ _ (breaks_moves (of_constructed g.S.Source.stream c.args.self.now) (of_constructed g.S.Source.stream c.next_header.new.self) _ (header c.in-Ok-Some.header) (source_of g.S.Source.stream c.next_header.new.self) (g.S.Source.stream c.skip_behind.new.source.source) (limit_in c.next_header.new.self) c.skip_behind.new.source.limit (within_constructed g.S.Source.stream g.met.S.Source.sound c.args.self.now) e.1 refl refl refl refl refl refl refl refl _ c.args.op.now c.skip_behind.new.op cause_of c.in-Err-skip_behind.halt c.halted.result e.1.opened c.in-Ok-Some.ensures.no_fault (open_not_ended _ e.1.usable) c.halted.ensures.content c.halted.ensures.source c.halted.ensures.memory c.halted.ensures.closure c.skip_behind.ensures.faults b)
-
-pub returns-in-Err-skip_behind-clause-skipped : goal.returns-in-Err-skip_behind-clause-skipped
-unfolding of_constructed
-returns-in-Err-skip_behind-clause-skipped g c =
-    let e = rw c.in-Ok-Some.field-0-is at c.in-Ok-Some.ensures.entered in
-    let b = rw c.next_header.ensures.mode at c.in-Err-skip_behind.ensures.breaks in
-    skipped_not (of_constructed g.S.Source.stream c.args.self.now) (of_constructed g.S.Source.stream c.next_header.new.self) _ (header c.in-Ok-Some.header) (source_of g.S.Source.stream c.next_header.new.self) (g.S.Source.stream c.skip_behind.new.source.source) (limit_in c.next_header.new.self) c.skip_behind.new.source.limit (within_constructed g.S.Source.stream g.met.S.Source.sound c.args.self.now) e.1 refl refl refl refl refl refl refl refl _ c.args.op.now c.skip_behind.new.op cause_of c.in-Err-skip_behind.halt c.halted.result e.1.opened c.in-Ok-Some.ensures.no_fault (open_not_ended _ e.1.usable) c.halted.ensures.content c.halted.ensures.source c.halted.ensures.memory c.halted.ensures.closure b
-
-pub returns-in-Err-skip_behind-clause-exact : goal.returns-in-Err-skip_behind-clause-exact
-unfolding of_constructed
-returns-in-Err-skip_behind-clause-exact g c =
-    let e = rw c.in-Ok-Some.field-0-is at c.in-Ok-Some.ensures.entered in
-    let b = rw c.next_header.ensures.mode at c.in-Err-skip_behind.ensures.breaks in
-    λ n. answers_skip cause_of _ _ _ _ _ (within_constructed g.S.Source.stream g.met.S.Source.sound c.args.self.now) n _ (skipped_not (of_constructed g.S.Source.stream c.args.self.now) (of_constructed g.S.Source.stream c.next_header.new.self) _ (header c.in-Ok-Some.header) (source_of g.S.Source.stream c.next_header.new.self) (g.S.Source.stream c.skip_behind.new.source.source) (limit_in c.next_header.new.self) c.skip_behind.new.source.limit (within_constructed g.S.Source.stream g.met.S.Source.sound c.args.self.now) e.1 refl refl refl refl refl refl refl refl _ c.args.op.now c.skip_behind.new.op cause_of c.in-Err-skip_behind.halt c.halted.result e.1.opened c.in-Ok-Some.ensures.no_fault (open_not_ended _ e.1.usable) c.halted.ensures.content c.halted.ensures.source c.halted.ensures.memory c.halted.ensures.closure b)
+    let w = within_constructed g.S.Source.stream g.met.S.Source.sound c.args.self.now in
+    λ n. answers_skip cause_of _ _ _ _ _ w n _ (c.skip_behind.ensures.skipped (of_constructed g.S.Source.stream c.args.self.now) (record { enters = e.1; no_fault = c.in-Ok-Some.ensures.no_fault; octets = w.octets; fits = w.fits }))
 
 pub returns-in-Ok-None-clause-moves : goal.returns-in-Ok-None-clause-moves
 returns-in-Ok-None-clause-moves g c =

@@ -1,5 +1,5 @@
-use Rattle.std.proofs.Common.{◌∙◌, sym, ap, refl, arith, reverse, length, subst}
-use Rattle.std.proofs.lemmas.List.{length-reverse}
+use Rattle.std.proofs.Common.{◌∙◌, sym, ap, refl, arith, length, subst, []}
+use denote.Param.Always.{mut_next}
 use Rattle.bcder.specs.Peek.{header}
 use Rattle.bcder.proofs.Entering.{kind_of}
 use Rattle.bcder.proofs.Walking.{moves_kind}
@@ -7,105 +7,132 @@ use Rattle.bcder.specs.Stacked.{TopIs, entries, source_of, limit_in}
 use Rattle.bcder.specs.Views.{of_constructed}
 use Rattle.bcder.proofs.Names.{within_constructed, moves_constructed_name}
 use Rattle.bcder.proofs.Taking.{allowed_entered}
-use Rattle.bcder.proofs.Running.{some_entry, out_counts, met_entered, entered_fits, began, not_begun, went_in, stayed_out, went_out, went_wrong, entered_shorter, left_shorter, wrong_counts}
+use Rattle.bcder.proofs.Running.{some_entry, out_counts, met_entered, entered_fits, visited_refused, visited_gone, visited_barred, first_went, first_barred, not_begun, went_in, stayed_out, went_out, went_wrong, entered_shorter, left_shorter, wrong_counts, frames_count, frames_unwound}
+use Rattle.bcder.proofs.decode.content.skip.run.Given.{F-step}
 use Rattle.bcder.proofs.decode.content.skip.run.Goals as goal
 
 pub returns-in-Err-clause-ran : goal.returns-in-Err-clause-ran
-returns-in-Err-clause-ran g c = not_begun _ _ _ _ _ _ _ _ _ _ _ _ (ap reverse c.new-stack.ensures.items) c.in-Err.ensures.visited
+returns-in-Err-clause-ran g c =
+    not_begun _ _ _ _ _ _ _ _ [] [] _ _ refl (visited_refused _ _ [] _ _ _ _ _ c.in-Err.ensures)
 
-pub loop-outer-init : goal.loop-outer-init
-loop-outer-init g c =
-    let w = began _ _ _ _ _ _ _ _ _ _ _ _ (ap reverse c.new-stack.ensures.items) c.requires.fits c.in_default.ensures.visited in
+pub returns-in-Err-go_into-clause-ran : goal.returns-in-Err-go_into-clause-ran
+returns-in-Err-go_into-clause-ran g c =
+    first_barred _ _ _ _ _ _ (entries c.new-opened.result) (entries c.go_into.new.opened) _ _ _ c.new-opened.ensures.none c.in_default.ensures c.in-Err-go_into.bar c.in-Err-go_into.ensures.gone
+
+pub loop-opened-init : goal.loop-opened-init
+loop-opened-init g c =
+    let w = first_went (F-step g) _ _ _ _ c.args.op.now (entries c.new-opened.result) (entries c.go_into.new.opened) c.op.new.self _ _ c.new-opened.ensures.none c.in_default.ensures _ c.requires.fits c.in_default-go_into.ensures.gone in
     record {
-      callable = c.visit.ensures.callable;
-      inline = c.visit.ensures.inline;
+      callable = mut_next _ _ _ _ _ _ c.op.ensures refl c.requires.callable;
+      counted = c.go_into.ensures.counted;
       went = (w.calls, w.called, w.under);
-      top = c.in_default.ensures.kind (rw c.new-stack.ensures.items refl);
-      state = c.in_default.ensures.state;
-      mode = c.visit.ensures.mode;
-      name = c.visit.ensures.name;
+      top = c.in_default-go_into.ensures.kind (subst (λ z. TopIs z c.args.cons.now.kind) (sym c.new-opened.ensures.none) refl);
+      state = c.in_default-go_into.ensures.state;
+      mode = c.go_into.ensures.mode;
+      name = c.go_into.ensures.name;
       no_fault = w.no_fault;
       outer = c.owed-outer.ensures.value;
     }
 
-pub visit-requires-in-Ok-Some-clause-allowed : goal.visit-requires-in-Ok-Some-clause-allowed
-unfolding of_constructed
-visit-requires-in-Ok-Some-clause-allowed g c =
-    let e = rw c.in-Ok-Some.field-0-is at c.in-Ok-Some.ensures.entered in
-    allowed_entered (of_constructed g.S.Source.stream c.loop-outer.cons) (header c.in-Ok-Some.header) (of_constructed g.S.Source.stream c.next_header.new.self) e.1
-
-pub visit-requires-in-Ok-Some-clause-fits : goal.visit-requires-in-Ok-Some-clause-fits
-unfolding of_constructed
-visit-requires-in-Ok-Some-clause-fits g c =
-    let e = rw c.in-Ok-Some.field-0-is at c.in-Ok-Some.ensures.entered in
-    entered_fits (of_constructed g.S.Source.stream c.loop-outer.cons) (of_constructed g.S.Source.stream c.next_header.new.self) (header c.in-Ok-Some.header) _ refl e.1
-
 pub unwind-requires : goal.unwind-requires
 unfolding of_constructed
 unwind-requires g c =
-    let i = c.loop-outer.invariant in
+    let i = c.loop-opened.invariant in
     let e = rw c.in-Ok-Some.field-0-is at c.in-Ok-Some.ensures.entered in
-    let m = met_entered (source_of g.S.Source.stream c.loop-outer.cons) (source_of g.S.Source.stream c.next_header.new.self) (limit_in c.loop-outer.cons) (limit_in c.next_header.new.self) (of_constructed g.S.Source.stream c.loop-outer.cons) (of_constructed g.S.Source.stream c.next_header.new.self) refl refl refl refl c.args.cons.now.mode (header c.args.header) (source_of g.S.Source.stream c.args.cons.now) (limit_in c.args.cons.now) i.went.0 (entries c.loop-outer.stack) i.mode (within_constructed g.S.Source.stream g.met.S.Source.sound c.loop-outer.cons) (some_entry c.loop-outer.stack c.is_empty.ensures c.loop-outer-test.true) i.went.2 (header c.in-Ok-Some.header) e.1 in
-    let z = c.in-Err-visit.ensures.visited in
-    out_counts _ _ _ _ _ _ _ _ _ _ _ _ m z.entries z.limit i.outer c.owed-outer.ensures.range
+    let m = met_entered (source_of g.S.Source.stream c.loop-opened.cons) (source_of g.S.Source.stream c.next_header.new.self) (limit_in c.loop-opened.cons) (limit_in c.next_header.new.self) (of_constructed g.S.Source.stream c.loop-opened.cons) (of_constructed g.S.Source.stream c.next_header.new.self) refl refl refl refl c.args.cons.now.mode (header c.args.header) (source_of g.S.Source.stream c.args.cons.now) (limit_in c.args.cons.now) i.went.0 (entries c.loop-opened.opened) i.mode (within_constructed g.S.Source.stream g.met.S.Source.sound c.loop-opened.cons) (some_entry c.loop-opened.opened i.counted c.loop-opened-test.true) i.went.2 (header c.in-Ok-Some.header) e.1 in
+    frames_count c.loop-opened.opened _ _ (out_counts _ _ _ _ _ _ _ _ _ _ _ _ m refl refl i.outer c.owed-outer.ensures.range)
 
-pub returns-in-Err-visit-clause-ran : goal.returns-in-Err-visit-clause-ran
+pub returns-in-Err-op-clause-ran : goal.returns-in-Err-op-clause-ran
 unfolding of_constructed
-returns-in-Err-visit-clause-ran g c =
-    let i = c.loop-outer.invariant in
+returns-in-Err-op-clause-ran g c =
+    let i = c.loop-opened.invariant in
     let e = rw c.in-Ok-Some.field-0-is at c.in-Ok-Some.ensures.entered in
-    let m = met_entered (source_of g.S.Source.stream c.loop-outer.cons) (source_of g.S.Source.stream c.next_header.new.self) (limit_in c.loop-outer.cons) (limit_in c.next_header.new.self) (of_constructed g.S.Source.stream c.loop-outer.cons) (of_constructed g.S.Source.stream c.next_header.new.self) refl refl refl refl c.args.cons.now.mode (header c.args.header) (source_of g.S.Source.stream c.args.cons.now) (limit_in c.args.cons.now) i.went.0 (entries c.loop-outer.stack) i.mode (within_constructed g.S.Source.stream g.met.S.Source.sound c.loop-outer.cons) (some_entry c.loop-outer.stack c.is_empty.ensures c.loop-outer-test.true) i.went.2 (header c.in-Ok-Some.header) e.1 in
-    stayed_out _ _ _ _ _ _ _ _ _ _ (record { calls = i.went.0; called = i.went.1; under = i.went.2; no_fault = i.no_fault }) _ _ _ m c.in-Ok-Some.ensures.no_fault (entered_fits _ _ _ _ refl e.1) _ _ _ _ _ _ _ c.in-Err-visit.ensures.visited (ap g.S.Source.stream c.unwind.ensures.source) c.unwind.ensures.limit
+    let m = met_entered (source_of g.S.Source.stream c.loop-opened.cons) (source_of g.S.Source.stream c.next_header.new.self) (limit_in c.loop-opened.cons) (limit_in c.next_header.new.self) (of_constructed g.S.Source.stream c.loop-opened.cons) (of_constructed g.S.Source.stream c.next_header.new.self) refl refl refl refl c.args.cons.now.mode (header c.args.header) (source_of g.S.Source.stream c.args.cons.now) (limit_in c.args.cons.now) i.went.0 (entries c.loop-opened.opened) i.mode (within_constructed g.S.Source.stream g.met.S.Source.sound c.loop-opened.cons) (some_entry c.loop-opened.opened i.counted c.loop-opened-test.true) i.went.2 (header c.in-Ok-Some.header) e.1 in
+    stayed_out _ _ _ _ _ _ _ _ _ _ (record { calls = i.went.0; called = i.went.1; under = i.went.2; no_fault = i.no_fault }) _ _ _ m c.in-Ok-Some.ensures.no_fault (entered_fits _ _ _ _ refl e.1) _ _ (entries c.loop-opened.opened) _ _ _ _ (visited_refused _ _ (entries c.loop-opened.opened) _ _ _ _ _ (rw i.counted.depth at c.in-Err-op.ensures)) (ap g.S.Source.stream c.unwind.ensures.source) (frames_unwound c.loop-opened.opened _ _ c.unwind.ensures.limit)
 
-pub loop-outer-preserved-in_default-visit : goal.loop-outer-preserved-in_default-visit
+pub returns-in-Err-op-clause-name : goal.returns-in-Err-op-clause-name
+returns-in-Err-op-clause-name g c =
+    moves_constructed_name g.S.Source.stream c.loop-opened.cons c.next_header.new.self c.next_header.ensures.moves ∙ c.loop-opened.invariant.name
+
+pub go_into-requires-in-Ok-Some-clause-allowed : goal.go_into-requires-in-Ok-Some-clause-allowed
 unfolding of_constructed
-loop-outer-preserved-in_default-visit g c =
-    let i = c.loop-outer.invariant in
+go_into-requires-in-Ok-Some-clause-allowed g c =
     let e = rw c.in-Ok-Some.field-0-is at c.in-Ok-Some.ensures.entered in
-    let m = met_entered (source_of g.S.Source.stream c.loop-outer.cons) (source_of g.S.Source.stream c.next_header.new.self) (limit_in c.loop-outer.cons) (limit_in c.next_header.new.self) (of_constructed g.S.Source.stream c.loop-outer.cons) (of_constructed g.S.Source.stream c.next_header.new.self) refl refl refl refl c.args.cons.now.mode (header c.args.header) (source_of g.S.Source.stream c.args.cons.now) (limit_in c.args.cons.now) i.went.0 (entries c.loop-outer.stack) i.mode (within_constructed g.S.Source.stream g.met.S.Source.sound c.loop-outer.cons) (some_entry c.loop-outer.stack c.is_empty.ensures c.loop-outer-test.true) i.went.2 (header c.in-Ok-Some.header) e.1 in
-    let w = went_in _ _ _ _ _ _ _ _ _ _ (record { calls = i.went.0; called = i.went.1; under = i.went.2; no_fault = i.no_fault }) _ _ _ m c.in-Ok-Some.ensures.no_fault (entered_fits _ _ _ _ refl e.1) _ _ _ _ _ c.in_default-visit.ensures.visited in
+    allowed_entered (of_constructed g.S.Source.stream c.loop-opened.cons) (header c.in-Ok-Some.header) (of_constructed g.S.Source.stream c.next_header.new.self) e.1
+
+pub go_into-requires-in-Ok-Some-clause-fits : goal.go_into-requires-in-Ok-Some-clause-fits
+unfolding of_constructed
+go_into-requires-in-Ok-Some-clause-fits g c =
+    let e = rw c.in-Ok-Some.field-0-is at c.in-Ok-Some.ensures.entered in
+    entered_fits (of_constructed g.S.Source.stream c.loop-opened.cons) (of_constructed g.S.Source.stream c.next_header.new.self) (header c.in-Ok-Some.header) _ refl e.1
+
+pub unwind-requires-in-Err-go_into-2 : goal.unwind-requires-in-Err-go_into-2
+unfolding of_constructed
+unwind-requires-in-Err-go_into-2 g c =
+    let i = c.loop-opened.invariant in
+    let e = rw c.in-Ok-Some.field-0-is at c.in-Ok-Some.ensures.entered in
+    let m = met_entered (source_of g.S.Source.stream c.loop-opened.cons) (source_of g.S.Source.stream c.next_header.new.self) (limit_in c.loop-opened.cons) (limit_in c.next_header.new.self) (of_constructed g.S.Source.stream c.loop-opened.cons) (of_constructed g.S.Source.stream c.next_header.new.self) refl refl refl refl c.args.cons.now.mode (header c.args.header) (source_of g.S.Source.stream c.args.cons.now) (limit_in c.args.cons.now) i.went.0 (entries c.loop-opened.opened) i.mode (within_constructed g.S.Source.stream g.met.S.Source.sound c.loop-opened.cons) (some_entry c.loop-opened.opened i.counted c.loop-opened-test.true) i.went.2 (header c.in-Ok-Some.header) e.1 in
+    let z = c.in-Err-go_into-2.ensures.gone in
+    frames_count c.go_into-in-Ok-Some.new.opened _ _ (out_counts _ _ _ _ _ _ _ _ _ _ _ _ m z.entries z.limit i.outer c.owed-outer.ensures.range)
+
+pub returns-in-Err-go_into-2-clause-ran : goal.returns-in-Err-go_into-2-clause-ran
+unfolding of_constructed
+returns-in-Err-go_into-2-clause-ran g c =
+    let i = c.loop-opened.invariant in
+    let e = rw c.in-Ok-Some.field-0-is at c.in-Ok-Some.ensures.entered in
+    let m = met_entered (source_of g.S.Source.stream c.loop-opened.cons) (source_of g.S.Source.stream c.next_header.new.self) (limit_in c.loop-opened.cons) (limit_in c.next_header.new.self) (of_constructed g.S.Source.stream c.loop-opened.cons) (of_constructed g.S.Source.stream c.next_header.new.self) refl refl refl refl c.args.cons.now.mode (header c.args.header) (source_of g.S.Source.stream c.args.cons.now) (limit_in c.args.cons.now) i.went.0 (entries c.loop-opened.opened) i.mode (within_constructed g.S.Source.stream g.met.S.Source.sound c.loop-opened.cons) (some_entry c.loop-opened.opened i.counted c.loop-opened-test.true) i.went.2 (header c.in-Ok-Some.header) e.1 in
+    stayed_out _ _ _ _ _ _ _ _ _ _ (record { calls = i.went.0; called = i.went.1; under = i.went.2; no_fault = i.no_fault }) _ _ _ m c.in-Ok-Some.ensures.no_fault (entered_fits _ _ _ _ refl e.1) _ _ (entries c.go_into-in-Ok-Some.new.opened) _ _ _ _ (visited_barred _ _ (entries c.loop-opened.opened) _ _ _ _ (entries c.go_into-in-Ok-Some.new.opened) _ _ (rw i.counted.depth at c.in_default-op.ensures) _ c.in-Err-go_into-2.ensures.gone) (ap g.S.Source.stream c.unwind-in-Err-go_into-2.ensures.source) (frames_unwound c.go_into-in-Ok-Some.new.opened _ _ c.unwind-in-Err-go_into-2.ensures.limit)
+
+pub returns-in-Err-go_into-2-clause-name : goal.returns-in-Err-go_into-2-clause-name
+returns-in-Err-go_into-2-clause-name g c =
+    c.go_into-in-Ok-Some.ensures.name ∙ moves_constructed_name g.S.Source.stream c.loop-opened.cons c.next_header.new.self c.next_header.ensures.moves ∙ c.loop-opened.invariant.name
+
+pub loop-opened-smaller-in_default-go_into-2 : goal.loop-opened-smaller-in_default-go_into-2
+unfolding of_constructed
+loop-opened-smaller-in_default-go_into-2 g c =
+    let e = rw c.in-Ok-Some.field-0-is at c.in-Ok-Some.ensures.entered in
+    let l = entered_shorter (source_of g.S.Source.stream c.loop-opened.cons) (source_of g.S.Source.stream c.next_header.new.self) (limit_in c.loop-opened.cons) (limit_in c.next_header.new.self) (of_constructed g.S.Source.stream c.loop-opened.cons) (of_constructed g.S.Source.stream c.next_header.new.self) refl refl refl refl (header c.in-Ok-Some.header) (entries c.loop-opened.opened) (entries c.go_into-in-Ok-Some.new.opened) (source_of g.S.Source.stream c.go_into-in-Ok-Some.new.cons) _ e.1 c.in_default-go_into-2.ensures.gone.goes in
+    omega (arith, l, c.loop-opened.invariant.counted.depth, c.go_into-in-Ok-Some.ensures.counted.depth)
+
+pub loop-opened-preserved-in_default-go_into-2 : goal.loop-opened-preserved-in_default-go_into-2
+unfolding of_constructed
+loop-opened-preserved-in_default-go_into-2 g c =
+    let i = c.loop-opened.invariant in
+    let e = rw c.in-Ok-Some.field-0-is at c.in-Ok-Some.ensures.entered in
+    let m = met_entered (source_of g.S.Source.stream c.loop-opened.cons) (source_of g.S.Source.stream c.next_header.new.self) (limit_in c.loop-opened.cons) (limit_in c.next_header.new.self) (of_constructed g.S.Source.stream c.loop-opened.cons) (of_constructed g.S.Source.stream c.next_header.new.self) refl refl refl refl c.args.cons.now.mode (header c.args.header) (source_of g.S.Source.stream c.args.cons.now) (limit_in c.args.cons.now) i.went.0 (entries c.loop-opened.opened) i.mode (within_constructed g.S.Source.stream g.met.S.Source.sound c.loop-opened.cons) (some_entry c.loop-opened.opened i.counted c.loop-opened-test.true) i.went.2 (header c.in-Ok-Some.header) e.1 in
+    let w = went_in (F-step g) _ _ _ _ c.args.op.now _ c.loop-opened.op _ _ (record { calls = i.went.0; called = i.went.1; under = i.went.2; no_fault = i.no_fault }) _ _ _ m c.in-Ok-Some.ensures.no_fault (entered_fits _ _ _ _ refl e.1) _ _ (entries c.go_into-in-Ok-Some.new.opened) _ _ (visited_gone (F-step g) _ (entries c.loop-opened.opened) _ _ c.loop-opened.op c.op-in-Ok-Some.new.self (entries c.go_into-in-Ok-Some.new.opened) _ _ (rw i.counted.depth at c.in_default-op.ensures) _ _ c.in_default-go_into-2.ensures.gone) in
     record {
-      callable = c.visit-in-Ok-Some.ensures.callable;
-      inline = c.visit-in-Ok-Some.ensures.inline;
+      callable = mut_next _ _ _ _ _ _ c.op-in-Ok-Some.ensures refl i.callable;
+      counted = c.go_into-in-Ok-Some.ensures.counted;
       went = (w.calls, w.called, w.under);
-      top = c.in_default-visit.ensures.kind (subst (TopIs (entries c.loop-outer.stack)) (sym (kind_of _ _ (moves_kind _ _ c.next_header.ensures.moves))) i.top);
-      state = c.in_default-visit.ensures.state;
-      mode = c.visit-in-Ok-Some.ensures.mode ∙ c.next_header.ensures.mode ∙ i.mode;
-      name = c.visit-in-Ok-Some.ensures.name ∙ moves_constructed_name g.S.Source.stream c.loop-outer.cons c.next_header.new.self c.next_header.ensures.moves ∙ i.name;
+      top = c.in_default-go_into-2.ensures.kind (subst (TopIs (entries c.loop-opened.opened)) (sym (kind_of _ _ (moves_kind _ _ c.next_header.ensures.moves))) i.top);
+      state = c.in_default-go_into-2.ensures.state;
+      mode = c.go_into-in-Ok-Some.ensures.mode ∙ c.next_header.ensures.mode ∙ i.mode;
+      name = c.go_into-in-Ok-Some.ensures.name ∙ moves_constructed_name g.S.Source.stream c.loop-opened.cons c.next_header.new.self c.next_header.ensures.moves ∙ i.name;
       no_fault = w.no_fault;
       outer = i.outer;
     }
 
-pub returns-in-Err-visit-clause-name : goal.returns-in-Err-visit-clause-name
-returns-in-Err-visit-clause-name g c = c.visit-in-Ok-Some.ensures.name ∙ moves_constructed_name g.S.Source.stream c.loop-outer.cons c.next_header.new.self c.next_header.ensures.moves ∙ c.loop-outer.invariant.name
-
-pub loop-outer-smaller-in_default-visit : goal.loop-outer-smaller-in_default-visit
+pub loop-opened-smaller : goal.loop-opened-smaller
 unfolding of_constructed
-loop-outer-smaller-in_default-visit g c =
-    let e = rw c.in-Ok-Some.field-0-is at c.in-Ok-Some.ensures.entered in
-    let l = entered_shorter (source_of g.S.Source.stream c.loop-outer.cons) (source_of g.S.Source.stream c.next_header.new.self) (limit_in c.loop-outer.cons) (limit_in c.next_header.new.self) (of_constructed g.S.Source.stream c.loop-outer.cons) (of_constructed g.S.Source.stream c.next_header.new.self) refl refl refl refl (header c.in-Ok-Some.header) (entries c.loop-outer.stack) (entries c.visit-in-Ok-Some.new.stack) (source_of g.S.Source.stream c.visit-in-Ok-Some.new.cons) _ e.1 c.in_default-visit.ensures.visited.goes in
-    omega (arith, l, length-reverse c.loop-outer.stack.items, length-reverse c.visit-in-Ok-Some.new.stack.items)
-
-pub loop-outer-smaller : goal.loop-outer-smaller
-unfolding of_constructed
-loop-outer-smaller g c =
-    let l = left_shorter (source_of g.S.Source.stream c.loop-outer.cons) (source_of g.S.Source.stream c.next_header.new.self) (limit_in c.loop-outer.cons) (limit_in c.next_header.new.self) (of_constructed g.S.Source.stream c.loop-outer.cons) (of_constructed g.S.Source.stream c.next_header.new.self) refl refl refl refl c.next_header.ensures.moves in
+loop-opened-smaller g c =
+    let l = left_shorter (source_of g.S.Source.stream c.loop-opened.cons) (source_of g.S.Source.stream c.next_header.new.self) (limit_in c.loop-opened.cons) (limit_in c.next_header.new.self) (of_constructed g.S.Source.stream c.loop-opened.cons) (of_constructed g.S.Source.stream c.next_header.new.self) refl refl refl refl c.next_header.ensures.moves in
     omega (arith, l, c.leave.ensures.fewer, ap (λ z. length (g.S.Source.stream z).rest) c.leave.ensures.source)
 
-pub loop-outer-preserved : goal.loop-outer-preserved
+pub loop-opened-preserved : goal.loop-opened-preserved
 unfolding of_constructed
-loop-outer-preserved g c =
-    let i = c.loop-outer.invariant in
+loop-opened-preserved g c =
+    let i = c.loop-opened.invariant in
     let n = rw c.in-Ok-None.field-0-is at c.in-Ok-None.ensures.none in
-    let u = went_out c.args.cons.now.mode (header c.args.header) (source_of g.S.Source.stream c.args.cons.now) (limit_in c.args.cons.now) i.went.0 (entries c.loop-outer.stack) (entries c.leave.new.stack) (source_of g.S.Source.stream c.loop-outer.cons) (source_of g.S.Source.stream c.next_header.new.self) (source_of g.S.Source.stream c.leave.new.cons) (limit_in c.loop-outer.cons) (limit_in c.next_header.new.self) (limit_in c.leave.new.cons) (of_constructed g.S.Source.stream c.loop-outer.cons) (of_constructed g.S.Source.stream c.next_header.new.self) c.loop-outer.cons.kind refl refl refl refl i.went.2 c.next_header.ensures.moves refl i.top i.state i.mode (within_constructed g.S.Source.stream g.met.S.Source.sound c.loop-outer.cons) n.missing.0 c.leave.ensures.leaves (ap g.S.Source.stream c.leave.ensures.source) in
+    let u = went_out c.args.cons.now.mode (header c.args.header) (source_of g.S.Source.stream c.args.cons.now) (limit_in c.args.cons.now) i.went.0 (entries c.loop-opened.opened) (entries c.leave.new.opened) (source_of g.S.Source.stream c.loop-opened.cons) (source_of g.S.Source.stream c.next_header.new.self) (source_of g.S.Source.stream c.leave.new.cons) (limit_in c.loop-opened.cons) (limit_in c.next_header.new.self) (limit_in c.leave.new.cons) (of_constructed g.S.Source.stream c.loop-opened.cons) (of_constructed g.S.Source.stream c.next_header.new.self) c.loop-opened.cons.kind refl refl refl refl i.went.2 c.next_header.ensures.moves refl i.top i.state i.mode (within_constructed g.S.Source.stream g.met.S.Source.sound c.loop-opened.cons) n.missing.0 c.leave.ensures.leaves (ap g.S.Source.stream c.leave.ensures.source) in
     record {
       callable = i.callable;
-      inline = rw c.leave.ensures.capacity i.inline;
+      counted = c.leave.ensures.counted;
       went = (i.went.0, i.went.1, u);
       top = c.leave.ensures.kind;
       state = c.leave.ensures.state;
       mode = c.leave.ensures.mode ∙ c.next_header.ensures.mode ∙ i.mode;
-      name = c.leave.ensures.name ∙ moves_constructed_name g.S.Source.stream c.loop-outer.cons c.next_header.new.self c.next_header.ensures.moves ∙ i.name;
+      name = c.leave.ensures.name ∙ moves_constructed_name g.S.Source.stream c.loop-opened.cons c.next_header.new.self c.next_header.ensures.moves ∙ i.name;
       no_fault = ap (λ z. (g.S.Source.stream z).faults) c.leave.ensures.source ∙ c.in-Ok-None.ensures.no_fault ∙ i.no_fault;
       outer = i.outer;
     }
@@ -113,14 +140,14 @@ loop-outer-preserved g c =
 pub unwind-requires-in-Err-next_header : goal.unwind-requires-in-Err-next_header
 unfolding of_constructed
 unwind-requires-in-Err-next_header g c =
-    let i = c.loop-outer.invariant in
-    wrong_counts _ _ _ _ _ _ (source_of g.S.Source.stream c.loop-outer.cons) (source_of g.S.Source.stream c.next_header.new.self) (limit_in c.loop-outer.cons) (limit_in c.next_header.new.self) _ (of_constructed g.S.Source.stream c.loop-outer.cons) (of_constructed g.S.Source.stream c.next_header.new.self) refl refl refl refl c.next_header.ensures.moves i.went.2 i.outer c.owed-outer.ensures.range
+    let i = c.loop-opened.invariant in
+    frames_count c.loop-opened.opened _ _ (wrong_counts _ _ _ _ _ _ (source_of g.S.Source.stream c.loop-opened.cons) (source_of g.S.Source.stream c.next_header.new.self) (limit_in c.loop-opened.cons) (limit_in c.next_header.new.self) _ (of_constructed g.S.Source.stream c.loop-opened.cons) (of_constructed g.S.Source.stream c.next_header.new.self) refl refl refl refl c.next_header.ensures.moves i.went.2 i.outer c.owed-outer.ensures.range)
 
 pub returns-in-Err-next_header-clause-ran : goal.returns-in-Err-next_header-clause-ran
 unfolding of_constructed
 returns-in-Err-next_header-clause-ran g c =
-    let i = c.loop-outer.invariant in
-    went_wrong _ _ _ _ _ _ _ _ _ _ (record { calls = i.went.0; called = i.went.1; under = i.went.2; no_fault = i.no_fault }) _ (source_of g.S.Source.stream c.next_header.new.self) _ (limit_in c.next_header.new.self) _ (of_constructed g.S.Source.stream c.loop-outer.cons) (of_constructed g.S.Source.stream c.next_header.new.self) c.loop-outer.cons.kind refl refl refl refl c.next_header.ensures.moves (some_entry c.loop-outer.stack c.is_empty.ensures c.loop-outer-test.true) refl i.top i.state i.mode (within_constructed g.S.Source.stream g.met.S.Source.sound c.loop-outer.cons) c.in-Err-next_header.ensures.refused (ap g.S.Source.stream c.unwind-in-Err-next_header.ensures.source) c.unwind-in-Err-next_header.ensures.limit
+    let i = c.loop-opened.invariant in
+    went_wrong _ _ _ _ _ _ _ _ _ _ (record { calls = i.went.0; called = i.went.1; under = i.went.2; no_fault = i.no_fault }) _ (source_of g.S.Source.stream c.next_header.new.self) _ (limit_in c.next_header.new.self) _ (of_constructed g.S.Source.stream c.loop-opened.cons) (of_constructed g.S.Source.stream c.next_header.new.self) c.loop-opened.cons.kind refl refl refl refl c.next_header.ensures.moves (some_entry c.loop-opened.opened i.counted c.loop-opened-test.true) refl i.top i.state i.mode (within_constructed g.S.Source.stream g.met.S.Source.sound c.loop-opened.cons) c.in-Err-next_header.ensures.refused (ap g.S.Source.stream c.unwind-in-Err-next_header.ensures.source) (frames_unwound c.loop-opened.opened _ _ c.unwind-in-Err-next_header.ensures.limit)
 
 pub returns-in-Err-next_header-clause-name : goal.returns-in-Err-next_header-clause-name
-returns-in-Err-next_header-clause-name g c = moves_constructed_name g.S.Source.stream c.loop-outer.cons c.next_header.new.self c.next_header.ensures.moves ∙ c.loop-outer.invariant.name
+returns-in-Err-next_header-clause-name g c = moves_constructed_name g.S.Source.stream c.loop-opened.cons c.next_header.new.self c.next_header.ensures.moves ∙ c.loop-opened.invariant.name

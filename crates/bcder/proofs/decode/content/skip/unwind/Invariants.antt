@@ -1,13 +1,13 @@
 use Rattle.std.proofs.Common.{◌≡◌}
 use Rattle.smallvec.specs.SmallVec.{small_vec_len}
-use Rattle.bcder.specs.Stacked.{entries, unwound}
+use Rattle.bcder.specs.Stacked.{framed, unwound}
 use Rattle.bcder.proofs.decode.content.skip.unwind.Given as goal
 
-abbrev pub invariant-loop-entry : goal.invariant-loop-entry
-invariant-loop-entry g l = record {
-  limit : unwound (entries l.stack) l.source.limit ≡ unwound (entries l.fn.stack) l.fn.source.limit;
+abbrev pub invariant-loop-frame : goal.invariant-loop-frame
+invariant-loop-frame g l = record {
+  limit : unwound (framed l.frames) l.source.limit ≡ unwound (framed l.fn.frames) l.fn.source.limit;
   source : l.source.source ≡ l.fn.source.source;
 }
 
-abbrev pub decreases-loop-entry : goal.decreases-loop-entry
-decreases-loop-entry g l = small_vec_len l.stack
+abbrev pub decreases-loop-frame : goal.decreases-loop-frame
+decreases-loop-frame g l = small_vec_len l.frames
