@@ -46,6 +46,7 @@ pub mod Spelling
 pub mod Fewest
 pub mod Held
 pub mod ReadBack
+pub mod TakenBack
 pub mod Decimal
 pub mod Telling
 pub mod Growing

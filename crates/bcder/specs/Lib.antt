@@ -55,6 +55,7 @@ pub mod Alone
 pub mod Slices
 pub mod Written
 pub mod ReadBack
+pub mod TakenBack
 pub mod Front
 pub mod Iterated
 pub mod Gathered

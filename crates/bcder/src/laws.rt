@@ -12,6 +12,7 @@ pub mod identifiers;
 pub mod integers;
 pub mod read_back;
 pub mod sources;
+pub mod taken_back;
 
 use crate::tag::Tag;
 

@@ -9,7 +9,7 @@ use bcder::{ConstOid, Integer, Mode, Oid, Unsigned};
 use std::alloc::Global;
 use std::process::Abort;
 use std::test::Fail;
-use user::{Part, Request, Text, decode_extensions, write_request};
+use user::{Part, Request, Text, decode_extensions, write_and_read, write_request};
 
 /// What a request asks for, made with openssl: a name of two attributes, a key on the curve
 /// prime256v1, and a password.
@@ -64,6 +64,11 @@ fn a_request_is_that_of_openssl(rt: HostRuntime) -> Result<(), Fail> {
     );
     holds(&rt, written.as_slice() == wanted.as_slice());
     Ok(())
+}
+
+#[test]
+fn a_number_is_read_from_what_was_written(rt: HostRuntime) {
+    holds(&rt, write_and_read(rt.alloc(), 300, Mode::Cer).is_ok());
 }
 
 #[test]

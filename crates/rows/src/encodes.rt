@@ -2,7 +2,7 @@
 use crate::asserts::{holds, same};
 use crate::encoders::{Nulls, Zeros};
 use bcder::encode::{
-    Choice2, Choice3, EncodeError, Nothing, PrimitiveContent, Values, WriteError, sequence,
+    Choice2, Choice3, EncodeError, Nothing, PrimitiveContent, Values, WriteError, iter, sequence,
     sequence_as, set, set_as, slice, total_encoded_len, write_header,
 };
 use bcder::{Integer, Mode, Oid, Tag, Unsigned};
@@ -128,6 +128,17 @@ fn items_through_a_closure(rt: HostRuntime) -> Result<(), Fail> {
     let values = slice([1u8, 2, 3], |x: &u8| (*x).encode());
     let wanted = [0x02, 0x01, 0x01, 0x02, 0x01, 0x02, 0x02, 0x01, 0x03];
     writes_always(&rt, rt.alloc(), &values, &wanted)
+}
+
+#[test]
+fn items_of_an_iterator(rt: HostRuntime) -> Result<(), Fail> {
+    let numbers = [5u8, 1, 3];
+    let mut items = Vec::new(rt.alloc());
+    for number in iter(numbers.iter()) {
+        items.push(*number)?;
+    }
+    holds(&rt, items.as_slice() == numbers.as_slice());
+    Ok(())
 }
 
 #[test]

@@ -44,6 +44,18 @@ impl<T: IntoIterator + Clone> Iter<T> {
     }
 }
 
+impl<T: IntoIterator> IntoIterator for Iter<T> {
+    type Item = T::Item;
+
+    type IntoIter = T::IntoIter;
+
+    ghost into_iter_gives = { λ s r. T.into_iter_gives s.value r };
+
+    fn into_iter(self) -> T::IntoIter {
+        self.value.into_iter()
+    }
+}
+
 impl<T: IntoIterator + Clone> Parts for Iter<T>
 where
     T::Item: Values + Drop,

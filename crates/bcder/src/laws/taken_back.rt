@@ -1,0 +1,74 @@
+//! What is written is taken back as the same value: wherever the encoding that an encoder means
+//! stands in front of content in its mode, the typed takes answer this value, and leave what
+//! follows.
+ghost use Rattle.std.specs.Prelude.{⊤, pos, length, ◌<◌, ◌^◌};
+ghost use Rattle.std.specs.Int.{FitsUnsignedBits};
+ghost use Rattle.bcder.specs.Identifier.{boolean_tag, integer_tag, null_tag};
+ghost use Rattle.bcder.specs.Integer.{AreInteger, integer_octets};
+ghost use Rattle.bcder.specs.Readers.{IsUnsigned, IsTruth, IsNull, IsThis, MeanAnother, NoInteger};
+ghost use Rattle.bcder.specs.Readers.{NoUnsigned};
+ghost use Rattle.bcder.specs.TakenBack.{AreTakenBack, IsTakenBackBy, SourceFailed};
+ghost use Rattle.bcder.specs.TakenBack.{SourceFailedOrNoMemory};
+
+use crate::encode::{Primitive, Values};
+use crate::int::{Integer, Unsigned};
+use crate::mode::Mode;
+
+/// The unsigned integers of Rust are taken back by `Constructed::take_u8` to `take_u64`, unless the
+/// source fails, whose errors are of type `E`.
+pub fn unsigned_integers_are_taken_back<E>()
+    ensures of_8_bits { AreTakenBack E (λ n. FitsUnsignedBits 8 (pos n)) integer_tag
+        (λ _. IsUnsigned 8) (λ x. ⟦<Primitive<u8> as Values>⟧.means
+        (record { tag = integer_tag; prim = x })) }
+    ensures of_16_bits { AreTakenBack E (λ n. FitsUnsignedBits 16 (pos n)) integer_tag
+        (λ _. IsUnsigned 16) (λ x. ⟦<Primitive<u16> as Values>⟧.means
+        (record { tag = integer_tag; prim = x })) }
+    ensures of_32_bits { AreTakenBack E (λ n. FitsUnsignedBits 32 (pos n)) integer_tag
+        (λ _. IsUnsigned 32) (λ x. ⟦<Primitive<u32> as Values>⟧.means
+        (record { tag = integer_tag; prim = x })) }
+    ensures of_64_bits { AreTakenBack E (λ n. FitsUnsignedBits 64 (pos n)) integer_tag
+        (λ _. IsUnsigned 64) (λ x. ⟦<Primitive<u64> as Values>⟧.means
+        (record { tag = integer_tag; prim = x })) }
+{}
+
+/// Booleans and null are taken back by `Constructed::take_bool` and `take_null`.
+pub fn booleans_and_null_are_taken_back<E>()
+    ensures booleans { AreTakenBack E (λ _. ⊤) boolean_tag IsTruth
+        (λ x. ⟦<Primitive<bool> as Values>⟧.means (record { tag = boolean_tag; prim = x })) }
+    ensures null { AreTakenBack E (λ _. ⊤) null_tag (λ _. IsNull)
+        (λ x. ⟦<Primitive<()> as Values>⟧.means (record { tag = null_tag; prim = x })) }
+{}
+
+/// A `u8` is what `Constructed::skip_u8_if` skips that asks for it.
+pub fn a_small_integer_is_skipped<E>(x: u8, mode: Mode)
+    ensures { IsTakenBackBy {X = E} SourceFailed integer_tag (IsThis {T = Unit {0}} 8 x)
+        (MeanAnother x) mode
+        (⟦<Primitive<u8> as Values>⟧.means (record { tag = integer_tag; prim = x }) mode) tt }
+{
+    let _x = x;
+    let _mode = mode;
+}
+
+/// An integer of any size whose contents octets an encoding may have is taken back by
+/// `Integer::take_from`, where there is memory for them.
+pub fn an_integer_is_taken_back<'a, E>(x: &'a Integer, mode: Mode)
+    requires { length (integer_octets x.now) < 2 ^ 32 }
+    ensures { IsTakenBackBy {X = E} SourceFailedOrNoMemory integer_tag (λ w z. AreInteger z w)
+        NoInteger mode (⟦<Primitive<&'a Integer> as Values>⟧.means
+        (record { tag = integer_tag; prim = x.entry }) mode) x.now }
+{
+    let _x = x;
+    let _mode = mode;
+}
+
+/// One that isn't negative is taken back by `Unsigned::take_from`.
+pub fn an_unsigned_is_taken_back<'a, E>(x: &'a Unsigned, mode: Mode)
+    requires { length (integer_octets (pos x.now)) < 2 ^ 32 }
+    ensures { IsTakenBackBy {X = E} SourceFailedOrNoMemory integer_tag
+        (λ w n. AreInteger (pos n) w) NoUnsigned mode
+        (⟦<Primitive<&'a Unsigned> as Values>⟧.means
+        (record { tag = integer_tag; prim = x.entry }) mode) x.now }
+{
+    let _x = x;
+    let _mode = mode;
+}

@@ -1,0 +1,54 @@
+-- What was written of a number.
+use Rattle.std.proofs.Common.{◌≡◌, ℕ, List, Option, refl, subst, inl, inr}
+use Rattle.std.specs.Prelude.{pos, Result, Ok, Err, IfErr}
+use Rattle.std.specs.Io.KnownBytes.{Appends}
+use Rattle.std.specs.declared.string.ParseError.{Infallible}
+use Rattle.bcder.specs.declared.encode.error.EncodeError.{EncodeError}
+use Rattle.bcder.specs.declared.encode.error.EncodeError.TheVariants.{NoMemory, EndOfValueTag, LengthTooLarge, SizeOverflow, CapturedMode, LongCerBitString}
+use Rattle.bcder.specs.declared.encode.error.WriteError.{WriteError}
+use Rattle.bcder.specs.declared.encode.error.WriteError.TheVariants.{Refused, Target}
+use Rattle.bcder.specs.declared.decode.error.DecodeError.{DecodeError}
+use Rattle.bcder.specs.declared.decode.error.DecodeError.TheVariants as decoding
+use Rattle.bcder.specs.Cause.{cause_of, of_source}
+use Rattle.bcder.specs.declared.mode.Mode.{Mode}
+use Rattle.bcder.specs.declared.encode.primitive.Primitive.{Primitive}
+use Rattle.bcder.specs.Integer.{integer_octets}
+use Rattle.bcder.specs.Meaning.{Encoded, Meaning, Exactly, ValueMeans, primitive_meaning, octets_of}
+use Rattle.bcder.proofs.TakenBack.{written_whole}
+use Rattle.bcder.specs.Encoders.{Writes, RefusesBy}
+use Rattle.user.specs.Numbers.{IsOfTarget}
+
+-- one that means octets refuses none
+never_refused : (M : Meaning → Type 0) (a : Encoded) → ((m : Meaning) → M m → m ≡ Ok a) → (e : EncodeError) → RefusesBy M ⊥ e → ⊥
+never_refused M a only NoMemory r = r.lacking refl
+never_refused M a only EndOfValueTag r = (let h = only (Err EndOfValueTag) (r.meant (λ e. cc)) in cc)
+never_refused M a only LengthTooLarge r = (let h = only (Err LengthTooLarge) (r.meant (λ e. cc)) in cc)
+never_refused M a only SizeOverflow r = (let h = only (Err SizeOverflow) (r.meant (λ e. cc)) in cc)
+never_refused M a only CapturedMode r = (let h = only (Err CapturedMode) (r.meant (λ e. cc)) in cc)
+never_refused M a only LongCerBitString r = (let h = only (Err LongCerBitString) (r.meant (λ e. cc)) in cc)
+
+-- what the encoder of a number means
+abbrev pub number_means : Mode → Primitive ℕ → Meaning → Type 0
+number_means mode p = ValueMeans p.tag (primitive_meaning p.tag) (Exactly (integer_octets (pos p.prim)))
+
+module _ (mode : Mode) (p q : Primitive ℕ) (same : p ≡ q) (old new : Option (List ℕ)) (a : Encoded) (only : (m : Meaning) → number_means mode q m → m ≡ Ok a) where
+  only_of : (m : Meaning) → number_means mode p m → m ≡ Ok a
+  only_of m h = only m (subst (λ z. number_means mode z m) same h)
+
+  pub refused_target : (r : Result (Unit {0}) WriteError) → Writes octets_of (number_means mode p) ⊥ old new r → IfErr r IsOfTarget
+  refused_target (Ok u) w = tt
+  refused_target (Err (Target e)) w = tt
+  refused_target (Err (Refused e)) (inl w) = absurd (w.wrote.done.1)
+  refused_target (Err (Refused e)) (inr n) = absurd (never_refused (number_means mode p) a only_of n.error n.refuses)
+
+  pub written : Writes octets_of (number_means mode p) ⊥ old new (Ok tt) → Appends old new a.octets
+  written w = written_whole (number_means mode p) ⊥ old new a only_of w
+
+nothing_is_infallible : Infallible → ⊥
+nothing_is_infallible e = elim e [ ]
+
+-- a source that can't fail didn't
+pub no_source_error : (e : DecodeError Infallible) → cause_of e ≡ of_source → ⊥
+no_source_error (decoding.Source e) h = nothing_is_infallible e
+no_source_error (decoding.Content e p) h = cc
+no_source_error decoding.NoMemory h = cc

@@ -1,0 +1,27 @@
+//! Numbers that are written, and read again.
+ghost use Rattle.std.specs.Prelude.{◌≡◌, IfOk, IfErr};
+ghost use Rattle.user.specs.Numbers.{IsOfTarget};
+
+use bcder::Mode;
+use bcder::encode::{PrimitiveContent, Values, WriteError};
+use bcder::laws::taken_back::unsigned_integers_are_taken_back;
+use std::alloc::Global;
+use std::convert::Infallible;
+
+/// Writes a number, and reads it from what was written.
+///
+/// # Errors
+///
+/// `Target` where there is no memory for the octets.
+pub fn write_and_read(alloc: Global, number: u32, mode: Mode) -> Result<u32, WriteError>
+    ensures number { IfOk result (λ read. read ≡ number) }
+    ensures refused { IfErr result IsOfTarget }
+{
+    unsigned_integers_are_taken_back::<Infallible>();
+    let mut octets = Vec::new(alloc);
+    number.encode().write_encoded(mode, &mut octets)?;
+    match mode.decode(octets.as_slice(), |cons| cons.take_u32()) {
+        Ok(read) => Ok(read),
+        Err(_) => unreachable!(),
+    }
+}
