@@ -1,11 +1,12 @@
 -- What private steps of the encoders of one value answer.
-use Rattle.std.specs.Prelude.{◌≡◌, ℕ, ◌^◌, ◌<◌, true, false, List, length, Option, Result, Ok, Err}
+use Rattle.std.specs.Prelude.{◌≡◌, ℕ, ◌^◌, ◌<◌, true, false, List, length, Option, Some, None, Result, Ok, Err, nat_le, if◌then◌else◌}
 use Rattle.std.specs.Borrow.{MutBor}
 use denote.Triple.Both.{Both}
 use Rattle.bcder.specs.declared.encode.error.EncodeError.{EncodeError}
 use Rattle.bcder.specs.declared.encode.error.WriteError.{WriteError}
 use Rattle.bcder.specs.declared.encode.values.constructed.Sizes.{Sizes}
 use Rattle.bcder.specs.declared.length.Length.{Length}
+use Rattle.bcder.specs.declared.length.Length.TheVariants.{Definite, Indefinite}
 use Rattle.bcder.specs.declared.mode.Mode.{Mode}
 use Rattle.bcder.specs.Identifier.{Tag, IsValueTag}
 use Rattle.bcder.specs.Octets.{constructed_length, enclosed, enclosed_size}
@@ -37,3 +38,17 @@ abbrev pub WritesEnclosed : {W : Type 0} → (W → Option (List ℕ)) → Both 
 WritesEnclosed contents target t len mode M lacks r =
     (x : Encoded) → M (Ok x) → len ≡ constructed_length mode (length x.octets)
     → WroteOf lacks (enclosed mode t x.octets) (contents target.entry.now) (contents target.exit.now) r
+
+-- how many contents octets a length tells
+abbrev pub told_size : Length → Option ℕ
+told_size (Definite n) = Some n
+told_size Indefinite = None
+
+-- how many octets the length takes of those behind the identifier octets
+abbrev pub length_size : ℕ → ℕ
+length_size rest =
+    if nat_le rest 0x80 then 1
+    else if nat_le rest 0x101 then 2
+    else if nat_le rest 0x10002 then 3
+    else if nat_le rest 0x1000003 then 4
+    else 5

@@ -47,6 +47,11 @@ TellsSum M lacks (Err e) = RefusesBy M lacks e
 abbrev pub HasEncoding : (Meaning → Type 0) → Type 0
 HasEncoding M = (e : Encoded) × M (Ok e)
 
+-- n, where it is told, is the size of what is meant
+abbrev pub HasSize : (Meaning → Type 0) → Option ℕ → Type 0
+HasSize M (Some n) = (e : Encoded) → M (Ok e) → n ≡ length e.octets
+HasSize M None = ⊤
+
 -- ---- writing
 
 -- what a step's answer tells, with the error that stands in its slot

@@ -85,7 +85,7 @@ impl CapturedBuilder {
         }
         let before = self.octets.len();
         let mut why = slot();
-        match values.write_known(self.mode, &mut self.octets, &mut why) {
+        match values.write_known(Some(len), self.mode, &mut self.octets, &mut why) {
             Ok(()) => Ok(()),
             Err(Failed) => {
                 self.octets.truncate(before);

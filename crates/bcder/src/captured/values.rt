@@ -32,6 +32,7 @@ impl Values for Captured {
 
     fn write_known<W: io::Write>(
         &self,
+        _size: Option<usize>,
         _mode: Mode,
         target: &mut W,
         why: &mut WriteError,

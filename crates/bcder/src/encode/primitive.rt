@@ -228,6 +228,7 @@ impl<P: PrimitiveContent> Values for Primitive<P> {
     #[inline(always)]
     fn write_known<W: io::Write>(
         &self,
+        _size: Option<usize>,
         mode: Mode,
         target: &mut W,
         why: &mut WriteError,

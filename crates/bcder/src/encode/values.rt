@@ -3,7 +3,7 @@ ghost use Rattle.std.specs.Prelude.{◌≡◌, ⊤};
 ghost use Rattle.bcder.specs.declared.mode.Mode.{Mode};
 ghost use Rattle.bcder.specs.Meaning.{Meaning, IsLawful};
 ghost use Rattle.bcder.specs.Encoders.{HasEncoding, SizeOfValues, WritesValues, WritesKnown};
-ghost use Rattle.bcder.specs.Encoders.{told};
+ghost use Rattle.bcder.specs.Encoders.{HasSize, told};
 ghost use Rattle.bcder.specs.Gathered.{GathersValues};
 
 pub(crate) mod choice;
@@ -61,7 +61,7 @@ pub trait Values {
             (means self.now mode) (may_lack self.now mode) result };
 
     /// Writes the encoding where it is known that there is one, so that an encoder of many parts
-    /// looks for refusals once.
+    /// looks for refusals once. `size` is how many octets it has, where the caller knows that.
     ///
     /// # Errors
     ///
@@ -70,12 +70,14 @@ pub trait Values {
     #[inline(always)]
     fn write_known<W: io::Write>(
         &self,
+        _size: Option<usize>,
         mode: Mode,
         target: &mut W,
         why: &mut WriteError,
     ) -> Result<(), Failed>
         requires can { can_encode self.now }
         requires known { HasEncoding (means self.now mode) }
+        requires sized { HasSize (means self.now mode) _size }
         ensures { WritesKnown W.contents target
             (means self.now mode) (may_lack self.now mode) (told result why.new) }
     {
@@ -129,11 +131,12 @@ impl<V: Values> Values for &'_ V {
     #[inline(always)]
     fn write_known<W: io::Write>(
         &self,
+        size: Option<usize>,
         mode: Mode,
         target: &mut W,
         why: &mut WriteError,
     ) -> Result<(), Failed> {
-        (**self).write_known(mode, target, why)
+        (**self).write_known(size, mode, target, why)
     }
 
     ghost lawful = { λ x mode can. V.lawful x.now mode can };

@@ -55,13 +55,14 @@ impl<V: Values> Values for Option<V> {
 
     fn write_known<W: io::Write>(
         &self,
+        size: Option<usize>,
         mode: Mode,
         target: &mut W,
         why: &mut WriteError,
     ) -> Result<(), Failed> {
         match self {
-            Some(values) => values.write_known(mode, target, why),
-            None => Nothing.write_known(mode, target, why),
+            Some(values) => values.write_known(size, mode, target, why),
+            None => Nothing.write_known(size, mode, target, why),
         }
     }
 
@@ -101,13 +102,14 @@ impl<L: Values, R: Values> Values for Choice2<L, R> {
 
     fn write_known<W: io::Write>(
         &self,
+        size: Option<usize>,
         mode: Mode,
         target: &mut W,
         why: &mut WriteError,
     ) -> Result<(), Failed> {
         match self {
-            Choice2::One(values) => values.write_known(mode, target, why),
-            Choice2::Two(values) => values.write_known(mode, target, why),
+            Choice2::One(values) => values.write_known(size, mode, target, why),
+            Choice2::Two(values) => values.write_known(size, mode, target, why),
         }
     }
 
@@ -155,14 +157,15 @@ impl<L: Values, C: Values, R: Values> Values for Choice3<L, C, R> {
 
     fn write_known<W: io::Write>(
         &self,
+        size: Option<usize>,
         mode: Mode,
         target: &mut W,
         why: &mut WriteError,
     ) -> Result<(), Failed> {
         match self {
-            Choice3::One(values) => values.write_known(mode, target, why),
-            Choice3::Two(values) => values.write_known(mode, target, why),
-            Choice3::Three(values) => values.write_known(mode, target, why),
+            Choice3::One(values) => values.write_known(size, mode, target, why),
+            Choice3::Two(values) => values.write_known(size, mode, target, why),
+            Choice3::Three(values) => values.write_known(size, mode, target, why),
         }
     }
 

@@ -1,10 +1,12 @@
 //! Encoders of constructed values.
-ghost use Rattle.std.specs.Prelude.{◌≡◌, true};
+ghost use Rattle.std.specs.Prelude.{◌≡◌, ◌<◌, ◌+◌, ◌^◌, ℕ, length, true};
+ghost use Rattle.bcder.specs.declared.length.Length.TheVariants.{Definite};
 ghost use Rattle.bcder.specs.Identifier.{sequence_tag, set_tag};
-ghost use Rattle.bcder.specs.Octets.{fits_length, constructed_length, closing};
+ghost use Rattle.bcder.specs.Octets.{header, fits_length, constructed_length, closing};
 ghost use Rattle.bcder.specs.Meaning.{ValueMeans, constructed_meaning};
-ghost use Rattle.bcder.specs.Encoders.{HasEncoding, WroteOctets, told};
+ghost use Rattle.bcder.specs.Encoders.{HasEncoding, HasSize, WroteOctets, told};
 ghost use Rattle.bcder.specs.Enclosing.{EnclosedSize, InsideSizes, KnownLength, WritesEnclosed};
+ghost use Rattle.bcder.specs.Enclosing.{told_size, length_size};
 ghost use Rattle.bcder.specs.laws.Meanings.{constructed_lawful};
 
 use crate::encode::header::put_header;
@@ -114,15 +116,57 @@ fn constructed_length(mode: Mode, len: usize) -> Length
     }
 }
 
-/// The same for values that are known to have an encoding. In CER their size isn't asked for.
+/// How many contents octets a value of that many octets has, behind a definite length in the
+/// fewest octets (X.690, 10.1).
+#[tactic(auto, using(crate::proofs::nat_tests))]
+fn contents_size(tag: Tag, size: usize) -> usize
+    ensures { (n : ℕ) → n < 2 ^ 32 → size ≡ length (header tag true (Definite n)) + n
+        → result ≡ n }
+{
+    let rest = size.saturating_sub(tag.encoded_len());
+    rest.saturating_sub(length_size(rest))
+}
+
+/// How many octets the length takes of those behind the identifier octets.
+#[tactic(auto, using(crate::proofs::nat_tests))]
+fn length_size(rest: usize) -> usize
+    ensures { result ≡ length_size rest }
+{
+    if rest <= 0x80 {
+        1
+    } else if rest <= 0x101 {
+        2
+    } else if rest <= 0x1_0002 {
+        3
+    } else if rest <= 0x100_0003 {
+        4
+    } else {
+        5
+    }
+}
+
+/// What the length octets say of values that are known to have an encoding. `size` is how many
+/// octets the whole has, where that is known. In CER no size is asked for.
 #[inline(always)]
-fn known_length<V: Values>(inner: &V, mode: Mode) -> Result<Length, EncodeError>
+fn known_length<V: Values>(
+    tag: Tag,
+    size: Option<usize>,
+    inner: &V,
+    mode: Mode,
+) -> Result<Length, EncodeError>
     requires can { V.can_encode inner.now }
+    requires known { HasEncoding
+        (ValueMeans tag (constructed_meaning tag mode) (V.means inner.now mode)) }
+    requires sized { HasSize
+        (ValueMeans tag (constructed_meaning tag mode) (V.means inner.now mode)) size }
     ensures { KnownLength mode (V.means inner.now mode) (V.may_lack inner.now mode) result }
 {
     match mode {
         Mode::Cer => Ok(Length::Indefinite),
-        Mode::Ber | Mode::Der => Ok(Length::Definite(inner.encoded_len(mode)?)),
+        Mode::Ber | Mode::Der => match size {
+            Some(size) => Ok(Length::Definite(contents_size(tag, size))),
+            None => Ok(Length::Definite(inner.encoded_len(mode)?)),
+        },
     }
 }
 
@@ -134,6 +178,17 @@ fn put_closing<W: io::Write>(mode: Mode, target: &mut W, why: &mut WriteError) -
     match mode {
         Mode::Cer => put_all(target, &[0x00, 0x00], why),
         Mode::Ber | Mode::Der => put_all(target, &[], why),
+    }
+}
+
+/// How many contents octets a length tells.
+#[inline(always)]
+fn told_size(len: Length) -> Option<usize>
+    ensures { result ≡ told_size len }
+{
+    match len {
+        Length::Definite(len) => Some(len),
+        Length::Indefinite => None,
     }
 }
 
@@ -149,11 +204,12 @@ fn put_enclosed<V: Values, W: io::Write>(
     requires fits { fits_length len ≡ true }
     requires can { V.can_encode inner.now }
     requires known { HasEncoding (V.means inner.now mode) }
+    requires sized { HasSize (V.means inner.now mode) (told_size len) }
     ensures { WritesEnclosed W.contents target tag len mode
         (V.means inner.now mode) (V.may_lack inner.now mode) (told result why.new) }
 {
     put_header(target, tag, true, len, why)?;
-    inner.write_known(mode, target, why)?;
+    inner.write_known(told_size(len), mode, target, why)?;
     put_closing(mode, target, why)
 }
 
@@ -179,11 +235,12 @@ impl<V: Values> Values for Constructed<V> {
 
     fn write_known<W: io::Write>(
         &self,
+        size: Option<usize>,
         mode: Mode,
         target: &mut W,
         why: &mut WriteError,
     ) -> Result<(), Failed> {
-        match known_length(&self.inner, mode) {
+        match known_length(self.tag, size, &self.inner, mode) {
             Ok(len) => put_enclosed(self.tag, len, &self.inner, mode, target, why),
             Err(error) => Err(refused(why, error)),
         }

@@ -83,6 +83,7 @@ where
 
     fn write_parts<W: io::Write>(
         &self,
+        _size: Option<usize>,
         mode: Mode,
         target: &mut W,
         why: &mut WriteError,
@@ -92,7 +93,7 @@ where
             Err(_) => return Err(refused(why, EncodeError::NoMemory)),
         };
         for item in items {
-            item.write_known(mode, target, why)?;
+            item.write_known(None, mode, target, why)?;
         }
         Ok(())
     }
@@ -122,11 +123,12 @@ where
 
     fn write_known<W: io::Write>(
         &self,
+        size: Option<usize>,
         mode: Mode,
         target: &mut W,
         why: &mut WriteError,
     ) -> Result<(), Failed> {
-        write_known_parts(self, mode, target, why)
+        write_known_parts(self, size, mode, target, why)
     }
 
     ghost lawful = { λ x mode can.

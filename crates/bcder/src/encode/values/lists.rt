@@ -34,12 +34,13 @@ impl<'a, V: Values> Parts for Items<'a, V> {
 
     fn write_parts<W: io::Write>(
         &self,
+        _size: Option<usize>,
         mode: Mode,
         target: &mut W,
         why: &mut WriteError,
     ) -> Result<(), Failed> {
         for item in self.items {
-            item.write_known(mode, target, why)?;
+            item.write_known(None, mode, target, why)?;
         }
         Ok(())
     }
@@ -65,11 +66,12 @@ impl<V: Values> Values for &'_ [V] {
 
     fn write_known<W: io::Write>(
         &self,
+        size: Option<usize>,
         mode: Mode,
         target: &mut W,
         why: &mut WriteError,
     ) -> Result<(), Failed> {
-        write_known_parts(&Items { items: *self }, mode, target, why)
+        write_known_parts(&Items { items: *self }, size, mode, target, why)
     }
 
     ghost lawful = { λ x mode can.
@@ -93,11 +95,12 @@ impl<V: Values> Values for Vec<V> {
 
     fn write_known<W: io::Write>(
         &self,
+        size: Option<usize>,
         mode: Mode,
         target: &mut W,
         why: &mut WriteError,
     ) -> Result<(), Failed> {
-        self.as_slice().write_known(mode, target, why)
+        self.as_slice().write_known(size, mode, target, why)
     }
 
     ghost lawful = { λ x mode can.

@@ -75,7 +75,7 @@ fn write_item<U, V: Values + Drop, F: Fn(&U) -> V, W: io::Write>(
         (ItemLacks F.Fn f.now V.may_lack mode item.now) (told result why.new) }
 {
     let value = call_on(f, item);
-    value.write_known(mode, target, why)
+    value.write_known(None, mode, target, why)
 }
 
 /// The items and the closure.
@@ -104,6 +104,7 @@ impl<'a, F: Fn(&U) -> V, U, V: Values + Drop> Parts for Mapped<'a, F, U, V> {
 
     fn write_parts<W: io::Write>(
         &self,
+        _size: Option<usize>,
         mode: Mode,
         target: &mut W,
         why: &mut WriteError,
@@ -148,6 +149,7 @@ impl<T: AsSlice<U>, F: Fn(&U) -> V, U, V: Values + Drop> Values for Slice<T, F, 
 
     fn write_known<W: io::Write>(
         &self,
+        size: Option<usize>,
         mode: Mode,
         target: &mut W,
         why: &mut WriteError,
@@ -158,7 +160,7 @@ impl<T: AsSlice<U>, F: Fn(&U) -> V, U, V: Values + Drop> Values for Slice<T, F, 
             f: &self.f,
             marker: PhantomData,
         };
-        write_known_parts(&parts, mode, target, why)
+        write_known_parts(&parts, size, mode, target, why)
     }
 
     ghost lawful = { λ x mode can. Joined_lawful (EachOf_lawful mode

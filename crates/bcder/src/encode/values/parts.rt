@@ -1,9 +1,9 @@
 //! Encoders one after the other.
-ghost use Rattle.std.specs.Prelude.{◌≡◌, ℕ, ◌+◌, ⊤, ◌⊎◌};
+ghost use Rattle.std.specs.Prelude.{◌≡◌, ℕ, ◌+◌, ⊤, ◌⊎◌, IsTrue, IfSome};
 ghost use Rattle.bcder.specs.declared.mode.Mode.{Mode};
 ghost use Rattle.bcder.specs.Meaning.{Meaning, IsLawful};
 ghost use Rattle.bcder.specs.Encoders.{HasEncoding, SizeOfValues, WritesValues, WritesParts};
-ghost use Rattle.bcder.specs.Encoders.{TellsSum, WritesKnown, told};
+ghost use Rattle.bcder.specs.Encoders.{TellsSum, WritesKnown, HasSize, told};
 ghost use Rattle.bcder.specs.Joined.{Then, NoValues, Joined, IsSum};
 ghost use Rattle.bcder.specs.laws.Joined.{Then_lawful, NoValues_lawful};
 
@@ -26,17 +26,28 @@ pub(crate) trait Parts {
         requires { can_encode self.now }
         ensures { TellsSum (all self.now mode) (may_lack self.now mode) result };
 
-    /// Writes the parts where it is known that none is refused.
+    /// Writes the parts where it is known that none is refused. `size` is how many octets they
+    /// have, where the caller knows that.
     fn write_parts<W: io::Write>(
         &self,
+        size: Option<usize>,
         mode: Mode,
         target: &mut W,
         why: &mut WriteError,
     ) -> Result<(), Failed>
         requires can { can_encode self.now }
         requires known { HasEncoding (all self.now mode) }
+        requires sized { HasSize (all self.now mode) size }
         ensures { WritesParts W.contents target
             (all self.now mode) (may_lack self.now mode) (told result why.new) };
+
+    /// Whether there is no part.
+    #[inline(always)]
+    fn is_none(&self) -> bool
+        ensures { IsTrue result → (mode : Mode) (m : Meaning) → all self.now mode m → NoValues m }
+    {
+        false
+    }
 
     ghost all_lawful: { (x : Self) (mode : Mode) → can_encode x → IsLawful mode (all x mode) };
 }
@@ -62,25 +73,27 @@ pub(crate) fn write_joined<P: Parts, W: io::Write>(
     ensures { WritesValues W.contents target
         (Joined (P.all parts.now mode)) (P.may_lack parts.now mode) result }
 {
-    joined_len(parts, mode)?;
+    let size = joined_len(parts, mode)?;
     let mut why = slot();
-    let outcome = parts.write_parts(mode, target, &mut why);
+    let outcome = parts.write_parts(Some(size), mode, target, &mut why);
     told(outcome, why)
 }
 
 /// Writes the parts where it is known that there is an encoding.
 pub(crate) fn write_known_parts<P: Parts, W: io::Write>(
     parts: &P,
+    size: Option<usize>,
     mode: Mode,
     target: &mut W,
     why: &mut WriteError,
 ) -> Result<(), Failed>
     requires can { P.can_encode parts.now }
     requires known { HasEncoding (Joined (P.all parts.now mode)) }
+    requires sized { HasSize (Joined (P.all parts.now mode)) size }
     ensures { WritesKnown W.contents target
         (Joined (P.all parts.now mode)) (P.may_lack parts.now mode) (told result why.new) }
 {
-    parts.write_parts(mode, target, why)
+    parts.write_parts(size, mode, target, why)
 }
 
 /// A sum of sizes with one more.
@@ -111,6 +124,7 @@ impl Parts for End {
 
     fn write_parts<W: io::Write>(
         &self,
+        _size: Option<usize>,
         _mode: Mode,
         _target: &mut W,
         _why: &mut WriteError,
@@ -118,7 +132,27 @@ impl Parts for End {
         Ok(())
     }
 
+    #[inline(always)]
+    fn is_none(&self) -> bool {
+        true
+    }
+
     ghost all_lawful = { λ _ mode _. NoValues_lawful mode };
+}
+
+/// A size less that of the first part.
+#[inline(always)]
+fn less(size: Option<usize>, first: Option<usize>) -> Option<usize>
+    ensures { (k n : ℕ) → IfSome size (λ s. s ≡ k + n) → IfSome first (λ f. f ≡ k)
+        → IfSome result (λ r. r ≡ n) }
+{
+    match size {
+        Some(size) => match first {
+            Some(first) => size.checked_sub(first),
+            None => None,
+        },
+        None => None,
+    }
 }
 
 /// A part and those after it.
@@ -126,6 +160,31 @@ impl Parts for End {
 pub(crate) struct Chain<'a, V, R> {
     pub(super) first: &'a V,
     pub(super) rest: R,
+}
+
+impl<'a, V: Values, R: Parts> Chain<'a, V, R> {
+    /// How many octets the first part has, where it is known how many all have. The last part
+    /// isn't asked.
+    #[inline(always)]
+    fn first_size(&self, size: Option<usize>, mode: Mode) -> Option<usize>
+        requires can { V.can_encode self.now.first.now }
+        requires known { HasEncoding
+            (Then (V.means self.now.first.now mode) (R.all self.now.rest mode)) }
+        requires sized { HasSize
+            (Then (V.means self.now.first.now mode) (R.all self.now.rest mode)) size }
+        ensures { HasSize (V.means self.now.first.now mode) result }
+    {
+        if self.rest.is_none() {
+            return size;
+        }
+        match size {
+            Some(_) => match self.first.encoded_len(mode) {
+                Ok(len) => Some(len),
+                Err(_) => None,
+            },
+            None => None,
+        }
+    }
 }
 
 impl<'a, V: Values, R: Parts> Parts for Chain<'a, V, R> {
@@ -146,12 +205,14 @@ impl<'a, V: Values, R: Parts> Parts for Chain<'a, V, R> {
 
     fn write_parts<W: io::Write>(
         &self,
+        size: Option<usize>,
         mode: Mode,
         target: &mut W,
         why: &mut WriteError,
     ) -> Result<(), Failed> {
-        self.first.write_known(mode, target, why)?;
-        self.rest.write_parts(mode, target, why)
+        let first = self.first_size(size, mode);
+        self.first.write_known(first, mode, target, why)?;
+        self.rest.write_parts(less(size, first), mode, target, why)
     }
 
     ghost all_lawful = { λ x mode can.
@@ -171,11 +232,17 @@ impl<R: Parts> Parts for &'_ R {
 
     fn write_parts<W: io::Write>(
         &self,
+        size: Option<usize>,
         mode: Mode,
         target: &mut W,
         why: &mut WriteError,
     ) -> Result<(), Failed> {
-        (**self).write_parts(mode, target, why)
+        (**self).write_parts(size, mode, target, why)
+    }
+
+    #[inline(always)]
+    fn is_none(&self) -> bool {
+        (**self).is_none()
     }
 
     ghost all_lawful = { λ x mode can. R.all_lawful x.now mode can };
@@ -224,6 +291,7 @@ impl<'a, A: Values, B: Values, C: Values, D: Values, R: Parts> Parts for Four<'a
 
     fn write_parts<W: io::Write>(
         &self,
+        size: Option<usize>,
         mode: Mode,
         target: &mut W,
         why: &mut WriteError,
@@ -245,7 +313,7 @@ impl<'a, A: Values, B: Values, C: Values, D: Values, R: Parts> Parts for Four<'a
             first: self.a,
             rest,
         };
-        all.write_parts(mode, target, why)
+        all.write_parts(size, mode, target, why)
     }
 
     ghost all_lawful = { λ x mode can. Then_lawful (A.lawful x.a.now mode can.0)

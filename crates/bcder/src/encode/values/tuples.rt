@@ -42,6 +42,7 @@ impl<A: Values> Values for (A,) {
 
     fn write_known<W: io::Write>(
         &self,
+        size: Option<usize>,
         mode: Mode,
         target: &mut W,
         why: &mut WriteError,
@@ -52,6 +53,7 @@ impl<A: Values> Values for (A,) {
                 first: a,
                 rest: End,
             },
+            size,
             mode,
             target,
             why,
@@ -100,6 +102,7 @@ impl<A: Values, B: Values> Values for (A, B) {
 
     fn write_known<W: io::Write>(
         &self,
+        size: Option<usize>,
         mode: Mode,
         target: &mut W,
         why: &mut WriteError,
@@ -113,6 +116,7 @@ impl<A: Values, B: Values> Values for (A, B) {
                     rest: End,
                 },
             },
+            size,
             mode,
             target,
             why,
@@ -169,6 +173,7 @@ impl<A: Values, B: Values, C: Values> Values for (A, B, C) {
 
     fn write_known<W: io::Write>(
         &self,
+        size: Option<usize>,
         mode: Mode,
         target: &mut W,
         why: &mut WriteError,
@@ -185,6 +190,7 @@ impl<A: Values, B: Values, C: Values> Values for (A, B, C) {
                     },
                 },
             },
+            size,
             mode,
             target,
             why,
@@ -237,6 +243,7 @@ impl<A: Values, B: Values, C: Values, D: Values> Values for (A, B, C, D) {
 
     fn write_known<W: io::Write>(
         &self,
+        size: Option<usize>,
         mode: Mode,
         target: &mut W,
         why: &mut WriteError,
@@ -250,6 +257,7 @@ impl<A: Values, B: Values, C: Values, D: Values> Values for (A, B, C, D) {
                 d,
                 rest: End,
             },
+            size,
             mode,
             target,
             why,
@@ -308,6 +316,7 @@ impl<A: Values, B: Values, C: Values, D: Values, E: Values> Values for (A, B, C,
 
     fn write_known<W: io::Write>(
         &self,
+        size: Option<usize>,
         mode: Mode,
         target: &mut W,
         why: &mut WriteError,
@@ -324,6 +333,7 @@ impl<A: Values, B: Values, C: Values, D: Values, E: Values> Values for (A, B, C,
                     rest: End,
                 },
             },
+            size,
             mode,
             target,
             why,
@@ -392,6 +402,7 @@ impl<A: Values, B: Values, C: Values, D: Values, E: Values, F: Values> Values
 
     fn write_known<W: io::Write>(
         &self,
+        size: Option<usize>,
         mode: Mode,
         target: &mut W,
         why: &mut WriteError,
@@ -411,6 +422,7 @@ impl<A: Values, B: Values, C: Values, D: Values, E: Values, F: Values> Values
                     },
                 },
             },
+            size,
             mode,
             target,
             why,
@@ -486,6 +498,7 @@ impl<A: Values, B: Values, C: Values, D: Values, E: Values, F: Values, G: Values
 
     fn write_known<W: io::Write>(
         &self,
+        size: Option<usize>,
         mode: Mode,
         target: &mut W,
         why: &mut WriteError,
@@ -508,6 +521,7 @@ impl<A: Values, B: Values, C: Values, D: Values, E: Values, F: Values, G: Values
                     },
                 },
             },
+            size,
             mode,
             target,
             why,
@@ -580,6 +594,7 @@ impl<A: Values, B: Values, C: Values, D: Values, E: Values, F: Values, G: Values
 
     fn write_known<W: io::Write>(
         &self,
+        size: Option<usize>,
         mode: Mode,
         target: &mut W,
         why: &mut WriteError,
@@ -599,6 +614,7 @@ impl<A: Values, B: Values, C: Values, D: Values, E: Values, F: Values, G: Values
                     rest: End,
                 },
             },
+            size,
             mode,
             target,
             why,
@@ -688,6 +704,7 @@ impl<
 
     fn write_known<W: io::Write>(
         &self,
+        size: Option<usize>,
         mode: Mode,
         target: &mut W,
         why: &mut WriteError,
@@ -710,6 +727,7 @@ impl<
                     },
                 },
             },
+            size,
             mode,
             target,
             why,
@@ -807,6 +825,7 @@ impl<
 
     fn write_known<W: io::Write>(
         &self,
+        size: Option<usize>,
         mode: Mode,
         target: &mut W,
         why: &mut WriteError,
@@ -832,6 +851,7 @@ impl<
                     },
                 },
             },
+            size,
             mode,
             target,
             why,
@@ -939,6 +959,7 @@ impl<
 
     fn write_known<W: io::Write>(
         &self,
+        size: Option<usize>,
         mode: Mode,
         target: &mut W,
         why: &mut WriteError,
@@ -967,6 +988,7 @@ impl<
                     },
                 },
             },
+            size,
             mode,
             target,
             why,
@@ -1072,6 +1094,7 @@ impl<
 
     fn write_known<W: io::Write>(
         &self,
+        size: Option<usize>,
         mode: Mode,
         target: &mut W,
         why: &mut WriteError,
@@ -1097,6 +1120,7 @@ impl<
                     },
                 },
             },
+            size,
             mode,
             target,
             why,

@@ -2,9 +2,15 @@ use Rattle.std.proofs.Common.{subst, Some}
 use Rattle.bcder.specs.Captured.{Kept}
 use Rattle.bcder.specs.Encoders.{WritesEncoding, told}
 use Rattle.bcder.specs.Gathered.{kept_from_start, GrowsBy}
+use Rattle.bcder.proofs.Joining.{one_size}
 use Rattle.bcder.proofs.Writing.{same_told}
 use Rattle.bcder.proofs.Gathering.{written_grows, whole_grown}
 use Rattle.bcder.proofs.captured.builder.CapturedBuilder.extend.Goals as goal
+
+pub write_known-requires-clause-sized : goal.write_known-requires-clause-sized
+write_known-requires-clause-sized g c =
+    let (e, meant, size) = c.in_ok-len.ensures in
+    one_size (g.met.V.Values.lawful c.args.values c.self.inside.mode c.requires).one _ e meant size
 
 pub invariant_of-self-in-Ok : goal.invariant_of-self-in-Ok
 invariant_of-self-in-Ok g c =

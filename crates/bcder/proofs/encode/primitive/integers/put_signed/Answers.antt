@@ -1,4 +1,4 @@
-use Rattle.std.proofs.Common.{rules, ◌≡◌, drop, ◌∙◌}
+use Rattle.std.proofs.Common.{rules, ◌≡◌, drop}
 use Rattle.bcder.specs.Integer.{integer_octets}
 use Rattle.bcder.proofs.Writing.{exactly}
 use Rattle.bcder.proofs.encode.primitive.integers.put_signed.Goals as goal

@@ -7,6 +7,7 @@ write_known-requires g c =
     let gives = c.call_on-value.ensures in
     record {
       can = c.requires.may.1 _ gives.shown gives.shows gives.met;
+      sized = tt;
       known = (c.requires.known.0, item_means g.F.Fn c.args.f.now c.requires.may gives _ c.requires.known.1);
     }
 

@@ -2,13 +2,16 @@ use Rattle.std.proofs.Common.{ap, sym, ◌∙◌, inl}
 use Rattle.bcder.specs.Octets.{fits_length, constructed_length}
 use Rattle.bcder.specs.Meaning.{constructed_encoded, fits_enclosed}
 use Rattle.bcder.proofs.Enclosing.{constructed_given, length_fits}
+use Rattle.bcder.proofs.Joining.{length_told}
 use Rattle.bcder.proofs.Writing.{same_answer}
 use Rattle.bcder.proofs.encode.values.constructed.ConstructedValues.write_encoded.Goals as goal
 
 pub put_enclosed-outcome-requires : goal.put_enclosed-outcome-requires
 put_enclosed-outcome-requires g c =
     let (x, meant, len_is, whole_is, fits, value) = c.in_ok-sizes.ensures in
-    record { fits = ap fits_length c.constructed_length-len.ensures ∙ length_fits c.args.mode c.args.self.now.tag _ fits; can = c.requires; known = (x, meant) }
+    let one = (g.met.V.Values.lawful c.args.self.now.inner c.args.mode c.requires).one in
+    let len = c.constructed_length-len.ensures ∙ ap (constructed_length c.args.mode) len_is in
+    record { sized = length_told one c.args.mode x meant _ len; fits = ap fits_length c.constructed_length-len.ensures ∙ length_fits c.args.mode c.args.self.now.tag _ fits; can = c.requires; known = (x, meant) }
 
 pub returns : goal.returns
 returns g c =

@@ -16,6 +16,7 @@ write_known-requires g c =
     let so_far = subst (λ P. WrittenSoFar (EachOf M xs) P (g.W.Write.contents c.args.target.now) (g.W.Write.contents c.loop-item.target)) at c.loop-item.invariant in
     record {
       can = subst g.V.Values.can_encode (sym c.item-item.is) (c.requires.can c.loop-item.item-index x c.loop-item-test.true);
+      sized = tt;
       known = next_known (M x) (EachOf M (drop (c.loop-item.item-index + 1) xs)) so_far c.requires.known;
     }
 

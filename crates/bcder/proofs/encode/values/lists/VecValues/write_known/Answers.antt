@@ -1,8 +1,12 @@
-use Rattle.std.proofs.Common.{subst, List, Any}
+use Rattle.std.proofs.Common.{subst, sym, List, Any}
 use Rattle.bcder.specs.Joined.{EachOf, Joined}
-use Rattle.bcder.specs.Encoders.{WritesEncoding, told}
+use Rattle.bcder.specs.Encoders.{WritesEncoding, HasSize, told}
 use Rattle.bcder.specs.Meaning.{IsOne}
 use Rattle.bcder.proofs.encode.values.lists.VecValues.write_known.Goals as goal
+
+pub write_known-requires-clause-sized : goal.write_known-requires-clause-sized
+write_known-requires-clause-sized g c =
+    subst (λ (xs : List g.row.V.Denot). HasSize (Joined (EachOf (λ v. g.V.Values.means v c.args.mode) xs)) c.args.size) (sym c.as_slice.ensures.value) c.requires.sized
 
 pub returns : goal.returns
 returns g c =

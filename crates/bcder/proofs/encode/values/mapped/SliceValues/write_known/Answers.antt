@@ -1,12 +1,17 @@
 use Rattle.std.proofs.Common.{subst, sym, All, List, Any}
 use Rattle.bcder.specs.Slices.{MayMap, ItemMeans, ItemLacks}
 use Rattle.bcder.specs.Joined.{EachOf, Joined}
-use Rattle.bcder.specs.Encoders.{WritesEncoding, told}
+use Rattle.bcder.specs.Encoders.{WritesEncoding, HasSize, told}
 use Rattle.bcder.specs.Meaning.{IsOne}
 use Rattle.bcder.proofs.encode.values.mapped.SliceValues.write_known.Goals as goal
 
 pub write_known_parts-requires-clause-can : goal.write_known_parts-requires-clause-can
 write_known_parts-requires-clause-can g c = subst (All (MayMap g.F.Fn c.args.self.now.f g.V.Values.can_encode g.V.Values.means)) (sym c.as_slice-items.ensures) c.requires.can
+
+pub write_known_parts-requires-clause-sized : goal.write_known_parts-requires-clause-sized
+write_known_parts-requires-clause-sized g c =
+    let M = ItemMeans g.F.Fn c.args.self.now.f g.V.Values.means c.args.mode in
+    subst (λ (xs : List g.row.U.Denot). HasSize (Joined (EachOf M xs)) c.args.size) (sym c.as_slice-items.ensures) c.requires.sized
 
 pub returns : goal.returns
 returns g c =
