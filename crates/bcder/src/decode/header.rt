@@ -150,6 +150,21 @@ fn short_header(octets: &[u8]) -> Option<Header>
     }
 }
 
+/// What end-of-contents octets at the front are as a header, if they are there.
+#[inline(always)]
+fn short_end(octets: &[u8]) -> Option<Header>
+    ensures { IfSome result (λ h. StandsShort h octets.now) }
+{
+    match octets {
+        [leading, len, ..] if *len == 0 && *leading == 0 => Some(Header {
+            tag: Tag::END_OF_VALUE,
+            constructed: false,
+            len: Length::Definite(0),
+        }),
+        _ => None,
+    }
+}
+
 /// The header of two octets at the front with the indefinite length, if there is one: a tag that
 /// the leading octet tells alone.
 #[tactic(auto, using(crate::proofs::nat_tests))]
@@ -180,6 +195,9 @@ pub(crate) fn peek<S: Source>(source: &mut S, mode: Mode) -> Result<Peeked, S::E
 {
     let found = source.request(2)?;
     let octets = &source.slice()[..found];
+    if let Some(header) = short_end(octets) {
+        return Ok(Peeked::Front { header, size: 2 });
+    }
     if let Some(header) = short_header(octets) {
         return Ok(Peeked::Front { header, size: 2 });
     }
