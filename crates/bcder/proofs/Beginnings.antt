@@ -5,7 +5,7 @@ use Rattle.std.proofs.lemmas.List.{length-append, take-append-le, drop_at}
 use Rattle.bcder.specs.declared.mode.Mode.{Mode}
 use Rattle.bcder.specs.declared.length.Length.{Length}
 use Rattle.bcder.specs.declared.length.Length.TheVariants.{Definite, Indefinite}
-use Rattle.bcder.specs.Identifier.{AreOctets, Tag, IsTag, base128, identifier}
+use Rattle.bcder.specs.Identifier.{AreOctets, Tag, end_of_contents, IsTag, base128, identifier}
 use Rattle.bcder.specs.Length.{big_endian, AreLengthOctets}
 use Rattle.bcder.specs.Reading.{may_tell, read_long, read_length, third_digit, second_digit, read_number, class_of, is_marked, read_identifier, read_front}
 use Rattle.bcder.specs.Begins.{BeginsNoIdentifier, BeginsLength, BeginsNoLength}
@@ -221,6 +221,13 @@ unfolding read_front read_identifier read_length
 short_stands mode [] x t f n two low short tag mark len = absurd (omega arith)
 short_stands mode (b ∷ []) x t f n two low short tag mark len = absurd (omega arith)
 short_stands mode (b ∷ l ∷ w) x t f n two low short tag mark len = rw (lt-ltb (b % 32) 31 low, lt-ltb l 128 short, tag, mark, len) refl
+
+-- also where both are zero
+pub end_stands : (mode : Mode) (w x : List ℕ) (t : Tag) (f : Bool) (n : ℕ) → 2 ≤ length w → get_or w 0 0 ≡ 0 → get_or w 1 0 ≡ 0 → t ≡ end_of_contents → f ≡ false → n ≡ 0 → read_front mode (w ++ x) ≡ Some (record { tag = t; form = f; len = Definite n }, drop 2 (w ++ x))
+unfolding read_front read_identifier read_length class_of is_marked
+end_stands mode [] x t f n two low len tag mark is = absurd (omega arith)
+end_stands mode (b ∷ []) x t f n two low len tag mark is = absurd (omega arith)
+end_stands mode (b ∷ l ∷ w) x t f n two low len tag mark is = rw (low, len, tag, mark, is) refl
 
 -- or 128
 pub indefinite_stands : (mode : Mode) (w x : List ℕ) (t : Tag) (f : Bool) → 2 ≤ length w → get_or w 0 0 % 32 < 31 → get_or w 1 0 ≡ 128 → t ≡ record { class = class_of (get_or w 0 0); number = get_or w 0 0 % 32 } → f ≡ is_marked (get_or w 0 0) → read_front mode (w ++ x) ≡ Some (record { tag = t; form = f; len = Indefinite }, drop 2 (w ++ x))

@@ -1,8 +1,7 @@
 -- What a run over the values of a value did, step by step.
-use Rattle.std.proofs.Common.{◌≡◌, ◌⊎◌, inl, inr, ℕ, ◌+◌, ◌<◌, ◌≤◌, Bool, false, List, [], ◌∷◌, ◌++◌, length, drop, Option, Some, None, Ok, Err, IfSome, refl, sym, ap, subst, ◌∙◌, arith, length-append}
-use Rattle.std.specs.Prelude.{◌^◌, ◌==◌}
-use Rattle.std.proofs.lemmas.List.{length-drop, length-reverse}
-use Rattle.std.proofs.lemmas.Bool.Decides.{nat_tests}
+use Rattle.std.proofs.Common.{◌≡◌, ◌⊎◌, inl, inr, ℕ, ◌+◌, ◌<◌, ◌≤◌, false, List, [], ◌∷◌, ◌++◌, length, drop, Option, Some, None, Ok, Err, IfSome, refl, sym, ap, subst, ◌∙◌, arith, length-append}
+use Rattle.std.specs.Prelude.{◌^◌}
+use Rattle.std.proofs.lemmas.List.{length-drop}
 use Rattle.bcder.specs.declared.decode.content.skip.Opened.{Opened}
 use Rattle.std.proofs.lemmas.Fn.{FoldsTo-push}
 use Rattle.bcder.specs.declared.mode.Mode.{Mode}

@@ -1,5 +1,5 @@
 -- What skipping promises of content, by what a run over the content of a value did.
-use Rattle.std.proofs.Common.{◌≡◌, ◌≢◌, inl, inr, ℕ, ◌+◌, ◌*◌, ◌≤◌, true, false, List, [], ◌∷◌, ◌++◌, length, Option, Some, None, Ok, Err, refl, sym, ap, subst, ◌∙◌, arith, append_assoc, append-nil, length-append}
+use Rattle.std.proofs.Common.{◌≡◌, ◌≢◌, inl, inr, ℕ, ◌+◌, ◌*◌, ◌≤◌, true, false, List, [], ◌∷◌, ◌++◌, length, take, Option, Some, None, Ok, Err, refl, sym, ap, subst, ◌∙◌, arith, append_assoc, append-nil, length-append}
 use Rattle.std.specs.Prelude.{Result, IsOk, IsErrAnd, ◌⊎◌, ◌<◌}
 use Rattle.std.proofs.lemmas.List.{append_cancel_right}
 use Rattle.bcder.specs.declared.mode.Mode.{Mode}
@@ -15,7 +15,11 @@ use Rattle.bcder.specs.Encoding.{IsEncoding}
 use Rattle.bcder.specs.Preorder.{Heading, preorder}
 use Rattle.bcder.specs.Reading.{Header, read_header, read_contents, read_list, read_tree}
 use Rattle.bcder.specs.Stream.{Stream, Grew, cut, past, limited}
-use Rattle.bcder.specs.Content.{Reading, Octets, Resembles, any, Falls, Moves, Advances, Enters, EndsBefore, EndsAt, IsDone, NotAtEnd}
+use Rattle.std.proofs.lemmas.Grind.{common_steps}
+use Rattle.bcder.specs.declared.decode.header.Header.{Header as Kept}
+use Rattle.bcder.specs.declared.length.Length.TheVariants.{Definite}
+use Rattle.bcder.specs.Peek.{header as header_of, IsAllHere}
+use Rattle.bcder.specs.Content.{Accepts, FitsOwed, Reading, Octets, Resembles, any, Falls, Moves, Advances, Enters, EndsBefore, EndsAt, IsDone, NotAtEnd}
 use Rattle.bcder.specs.Grammar.{IsOnly}
 use Rattle.bcder.specs.Walking.{HasValue, NoValue, PassesValue, RefusesWalk, AnswersNext, HasValues, Walks}
 use Rattle.bcder.specs.Walking as walking
@@ -182,6 +186,21 @@ module _ (c d e : Reading) (k : Header) (s t : Stream) (o p : Option ℕ) (withi
         go : (calls : List Heading) × PassesCalls c.mode s o calls t p → Moves c e
         go q = moves_failed c e (x.octets ++ q.1.passed) (advances_whole q.0 q.1 l) (λ z. ea ∙ x.unmarked ∙ z) ends st
 
+-- ---- a header of two octets of a value that is here
+
+pub whole_accepted : (j d : Reading) (h : Kept) (n : ℕ) → IsAllHere h n → n ≤ length j.stream.rest → Within j → Advances j d (take 2 j.stream.rest) → Accepts j.mode (header_of h) d.owed
+whole_accepted j d h n w l wi a = (w.is_value, rw (w.form, w.tells) refl, rw w.tells (go j.owed d.owed refl a.owed))
+  where
+    go : (p q : Option ℕ) → j.owed ≡ p → Falls p (length (take 2 j.stream.rest)) q → FitsOwed (Definite w.len) q
+    go p None e f = refl
+    go None (Some m) e f = absurd (f refl)
+    go (Some k) (Some m) e f =
+        let x : length j.stream.rest ≤ k = wi.fits k e in
+        let y : 2 + w.len ≤ n = w.within in
+        let z : length (take 2 j.stream.rest) ≤ 2 = grind (arith, common_steps) in
+        let u : k ≡ length (take 2 j.stream.rest) + m = f in
+        omega (arith, x, y, z, u, l)
+
 -- ---- the same of content of which only the header was passed
 
 past_within : (c d : Reading) (k : Header) → IsPast c k d → Within c
@@ -326,6 +345,27 @@ module _ {X : Type 0} (why : X → Cause ContentError) (c d e : Reading) where
   looked_skipped (Ok None) s f p = record { value = tt; end = looked_ends c d e.stream.rest s p.end; done = p.done; no_fault = p.no_fault ∙ f; refused = tt; failed = tt; mode = p.mode ∙ s.mode; marked = p.marked ∙ s.marked }
   looked_skipped (Ok (Some x)) s f p = record { value = looked_passes c d e s p.value; end = tt; done = tt; no_fault = p.no_fault ∙ f; refused = tt; failed = tt; mode = p.mode ∙ s.mode; marked = p.marked ∙ s.marked }
   looked_skipped (Err x) s f p = record { value = tt; end = tt; done = tt; no_fault = tt; refused = looked_one s f x p.refused; failed = p.failed; mode = p.mode ∙ s.mode; marked = p.marked ∙ s.marked }
+
+-- a call with a closure that went on from there went on from the content itself
+module _ {F X : Type 0} (why : X → Cause ContentError) (step : Steps F ContentError) (c d e : Reading) (f g : F) (s : Resembles c d) (nf : d.stream.faults ≡ c.stream.faults) where
+  looked_skip : (y : X) → RefusesSkip why step d f y g e → RefusesSkip why step c f y g e
+  looked_skip y (skipping.RefusesSkip.by_content calls called were r) = skipping.RefusesSkip.by_content calls called (looked_calls why c d e s calls were) (looked_refused why c d e s nf y r)
+  looked_skip y (skipping.RefusesSkip.by_closure calls h q x called r were j) = skipping.RefusesSkip.by_closure calls h q x called r (looked_calls why c d e s (calls ++ h ∷ []) were) j
+  looked_skip y (skipping.RefusesSkip.by_memory calls h called were b l j) = skipping.RefusesSkip.by_memory calls h called (looked_calls why c d e s (calls ++ h ∷ []) were) b l j
+
+  abbrev looked_at : PassesValue d e → PassesValue c e
+  looked_at p = record {
+    tree = p.tree;
+    value = p.value;
+    has = record { usable = sym s.state ∙ p.has.usable; encodes = subst (λ m. IsEncoding m p.tree p.value) s.mode p.has.encodes; rest = sym s.rest ∙ p.has.rest };
+    only = subst (λ m. IsOnly m p.tree p.value c.stream.rest) s.mode (subst (λ z. IsOnly d.mode p.tree p.value z) s.rest p.only);
+    stays = p.stays;
+  }
+
+  pub looked_told : {T : Type 0} (r : Result (Option T) X) → SkippedBy why step d f r g e → SkippedBy why step c f r g e
+  looked_told (Ok None) p = record { value = tt; end = looked_ends c d e.stream.rest s p.end; done = p.done; uncalled = p.uncalled; no_fault = p.no_fault ∙ nf; refused = tt; failed = tt; mode = p.mode ∙ s.mode; marked = p.marked ∙ s.marked }
+  looked_told (Ok (Some x)) p = record { value = record { passes = looked_at p.value.passes; called = p.value.called; were = looked_calls why c d e s (preorder p.value.passes.tree 0) p.value.were }; end = tt; done = tt; uncalled = tt; no_fault = p.no_fault ∙ nf; refused = tt; failed = tt; mode = p.mode ∙ s.mode; marked = p.marked ∙ s.marked }
+  looked_told (Err x) p = record { value = tt; end = tt; done = tt; uncalled = tt; no_fault = tt; refused = looked_skip x p.refused; failed = p.failed; mode = p.mode ∙ s.mode; marked = p.marked ∙ s.marked }
 
 -- where memory was found, refusals are those of a walk
 walk_of_one : {S : Type 0} (c d : Reading) (e : DecodeError S) → (cause_of e ≡ of_memory → ⊥) → RefusesOne cause_of c e d → RefusesWalk cause_of c e d

@@ -10,7 +10,7 @@ use Rattle.std.proofs.Common.{inl, inr, Ok, Err, Result, is_err, IsOk}
 use Rattle.std.proofs.lemmas.Bool.{cases_lt}
 use Rattle.bcder.specs.declared.decode.content.skip.Frame.{Frame}
 use Rattle.bcder.specs.declared.decode.content.skip.Opened.{Opened}
-use Rattle.bcder.specs.Stacked.{joined, unwound, Counts, indefinites, around, framed, entries, IsCounted, TopIs}
+use Rattle.bcder.specs.Stacked.{joined, unwound, Counts, indefinites, around, framed, IsCounted, TopIs}
 use Rattle.bcder.specs.Content.{Falls}
 use Rattle.bcder.specs.laws.Sound.{none_is, some_inj}
 

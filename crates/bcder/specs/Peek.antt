@@ -1,5 +1,5 @@
 -- What stands at the front of a source, and what can be told of it from the octets at hand.
-use Rattle.std.specs.Prelude.{◌≡◌, ◌≢◌, ◌⊎◌, ℕ, ◌<◌, ◌≤◌, Bool, List, [], ◌++◌, length, drop, Option, Some, None}
+use Rattle.std.specs.Prelude.{◌≡◌, ◌≢◌, ◌⊎◌, ℕ, ◌+◌, ◌<◌, ◌≤◌, Bool, true, false, List, [], ◌++◌, length, drop, Option, Some, None}
 use Rattle.bcder.specs.declared.mode.Mode.{Mode}
 use Rattle.bcder.specs.declared.decode.header.Header.{Header as Kept}
 use Rattle.bcder.specs.declared.decode.header.Peeked.{Peeked}
@@ -9,7 +9,8 @@ use Rattle.bcder.specs.declared.decode.header.PeekedIf.TheVariants as peeked_if
 use Rattle.bcder.specs.declared.decode.header.Seen.{Seen}
 use Rattle.bcder.specs.declared.decode.header.Seen.TheVariants as seen
 use Rattle.bcder.specs.Identifier.{Tag}
-use Rattle.bcder.specs.Reading.{Header, read_identifier, read_length, read_front}
+use Rattle.bcder.specs.declared.length.Length.TheVariants.{Definite}
+use Rattle.bcder.specs.Reading.{Header, is_value_tag, read_identifier, read_length, read_front}
 use Rattle.bcder.specs.Stream.{Stream}
 
 -- a header as the program keeps it
@@ -57,3 +58,11 @@ SeesIf mode t (Some s) w = SeesOf mode t s w
 -- a header of two octets, in every mode and whatever follows them
 abbrev pub StandsShort : Kept → List ℕ → Type 0
 StandsShort h w = (2 ≤ length w) × ((mode : Mode) (x : List ℕ) → read_front mode (w ++ x) ≡ Some (header h, drop 2 (w ++ x)))
+
+-- the header of two octets of a primitive value, whose octets are among n
+pub record IsAllHere (h : Kept) (n : ℕ) : Type 0 where
+  pub is_value : is_value_tag h.tag ≡ true
+  pub form : h.constructed ≡ false
+  pub len : ℕ
+  pub tells : h.len ≡ Definite len
+  pub within : 2 + len ≤ n

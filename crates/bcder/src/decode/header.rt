@@ -3,7 +3,8 @@ ghost use Rattle.std.specs.Prelude.{◌≡◌, ℕ, ◌<◌, ◌≤◌, List, �
 ghost use Rattle.std.specs.Prelude.{Some, None, IfSome, IfOk, OnOk, OnErr};
 ghost use Rattle.bcder.specs.Stream.{Grew};
 ghost use Rattle.bcder.specs.Reading.{read_identifier, read_length};
-ghost use Rattle.bcder.specs.Peek.{Peeks, PeeksIf, Sees, SeesOf, SeesIf, StandsShort};
+ghost use Rattle.bcder.specs.declared.mode.Mode.{Mode as ModeValue};
+ghost use Rattle.bcder.specs.Peek.{IsAllHere, Peeks, PeeksIf, Sees, SeesOf, SeesIf, StandsShort};
 
 use crate::decode::source::Source;
 use crate::length::take::length_goes_on;
@@ -150,6 +151,21 @@ fn short_header(octets: &[u8]) -> Option<Header>
     }
 }
 
+/// What end-of-contents octets at the front are as a header, if they are there.
+#[inline(always)]
+fn short_end(octets: &[u8]) -> Option<Header>
+    ensures { IfSome result (λ h. StandsShort h octets.now) }
+{
+    match octets {
+        [leading, len, ..] if *len == 0 && *leading == 0 => Some(Header {
+            tag: Tag::END_OF_VALUE,
+            constructed: false,
+            len: Length::Definite(0),
+        }),
+        _ => None,
+    }
+}
+
 /// The header of two octets at the front with the indefinite length, if there is one: a tag that
 /// the leading octet tells alone.
 #[tactic(auto, using(crate::proofs::nat_tests))]
@@ -167,6 +183,47 @@ fn short_indefinite(octets: &[u8]) -> Option<Header>
     }
 }
 
+/// The header of two octets at the front, if it is that of a primitive value whose octets are all
+/// here.
+#[inline(always)]
+fn short_whole(octets: &[u8]) -> Option<Header>
+    ensures stands { IfSome result (λ h. StandsShort h octets.now) }
+    ensures whole { IfSome result (λ h. IsAllHere h (length octets.now)) }
+{
+    let Some(header) = short_header(octets) else {
+        return None;
+    };
+    match header.len {
+        Length::Definite(len) => {
+            if header.constructed || !header.tag.is_value() || octets.len() - 2 < len {
+                return None;
+            }
+            Some(header)
+        }
+        Length::Indefinite => None,
+    }
+}
+
+/// The same at the front of a source, of which none is taken. It asks for two octets. An error is
+/// the source's own.
+#[inline(always)]
+pub(crate) fn peek_whole<S: Source>(source: &mut S) -> Result<Option<Header>, S::Error>
+    ensures peeked { IfOk result (λ o. IfSome o (λ h.
+        (mode : ModeValue) → Peeks mode (Peeked.Front h 2) (S.stream source.new))) }
+    ensures whole { IfOk result (λ o. IfSome o (λ h.
+        IsAllHere h (S.stream source.new).avail)) }
+    ensures no_fault { OnOk result ((S.stream source.new).faults ≡ (S.stream source.old).faults) }
+    ensures fault { OnErr result (Grew (S.stream source.old).faults (S.stream source.new).faults) }
+    ensures rest { (S.stream source.new).rest ≡ (S.stream source.old).rest }
+    ensures kept { (S.stream source.new).kept ≡ (S.stream source.old).kept }
+{
+    let found = source.request(2)?;
+    match short_whole(&source.slice()[..found]) {
+        Some(header) => Ok(Some(header)),
+        None => Ok(None),
+    }
+}
+
 /// What stands at the front of a source. It asks for no more octets than the header has, for two at
 /// least, and takes none. An error is the source's own.
 #[inline(always)]
@@ -180,6 +237,9 @@ pub(crate) fn peek<S: Source>(source: &mut S, mode: Mode) -> Result<Peeked, S::E
 {
     let found = source.request(2)?;
     let octets = &source.slice()[..found];
+    if let Some(header) = short_end(octets) {
+        return Ok(Peeked::Front { header, size: 2 });
+    }
     if let Some(header) = short_header(octets) {
         return Ok(Peeked::Front { header, size: 2 });
     }

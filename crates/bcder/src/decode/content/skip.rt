@@ -1,26 +1,30 @@
 //! Passing over values with a stack of limits, and a closure that is told of each.
 ghost use Rattle.std.specs.Prelude.{◌≡◌, ◌+◌, ◌^◌, ◌<◌, ◌≤◌, [], ◌∷◌, true, false, IfSome, OnOk};
+ghost use Rattle.std.specs.Prelude.{IfErr, IfNone, IfOk, OnErr};
+ghost use Rattle.bcder.specs.declared.decode.header.Peeked.{Peeked};
 ghost use Rattle.bcder.specs.declared.mode.Mode.{Mode as ModeValue};
-ghost use Rattle.bcder.specs.Cause.{cause_of, of_content, of_memory, of_source, IsOfContent};
+ghost use Rattle.bcder.specs.Cause.{cause_of, of_content, of_memory, of_source, stop_cause};
+ghost use Rattle.bcder.specs.Cause.{IsOfContent};
 ghost use Rattle.bcder.specs.Cause.{IsRefusal};
-ghost use Rattle.bcder.specs.Content.{FitsOwed, Moves};
+ghost use Rattle.bcder.specs.Content.{FitsOwed, Moves, Resembles};
 ghost use Rattle.bcder.specs.Encoding.{may_have};
 ghost use Rattle.bcder.specs.Inside.{kind_behind, limit_inside};
 ghost use Rattle.bcder.specs.Stacked.{Counts, Gone, IsCounted, Leaves, Ran, RanOverSource, TopIs};
 ghost use Rattle.bcder.specs.Skipping.{ExactlyAll, ExactlySkipped, ExactlyValue, FoundMemory};
-ghost use Rattle.bcder.specs.Skipping.{MovedBehind, SkippedBehind};
+ghost use Rattle.bcder.specs.Skipping.{IsPast, MovedBehind, SkippedBehind};
+ghost use Rattle.bcder.specs.Peek.{header as header_of, IsAllHere, Peeks};
 ghost use Rattle.bcder.specs.Skipping.{SkippedAll, SkippedNext, SkippedOne, SkippedValue};
 ghost use Rattle.bcder.specs.Stacked.{entries, entry_of, framed, halt_cause, joined, limit_in};
 ghost use Rattle.bcder.specs.Stacked.{unwound};
 ghost use Rattle.bcder.specs.Stream.{limit_left};
-ghost use Rattle.bcder.specs.Views.{after, before, Moved};
-ghost use Rattle.bcder.specs.Walking.{ExactlyNext};
+ghost use Rattle.bcder.specs.Views.{after, before, limited_stream, Moved};
+ghost use Rattle.bcder.specs.Walking.{Between, ExactlyNext, Fault, NoFault};
 
 use super::inside::{go_inside, kind_behind};
 use super::walk::Looked;
 use super::{Constructed, Kind, State};
 use crate::decode::error::{ContentError, DecodeError};
-use crate::decode::header::Header;
+use crate::decode::header::{Header, peek_whole};
 use crate::decode::source::{LimitedSource, Source};
 use crate::decode::stop::Stop;
 use crate::length::Length;
@@ -484,6 +488,95 @@ impl<'a, S: Source> Constructed<'a, S> {
         }
     }
 
+    /// Looks at the header of the next value, if it is primitive, has a header of two octets, and
+    /// all of its octets are at hand. Nothing is taken.
+    #[tactic(auto, unfolding(crate::specs::Views::of_constructed))]
+    #[inline(always)]
+    fn look_at_octets(&mut self) -> Result<Option<Header>, S::Error>
+        ensures same { Between S.stream self Resembles }
+        ensures peeked { IfOk result (λ o. IfSome o (λ h.
+            Peeks self.old.mode (Peeked.Front h 2) (limited_stream S.stream self.new.source.now))) }
+        ensures whole { IfOk result (λ o. IfSome o (λ h.
+            IsAllHere h (limited_stream S.stream self.new.source.now).avail)) }
+        ensures no_fault { OnOk result (NoFault S.stream self) }
+        ensures fault { OnErr result (Fault S.stream self) }
+    {
+        peek_whole(self.source)
+    }
+
+    /// Passes over the header of the next value, if it is primitive, has a header of two octets,
+    /// and all of its octets are at hand. Else nothing is taken. The source is asked once at most.
+    #[tactic(auto, using(crate::proofs::moves_refl), unfolding(crate::specs::Views::views))]
+    #[inline(always)]
+    fn enter_octets(&mut self) -> Result<Option<Header>, Stop<S::Error>>
+        ensures moves { Between S.stream self Moves }
+        ensures entered { IfOk result (λ o. IfSome o (λ h.
+            IsPast (before S.stream self) (header_of h) (after S.stream self))) }
+        ensures primitive { IfOk result (λ o. IfSome o (λ h. h.constructed ≡ false)) }
+        ensures definite { IfOk result (λ o. IfSome o (λ h. h.len ≡ Length.Indefinite → ⊥)) }
+        ensures same { IfOk result (λ o. IfNone o (Between S.stream self Resembles)) }
+        ensures no_fault { OnOk result (NoFault S.stream self) }
+        ensures fault { IfErr result (λ e. (stop_cause e ≡ of_source) × Fault S.stream self) }
+        ensures failed { OnErr result (self.new.state ≡ State.Failed) }
+        ensures mode { self.new.mode ≡ self.old.mode }
+        ensures marked { self.new.marked ≡ self.old.marked }
+    {
+        let State::Open = self.state else {
+            return Ok(None);
+        };
+        if self.is_used_up() {
+            return Ok(None);
+        }
+        match self.look_at_octets() {
+            Ok(Some(header)) => {
+                self.pass(2);
+                Ok(Some(header))
+            }
+            Ok(None) => Ok(None),
+            Err(error) => {
+                self.state = State::Failed;
+                Err(Stop::Source(error))
+            }
+        }
+    }
+
+    /// As `skip_opt`, whatever stands in front.
+    #[inline(never)]
+    fn skip_next<F>(
+        &mut self,
+        alloc: Global,
+        op: &mut F,
+    ) -> Result<Option<()>, DecodeError<S::Error>>
+    where
+        F: FnMut(Tag, bool, usize) -> Result<(), ContentError>,
+        requires { F.IsAlwaysCallable op.old }
+        ensures moves { Moves (before S.stream self) (after S.stream self) }
+        ensures skipped { SkippedNext S.stream F.step self op result }
+    {
+        match self.next_header() {
+            Ok(Some(header)) => self.skip_behind(alloc, header, op),
+            Ok(None) => Ok(None),
+            Err(stop) => Err(self.stopped(stop)),
+        }
+    }
+
+    /// The same, with room for the answer that is cleared here, and not before the first look.
+    #[inline(always)]
+    fn skip_next_on<F>(
+        &mut self,
+        alloc: Global,
+        op: &mut F,
+    ) -> Result<Option<()>, DecodeError<S::Error>>
+    where
+        F: FnMut(Tag, bool, usize) -> Result<(), ContentError>,
+        requires { F.IsAlwaysCallable op.old }
+        ensures moves { Moves (before S.stream self) (after S.stream self) }
+        ensures skipped { SkippedNext S.stream F.step self op result }
+    {
+        let skipped = self.skip_next(alloc, op);
+        skipped
+    }
+
     /// Passes over the next value, or answers `None` at the end of the content, whose marker it
     /// takes.
     ///
@@ -515,9 +608,9 @@ impl<'a, S: Source> Constructed<'a, S> {
         ensures skipped { SkippedNext S.stream F.step self op result }
         ensures exact { ExactlySkipped S.stream F.step self op result }
     {
-        match self.next_header() {
-            Ok(Some(header)) => self.skip_behind(alloc, header, op),
-            Ok(None) => Ok(None),
+        match self.enter_octets() {
+            Ok(Some(header)) => self.skip_octets(header, op),
+            Ok(None) => self.skip_next_on(alloc, op),
             Err(stop) => Err(self.stopped(stop)),
         }
     }

@@ -1,75 +1,56 @@
-use Rattle.std.proofs.Common.{refl}
-use Rattle.bcder.specs.Cause.{cause_of, stop_cause}
-use Rattle.bcder.specs.Peek.{header}
+use Rattle.bcder.specs.Cause.{cause_of}
 use Rattle.bcder.specs.Views.{of_constructed}
+use Rattle.bcder.specs.Walking.{source}
 use Rattle.bcder.proofs.Carrying.{carries}
+use Rattle.bcder.proofs.Moving.{moves_trans}
 use Rattle.bcder.proofs.Names.{within_constructed}
-use Rattle.bcder.proofs.Skipped.{skipped_end, skipped_none, answers_skip}
-use Rattle.bcder.proofs.Stepping.{next_refused}
-use Rattle.bcder.proofs.Stopping.{walk_stopped}
-use Rattle.bcder.proofs.Taking.{allowed_entered}
-use Rattle.bcder.proofs.Running.{entered_fits}
+use Rattle.bcder.proofs.Skipped.{skipped_none, answers_skip, looked_told}
 use Rattle.bcder.proofs.decode.content.Constructed.skip_opt.Goals as goal
 
-pub skip_behind-requires-clause-allowed : goal.skip_behind-requires-clause-allowed
+pub skip_octets-requires-clause-primitive : goal.skip_octets-requires-clause-primitive
 unfolding of_constructed
-skip_behind-requires-clause-allowed g c =
-    let e = rw c.in-Ok-Some.field-0-is at c.in-Ok-Some.ensures.entered in
-    allowed_entered (of_constructed g.S.Source.stream c.args.self.now) (header c.in-Ok-Some.header) (of_constructed g.S.Source.stream c.next_header.new.self) e.1
+skip_octets-requires-clause-primitive g c = rw c.in-Ok-Some.field-0-is at c.in-Ok-Some.ensures.primitive
 
-pub skip_behind-requires-clause-fits : goal.skip_behind-requires-clause-fits
+pub skip_octets-requires-clause-definite : goal.skip_octets-requires-clause-definite
 unfolding of_constructed
-skip_behind-requires-clause-fits g c =
-    let e = rw c.in-Ok-Some.field-0-is at c.in-Ok-Some.ensures.entered in
-    entered_fits (of_constructed g.S.Source.stream c.args.self.now) (of_constructed g.S.Source.stream c.next_header.new.self) (header c.in-Ok-Some.header) _ refl e.1
+skip_octets-requires-clause-definite g c = rw c.in-Ok-Some.field-0-is at c.in-Ok-Some.ensures.definite
+
+pub skip_octets-requires-clause-fits : goal.skip_octets-requires-clause-fits
+unfolding of_constructed
+skip_octets-requires-clause-fits g c = (rw c.in-Ok-Some.field-0-is at c.in-Ok-Some.ensures.entered).enters.fits
 
 pub returns-in-Ok-Some-clause-moves : goal.returns-in-Ok-Some-clause-moves
 unfolding of_constructed
-returns-in-Ok-Some-clause-moves g c =
-    let e = rw c.in-Ok-Some.field-0-is at c.in-Ok-Some.ensures.entered in
-    let w = within_constructed g.S.Source.stream g.met.S.Source.sound c.args.self.now in
-    carries _ _ (c.skip_behind.ensures.moves (of_constructed g.S.Source.stream c.args.self.now) (record { enters = e.1; no_fault = c.in-Ok-Some.ensures.no_fault; octets = w.octets; fits = w.fits }))
+returns-in-Ok-Some-clause-moves g c = carries _ _ (c.skip_octets.ensures.moves (of_constructed g.S.Source.stream c.args.self.now) (rw c.in-Ok-Some.field-0-is at c.in-Ok-Some.ensures.entered))
 
 pub returns-in-Ok-Some-clause-skipped : goal.returns-in-Ok-Some-clause-skipped
 unfolding of_constructed
-returns-in-Ok-Some-clause-skipped g c =
-    let e = rw c.in-Ok-Some.field-0-is at c.in-Ok-Some.ensures.entered in
-    let w = within_constructed g.S.Source.stream g.met.S.Source.sound c.args.self.now in
-    c.skip_behind.ensures.skipped (of_constructed g.S.Source.stream c.args.self.now) (record { enters = e.1; no_fault = c.in-Ok-Some.ensures.no_fault; octets = w.octets; fits = w.fits })
+returns-in-Ok-Some-clause-skipped g c = c.skip_octets.ensures.skipped (of_constructed g.S.Source.stream c.args.self.now) (rw c.in-Ok-Some.field-0-is at c.in-Ok-Some.ensures.entered)
 
 pub returns-in-Ok-Some-clause-exact : goal.returns-in-Ok-Some-clause-exact
 unfolding of_constructed
-returns-in-Ok-Some-clause-exact g c =
-    let e = rw c.in-Ok-Some.field-0-is at c.in-Ok-Some.ensures.entered in
-    let w = within_constructed g.S.Source.stream g.met.S.Source.sound c.args.self.now in
-    λ n. answers_skip cause_of _ _ _ _ _ w n _ (c.skip_behind.ensures.skipped (of_constructed g.S.Source.stream c.args.self.now) (record { enters = e.1; no_fault = c.in-Ok-Some.ensures.no_fault; octets = w.octets; fits = w.fits }))
+returns-in-Ok-Some-clause-exact g c = λ n. answers_skip cause_of _ _ _ _ _ (within_constructed g.S.Source.stream g.met.S.Source.sound c.args.self.now) n _ (c.skip_octets.ensures.skipped (of_constructed g.S.Source.stream c.args.self.now) (rw c.in-Ok-Some.field-0-is at c.in-Ok-Some.ensures.entered))
 
 pub returns-in-Ok-None-clause-moves : goal.returns-in-Ok-None-clause-moves
-returns-in-Ok-None-clause-moves g c =
-    carries _ _ c.next_header.ensures.moves
+unfolding of_constructed
+returns-in-Ok-None-clause-moves g c = carries _ _ (moves_trans _ _ _ c.enter_octets.ensures.moves c.skip_next_on.ensures.moves)
 
 pub returns-in-Ok-None-clause-skipped : goal.returns-in-Ok-None-clause-skipped
 unfolding of_constructed
-returns-in-Ok-None-clause-skipped g c =
-    let n = rw c.in-Ok-None.field-0-is at c.in-Ok-None.ensures.none in
-    skipped_end cause_of _ (of_constructed g.S.Source.stream c.args.self.now) (of_constructed g.S.Source.stream c.next_header.new.self) c.args.op.now c.next_header.ensures.mode c.next_header.ensures.marked n.missing.0 n.missing.1 n.no_fault
+returns-in-Ok-None-clause-skipped g c = looked_told cause_of _ (of_constructed g.S.Source.stream c.args.self.now) (of_constructed g.S.Source.stream c.enter_octets.new.self) (of_constructed g.S.Source.stream c.skip_next_on.new.self) c.args.op.now c.skip_next_on.new.op (rw c.in-Ok-None.field-0-is at c.in-Ok-None.ensures.same) c.in-Ok-None.ensures.no_fault _ c.skip_next_on.ensures.skipped
 
 pub returns-in-Ok-None-clause-exact : goal.returns-in-Ok-None-clause-exact
 unfolding of_constructed
-returns-in-Ok-None-clause-exact g c =
-    let n = rw c.in-Ok-None.field-0-is at c.in-Ok-None.ensures.none in
-    λ z. answers_skip cause_of _ _ _ _ _ (within_constructed g.S.Source.stream g.met.S.Source.sound c.args.self.now) z _ (skipped_end cause_of _ (of_constructed g.S.Source.stream c.args.self.now) (of_constructed g.S.Source.stream c.next_header.new.self) c.args.op.now c.next_header.ensures.mode c.next_header.ensures.marked n.missing.0 n.missing.1 n.no_fault)
+returns-in-Ok-None-clause-exact g c = λ n. answers_skip cause_of _ _ _ _ _ (within_constructed g.S.Source.stream g.met.S.Source.sound c.args.self.now) n _ (looked_told cause_of _ (of_constructed g.S.Source.stream c.args.self.now) (of_constructed g.S.Source.stream c.enter_octets.new.self) (of_constructed g.S.Source.stream c.skip_next_on.new.self) c.args.op.now c.skip_next_on.new.op (rw c.in-Ok-None.field-0-is at c.in-Ok-None.ensures.same) c.in-Ok-None.ensures.no_fault _ c.skip_next_on.ensures.skipped)
 
 pub returns-in-Err-clause-moves : goal.returns-in-Err-clause-moves
-returns-in-Err-clause-moves g c =
-    carries _ _ c.next_header.ensures.moves
+unfolding of_constructed
+returns-in-Err-clause-moves g c = carries _ _ c.enter_octets.ensures.moves
 
 pub returns-in-Err-clause-skipped : goal.returns-in-Err-clause-skipped
 unfolding of_constructed
-returns-in-Err-clause-skipped g c =
-    skipped_none cause_of _ (of_constructed g.S.Source.stream c.args.self.now) (of_constructed g.S.Source.stream c.next_header.new.self) c.args.op.now c.next_header.ensures.mode c.next_header.ensures.marked c.stopped.result c.next_header.ensures.moves (walk_stopped stop_cause cause_of _ _ c.stopped.ensures.refused c.stopped.ensures.source _ _ (next_refused stop_cause (of_constructed g.S.Source.stream c.args.self.now) (of_constructed g.S.Source.stream c.next_header.new.self) _ (within_constructed g.S.Source.stream g.met.S.Source.sound c.args.self.now) c.in-Err.ensures.refused)) c.in-Err.ensures.failed
+returns-in-Err-clause-skipped g c = skipped_none cause_of _ (of_constructed g.S.Source.stream c.args.self.now) (of_constructed g.S.Source.stream c.enter_octets.new.self) c.args.op.now c.enter_octets.ensures.mode c.enter_octets.ensures.marked c.stopped.result c.enter_octets.ensures.moves (source (c.stopped.ensures.source c.in-Err.ensures.fault.0) c.in-Err.ensures.fault.1) c.in-Err.ensures.failed
 
 pub returns-in-Err-clause-exact : goal.returns-in-Err-clause-exact
 unfolding of_constructed
-returns-in-Err-clause-exact g c =
-    λ n. answers_skip cause_of _ _ _ _ _ (within_constructed g.S.Source.stream g.met.S.Source.sound c.args.self.now) n _ (skipped_none cause_of _ (of_constructed g.S.Source.stream c.args.self.now) (of_constructed g.S.Source.stream c.next_header.new.self) c.args.op.now c.next_header.ensures.mode c.next_header.ensures.marked c.stopped.result c.next_header.ensures.moves (walk_stopped stop_cause cause_of _ _ c.stopped.ensures.refused c.stopped.ensures.source _ _ (next_refused stop_cause (of_constructed g.S.Source.stream c.args.self.now) (of_constructed g.S.Source.stream c.next_header.new.self) _ (within_constructed g.S.Source.stream g.met.S.Source.sound c.args.self.now) c.in-Err.ensures.refused)) c.in-Err.ensures.failed)
+returns-in-Err-clause-exact g c = λ n. answers_skip cause_of _ _ _ _ _ (within_constructed g.S.Source.stream g.met.S.Source.sound c.args.self.now) n _ (skipped_none cause_of _ (of_constructed g.S.Source.stream c.args.self.now) (of_constructed g.S.Source.stream c.enter_octets.new.self) c.args.op.now c.enter_octets.ensures.mode c.enter_octets.ensures.marked c.stopped.result c.enter_octets.ensures.moves (source (c.stopped.ensures.source c.in-Err.ensures.fault.0) c.in-Err.ensures.fault.1) c.in-Err.ensures.failed)

@@ -1,4 +1,4 @@
-use Rattle.std.proofs.Common.{refl, arith}
+use Rattle.std.proofs.Common.{refl}
 use Rattle.bcder.proofs.Unwinding.{top_definite}
 use Rattle.bcder.proofs.decode.content.skip.Opened.kind.Goals as goal
 

@@ -1,0 +1,56 @@
+use Rattle.std.proofs.Common.{refl}
+use Rattle.bcder.specs.Cause.{cause_of, stop_cause}
+use Rattle.bcder.specs.Peek.{header}
+use Rattle.bcder.specs.Views.{of_constructed}
+use Rattle.bcder.proofs.Names.{within_constructed}
+use Rattle.bcder.proofs.Skipped.{skipped_end, skipped_none}
+use Rattle.bcder.proofs.Stepping.{next_refused}
+use Rattle.bcder.proofs.Stopping.{walk_stopped}
+use Rattle.bcder.proofs.Taking.{allowed_entered}
+use Rattle.bcder.proofs.Running.{entered_fits}
+use Rattle.bcder.proofs.decode.content.Constructed.skip_next.Goals as goal
+
+pub skip_behind-requires-clause-allowed : goal.skip_behind-requires-clause-allowed
+unfolding of_constructed
+skip_behind-requires-clause-allowed g c =
+    let e = rw c.in-Ok-Some.field-0-is at c.in-Ok-Some.ensures.entered in
+    allowed_entered (of_constructed g.S.Source.stream c.args.self.now) (header c.in-Ok-Some.header) (of_constructed g.S.Source.stream c.next_header.new.self) e.1
+
+pub skip_behind-requires-clause-fits : goal.skip_behind-requires-clause-fits
+unfolding of_constructed
+skip_behind-requires-clause-fits g c =
+    let e = rw c.in-Ok-Some.field-0-is at c.in-Ok-Some.ensures.entered in
+    entered_fits (of_constructed g.S.Source.stream c.args.self.now) (of_constructed g.S.Source.stream c.next_header.new.self) (header c.in-Ok-Some.header) _ refl e.1
+
+pub returns-in-Ok-Some-clause-moves : goal.returns-in-Ok-Some-clause-moves
+unfolding of_constructed
+returns-in-Ok-Some-clause-moves g c =
+    let e = rw c.in-Ok-Some.field-0-is at c.in-Ok-Some.ensures.entered in
+    let w = within_constructed g.S.Source.stream g.met.S.Source.sound c.args.self.now in
+    c.skip_behind.ensures.moves (of_constructed g.S.Source.stream c.args.self.now) (record { enters = e.1; no_fault = c.in-Ok-Some.ensures.no_fault; octets = w.octets; fits = w.fits })
+
+pub returns-in-Ok-Some-clause-skipped : goal.returns-in-Ok-Some-clause-skipped
+unfolding of_constructed
+returns-in-Ok-Some-clause-skipped g c =
+    let e = rw c.in-Ok-Some.field-0-is at c.in-Ok-Some.ensures.entered in
+    let w = within_constructed g.S.Source.stream g.met.S.Source.sound c.args.self.now in
+    c.skip_behind.ensures.skipped (of_constructed g.S.Source.stream c.args.self.now) (record { enters = e.1; no_fault = c.in-Ok-Some.ensures.no_fault; octets = w.octets; fits = w.fits })
+
+pub returns-in-Ok-None-clause-moves : goal.returns-in-Ok-None-clause-moves
+returns-in-Ok-None-clause-moves g c =
+    c.next_header.ensures.moves
+
+pub returns-in-Ok-None-clause-skipped : goal.returns-in-Ok-None-clause-skipped
+unfolding of_constructed
+returns-in-Ok-None-clause-skipped g c =
+    let n = rw c.in-Ok-None.field-0-is at c.in-Ok-None.ensures.none in
+    skipped_end cause_of _ (of_constructed g.S.Source.stream c.args.self.now) (of_constructed g.S.Source.stream c.next_header.new.self) c.args.op.now c.next_header.ensures.mode c.next_header.ensures.marked n.missing.0 n.missing.1 n.no_fault
+
+pub returns-in-Err-clause-moves : goal.returns-in-Err-clause-moves
+returns-in-Err-clause-moves g c =
+    c.next_header.ensures.moves
+
+pub returns-in-Err-clause-skipped : goal.returns-in-Err-clause-skipped
+unfolding of_constructed
+returns-in-Err-clause-skipped g c =
+    skipped_none cause_of _ (of_constructed g.S.Source.stream c.args.self.now) (of_constructed g.S.Source.stream c.next_header.new.self) c.args.op.now c.next_header.ensures.mode c.next_header.ensures.marked c.stopped.result c.next_header.ensures.moves (walk_stopped stop_cause cause_of _ _ c.stopped.ensures.refused c.stopped.ensures.source _ _ (next_refused stop_cause (of_constructed g.S.Source.stream c.args.self.now) (of_constructed g.S.Source.stream c.next_header.new.self) _ (within_constructed g.S.Source.stream g.met.S.Source.sound c.args.self.now) c.in-Err.ensures.refused)) c.in-Err.ensures.failed

@@ -1,0 +1,8 @@
+use Rattle.std.proofs.Common.{◌≤◌, length, arith}
+use Rattle.bcder.proofs.Peeking.{short_at_hand}
+use Rattle.bcder.proofs.decode.header.peek_whole.Goals as goal
+
+pub returns-in-Some-clause-peeked : goal.returns-in-Some-clause-peeked
+returns-in-Some-clause-peeked g c =
+    let enough : c.in_ok-found.found ≤ length c.slice.result.now = omega (arith, c.in_ok-found.ensures.ok.count, c.slice.ensures.enough) in
+    λ mode. short_at_hand mode c.in-Some.header _ _ _ _ c.slice.ensures.front enough c.in_ok-found.ensures.ok.count c.in-Some.ensures.stands
