@@ -508,7 +508,7 @@ impl<'a, S: Source> Constructed<'a, S> {
     /// and all of its octets are at hand. Else nothing is taken. The source is asked once at most.
     #[tactic(auto, using(crate::proofs::moves_refl), unfolding(crate::specs::Views::views))]
     #[inline(always)]
-    fn enter_octets(&mut self) -> Result<Option<Header>, Stop<S::Error>>
+    fn enter_at_hand(&mut self) -> Result<Option<Header>, Stop<S::Error>>
         ensures moves { Between S.stream self Moves }
         ensures entered { IfOk result (λ o. IfSome o (λ h.
             IsPast (before S.stream self) (header_of h) (after S.stream self))) }
@@ -608,7 +608,7 @@ impl<'a, S: Source> Constructed<'a, S> {
         ensures skipped { SkippedNext S.stream F.step self op result }
         ensures exact { ExactlySkipped S.stream F.step self op result }
     {
-        match self.enter_octets() {
+        match self.enter_at_hand() {
             Ok(Some(header)) => self.skip_octets(header, op),
             Ok(None) => self.skip_next_on(alloc, op),
             Err(stop) => Err(self.stopped(stop)),

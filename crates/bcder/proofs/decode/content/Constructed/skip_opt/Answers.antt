@@ -33,24 +33,24 @@ returns-in-Ok-Some-clause-exact g c = λ n. answers_skip cause_of _ _ _ _ _ (wit
 
 pub returns-in-Ok-None-clause-moves : goal.returns-in-Ok-None-clause-moves
 unfolding of_constructed
-returns-in-Ok-None-clause-moves g c = carries _ _ (moves_trans _ _ _ c.enter_octets.ensures.moves c.skip_next_on.ensures.moves)
+returns-in-Ok-None-clause-moves g c = carries _ _ (moves_trans _ _ _ c.enter_at_hand.ensures.moves c.skip_next_on.ensures.moves)
 
 pub returns-in-Ok-None-clause-skipped : goal.returns-in-Ok-None-clause-skipped
 unfolding of_constructed
-returns-in-Ok-None-clause-skipped g c = looked_told cause_of _ (of_constructed g.S.Source.stream c.args.self.now) (of_constructed g.S.Source.stream c.enter_octets.new.self) (of_constructed g.S.Source.stream c.skip_next_on.new.self) c.args.op.now c.skip_next_on.new.op (rw c.in-Ok-None.field-0-is at c.in-Ok-None.ensures.same) c.in-Ok-None.ensures.no_fault _ c.skip_next_on.ensures.skipped
+returns-in-Ok-None-clause-skipped g c = looked_told cause_of _ (of_constructed g.S.Source.stream c.args.self.now) (of_constructed g.S.Source.stream c.enter_at_hand.new.self) (of_constructed g.S.Source.stream c.skip_next_on.new.self) c.args.op.now c.skip_next_on.new.op (rw c.in-Ok-None.field-0-is at c.in-Ok-None.ensures.same) c.in-Ok-None.ensures.no_fault _ c.skip_next_on.ensures.skipped
 
 pub returns-in-Ok-None-clause-exact : goal.returns-in-Ok-None-clause-exact
 unfolding of_constructed
-returns-in-Ok-None-clause-exact g c = λ n. answers_skip cause_of _ _ _ _ _ (within_constructed g.S.Source.stream g.met.S.Source.sound c.args.self.now) n _ (looked_told cause_of _ (of_constructed g.S.Source.stream c.args.self.now) (of_constructed g.S.Source.stream c.enter_octets.new.self) (of_constructed g.S.Source.stream c.skip_next_on.new.self) c.args.op.now c.skip_next_on.new.op (rw c.in-Ok-None.field-0-is at c.in-Ok-None.ensures.same) c.in-Ok-None.ensures.no_fault _ c.skip_next_on.ensures.skipped)
+returns-in-Ok-None-clause-exact g c = λ n. answers_skip cause_of _ _ _ _ _ (within_constructed g.S.Source.stream g.met.S.Source.sound c.args.self.now) n _ (looked_told cause_of _ (of_constructed g.S.Source.stream c.args.self.now) (of_constructed g.S.Source.stream c.enter_at_hand.new.self) (of_constructed g.S.Source.stream c.skip_next_on.new.self) c.args.op.now c.skip_next_on.new.op (rw c.in-Ok-None.field-0-is at c.in-Ok-None.ensures.same) c.in-Ok-None.ensures.no_fault _ c.skip_next_on.ensures.skipped)
 
 pub returns-in-Err-clause-moves : goal.returns-in-Err-clause-moves
 unfolding of_constructed
-returns-in-Err-clause-moves g c = carries _ _ c.enter_octets.ensures.moves
+returns-in-Err-clause-moves g c = carries _ _ c.enter_at_hand.ensures.moves
 
 pub returns-in-Err-clause-skipped : goal.returns-in-Err-clause-skipped
 unfolding of_constructed
-returns-in-Err-clause-skipped g c = skipped_none cause_of _ (of_constructed g.S.Source.stream c.args.self.now) (of_constructed g.S.Source.stream c.enter_octets.new.self) c.args.op.now c.enter_octets.ensures.mode c.enter_octets.ensures.marked c.stopped.result c.enter_octets.ensures.moves (source (c.stopped.ensures.source c.in-Err.ensures.fault.0) c.in-Err.ensures.fault.1) c.in-Err.ensures.failed
+returns-in-Err-clause-skipped g c = skipped_none cause_of _ (of_constructed g.S.Source.stream c.args.self.now) (of_constructed g.S.Source.stream c.enter_at_hand.new.self) c.args.op.now c.enter_at_hand.ensures.mode c.enter_at_hand.ensures.marked c.stopped.result c.enter_at_hand.ensures.moves (source (c.stopped.ensures.source c.in-Err.ensures.fault.0) c.in-Err.ensures.fault.1) c.in-Err.ensures.failed
 
 pub returns-in-Err-clause-exact : goal.returns-in-Err-clause-exact
 unfolding of_constructed
-returns-in-Err-clause-exact g c = λ n. answers_skip cause_of _ _ _ _ _ (within_constructed g.S.Source.stream g.met.S.Source.sound c.args.self.now) n _ (skipped_none cause_of _ (of_constructed g.S.Source.stream c.args.self.now) (of_constructed g.S.Source.stream c.enter_octets.new.self) c.args.op.now c.enter_octets.ensures.mode c.enter_octets.ensures.marked c.stopped.result c.enter_octets.ensures.moves (source (c.stopped.ensures.source c.in-Err.ensures.fault.0) c.in-Err.ensures.fault.1) c.in-Err.ensures.failed)
+returns-in-Err-clause-exact g c = λ n. answers_skip cause_of _ _ _ _ _ (within_constructed g.S.Source.stream g.met.S.Source.sound c.args.self.now) n _ (skipped_none cause_of _ (of_constructed g.S.Source.stream c.args.self.now) (of_constructed g.S.Source.stream c.enter_at_hand.new.self) c.args.op.now c.enter_at_hand.ensures.mode c.enter_at_hand.ensures.marked c.stopped.result c.enter_at_hand.ensures.moves (source (c.stopped.ensures.source c.in-Err.ensures.fault.0) c.in-Err.ensures.fault.1) c.in-Err.ensures.failed)

@@ -5,7 +5,7 @@ use Rattle.bcder.proofs.Entering.{enters, within, looked_enters, looked_moves, l
 use Rattle.bcder.proofs.Moving.{moves_trans, moves_failed, open_not_ended}
 use Rattle.bcder.proofs.Names.{within_constructed}
 use Rattle.bcder.proofs.Skipped.{whole_accepted}
-use Rattle.bcder.proofs.decode.content.Constructed.enter_octets.Goals as goal
+use Rattle.bcder.proofs.decode.content.Constructed.enter_at_hand.Goals as goal
 
 pub returns-in-Ok-Some-clause-moves : goal.returns-in-Ok-Some-clause-moves
 unfolding of_constructed
