@@ -1,5 +1,5 @@
 -- What stands at the front of a source, and what can be told of it from the octets at hand.
-use Rattle.std.specs.Prelude.{◌≡◌, ◌≢◌, ◌⊎◌, ℕ, ◌<◌, ◌≤◌, Bool, List, [], ◌++◌, length, drop, Option, Some, None}
+use Rattle.std.specs.Prelude.{◌≡◌, ◌≢◌, ◌⊎◌, ℕ, ◌<◌, ◌≤◌, Bool, false, List, [], ◌++◌, length, drop, Option, Some, None}
 use Rattle.bcder.specs.declared.mode.Mode.{Mode}
 use Rattle.bcder.specs.declared.decode.header.Header.{Header as Kept}
 use Rattle.bcder.specs.declared.decode.header.Peeked.{Peeked}
@@ -8,6 +8,7 @@ use Rattle.bcder.specs.declared.decode.header.PeekedIf.{PeekedIf}
 use Rattle.bcder.specs.declared.decode.header.PeekedIf.TheVariants as peeked_if
 use Rattle.bcder.specs.declared.decode.header.Seen.{Seen}
 use Rattle.bcder.specs.declared.decode.header.Seen.TheVariants as seen
+use Rattle.bcder.specs.declared.length.Length.TheVariants.{Definite}
 use Rattle.bcder.specs.Identifier.{Tag}
 use Rattle.bcder.specs.Reading.{Header, read_identifier, read_length, read_front}
 use Rattle.bcder.specs.Stream.{Stream}
@@ -15,6 +16,10 @@ use Rattle.bcder.specs.Stream.{Stream}
 -- a header as the program keeps it
 abbrev pub header : Kept → Header
 header h = record { tag = h.tag; form = h.constructed; len = h.len }
+
+-- the header of a primitive value with so many contents octets
+abbrev pub octets_header : Tag → ℕ → Kept
+octets_header t n = record { tag = t; constructed = false; len = Definite n }
 
 -- the identifier octets of another tag stand in front
 abbrev pub HasOtherTag : Tag → List ℕ → Type 0

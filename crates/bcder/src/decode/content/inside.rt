@@ -427,11 +427,22 @@ impl<'a, S: Source> Constructed<'a, S> {
         ensures taken { TakesContent cause_of (of_primitive S.stream) (F.post op)
             (before S.stream self) (header_of header) result (after S.stream self) }
     {
-        let outer = go_inside(self.source, header.len);
-        let (result, marked) = octets_over(self.source, self.mode, header.tag, op);
-        go_outside(self.source, outer, header.len);
-        self.marked = either(self.marked, marked);
-        result
+        let mode = self.mode;
+        let source = &mut *self.source;
+        let outer = go_inside(source, header.len);
+        let (result, marked) = octets_over(source, mode, header.tag, op);
+        match result {
+            Ok(value) => {
+                go_outside(source, outer, header.len);
+                self.marked = either(self.marked, marked);
+                Ok(value)
+            }
+            Err(error) => {
+                go_outside(source, outer, header.len);
+                self.marked = either(self.marked, marked);
+                Err(error)
+            }
+        }
     }
 
     /// Takes the values behind a header of a constructed value.
