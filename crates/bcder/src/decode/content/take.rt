@@ -392,39 +392,6 @@ impl<'a, S: Source> Constructed<'a, S> {
         }
     }
 
-    /// How many contents octets the next value has, if it is primitive, has this tag and has a
-    /// header of two octets. Nothing is taken.
-    #[tactic(auto, using(crate::proofs::moves_refl), unfolding(crate::specs::Views::views))]
-    #[inline(always)]
-    fn short_ahead(&mut self, tag: Tag) -> Result<Option<usize>, Stop<S::Error>>
-        ensures moves { Moves (before S.stream self) (after S.stream self) }
-        ensures same { OnOk result (Resembles (before S.stream self) (after S.stream self)) }
-        ensures usable { IfOk result (λ o. IfSome o (λ _. self.new.state ≡ State.Open)) }
-        ensures peeked { IfOk result (λ o. IfSome o (λ n.
-            Peeks self.new.mode (Peeked.Front (octets_header tag n) 2)
-            (limited_stream S.stream self.new.source.now))) }
-        ensures no_fault { MeetsNoFault (before S.stream self) (after S.stream self) result }
-        ensures refused { RefusesNext (before S.stream self) (after S.stream self)
-            stop_cause (tagged tag) result }
-        ensures failed { OnErr result (self.new.state ≡ State.Failed) }
-        ensures mode { self.new.mode ≡ self.old.mode }
-        ensures marked { self.new.marked ≡ self.old.marked }
-    {
-        let State::Open = self.state else {
-            return Ok(None);
-        };
-        if self.is_used_up() {
-            return Ok(None);
-        }
-        match self.look_short(tag) {
-            Ok(found) => Ok(found),
-            Err(error) => {
-                self.state = State::Failed;
-                Err(Stop::Source(error))
-            }
-        }
-    }
-
     /// Passes over the header of a primitive value that has two octets.
     #[inline(always)]
     fn enter_octets(&mut self, tag: Tag, len: usize) -> Result<Option<usize>, Stop<S::Error>>
@@ -462,16 +429,28 @@ impl<'a, S: Source> Constructed<'a, S> {
     /// Passes over the header of the next value if it has this tag, and answers how many contents
     /// octets it has. The value has to be primitive. The content has then failed until the value is
     /// taken.
+    #[tactic(auto, using(crate::proofs::moves_refl), unfolding(crate::specs::Views::views))]
     #[inline(always)]
     pub(super) fn next_octets_if(&mut self, tag: Tag) -> Result<Option<usize>, Stop<S::Error>>
         ensures moves { Moves (before S.stream self) (after S.stream self) }
         ensures entered { EntersOctets stop_cause tag
             (before S.stream self) result (after S.stream self) }
     {
-        match self.short_ahead(tag) {
+        match self.state {
+            State::Failed => return Err(Stop::Refused(Why::Earlier)),
+            State::Ended => return Ok(None),
+            State::Open => {}
+        }
+        if self.is_used_up() {
+            return Ok(None);
+        }
+        match self.look_short(tag) {
             Ok(Some(len)) => self.enter_octets(tag, len),
             Ok(None) => self.next_long_if(tag),
-            Err(stop) => Err(stop),
+            Err(error) => {
+                self.state = State::Failed;
+                Err(Stop::Source(error))
+            }
         }
     }
 }
