@@ -11,6 +11,7 @@ pub mod Peeking
 pub mod Moving
 pub mod Headers
 pub mod Entering
+pub mod Ahead
 pub mod Names
 pub mod Refusing
 pub mod Inner

@@ -8,14 +8,18 @@ use Rattle.bcder.specs.declared.decode.header.PeekedIf.{PeekedIf}
 use Rattle.bcder.specs.declared.decode.header.PeekedIf.TheVariants as peeked_if
 use Rattle.bcder.specs.declared.decode.header.Seen.{Seen}
 use Rattle.bcder.specs.declared.decode.header.Seen.TheVariants as seen
-use Rattle.bcder.specs.Identifier.{Tag}
 use Rattle.bcder.specs.declared.length.Length.TheVariants.{Definite}
+use Rattle.bcder.specs.Identifier.{Tag}
 use Rattle.bcder.specs.Reading.{Header, is_value_tag, read_identifier, read_length, read_front}
 use Rattle.bcder.specs.Stream.{Stream}
 
 -- a header as the program keeps it
 abbrev pub header : Kept → Header
 header h = record { tag = h.tag; form = h.constructed; len = h.len }
+
+-- the header of a primitive value with so many contents octets
+abbrev pub octets_header : Tag → ℕ → Kept
+octets_header t n = record { tag = t; constructed = false; len = Definite n }
 
 -- the identifier octets of another tag stand in front
 abbrev pub HasOtherTag : Tag → List ℕ → Type 0

@@ -1,5 +1,5 @@
 //! Tags and identifier octets (X.690, 8.1.2).
-ghost use Rattle.std.specs.Prelude.{◌≡◌, ℕ, ◌<◌, ◌≤◌, ◌^◌, ◌%◌, ◌↔◌, Bool, IsTrue};
+ghost use Rattle.std.specs.Prelude.{◌≡◌, ℕ, ◌<◌, ◌≤◌, ◌^◌, ◌%◌, ◌↔◌, Bool, false, IsTrue};
 ghost use Rattle.std.specs.Prelude.{Some, None, IfSome, MatchOption};
 ghost use Rattle.bcder.specs.Answers.{Answers};
 ghost use Rattle.bcder.specs.Identifier.{universal as universal_class};
@@ -486,6 +486,20 @@ pub(crate) fn mark_of_leading(octet: u8) -> bool
     ensures { result ≡ is_marked octet }
 {
     octet % 64 >= 32
+}
+
+/// Whether an octet is the one identifier octet of a primitive value of a tag (8.1.2.2, 8.1.2.5).
+#[tactic(auto, using(crate::proofs::nat_tests))]
+#[inline(always)]
+pub(crate) fn leads_primitive(tag: Tag, octet: u8) -> bool
+    ensures number { IsTrue result → octet % 32 < 31 }
+    ensures tag { IsTrue result → tag ≡ record { class = class_of octet; number = octet % 32 } }
+    ensures form { IsTrue result → is_marked octet ≡ false }
+{
+    tag.class == class_at(octet)
+        && tag.number == u32::from(octet % 32)
+        && octet % 32 < 31
+        && !mark_of_leading(octet)
 }
 
 /// The tag and the constructed mark of the identifier octets at the front, and the octets after

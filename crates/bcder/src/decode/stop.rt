@@ -12,6 +12,9 @@ pub(crate) enum Why {
     /// A header that no value has here.
     ValueHeader,
 
+    /// A constructed value where a primitive one has to stand.
+    Constructed,
+
     /// Fewer octets came than are owed.
     Short,
 
@@ -26,6 +29,7 @@ impl Why {
             Why::Earlier => "an earlier value was refused",
             Why::Header => "malformed header",
             Why::ValueHeader => "malformed value header",
+            Why::Constructed => "expected a primitive value",
             Why::Short => "unexpected end of data",
             Why::ValuesLeft => "values left in a constructed value",
         }

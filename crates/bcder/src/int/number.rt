@@ -120,6 +120,15 @@ pub(crate) fn number_at<N: Number>(octets: &[u8]) -> Option<N>
     if let [first] = octets {
         return small(*first);
     }
+    any_number(octets)
+}
+
+/// The same of any octets.
+#[inline(never)]
+fn any_number<N: Number>(octets: &[u8]) -> Option<N>
+    ensures some { IfSome result (IsNumber N.value N.in_range octets.now) }
+    ensures none { IfNone result (IsNoNumber N.in_range octets.now) }
+{
     match parts_of(octets) {
         Some((negative, magnitude)) => N::of(negative, magnitude),
         None => None,

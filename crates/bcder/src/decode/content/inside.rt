@@ -269,41 +269,8 @@ where
     }
 }
 
-/// Calls the closure on the contents octets that a source is limited to, and says whether it
-/// changed the mode.
-#[tactic(auto, using(crate::proofs::moves), unfolding(crate::specs::Views::of_primitive))]
-#[inline(always)]
-fn octets_over<S: Source, F, T: Drop>(
-    source: &mut LimitedSource<S>,
-    mode: Mode,
-    tag: Tag,
-    op: F,
-) -> (Result<T, DecodeError<S::Error>>, bool)
-where
-    F: FnOnce(Tag, &mut Primitive<'_, S>) -> Result<T, DecodeError<S::Error>>,
-    requires callable { MayBeCalledAt (of_primitive S.stream)
-        (IsOver (limited_stream S.stream source.old) source.old.limit Octets mode)
-        tag (F.pre op) }
-    requires lawful { IsLawfulAt (of_primitive S.stream)
-        (IsOver (limited_stream S.stream source.old) source.old.limit Octets mode)
-        tag (F.post op) }
-    ensures { RanOver cause_of (of_primitive S.stream) (F.post op)
-        (limited_stream S.stream source.old) source.old.limit Octets mode tag
-        result.0 result.1 (limited_stream S.stream source.new) source.new.limit }
-{
-    let start = source.pos();
-    let mut octets = Primitive {
-        source: &mut *source,
-        mode,
-        marked: false,
-        start,
-    };
-    let result = run_octets(&mut octets, tag, op);
-    let marked = octets.marked;
-    (result, marked)
-}
-
-/// The same on values.
+/// Calls the closure on the values that a source is limited to, and says whether it changed the
+/// mode.
 #[tactic(auto, using(crate::proofs::moves), unfolding(crate::specs::Views::of_constructed))]
 #[inline(always)]
 fn values_over<S: Source, F, T: Drop>(
@@ -427,11 +394,30 @@ impl<'a, S: Source> Constructed<'a, S> {
         ensures taken { TakesContent cause_of (of_primitive S.stream) (F.post op)
             (before S.stream self) (header_of header) result (after S.stream self) }
     {
-        let outer = go_inside(self.source, header.len);
-        let (result, marked) = octets_over(self.source, self.mode, header.tag, op);
-        go_outside(self.source, outer, header.len);
-        self.marked = either(self.marked, marked);
-        result
+        let mode = self.mode;
+        let source = &mut *self.source;
+        let outer = go_inside(source, header.len);
+        let start = source.pos();
+        let mut octets = Primitive {
+            source: &mut *source,
+            mode,
+            marked: false,
+            start,
+        };
+        match run_octets(&mut octets, header.tag, op) {
+            Ok(value) => {
+                let marked = octets.marked;
+                go_outside(source, outer, header.len);
+                self.marked = either(self.marked, marked);
+                Ok(value)
+            }
+            Err(error) => {
+                let marked = octets.marked;
+                go_outside(source, outer, header.len);
+                self.marked = either(self.marked, marked);
+                Err(error)
+            }
+        }
     }
 
     /// Takes the values behind a header of a constructed value.

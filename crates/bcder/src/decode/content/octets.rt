@@ -6,6 +6,7 @@ ghost use Rattle.bcder.specs.Decoding.{AnsweredOn};
 ghost use Rattle.bcder.specs.Takes.{CallableOnOctets, LawfulOnOctets, TookOctets, TookNextOctets};
 ghost use Rattle.bcder.specs.Views.{of_primitive, octets_before, octets_after, Moved};
 
+use super::take::octets_header;
 use super::{Constructed, Primitive};
 use crate::decode::error::DecodeError;
 use crate::decode::source::Source;
@@ -84,9 +85,9 @@ impl<'a, S: Source> Constructed<'a, S> {
         ensures moves { Moved S.stream self }
         ensures took { TookNextOctets S.stream self (tagged tag) (Untagged (F.post op)) result }
     {
-        match self.next_header_if(tag) {
-            Ok(Some(header)) => self.octets_behind(
-                header,
+        match self.next_octets_if(tag) {
+            Ok(Some(len)) => self.octets_behind(
+                octets_header(tag, len),
                 |_tag, octets|
                     requires { (p : _) → p.now ≡ octets.now → F.pre op p }
                     ensures { AnsweredOn (of_primitive S.stream) (F.post op)

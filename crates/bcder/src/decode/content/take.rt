@@ -1,16 +1,19 @@
 //! Passing over the header of the next value.
-ghost use Rattle.std.specs.Prelude.{◌≡◌, ◌≤◌, false, length, take, IsTrue, Some, IfOk, IfErr};
-ghost use Rattle.std.specs.Prelude.{IfSome, IfNone, OnOk, OnErr};
+ghost use Rattle.std.specs.Prelude.{◌≡◌, ◌⊎◌, ◌≤◌, true, false, length, take, IsTrue, Some};
+ghost use Rattle.std.specs.Prelude.{IfOk, IfErr, IfSome, IfNone, OnOk, OnErr};
 ghost use Rattle.bcder.specs.Calls.{popped};
 ghost use Rattle.bcder.specs.Cause.{cause_of, stop_cause, of_source, IsOfContent, IsRefusal};
 ghost use Rattle.bcder.specs.Cause.{NamesTag};
 ghost use Rattle.bcder.specs.Content.{Moves, Advances, FitsOwed, Accepts, any, tagged, end_header};
 ghost use Rattle.bcder.specs.Content.{Enters, TakesMarker, NoFront, Resembles, EndsAt, IsDone};
-ghost use Rattle.bcder.specs.Entering.{EntersNext, FindsNone, RefusesNext, MeetsNoFault};
-ghost use Rattle.bcder.specs.Entering.{MeetsFault};
+ghost use Rattle.bcder.specs.Entering.{EntersNext, EntersOctets, FindsNone, RefusesNext};
+ghost use Rattle.bcder.specs.Entering.{MeetsNoFault, MeetsFault};
 ghost use Rattle.bcder.specs.Identifier.{AreOctets, end_of_contents};
-ghost use Rattle.bcder.specs.Peek.{header as header_of, Peeks, PeeksIf};
+ghost use Rattle.bcder.specs.Peek.{header as header_of, octets_header, Peeks, PeeksIf};
+ghost use Rattle.bcder.specs.Peek.{StandsShort};
 ghost use Rattle.bcder.specs.Reading.{Header as HeaderRead};
+ghost use Rattle.bcder.specs.Stream.{Grew};
+ghost use Rattle.bcder.specs.declared.mode.Mode.{Mode as ModeValue};
 ghost use Rattle.bcder.specs.Views.{before, after, limited_stream};
 
 use super::{Constructed, Kind, Primitive, State};
@@ -21,7 +24,7 @@ use crate::decode::stop::{Stop, Why};
 use crate::length::Length;
 use crate::mode::Mode;
 use crate::plain::may_have;
-use crate::tag::Tag;
+use crate::tag::{Tag, leads_primitive};
 
 /// Whether the octets that a length promises are within what is owed.
 #[inline(always)]
@@ -69,6 +72,59 @@ fn with_tag(tag: Tag, header: Header) -> Header
         constructed: header.constructed,
         len: header.len,
     }
+}
+
+/// The header of a primitive value with so many contents octets.
+#[inline(always)]
+pub(super) fn octets_header(tag: Tag, len: usize) -> Header
+    ensures { result ≡ octets_header tag len }
+{
+    Header {
+        tag,
+        constructed: false,
+        len: Length::Definite(len),
+    }
+}
+
+/// How many contents octets a value of a form and a length has, if it is primitive.
+#[inline(always)]
+fn primitive_len(constructed: bool, len: Length) -> Option<usize>
+    ensures some { IfSome result (λ n. (constructed ≡ false) × (len ≡ Length.Definite n)) }
+    ensures none { IfNone result ((constructed ≡ true) ⊎ (len ≡ Length.Indefinite)) }
+{
+    match len {
+        Length::Definite(len) if !constructed => Some(len),
+        _ => None,
+    }
+}
+
+/// How many contents octets the value at the front has, if it is primitive, has this tag and has a
+/// header of two octets.
+#[inline(always)]
+fn short_octets(tag: Tag, octets: &[u8]) -> Option<usize>
+    ensures { IfSome result (λ n. StandsShort (octets_header tag n) octets.now) }
+{
+    match octets {
+        [leading, len, ..] if leads_primitive(tag, *leading) && *len < 0x80 => {
+            Some(usize::from(*len))
+        }
+        _ => None,
+    }
+}
+
+/// The same of the value at the front of a source, of which nothing is taken. It asks for two
+/// octets, as the header of a value has at least. An error is the source's own.
+#[inline(always)]
+fn peek_short<S: Source>(source: &mut S, tag: Tag) -> Result<Option<usize>, S::Error>
+    ensures peeked { IfOk result (λ o. IfSome o (λ n. (mode : ModeValue)
+        → Peeks mode (Peeked.Front (octets_header tag n) 2) (S.stream source.new))) }
+    ensures no_fault { OnOk result ((S.stream source.new).faults ≡ (S.stream source.old).faults) }
+    ensures fault { OnErr result (Grew (S.stream source.old).faults (S.stream source.new).faults) }
+    ensures rest { (S.stream source.new).rest ≡ (S.stream source.old).rest }
+    ensures kept { (S.stream source.new).kept ≡ (S.stream source.old).kept }
+{
+    let found = source.request(2)?;
+    Ok(short_octets(tag, &source.slice()[..found]))
 }
 
 impl<'a, S: Source> Primitive<'a, S> {
@@ -136,6 +192,20 @@ impl<'a, S: Source> Constructed<'a, S> {
         peek_if(self.source, self.mode, tag)
     }
 
+    /// Looks for a primitive value of a tag with a header of two octets, and takes nothing.
+    #[tactic(auto, unfolding(crate::specs::Views::of_constructed))]
+    #[inline(always)]
+    fn look_short(&mut self, tag: Tag) -> Result<Option<usize>, S::Error>
+        ensures same { Resembles (before S.stream self) (after S.stream self) }
+        ensures peeked { IfOk result (λ o. IfSome o (λ n. (mode : ModeValue)
+            → Peeks mode (Peeked.Front (octets_header tag n) 2)
+            (limited_stream S.stream self.new.source.now))) }
+        ensures no_fault { MeetsNoFault (before S.stream self) (after S.stream self) result }
+        ensures fault { MeetsFault (before S.stream self) (after S.stream self) result }
+    {
+        peek_short(self.source, tag)
+    }
+
     /// Passes over octets that are at hand. The content has failed until the value that they begin
     /// is taken.
     #[tactic(auto, unfolding(crate::specs::Views::of_constructed))]
@@ -153,8 +223,8 @@ impl<'a, S: Source> Constructed<'a, S> {
         ensures mode { self.new.mode ≡ self.old.mode }
         ensures marked { self.new.marked ≡ self.old.marked }
     {
-        self.state = State::Failed;
         self.source.advance(size);
+        self.state = State::Failed;
     }
 
     /// Passes over a header, or an end marker.
@@ -315,6 +385,68 @@ impl<'a, S: Source> Constructed<'a, S> {
                 self.state = State::Failed;
                 Err(Stop::Refused(Why::Header))
             }
+            Err(error) => {
+                self.state = State::Failed;
+                Err(Stop::Source(error))
+            }
+        }
+    }
+
+    /// Passes over the header of a primitive value that has two octets.
+    #[inline(always)]
+    fn enter_octets(&mut self, tag: Tag, len: usize) -> Result<Option<usize>, Stop<S::Error>>
+        requires read { Peeks self.old.mode (Peeked.Front (octets_header tag len) 2)
+            (limited_stream S.stream self.old.source.now) }
+        requires usable { self.old.state ≡ State.Open }
+        ensures moves { Moves (before S.stream self) (after S.stream self) }
+        ensures entered { EntersOctets stop_cause tag
+            (before S.stream self) result (after S.stream self) }
+    {
+        match self.enter(octets_header(tag, len), 2) {
+            Ok(Some(_)) => Ok(Some(len)),
+            Ok(None) => Ok(None),
+            Err(stop) => Err(stop),
+        }
+    }
+
+    /// Passes over the header of the next value if it has this tag, whatever size the header has.
+    #[inline(always)]
+    fn next_long_if(&mut self, tag: Tag) -> Result<Option<usize>, Stop<S::Error>>
+        ensures moves { Moves (before S.stream self) (after S.stream self) }
+        ensures entered { EntersOctets stop_cause tag
+            (before S.stream self) result (after S.stream self) }
+    {
+        match self.next_header_if(tag) {
+            Ok(Some(header)) => match primitive_len(header.constructed, header.len) {
+                Some(len) => Ok(Some(len)),
+                None => Err(Stop::Refused(Why::Constructed)),
+            },
+            Ok(None) => Ok(None),
+            Err(stop) => Err(stop),
+        }
+    }
+
+    /// Passes over the header of the next value if it has this tag, and answers how many contents
+    /// octets it has. The value has to be primitive. The content has then failed until the value is
+    /// taken.
+    #[tactic(auto, using(crate::proofs::moves_refl), unfolding(crate::specs::Views::views))]
+    #[inline(always)]
+    pub(super) fn next_octets_if(&mut self, tag: Tag) -> Result<Option<usize>, Stop<S::Error>>
+        ensures moves { Moves (before S.stream self) (after S.stream self) }
+        ensures entered { EntersOctets stop_cause tag
+            (before S.stream self) result (after S.stream self) }
+    {
+        match self.state {
+            State::Failed => return Err(Stop::Refused(Why::Earlier)),
+            State::Ended => return Ok(None),
+            State::Open => {}
+        }
+        if self.is_used_up() {
+            return Ok(None);
+        }
+        match self.look_short(tag) {
+            Ok(Some(len)) => self.enter_octets(tag, len),
+            Ok(None) => self.next_long_if(tag),
             Err(error) => {
                 self.state = State::Failed;
                 Err(Stop::Source(error))

@@ -1,15 +1,29 @@
-use Rattle.std.proofs.Common.{refl}
+use Rattle.std.proofs.Common.{◌≡◌, refl, rules}
 use Rattle.bcder.specs.Cause.{cause_of}
+use Rattle.bcder.specs.Inside.{limit_outside}
 use Rattle.bcder.specs.Peek.{header}
 use Rattle.bcder.specs.Views.{of_constructed, of_primitive}
 use Rattle.bcder.proofs.Inner.{octets_taken}
 use Rattle.bcder.proofs.decode.content.Constructed.take_octets.Goals as goal
 
-pub returns : goal.returns
-unfolding of_constructed
-returns g c =
+pub returns-in-Ok : goal.returns-in-Ok
+unfolding of_constructed of_primitive
+returns-in-Ok g c =
+    let limit : c.go_outside.new.source.limit ≡ limit_outside c.args.header.len c.go_inside-outer.result c.run_octets.new.octets.source.now.limit = search rules in
+    let source : c.go_outside.new.source.source ≡ c.run_octets.new.octets.source.now.source = search rules in
     record {
       taken = octets_taken cause_of (of_primitive g.S.Source.stream) _ (of_constructed g.S.Source.stream c.args.self.now) _ (header c.args.header) _ refl refl refl refl _ c.either-self.ensures
-          g.S.Source.stream c.args.self.now.source.now c.go_inside-outer.new.source c.octets_over-result.new.source c.go_outside.new.source c.go_inside-outer.result
-          refl refl c.go_inside-outer.ensures.outer c.go_inside-outer.ensures.limit c.go_inside-outer.ensures.source c.go_outside.ensures.limit c.go_outside.ensures.source refl refl c.requires.fits c.requires.form c.requires.allowed (g.met.S.Source.sound c.args.self.now.source.now.source) c.octets_over-result.ensures;
+          g.S.Source.stream c.args.self.now.source.now c.go_inside-outer.new.source c.run_octets.new.octets.source.now c.go_outside.new.source c.go_inside-outer.result
+          refl refl c.go_inside-outer.ensures.outer c.go_inside-outer.ensures.limit c.go_inside-outer.ensures.source limit source refl refl c.requires.fits c.requires.form c.requires.allowed (g.met.S.Source.sound c.args.self.now.source.now.source) (record { handed = _; left = of_primitive g.S.Source.stream c.run_octets.new.octets; runs = record { stream = refl; owed = refl; kind = refl; state = refl; mode = refl; marked = refl; left_stream = refl; left_owed = refl; moves = c.run_octets.ensures.moves }; marks = refl; answers = c.in-Ok.ensures.ok; refuses = tt });
+    }
+
+pub returns-in-Err : goal.returns-in-Err
+unfolding of_constructed of_primitive
+returns-in-Err g c =
+    let limit : c.go_outside-in-Err.new.source.limit ≡ limit_outside c.args.header.len c.go_inside-outer.result c.run_octets.new.octets.source.now.limit = search rules in
+    let source : c.go_outside-in-Err.new.source.source ≡ c.run_octets.new.octets.source.now.source = search rules in
+    record {
+      taken = octets_taken cause_of (of_primitive g.S.Source.stream) _ (of_constructed g.S.Source.stream c.args.self.now) _ (header c.args.header) _ refl refl refl refl _ c.either-self-in-Err.ensures
+          g.S.Source.stream c.args.self.now.source.now c.go_inside-outer.new.source c.run_octets.new.octets.source.now c.go_outside-in-Err.new.source c.go_inside-outer.result
+          refl refl c.go_inside-outer.ensures.outer c.go_inside-outer.ensures.limit c.go_inside-outer.ensures.source limit source refl refl c.requires.fits c.requires.form c.requires.allowed (g.met.S.Source.sound c.args.self.now.source.now.source) (record { handed = _; left = of_primitive g.S.Source.stream c.run_octets.new.octets; runs = record { stream = refl; owed = refl; kind = refl; state = refl; mode = refl; marked = refl; left_stream = refl; left_owed = refl; moves = c.run_octets.ensures.moves }; marks = refl; answers = tt; refuses = c.in-Err.ensures.refused });
     }

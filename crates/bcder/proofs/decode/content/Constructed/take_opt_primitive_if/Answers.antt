@@ -1,57 +1,72 @@
-use Rattle.std.proofs.Common.{true, sym, subst, rules}
+use Rattle.std.proofs.Common.{true, ap, sym, subst, rules}
 use Rattle.std.specs.Prelude.{Some}
 use Rattle.bcder.specs.Calls.{IsInside}
-use Rattle.bcder.specs.Cause.{cause_of, stop_cause}
-use Rattle.bcder.specs.Content.{tagged}
+use Rattle.bcder.specs.declared.decode.header.Header.{Header as Kept}
+use Rattle.bcder.specs.Cause.{stop_cause}
+use Rattle.bcder.specs.Content.{tagged, Enters}
 use Rattle.bcder.specs.Peek.{header}
 use Rattle.bcder.specs.Views.{of_constructed, of_primitive}
 use Rattle.bcder.proofs.Carrying.{carries}
-use Rattle.bcder.proofs.Stopping.{header_stopped}
-use Rattle.bcder.proofs.Taking.{takes_next, moves_next, next_none, next_refused, inside_entered, allowed_entered, said_behind, moves_on}
+use Rattle.bcder.proofs.Ahead.{next_stopped}
+use Rattle.bcder.proofs.Taking.{takes_next, moves_next, next_none, inside_entered, allowed_entered, said_behind, moves_on}
 use Rattle.bcder.proofs.decode.content.Constructed.take_opt_primitive_if.Goals as goal
 
 pub octets_behind-requires-clause-callable : goal.octets_behind-requires-clause-callable
 octets_behind-requires-clause-callable g c p i y s =
-    let e = rw c.in-Ok-Some.field-0-is at c.in-Ok-Some.ensures.entered in
-    c.requires.callable _ y (subst (λ z. IsInside (tagged c.args.tag) (of_constructed g.S.Source.stream c.args.self.now) (header c.in-Ok-Some.header).tag (of_primitive g.S.Source.stream z)) (sym s) (inside_entered (of_constructed g.S.Source.stream c.args.self.now) _ _ _ (tagged c.args.tag) e.0 e.1 i))
+    let h = c.octets_header.ensures in
+    let t = ap (λ (k : Kept). k.tag) h in
+    let e = subst (λ k. Enters (of_constructed g.S.Source.stream c.args.self.now) (header k) (of_constructed g.S.Source.stream c.next_octets_if.new.self)) (sym h) (rw c.in-Ok-Some.field-0-is at c.in-Ok-Some.ensures.entered.entered) in
+    c.requires.callable _ y (subst (λ z. IsInside (tagged c.args.tag) (of_constructed g.S.Source.stream c.args.self.now) (header c.octets_header.result).tag (of_primitive g.S.Source.stream z)) (sym s) (inside_entered (of_constructed g.S.Source.stream c.args.self.now) _ _ _ (tagged c.args.tag) t e i))
 
 pub octets_behind-requires-clause-lawful : goal.octets_behind-requires-clause-lawful
 octets_behind-requires-clause-lawful g c p r q i d =
-    let e = rw c.in-Ok-Some.field-0-is at c.in-Ok-Some.ensures.entered in
-    moves_on (of_primitive g.S.Source.stream) _ (IsInside (tagged c.args.tag) (of_constructed g.S.Source.stream c.args.self.now) (header c.in-Ok-Some.header).tag) (λ p r q h d. c.requires.lawful _ p r q h d) _ r _ (inside_entered (of_constructed g.S.Source.stream c.args.self.now) _ _ _ (tagged c.args.tag) e.0 e.1 i) d.1
+    let h = c.octets_header.ensures in
+    let t = ap (λ (k : Kept). k.tag) h in
+    let e = subst (λ k. Enters (of_constructed g.S.Source.stream c.args.self.now) (header k) (of_constructed g.S.Source.stream c.next_octets_if.new.self)) (sym h) (rw c.in-Ok-Some.field-0-is at c.in-Ok-Some.ensures.entered.entered) in
+    moves_on (of_primitive g.S.Source.stream) _ (IsInside (tagged c.args.tag) (of_constructed g.S.Source.stream c.args.self.now) (header c.octets_header.result).tag) (λ p r q h d. c.requires.lawful _ p r q h d) _ r _ (inside_entered (of_constructed g.S.Source.stream c.args.self.now) _ _ _ (tagged c.args.tag) t e i) d.1
 
 pub octets_behind-requires-clause-allowed : goal.octets_behind-requires-clause-allowed
 unfolding of_constructed
 octets_behind-requires-clause-allowed g c =
-    let e = rw c.in-Ok-Some.field-0-is at c.in-Ok-Some.ensures.entered in
-    allowed_entered (of_constructed g.S.Source.stream c.args.self.now) (header c.in-Ok-Some.header) _ e.1
+    let h = c.octets_header.ensures in
+    let t = ap (λ (k : Kept). k.tag) h in
+    let e = subst (λ k. Enters (of_constructed g.S.Source.stream c.args.self.now) (header k) (of_constructed g.S.Source.stream c.next_octets_if.new.self)) (sym h) (rw c.in-Ok-Some.field-0-is at c.in-Ok-Some.ensures.entered.entered) in
+    allowed_entered (of_constructed g.S.Source.stream c.args.self.now) (header c.octets_header.result) _ e
 
 pub octets_behind-requires-clause-fits : goal.octets_behind-requires-clause-fits
 unfolding of_constructed
 octets_behind-requires-clause-fits g c =
-    let e = rw c.in-Ok-Some.field-0-is at c.in-Ok-Some.ensures.entered in
-    e.1.fits
+    let h = c.octets_header.ensures in
+    let t = ap (λ (k : Kept). k.tag) h in
+    let e = subst (λ k. Enters (of_constructed g.S.Source.stream c.args.self.now) (header k) (of_constructed g.S.Source.stream c.next_octets_if.new.self)) (sym h) (rw c.in-Ok-Some.field-0-is at c.in-Ok-Some.ensures.entered.entered) in
+    e.fits
 
 pub returns-in-Ok-Some-clause-moves : goal.returns-in-Ok-Some-clause-moves
 returns-in-Ok-Some-clause-moves g c =
-    let e = rw c.in-Ok-Some.field-0-is at c.in-Ok-Some.ensures.entered in
-    carries _ _ (moves_next (of_primitive g.S.Source.stream) _ (Some true) (tagged c.args.tag) (of_constructed g.S.Source.stream c.args.self.now) _ _ (header c.in-Ok-Some.header) e.0 e.1 _ c.octets_behind.ensures)
+    let h = c.octets_header.ensures in
+    let t = ap (λ (k : Kept). k.tag) h in
+    let e = subst (λ k. Enters (of_constructed g.S.Source.stream c.args.self.now) (header k) (of_constructed g.S.Source.stream c.next_octets_if.new.self)) (sym h) (rw c.in-Ok-Some.field-0-is at c.in-Ok-Some.ensures.entered.entered) in
+    carries _ _ (moves_next (of_primitive g.S.Source.stream) _ (Some true) (tagged c.args.tag) (of_constructed g.S.Source.stream c.args.self.now) _ _ (header c.octets_header.result) t e _ c.octets_behind.ensures)
 
 pub returns-in-Ok-Some-clause-took : goal.returns-in-Ok-Some-clause-took
 returns-in-Ok-Some-clause-took g c =
-    let e = rw c.in-Ok-Some.field-0-is at c.in-Ok-Some.ensures.entered in
-    takes_next (of_primitive g.S.Source.stream) _ (Some true) (tagged c.args.tag) (of_constructed g.S.Source.stream c.args.self.now) _ _ (header c.in-Ok-Some.header) e.0 e.1 _ (said_behind (of_primitive g.S.Source.stream) _ _ (λ t p r q h. search rules) (Some true) _ _ _ _ c.octets_behind.ensures)
+    let h = c.octets_header.ensures in
+    let t = ap (λ (k : Kept). k.tag) h in
+    let e = subst (λ k. Enters (of_constructed g.S.Source.stream c.args.self.now) (header k) (of_constructed g.S.Source.stream c.next_octets_if.new.self)) (sym h) (rw c.in-Ok-Some.field-0-is at c.in-Ok-Some.ensures.entered.entered) in
+    takes_next (of_primitive g.S.Source.stream) _ (Some true) (tagged c.args.tag) (of_constructed g.S.Source.stream c.args.self.now) _ _ (header c.octets_header.result) t e _ (said_behind (of_primitive g.S.Source.stream) _ _ (λ t p r q h. search rules) (Some true) _ _ _ _ c.octets_behind.ensures)
 
 pub returns-in-Ok-None-clause-moves : goal.returns-in-Ok-None-clause-moves
-returns-in-Ok-None-clause-moves g c = carries _ _ c.next_header_if.ensures.moves
+returns-in-Ok-None-clause-moves g c = carries _ _ c.next_octets_if.ensures.moves
 
 pub returns-in-Ok-None-clause-took : goal.returns-in-Ok-None-clause-took
 unfolding of_constructed
-returns-in-Ok-None-clause-took g c = next_none (of_primitive g.S.Source.stream) _ (Some true) (tagged c.args.tag) _ (of_constructed g.S.Source.stream c.next_header_if.new.self) c.next_header_if.ensures.mode (rw c.in-Ok-None.field-0-is at c.in-Ok-None.ensures.none)
+returns-in-Ok-None-clause-took g c = next_none (of_primitive g.S.Source.stream) _ (Some true) (tagged c.args.tag) _ (of_constructed g.S.Source.stream c.next_octets_if.new.self) c.next_octets_if.ensures.entered.mode (rw c.in-Ok-None.field-0-is at c.in-Ok-None.ensures.entered.none)
 
 pub returns-in-Err-clause-moves : goal.returns-in-Err-clause-moves
-returns-in-Err-clause-moves g c = carries _ _ c.next_header_if.ensures.moves
+returns-in-Err-clause-moves g c = carries _ _ c.next_octets_if.ensures.moves
 
 pub returns-in-Err-clause-took : goal.returns-in-Err-clause-took
 unfolding of_constructed
-returns-in-Err-clause-took g c = next_refused (of_primitive g.S.Source.stream) _ (Some true) (tagged c.args.tag) _ (of_constructed g.S.Source.stream c.next_header_if.new.self) c.next_header_if.ensures.mode _ (header_stopped stop_cause cause_of _ _ c.stopped.ensures.refused c.stopped.ensures.source _ _ (tagged c.args.tag) c.in-Err.ensures.refused) c.next_header_if.ensures.marked c.in-Err.ensures.failed
+returns-in-Err-clause-took g c =
+    next_stopped (of_primitive g.S.Source.stream) _ (of_constructed g.S.Source.stream c.args.self.now) (of_constructed g.S.Source.stream c.next_octets_if.new.self) c.next_octets_if.ensures.entered.mode c.args.tag
+    stop_cause _ _ c.stopped.ensures.refused c.stopped.ensures.source c.next_octets_if.ensures.entered.marked c.in-Err.ensures.entered.failed c.in-Err.ensures.entered.refused

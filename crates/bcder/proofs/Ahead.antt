@@ -1,0 +1,121 @@
+-- What a call that looks ahead for a primitive value says of the content before it looked.
+use Rattle.std.proofs.Common.{◌≡◌, ◌⊎◌, ℕ, ◌≤◌, Bool, true, false, refl, List, length, take, drop, Option, Some, None, Ok, Err, sym, ◌∙◌, subst, inl, inr}
+use Rattle.std.specs.Prelude.{Result, IfSome}
+use Rattle.std.specs.Borrow.{MutBor}
+use Rattle.bcder.specs.declared.mode.Mode.{Mode}
+use Rattle.bcder.specs.declared.length.Length.TheVariants.{Definite, Indefinite}
+use Rattle.bcder.specs.declared.decode.header.Header.{Header as Kept}
+use Rattle.bcder.specs.declared.decode.content.State.TheVariants.{Failed}
+use Rattle.bcder.specs.declared.decode.error.DecodeError.{DecodeError}
+use Rattle.bcder.specs.declared.decode.error.ContentError.{ContentError}
+use Rattle.bcder.specs.Calls.{HasForm}
+use Rattle.bcder.specs.Cause.{Cause, cause_of, of_source, IsOfContent, IsRefusal}
+use Rattle.bcder.specs.Encoding.{IsHeader, may_have}
+use Rattle.bcder.specs.Identifier.{Tag}
+use Rattle.bcder.specs.Peek.{header, octets_header, StandsShort}
+use Rattle.bcder.specs.Reading.{read_front}
+use Rattle.bcder.specs.Stream.{Grew}
+use Rattle.bcder.specs.Content.{Reading, Asked, tagged, Enters, HasHeader, HasMarker, HasOther, Falls, Resembles, IsElsewhere, none_left, other, marker, IsAbsent, IsLeft, RefusesHeader, failed, source, nothing}
+use Rattle.bcder.specs.Entering.{EntersOctets}
+use Rattle.bcder.specs.Takes.{HasNone, TakesNext, by_form}
+use Rattle.bcder.proofs.Entering.{looked_enters, header_entered, no_fewer}
+use Rattle.bcder.proofs.Peeking.{short_at_hand}
+use Rattle.bcder.proofs.Stopping.{header_stopped}
+use Rattle.bcder.proofs.Taking.{next_refused}
+
+-- a short header that was found in what is at hand stands in front
+pub short_found : (t : Tag) (o : Option ℕ) (rest slice : List ℕ) (found avail : ℕ) → take (length slice) rest ≡ slice → found ≤ length slice → avail ≡ found → IfSome o (λ n. StandsShort (octets_header t n) (take found slice)) → IfSome o (λ n. (mode : Mode) → (2 ≤ avail) × (read_front mode rest ≡ Some (header (octets_header t n), drop 2 rest)))
+short_found t None rest slice found avail front enough e s = tt
+short_found t (Some n) rest slice found avail front enough e s = λ mode. short_at_hand mode (octets_header t n) rest slice found avail front enough e s
+
+alike : (c d : Reading) → Resembles c d → Resembles d c
+alike c d s = record { rest = sym s.rest; kept = sym s.kept; owed = sym s.owed; kind = sym s.kind; state = sym s.state; mode = sym s.mode; marked = sym s.marked; name = sym s.name }
+
+header_alike : (c d : Reading) (s : Resembles c d) (asked : Asked) (after : List ℕ) → HasHeader asked c after → HasHeader asked d after
+header_alike c d s asked after x = record {
+  tag = x.tag;
+  form = x.form;
+  len = x.len;
+  octets = x.octets;
+  is_header = subst (λ m. IsHeader m x.tag x.form x.len x.octets) (sym s.mode) x.is_header;
+  is_asked = x.is_asked;
+  rest = s.rest ∙ x.rest;
+  owed = x.owed;
+  falls = subst (λ o. Falls o (length x.octets) x.owed) (sym s.owed) x.falls;
+  fits = x.fits;
+}
+
+elsewhere_alike : (c d : Reading) (s : Resembles c d) (t : Tag) (after : List ℕ) → IsElsewhere t c after → IsElsewhere t d after
+elsewhere_alike c d s t after (none_left e f) = none_left (s.rest ∙ e) f
+elsewhere_alike c d s t after (other o e) = other (subst (λ z. HasOther t z) (sym s.rest) o) (e ∙ sym s.rest)
+elsewhere_alike c d s t after (marker e k m) =
+    marker e (s.kind ∙ k) (subst (λ z. HasMarker z d.stream.rest after) (sym s.mode) (subst (λ z. HasMarker c.mode z after) (sym s.rest) m))
+
+absent_alike : (c d : Reading) (s : Resembles c d) (t : Tag) (after : List ℕ) → IsAbsent (tagged t) c after → IsAbsent (tagged t) d after
+absent_alike c d s t after (inl x) = inl (s.state ∙ x.0, x.1 ∙ sym s.rest)
+absent_alike c d s t after (inr x) = inr (s.state ∙ x.0, elsewhere_alike c d s t after x.1)
+
+-- the content was looked at, without a fault, and then a call went on from there
+module _ (c d e : Reading) (s : Resembles c d) (f : d.stream.faults ≡ c.stream.faults) (t : Tag) where
+  left_alike : IsLeft t d e → IsLeft t c e
+  left_alike (inl x) = inl (x.0 ∙ s.state, x.1 ∙ s.rest)
+  left_alike (inr x) = inr (x.0, sym s.state ∙ x.1, x.2)
+
+  none_ahead : HasNone (tagged t) d e → HasNone (tagged t) c e
+  none_ahead n = record {
+    missing = (absent_alike d c (alike c d s) t e.stream.rest n.missing.0, left_alike n.missing.1);
+    marked = n.marked ∙ s.marked;
+    no_fault = n.no_fault ∙ f;
+  }
+
+  refused_ahead : {E : Type 0} (why : E → Cause ContentError) (x : E) → RefusesHeader why (tagged t) d x e → RefusesHeader why (tagged t) c x e
+  refused_ahead why x (failed h o) = failed (sym s.state ∙ h) o
+  refused_ahead why x (source k g) = source k (subst (λ z. Grew z e.stream.faults) f g)
+  refused_ahead why x (nothing n o) = nothing (record {
+    usable = sym s.state ∙ n.usable;
+    header = λ after h. n.header after (header_alike c d s (tagged t) after h);
+    absent = λ after a. n.absent after (absent_alike c d s t after a);
+  }) o
+
+  form_ahead : HasForm true (tagged t) d → HasForm true (tagged t) c
+  unfolding header_alike
+  form_ahead x = record { usable = sym s.state ∙ x.usable; after = x.after; front = header_alike d c (alike c d s) (tagged t) x.after x.front; is = x.is }
+
+  pub ahead : {E : Type 0} (why : E → Cause ContentError) (r : Result (Option ℕ) E) → EntersOctets why t d r e → EntersOctets why t c r e
+  ahead why (Ok (Some n)) p = record { entered = looked_enters c d s (no_fewer _ _ f) _ e p.entered; none = tt; refused = tt; failed = tt; mode = p.mode ∙ s.mode; marked = p.marked ∙ s.marked }
+  ahead why (Ok None) p = record { entered = tt; none = none_ahead p.none; refused = tt; failed = tt; mode = p.mode ∙ s.mode; marked = p.marked ∙ s.marked }
+  ahead why (Err x) p = record {
+    entered = tt;
+    none = tt;
+    refused = elim p.refused [ inl h ↦ inl (refused_ahead why x h) | inr h ↦ inr (form_ahead h.0, h.1) ];
+    failed = p.failed;
+    mode = p.mode ∙ s.mode;
+    marked = p.marked ∙ s.marked;
+  }
+
+-- ---- what a header that was passed is
+
+module _ (c d : Reading) (t : Tag) (h : Kept) (e : h.tag ≡ t) (x : Enters c (header h) d) where
+  pub primitive_entered : (n : ℕ) → h.constructed ≡ false → h.len ≡ Definite n → Enters c (header (octets_header t n)) d
+  primitive_entered n f l =
+      subst (λ z. Enters c (record { tag = z; form = false; len = Definite n }) d) e
+      (subst (λ z. Enters c (record { tag = h.tag; form = z; len = Definite n }) d) f
+      (subst (λ z. Enters c (record { tag = h.tag; form = h.constructed; len = z }) d) l x))
+
+  -- a primitive value has a definite length
+  pub constructed_there : (h.constructed ≡ true) ⊎ (h.len ≡ Indefinite) → HasForm true (tagged t) c
+  constructed_there k = record { usable = x.usable; after = d.stream.rest; front = header_entered c (header h) d (tagged t) e x; is = is_constructed k }
+    where
+      only_constructed : (m : Mode) (f : Bool) → may_have m f Indefinite ≡ true → f ≡ true
+      only_constructed m true e = refl
+      only_constructed m false e = absurd (let z : false ≡ true = e in cc)
+
+      is_constructed : (h.constructed ≡ true) ⊎ (h.len ≡ Indefinite) → h.constructed ≡ true
+      is_constructed (inl f) = f
+      is_constructed (inr l) = only_constructed c.mode h.constructed (subst (λ z. may_have c.mode h.constructed z ≡ true) l x.is_header.allowed)
+
+-- what a take says where no header was passed
+module _ {C T X S : Type 0} (view : C → Reading) (post : Tag → MutBor C → Result T (DecodeError X) → MutBor C → Type 0) (c d : Reading) (mode : d.mode ≡ c.mode) (t : Tag) where
+  pub next_stopped : (stopped : S → Cause ContentError) (s : S) (e : DecodeError X) → (IsOfContent (stopped s) → IsRefusal e) → (stopped s ≡ of_source → cause_of e ≡ of_source) → d.marked ≡ c.marked → d.state ≡ Failed → RefusesHeader stopped (tagged t) c s d ⊎ HasForm true (tagged t) c × IsOfContent (stopped s) → TakesNext view post (Some true) (tagged t) c (Err e) d
+  next_stopped stopped s e own lost m f (inl h) = next_refused view post (Some true) (tagged t) c d mode e (header_stopped stopped cause_of s e own lost c d (tagged t) h) m f
+  next_stopped stopped s e own lost m f (inr x) = record { value = tt; shorter = tt; none = tt; refused = by_form x.0 (own x.1) m; failed = f; mode = mode }

@@ -1,0 +1,56 @@
+use Rattle.std.proofs.Common.{refl, inl, rules}
+use Rattle.bcder.specs.Cause.{stop_cause}
+use Rattle.bcder.specs.Content.{failed, source}
+use Rattle.bcder.specs.Views.{of_constructed}
+use Rattle.bcder.proofs.Moving.{moves_trans}
+use Rattle.bcder.proofs.Ahead.{ahead}
+use Rattle.bcder.proofs.Entering.{looked_moves, looked_failed, no_fewer, grew_least}
+use Rattle.bcder.proofs.decode.content.Constructed.next_octets_if.Goals as goal
+
+pub returns-in-Failed-clause-entered : goal.returns-in-Failed-clause-entered
+unfolding of_constructed
+returns-in-Failed-clause-entered g c = record { entered = tt; none = tt; refused = inl (failed c.in-Failed.is tt); failed = c.in-Failed.is; mode = refl; marked = refl }
+
+pub returns-in-Ended-clause-entered : goal.returns-in-Ended-clause-entered
+unfolding of_constructed
+returns-in-Ended-clause-entered g c = record { entered = tt; none = search rules; refused = tt; failed = tt; mode = refl; marked = refl }
+
+pub returns-then-is_used_up-clause-entered : goal.returns-then-is_used_up-clause-entered
+unfolding of_constructed
+returns-then-is_used_up-clause-entered g c = record { entered = tt; none = search rules; refused = tt; failed = tt; mode = refl; marked = refl }
+
+pub returns-in-Ok-Some-clause-moves : goal.returns-in-Ok-Some-clause-moves
+returns-in-Ok-Some-clause-moves g c = moves_trans _ _ _ (looked_moves _ _ c.look_short.ensures.same (no_fewer _ _ c.in-Ok-Some.ensures.no_fault)) c.enter_octets.ensures.moves
+
+pub returns-in-Ok-Some-clause-entered : goal.returns-in-Ok-Some-clause-entered
+unfolding of_constructed
+returns-in-Ok-Some-clause-entered g c =
+    ahead (of_constructed g.S.Source.stream c.args.self.now) (of_constructed g.S.Source.stream c.look_short.new.self) (of_constructed g.S.Source.stream c.enter_octets.new.self)
+    c.look_short.ensures.same c.in-Ok-Some.ensures.no_fault c.args.tag stop_cause c.enter_octets.result c.enter_octets.ensures.entered
+
+pub returns-in-Ok-None-clause-moves : goal.returns-in-Ok-None-clause-moves
+returns-in-Ok-None-clause-moves g c = moves_trans _ _ _ (looked_moves _ _ c.look_short.ensures.same (no_fewer _ _ c.in-Ok-None.ensures.no_fault)) c.next_long_if.ensures.moves
+
+pub returns-in-Ok-None-clause-entered : goal.returns-in-Ok-None-clause-entered
+unfolding of_constructed
+returns-in-Ok-None-clause-entered g c =
+    ahead (of_constructed g.S.Source.stream c.args.self.now) (of_constructed g.S.Source.stream c.look_short.new.self) (of_constructed g.S.Source.stream c.next_long_if.new.self)
+    c.look_short.ensures.same c.in-Ok-None.ensures.no_fault c.args.tag stop_cause c.next_long_if.result c.next_long_if.ensures.entered
+
+pub returns-in-Err-clause-moves : goal.returns-in-Err-clause-moves
+unfolding of_constructed
+returns-in-Err-clause-moves g c = looked_failed _ _ c.look_short.ensures.same (grew_least _ _ c.in-Err.ensures.fault) _ c.in-Open.is refl refl refl refl refl refl refl
+
+pub returns-in-Err-clause-entered : goal.returns-in-Err-clause-entered
+unfolding of_constructed
+returns-in-Err-clause-entered g c = record {
+  entered = tt;
+  none = tt;
+  refused = inl (source refl c.in-Err.ensures.fault);
+  failed = refl;
+  mode = c.look_short.ensures.same.mode;
+  marked = c.look_short.ensures.same.marked;
+}
+
+pub enter_octets-requires-clause-read : goal.enter_octets-requires-clause-read
+enter_octets-requires-clause-read g c = (rw c.in-Ok-Some.field-0-is at c.in-Ok-Some.ensures.peeked) c.look_short.new.self.mode
