@@ -305,7 +305,7 @@ fn compare_kept(
     ));
 }
 
-/// The value of a type of X.680, 8.4, with these contents octets, of which there are fewer than 128.
+/// A value with a tag of X.680, 8.4, and these contents octets, of which there are fewer than 128.
 fn value_of(alloc: Global, number: u8, octets: &[u8]) -> Result<Vec<u8>, Error> {
     let mut value = Vec::new(alloc);
     value.push(number)?;
