@@ -1,6 +1,6 @@
 //! Integers: the numbers that contents octets are, in each type, and values that are read.
 use crate::fields::{find, next, octets_of};
-use crate::malformed::Malformed;
+use crate::numbers::{self, Numbers, Readers};
 use crate::tally::Tally;
 use crate::written;
 use anyhow::Error;
@@ -16,8 +16,8 @@ use std::convert::TryFrom;
 /// What was compared.
 #[derive(Clone, Copy, Debug, Default)]
 pub struct Tallies {
-    /// Numbers read as values of Rust's types.
-    pub read: Tally,
+    /// Numbers read.
+    pub readers: Readers,
 
     /// Integers converted to them.
     pub converted: Tally,
@@ -46,66 +46,9 @@ fn found<T: Drop, E: Drop>(outcome: Result<T, E>) -> Option<T> {
     }
 }
 
-/// Compares what was read with what std reads in the number's text.
+/// Compares a number with the one that std reads in a text.
 fn count<T: PartialEq + Drop>(tally: &mut Tally, read: Option<T>, wanted: Option<T>) {
     tally.count(read == wanted);
-}
-
-fn compare_unsigned(octets: &[u8], text: &str, tally: &mut Tally) {
-    let mode = Mode::Ber;
-    let read = found(Primitive::decode_slice(octets, mode, |p| p.to_u8()));
-    count(tally, read, found(text.parse::<u8>()));
-    let read = found(Primitive::decode_slice(octets, mode, |p| p.to_u16()));
-    count(tally, read, found(text.parse::<u16>()));
-    let read = found(Primitive::decode_slice(octets, mode, |p| p.to_u32()));
-    count(tally, read, found(text.parse::<u32>()));
-    let read = found(Primitive::decode_slice(octets, mode, |p| p.to_u64()));
-    count(tally, read, found(text.parse::<u64>()));
-    let read = found(Primitive::decode_slice(octets, mode, |p| p.to_u128()));
-    count(tally, read, found(text.parse::<u128>()));
-}
-
-fn compare_signed(octets: &[u8], text: &str, tally: &mut Tally) {
-    let mode = Mode::Der;
-    let read = found(Primitive::decode_slice(octets, mode, |p| p.to_i8()));
-    count(tally, read, found(text.parse::<i8>()));
-    let read = found(Primitive::decode_slice(octets, mode, |p| p.to_i16()));
-    count(tally, read, found(text.parse::<i16>()));
-    let read = found(Primitive::decode_slice(octets, mode, |p| p.to_i32()));
-    count(tally, read, found(text.parse::<i32>()));
-    let read = found(Primitive::decode_slice(octets, mode, |p| p.to_i64()));
-    count(tally, read, found(text.parse::<i64>()));
-    let read = found(Primitive::decode_slice(octets, mode, |p| p.to_i128()));
-    count(tally, read, found(text.parse::<i128>()));
-}
-
-/// The same by the calls of `Unsigned` and `Integer`.
-fn compare_from_unsigned(octets: &[u8], text: &str, tally: &mut Tally) {
-    let mode = Mode::Der;
-    let read = found(Primitive::decode_slice(octets, mode, |p| Unsigned::u8_from_primitive(p)));
-    count(tally, read, found(text.parse::<u8>()));
-    let read = found(Primitive::decode_slice(octets, mode, |p| Unsigned::u16_from_primitive(p)));
-    count(tally, read, found(text.parse::<u16>()));
-    let read = found(Primitive::decode_slice(octets, mode, |p| Unsigned::u32_from_primitive(p)));
-    count(tally, read, found(text.parse::<u32>()));
-    let read = found(Primitive::decode_slice(octets, mode, |p| Unsigned::u64_from_primitive(p)));
-    count(tally, read, found(text.parse::<u64>()));
-    let read = found(Primitive::decode_slice(octets, mode, |p| Unsigned::u128_from_primitive(p)));
-    count(tally, read, found(text.parse::<u128>()));
-}
-
-fn compare_from_signed(octets: &[u8], text: &str, tally: &mut Tally) {
-    let mode = Mode::Cer;
-    let read = found(Primitive::decode_slice(octets, mode, |p| Integer::i8_from_primitive(p)));
-    count(tally, read, found(text.parse::<i8>()));
-    let read = found(Primitive::decode_slice(octets, mode, |p| Integer::i16_from_primitive(p)));
-    count(tally, read, found(text.parse::<i16>()));
-    let read = found(Primitive::decode_slice(octets, mode, |p| Integer::i32_from_primitive(p)));
-    count(tally, read, found(text.parse::<i32>()));
-    let read = found(Primitive::decode_slice(octets, mode, |p| Integer::i64_from_primitive(p)));
-    count(tally, read, found(text.parse::<i64>()));
-    let read = found(Primitive::decode_slice(octets, mode, |p| Integer::i128_from_primitive(p)));
-    count(tally, read, found(text.parse::<i128>()));
 }
 
 /// Compares the conversions to types of 16 and 32 bits.
@@ -182,10 +125,7 @@ pub fn compare_line(alloc: Global, line: &str, tallies: &mut Tallies) -> Result<
     let list = octets_of(alloc, next(&mut fields)?)?;
     let octets = list.as_slice();
     let text = next(&mut fields)?;
-    compare_unsigned(octets, text, &mut tallies.read);
-    compare_signed(octets, text, &mut tallies.read);
-    compare_from_unsigned(octets, text, &mut tallies.read);
-    compare_from_signed(octets, text, &mut tallies.read);
+    numbers::compare(alloc, octets, &Numbers::of_text(text), &mut tallies.readers)?;
     let read = found(Primitive::decode_slice(octets, Mode::Cer, |p| {
         Integer::from_primitive(alloc, p)
     }));
@@ -250,34 +190,6 @@ pub fn compare_order(alloc: Global, line: &str, tallies: &mut Tallies) -> Result
     tally.count(other.cmp(&one) == order.reverse());
     tally.count((one == other) == (order == Ordering::Equal));
     Ok(())
-}
-
-/// Compares what is read of two octets with what std makes of them.
-fn compare_pair(pair: u16, tally: &mut Tally) {
-    let octets = pair.to_be_bytes();
-    let number = i16::from_be_bytes(octets);
-    let wanted = if i8::try_from(number).is_ok() {
-        None
-    } else {
-        Some(number)
-    };
-    let read = found(Primitive::decode_slice(&octets, Mode::Der, |p| p.to_i16()));
-    count(tally, read, wanted);
-    let read = found(Primitive::decode_slice(&octets, Mode::Der, |p| p.to_u8()));
-    let small = match wanted {
-        Some(number) => found(u8::try_from(number)),
-        None => None,
-    };
-    count(tally, read, small);
-}
-
-/// Compares all contents of two octets.
-pub fn compare_pairs() -> Tally {
-    let mut tally = Tally::default();
-    for pair in 0..=u16::MAX {
-        compare_pair(pair, &mut tally);
-    }
-    tally
 }
 
 /// The contents octets of the INTEGER at the front of a source, and how many of so many octets are

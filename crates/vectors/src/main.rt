@@ -5,7 +5,8 @@
 //! numbers that another language wrote, and the others are written by the rules of X.690 and of the
 //! calls.
 //!
-//! Then `walk` and the plain reader are compared with each other on all short lists of some octets.
+//! Then `walk` and the plain reader are compared with each other on all short lists of some octets,
+//! and the readers of integers with conversions of std on all contents of one and two octets.
 //!
 //! What is printed counts the answers of each kind that were compared, so that a line that is left
 //! out is seen.
@@ -18,6 +19,7 @@ mod identifiers;
 mod integers;
 mod labels;
 mod malformed;
+mod numbers;
 mod partial;
 mod positions;
 mod row;
@@ -216,8 +218,31 @@ fn replay_tags(rt: &HostRuntime) -> Result<(), Error> {
     print(rt, "headers written", tally)
 }
 
-/// Replays the files of integers, and compares all contents of two octets with
-/// what std makes of them.
+/// Prints what was compared of each kind of reader of integers.
+fn print_numbers(rt: &HostRuntime, what: &str, readers: numbers::Readers) -> Result<(), Error> {
+    for (reader, tally) in [
+        ("of octets", readers.octets),
+        ("of octets, by the types of integers", readers.from_octets),
+        ("of content", readers.content),
+        ("taken", readers.taken),
+        ("taken if there", readers.optional),
+        ("skipped", readers.skipped),
+        ("kept", readers.kept),
+        ("unsigned, made of octets", readers.made),
+        ("truth values", readers.truths),
+    ] {
+        if tally.compared > 0 {
+            println!(rt;
+                "{what}, {reader}: {} answers compared, {} differ",
+                tally.compared, tally.differ
+            )?;
+        }
+    }
+    Ok(())
+}
+
+/// Replays the files of integers, and compares all contents of one and two octets with what std
+/// makes of them.
 fn replay_integers(rt: &HostRuntime) -> Result<(), Error> {
     let mut tallies = integers::Tallies::default();
     let text = fs::read_to_string(rt, "integers.tsv")?;
@@ -244,11 +269,12 @@ fn replay_integers(rt: &HostRuntime) -> Result<(), Error> {
             integers::compare_order(rt.alloc(), line, &mut tallies)?;
         }
     }
+    print_numbers(rt, "numbers", tallies.readers)?;
+    let short = numbers::compare_short(rt.alloc())?;
+    print_numbers(rt, "all contents of one and two octets", short)?;
     for (what, tally) in [
-        ("numbers read", tallies.read),
         ("integers converted", tallies.converted),
         ("integers made", tallies.made),
-        ("numbers of two octets", integers::compare_pairs()),
         ("integers taken", tallies.values),
         ("integers written", tallies.written),
         ("unsigned integers made", tallies.unsigned),

@@ -1,0 +1,24 @@
+//! Calls that take memory. A line for each says how it ended: it answered what it should, or want
+//! of memory, and left what it should. What is left is looked at, or used by a call that follows.
+//!
+//! The last calls want more memory than any machine has. `edits/growths` runs this program with
+//! each allocation refused in turn.
+#![tactic(auto, using(bcder::proofs::Moving::moves_refl, bcder::proofs::Carrying::carries))]
+
+mod captured;
+mod encoded;
+mod end;
+mod numbers;
+mod sources;
+mod taken;
+
+use anyhow::Error;
+
+fn main(rt: HostRuntime) -> Result<(), Error> {
+    numbers::run(&rt)?;
+    sources::run(&rt)?;
+    taken::run(&rt)?;
+    captured::run(&rt)?;
+    encoded::run(&rt)?;
+    encoded::run_beyond_memory(&rt)
+}
