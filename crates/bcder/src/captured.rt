@@ -41,6 +41,19 @@ impl Model for Captured {
     ghost invariant = { λ c. AreWhole c.mode c.octets };
 }
 
+/// The octets in a vector: those of the block itself, where nothing else shares it, or a copy.
+fn into_vec(alloc: Global, octets: Bytes) -> Result<Vec<u8>, NoMemory>
+    ensures { IfOk result (λ v. v.items ≡ octets) }
+{
+    match octets.try_into_mut() {
+        Ok(octets) => match octets.into_vec() {
+            Ok(octets) => Ok(octets),
+            Err(_) => Err(NoMemory),
+        },
+        Err(octets) => Ok(Vec::from_slice(alloc, octets.as_slice())?),
+    }
+}
+
 impl Captured {
     /// Octets that are encodings in a mode, which began at a position.
     pub(crate) fn new(octets: Bytes, mode: Mode, start: Pos) -> Captured
@@ -103,7 +116,7 @@ impl Captured {
 
     /// A builder with these values, behind which more can be put. It begins at position 0.
     ///
-    /// The octets are copied, as they may be shared.
+    /// The octets are copied where they are shared.
     ///
     /// # Errors
     ///
@@ -111,7 +124,12 @@ impl Captured {
     pub fn into_builder(self, alloc: Global) -> Result<CapturedBuilder, NoMemory>
         ensures { IfOk result (λ b. b ≡ from_start self) }
     {
-        Ok(CapturedBuilder::holding(Vec::from_slice(alloc, self.as_slice())?, self.mode))
+        let Captured {
+            octets,
+            mode,
+            start: _,
+        } = self;
+        Ok(CapturedBuilder::holding(into_vec(alloc, octets)?, mode))
     }
 
     /// Decodes the values, in the mode that they are kept in.

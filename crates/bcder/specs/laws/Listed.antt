@@ -1,6 +1,6 @@
--- An iterator over a slice gives one list.
-use Rattle.std.specs.Prelude.{◌≡◌, zero, suc, List, [], ◌∷◌, length, All, Option, MatchOption}
-use Rattle.std.proofs.Common.{Iter, arith, inr, sym, ap, ◌∙◌, subst}
+-- Iterators over a slice give one list. Each lemma has a variable for each fact of the iterator and of its items, so that a tactic applies it to any of them.
+use Rattle.std.specs.Prelude.{◌≡◌, zero, suc, List, [], ◌∷◌, length, All, Option, Vec}
+use Rattle.std.proofs.Common.{Iter, arith, inr, sym, ap, ◌∙◌, subst, refl}
 use denote.Ref.{Bor}
 use Rattle.std.specs.Slice.Iter.{iter_rest, iter_steps}
 use Rattle.std.specs.Iterator.{Count, IsFinite}
@@ -8,44 +8,70 @@ use Rattle.bcder.specs.declared.mode.Mode.{Mode}
 use Rattle.bcder.specs.Meaning.{Meaning}
 use Rattle.bcder.specs.Iterated.{AlwaysGives, GivesOneList}
 
-module _ {I V : Type 0} (rest : I → List V) (can : V → Type 0) (means : V → Mode → Meaning → Type 0) where
-  abbrev steps_ref : I → Option (Bor V) → I → Type 0
-  steps_ref s r t = MatchOption r ((length (rest s) ≡ 0) × (t ≡ s)) (λ x. rest s ≡ x.now ∷ rest t)
+-- an item behind some reference
+abbrev shown_one : {V : Type 0} → V → Bor V
+shown_one v = record { ref_ptr = (0, 0); now = v }
 
-  abbrev shown : List V → List (Bor V)
-  shown [] = []
-  shown (v ∷ vs) = record { ref_ptr = (0, 0); now = v } ∷ shown vs
+abbrev shown : {V : Type 0} → List V → List (Bor V)
+shown [] = []
+shown (v ∷ vs) = shown_one v ∷ shown vs
 
-  refs_given : (vs : List V) (s : I) → rest s ≡ vs → All can vs → AlwaysGives steps_ref (λ (x : Bor V). can x.now) (λ x mode. means x.now mode) s (shown vs)
-  refs_given [] s e all = λ x t st. absurd (let l = ap length (sym st ∙ e) in omega (arith, l))
+-- the item of a behind the reference b
+abbrev moved : {V : Type 0} → Bor V → Bor V → Bor V
+moved a b = record { ref_ptr = b.ref_ptr; now = a.now }
+
+moved_is : {V : Type 0} (a b : Bor V) → b.now ≡ a.now → moved a b ≡ b
+moved_is a b e = rw (sym e) refl
+
+-- the steps are those of an iterator over a slice; and what is asked of an item, and what it means, doesn't hang on the reference
+module _ {V : Type 0} {steps : Iter V → Option (Bor V) → Iter V → Type 0} {can : Bor V → Type 0} {means : Bor V → Mode → Meaning → Type 0}
+    (are_steps : (s : Iter V) (r : Option (Bor V)) (t : Iter V) → steps s r t → iter_steps s r t)
+    (can_be : (a b : Bor V) → can a → can (moved a b))
+    (mean : (a b : Bor V) (mode : Mode) (m : Meaning) → means a mode m → means (moved a b) mode m) where
+  mean_at : (a b : Bor V) → b.now ≡ a.now → (mode : Mode) (m : Meaning) → means a mode m → means b mode m
+  mean_at a b e mode m h = subst (λ z. means z mode m) (moved_is a b e) (mean a b mode m h)
+
+  refs_given : (vs : List V) (s : Iter V) → iter_rest s ≡ vs → All (λ v. can (shown_one v)) vs → AlwaysGives steps can means s (shown vs)
+  refs_given [] s e all = λ x t st. absurd (let l = ap length (sym (are_steps s _ t st) ∙ e) in omega (arith, l))
   refs_given (v ∷ vs) s e all = (
-    λ t st. absurd (let l = ap length e in omega (arith, l, st.0)),
+    λ t st. absurd (let l = ap length e in omega (arith, l, (are_steps s _ t st).0)),
     λ x t st. (
-        let both : x.now ∷ rest t ≡ v ∷ vs = sym st ∙ e in
+        let both : x.now ∷ iter_rest t ≡ v ∷ vs = sym (are_steps s _ t st) ∙ e in
         let here : x.now ≡ v = cc in
-        let there : rest t ≡ vs = cc in (
+        let there : iter_rest t ≡ vs = cc in (
           (
-            subst can (sym here) (all 0 v (omega arith)),
-            inr (record { same = λ mode m h. subst (λ (w : V). means w mode m) here h }, record { same = λ mode m h. subst (λ (w : V). means w mode m) (sym here) h }),
+            subst can (moved_is (shown_one v) x here) (can_be (shown_one v) x (all 0 v (omega arith))),
+            inr (record { same = mean_at x (shown_one v) (sym here) }, record { same = mean_at (shown_one v) x here }),
           ),
           refs_given vs t there (λ k d below. all (suc k) d (omega (arith, below))),
         )),
   )
 
-  refs_can : (vs : List V) → All can vs → All (λ (x : Bor V). can x.now) (shown vs)
+  refs_can : (vs : List V) → All (λ v. can (shown_one v)) vs → All can (shown vs)
   refs_can [] all k d below = absurd (omega (arith, below))
   refs_can (v ∷ vs) all zero d below = all 0 v (omega arith)
   refs_can (v ∷ vs) all (suc k) d below = refs_can vs (λ j e low. all (suc j) e (omega (arith, low))) k d (omega (arith, below))
 
-  iter_gives : (can_next : I → Type 0) (left : I → Count) (x : I) → ((i : I) → can_next i × IsFinite (left i)) → All can (rest x)
-      → GivesOneList (λ s r. rest r ≡ rest s) (λ s r. r ≡ s) steps_ref can_next left (λ (b : Bor V). can b.now) (λ b mode. means b.now mode) x
-  iter_gives can_next left x ends all = record {
-    items = shown (rest x);
-    all_can = refs_can (rest x) all;
-    may_call = λ t i cloned made. ends i;
-    same = λ t i cloned made. refs_given (rest x) i (ap rest made ∙ cloned) all;
-  }
+  -- and it may be run to its end
+  module _ {can_next : Iter V → Type 0} {left : Iter V → Count} (ends : (i : Iter V) → can_next i × IsFinite (left i)) where
+    listed : {T : Type 0} {is_clone : T → T → Type 0} {gives : T → Iter V → Type 0} (x : T) (xs : List V) → ((t : T) (i : Iter V) → is_clone x t → gives t i → iter_rest i ≡ xs) → All (λ v. can (shown_one v)) xs
+        → GivesOneList is_clone gives steps can_next left can means x
+    listed x xs made all = record { items = shown xs; all_can = refs_can xs all; may_call = λ t i cloned given. ends i; same = λ t i cloned given. refs_given xs i (made t i cloned given) all }
 
-pub slice_iter_listed : {V : Type 0} (can : V → Type 0) (means : V → Mode → Meaning → Type 0) (can_next : Iter V → Type 0) (left : Iter V → Count) (x : Iter V) → ((i : Iter V) → can_next i × IsFinite (left i)) → All can (iter_rest x)
-    → GivesOneList (λ s r. iter_rest r ≡ iter_rest s) (λ s r. r ≡ s) iter_steps can_next left (λ (b : Bor V). can b.now) (λ b mode. means b.now mode) x
-slice_iter_listed can means can_next left x ends all = iter_gives iter_rest can means can_next left x ends all
+    -- an iterator over a slice
+    pub slice_iter_listed : {is_clone gives : Iter V → Iter V → Type 0} {x : Iter V} → ((s t : Iter V) → is_clone s t → iter_rest t ≡ iter_rest s) → ((s t : Iter V) → gives s t → t ≡ s) → All (λ v. can (shown_one v)) (iter_rest x)
+        → GivesOneList is_clone gives steps can_next left can means x
+    slice_iter_listed {x = x} clones made all = listed x (iter_rest x) (λ t i c g. ap iter_rest (made t i g) ∙ clones x t c) all
+
+    -- a slice
+    pub slice_listed : {is_clone : Bor (List V) → Bor (List V) → Type 0} {gives : Bor (List V) → Iter V → Type 0} {x : Bor (List V)} → ((s t : Bor (List V)) → is_clone s t → t ≡ s) → ((s : Bor (List V)) (i : Iter V) → gives s i → iter_rest i ≡ s.now) → All (λ v. can (shown_one v)) x.now
+        → GivesOneList is_clone gives steps can_next left can means x
+    slice_listed {x = x} clones made all = listed x x.now (λ t i c g. made t i g ∙ ap (λ z. z.now) (clones x t c)) all
+
+    -- a vector, by reference
+    pub vec_listed : {A : Type 0} {is_clone : Bor (Vec V A) → Bor (Vec V A) → Type 0} {gives : Bor (Vec V A) → Iter V → Type 0} {x : Bor (Vec V A)} → ((s t : Bor (Vec V A)) → is_clone s t → t ≡ s) → ((s : Bor (Vec V A)) (i : Iter V) → gives s i → iter_rest i ≡ s.now.items) → All (λ v. can (shown_one v)) x.now.items
+        → GivesOneList is_clone gives steps can_next left can means x
+    vec_listed {x = x} clones made all = listed x x.now.items (λ t i c g. made t i g ∙ ap (λ z. z.now.items) (clones x t c)) all
+
+-- what a caller of `iter` names once
+pub ruleset gives_one_list = (slice_iter_listed, slice_listed, vec_listed)
