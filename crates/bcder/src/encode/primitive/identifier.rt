@@ -4,7 +4,8 @@ ghost use Rattle.bcder.specs.Meaning.{ExactlyOctets};
 ghost use Rattle.bcder.specs.laws.Meanings.{ExactlyOctets_lawful};
 
 use super::PrimitiveContent;
-use super::plain::{octets_len, write_octets};
+use super::plain::{octets_len, put_octets, write_octets};
+use crate::encode::slot::Failed;
 use crate::encode::{EncodeError, WriteError};
 use crate::mode::Mode;
 use crate::oid::Oid;
@@ -30,6 +31,18 @@ impl<T: AsSlice<u8>> PrimitiveContent for Oid<T> {
 
     fn write_encoded<W: io::Write>(&self, _mode: Mode, target: &mut W) -> Result<(), WriteError> {
         write_octets(self.0.as_slice(), target)
+    }
+
+    #[inline(always)]
+    fn write_value<W: io::Write>(
+        &self,
+        tag: Tag,
+        len: usize,
+        _mode: Mode,
+        target: &mut W,
+        why: &mut WriteError,
+    ) -> Result<(), Failed> {
+        put_octets(self.0.as_slice(), tag, len, target, why)
     }
 
     ghost lawful = { λ x _. ExactlyOctets_lawful (T.items x.0) };

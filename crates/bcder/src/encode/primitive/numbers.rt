@@ -1,13 +1,16 @@
 //! Contents octets of integers of any size (X.690, 8.3).
-ghost use Rattle.std.specs.Prelude.{◌≡◌, pos};
+ghost use Rattle.std.specs.Prelude.{◌≡◌, ◌<◌, ◌^◌, pos};
 ghost use Rattle.bcder.specs.Identifier.{universal};
 ghost use Rattle.bcder.specs.Integer.{integer_octets};
 ghost use Rattle.bcder.specs.Encoders.{SizeOfContents, WritesContents};
+ghost use Rattle.bcder.specs.Encoders.{HasContents, WritesPrimitive, told};
 ghost use Rattle.bcder.specs.Meaning.{Exactly};
 ghost use Rattle.bcder.specs.laws.Integers.{integer_octets_are};
 ghost use Rattle.bcder.specs.laws.Meanings.{Exactly_lawful};
 
 use super::PrimitiveContent;
+use crate::encode::short::put_apart;
+use crate::encode::slot::Failed;
 use crate::encode::target::write_all;
 use crate::encode::{EncodeError, WriteError};
 use crate::int::{Integer, Unsigned};
@@ -30,6 +33,23 @@ fn write_integer<W: io::Write>(x: &Integer, target: &mut W) -> Result<(), WriteE
     write_all(target, AsSlice::as_slice(x))
 }
 
+/// Writes an integer as a value.
+#[inline(always)]
+fn put_integer<W: io::Write>(
+    x: &Integer,
+    tag: Tag,
+    _len: usize,
+    target: &mut W,
+    why: &mut WriteError,
+) -> Result<(), Failed>
+    requires contents { HasContents (Exactly (integer_octets x.now)) _len }
+    requires fits { _len < 2 ^ 32 }
+    ensures { WritesPrimitive W.contents target tag (Exactly (integer_octets x.now)) ⊥
+        (told result why.new) }
+{
+    put_apart(tag, AsSlice::as_slice(x), target, why)
+}
+
 /// The octets that it keeps, which are the smallest of the number.
 impl PrimitiveContent for &'_ Integer {
     ghost own_tag = { record { class = universal; number = 2 } };
@@ -50,6 +70,18 @@ impl PrimitiveContent for &'_ Integer {
 
     fn write_encoded<W: io::Write>(&self, _mode: Mode, target: &mut W) -> Result<(), WriteError> {
         write_integer(*self, target)
+    }
+
+    #[inline(always)]
+    fn write_value<W: io::Write>(
+        &self,
+        tag: Tag,
+        len: usize,
+        _mode: Mode,
+        target: &mut W,
+        why: &mut WriteError,
+    ) -> Result<(), Failed> {
+        put_integer(*self, tag, len, target, why)
     }
 
     ghost lawful = { λ x _. Exactly_lawful (integer_octets x.now) (integer_octets_are x.now) };
@@ -75,6 +107,18 @@ impl PrimitiveContent for &'_ Unsigned {
 
     fn write_encoded<W: io::Write>(&self, _mode: Mode, target: &mut W) -> Result<(), WriteError> {
         write_integer((*self).as_ref(), target)
+    }
+
+    #[inline(always)]
+    fn write_value<W: io::Write>(
+        &self,
+        tag: Tag,
+        len: usize,
+        _mode: Mode,
+        target: &mut W,
+        why: &mut WriteError,
+    ) -> Result<(), Failed> {
+        put_integer((*self).as_ref(), tag, len, target, why)
     }
 
     ghost lawful = { λ x _.

@@ -1,14 +1,15 @@
 //! Contents octets of booleans, null and octets (X.690, 8.2, 8.7, 8.8, 11.1).
-ghost use Rattle.std.specs.Prelude.{◌≡◌, []};
+ghost use Rattle.std.specs.Prelude.{◌≡◌, ◌<◌, ◌^◌, []};
 ghost use Rattle.bcder.specs.Identifier.{universal};
 ghost use Rattle.bcder.specs.Encoders.{SizeOfContents, WritesContents};
+ghost use Rattle.bcder.specs.Encoders.{HasContents, WritesPrimitive, told};
 ghost use Rattle.bcder.specs.Meaning.{Exactly, ExactlyOctets, truth_octets};
 ghost use Rattle.bcder.specs.laws.Octets.{AreOctets-nil};
 ghost use Rattle.bcder.specs.laws.Meanings.{Exactly_lawful, ExactlyOctets_lawful};
 ghost use Rattle.bcder.specs.laws.Meanings.{truth_octets_are};
 
 use super::PrimitiveContent;
-use crate::encode::short::put_short;
+use crate::encode::short::{put_apart, put_short};
 use crate::encode::slot::Failed;
 use crate::encode::target::write_all;
 use crate::encode::{EncodeError, WriteError};
@@ -107,6 +108,23 @@ pub(crate) fn write_octets<W: io::Write>(octets: &[u8], target: &mut W) -> Resul
     write_all(target, octets)
 }
 
+/// Writes the octets as a value.
+#[inline(always)]
+pub(crate) fn put_octets<W: io::Write>(
+    octets: &[u8],
+    tag: Tag,
+    _len: usize,
+    target: &mut W,
+    why: &mut WriteError,
+) -> Result<(), Failed>
+    requires contents { HasContents (ExactlyOctets octets.now) _len }
+    requires fits { _len < 2 ^ 32 }
+    ensures { WritesPrimitive W.contents target tag (ExactlyOctets octets.now) ⊥
+        (told result why.new) }
+{
+    put_apart(tag, octets, target, why)
+}
+
 /// These octets (8.7).
 impl PrimitiveContent for &'_ [u8] {
     ghost own_tag = { record { class = universal; number = 4 } };
@@ -127,6 +145,18 @@ impl PrimitiveContent for &'_ [u8] {
 
     fn write_encoded<W: io::Write>(&self, _mode: Mode, target: &mut W) -> Result<(), WriteError> {
         write_octets(*self, target)
+    }
+
+    #[inline(always)]
+    fn write_value<W: io::Write>(
+        &self,
+        tag: Tag,
+        len: usize,
+        _mode: Mode,
+        target: &mut W,
+        why: &mut WriteError,
+    ) -> Result<(), Failed> {
+        put_octets(*self, tag, len, target, why)
     }
 
     ghost lawful = { λ x _. ExactlyOctets_lawful x.now };
