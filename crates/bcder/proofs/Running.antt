@@ -1,5 +1,5 @@
 -- What a run over the values of a value did, step by step.
-use Rattle.std.proofs.Common.{◌≡◌, ◌⊎◌, inl, inr, ℕ, ◌+◌, ◌<◌, ◌≤◌, false, List, [], ◌∷◌, ◌++◌, length, drop, Option, Some, None, Ok, Err, IfSome, refl, sym, ap, subst, ◌∙◌, arith, length-append}
+use Rattle.std.proofs.Common.{◌≡◌, ◌⊎◌, inl, inr, ℕ, zero, suc, ◌+◌, ◌*◌, ◌<◌, ◌≤◌, false, List, [], ◌∷◌, ◌++◌, length, drop, Option, Some, None, Ok, Err, IfSome, refl, sym, ap, subst, ◌∙◌, arith, length-append}
 use Rattle.std.specs.Prelude.{◌^◌}
 use Rattle.std.proofs.lemmas.List.{length-drop}
 use Rattle.bcder.specs.declared.decode.content.skip.Opened.{Opened}
@@ -19,9 +19,11 @@ use Rattle.bcder.specs.Cause.{stop_cause, of_source, IsOfContent, MatchStop}
 use Rattle.bcder.specs.Calls.{popped}
 use Rattle.bcder.specs.Identifier.{AreOctets}
 use Rattle.bcder.specs.Encoding.{IsHeader}
-use Rattle.bcder.specs.Preorder.{Heading}
+use Rattle.bcder.specs.Tree.{Trees, no_trees, ◌∷ₜ◌, primitive, constructed}
+use Rattle.bcder.specs.Growing.{AreOpen}
+use Rattle.bcder.specs.Preorder.{Heading, preorder, preorders}
 use Rattle.bcder.specs.Reading.{Header, read_contents, read_list}
-use Rattle.bcder.specs.Stream.{Layer, Stream, Grew, cut, past, limited}
+use Rattle.bcder.specs.Stream.{IsSound, Layer, Stream, Grew, cut, past, limited}
 use Rattle.bcder.specs.Content.{Reading, values, any, Falls, FitsOwed, Enters, EndsAt, Moves, RefusesHeader, failed, source, nothing}
 use Rattle.bcder.specs.Skipping.{Steps, Called}
 use Rattle.bcder.specs.Stacked.{entries, remain, due, heading, halt_cause, unwound, TopIs, Passes, GoesInto, octets, Leaves, Counts, PassesCalls, IsUnderWay, IsBroken, StaysAt, for_memory, by_failure, too_few, GoneBy, IsCounted, framed, StaysOut, refused, wanted, failing, few, VisitedBy, Breaks, by_source, by_content, by_closure, by_memory, RanBy}
@@ -234,6 +236,24 @@ goes_shorter h es fs s t o p (stacked.values a e k i) = omega (arith, ap length 
 
 pub some_entry : (v : Opened) → IsCounted v → 0 < v.depth → 1 ≤ length (entries v)
 some_entry v c l = omega (arith, c.depth)
+
+-- the values that are open are no more than the calls, and there are two octets for each
+open_calls : (k : ℕ) (ts : Trees) (d : ℕ) → AreOpen k ts → k ≤ length (preorders ts d)
+open_calls zero ts d h = omega arith
+open_calls (suc k) no_trees d h = absurd h
+open_calls (suc k) (primitive t contents ∷ₜ no_trees) d h = absurd h
+open_calls (suc k) (constructed t ts ∷ₜ no_trees) d h = (let x = open_calls k ts (d + 1) h in omega (arith, x, length-append (preorders ts (d + 1)) []))
+open_calls (suc k) (t ∷ₜ (u ∷ₜ us)) d h = (let x = open_calls (suc k) (u ∷ₜ us) d h in omega (arith, x, length-append (preorder t d) (preorders (u ∷ₜ us) d)))
+
+pub few_open : (v : Opened) (c : IsCounted v) (mode : Mode) (h : Header) (s t : Stream) (o p : Option ℕ) (calls : List Heading) → IsSound s → IsUnderWay mode h s o calls (entries v) t p → v.depth + 1 < 2 ^ 64
+few_open v c mode h s t o p calls so u =
+    let a : length (entries v) ≤ length (preorders (u.part.tree ∷ₜ no_trees) 0) = open_calls (length (entries v)) (u.part.tree ∷ₜ no_trees) 0 u.part.opened in
+    let b : length (preorders (u.part.tree ∷ₜ no_trees) 0) ≡ length (preorder u.part.tree 0) + 0 = length-append (preorder u.part.tree 0) [] in
+    let e : length (preorder u.part.tree 0) ≡ 1 + length calls = ap length u.part.are ∙ (let x : length (heading h 0 ∷ calls) ≡ 1 + length calls = omega arith in x) in
+    let w : 2 * length calls ≤ length u.passes.passed = u.passes.twice in
+    let r : length s.rest ≡ length u.passes.passed + length t.rest = ap length u.passes.passes.rest ∙ length-append u.passes.passed t.rest in
+    let f : length s.rest < 2 ^ 64 = so.size in
+    omega (arith, a, b, e, w, r, f, c.depth)
 
 -- the limit that a visit which halted leaves
 pub out_counts : (mode : Mode) (h : Header) (s : Stream) (o : Option ℕ) (calls : List Heading) (es : List Entry) (k : Header) (v : Stream) (q : Option ℕ) (fs : List Entry) (p outer : Option ℕ) → IsMet mode h s o calls es k v q → fs ≡ es → p ≡ q → outer ≡ o → IfSome outer (λ n. n < 2 ^ 64) → Counts outer (unwound fs p)

@@ -1,6 +1,6 @@
 //! Passing over values with a stack of limits, and a closure that is told of each.
 ghost use Rattle.std.specs.Prelude.{◌≡◌, ◌+◌, ◌^◌, ◌<◌, ◌≤◌, [], ◌∷◌, true, false, IfSome, OnOk};
-ghost use Rattle.std.specs.Prelude.{IfErr, IfNone, IfOk, OnErr};
+ghost use Rattle.std.specs.Prelude.{ℕ, Option, IfErr, IfNone, IfOk, OnErr};
 ghost use Rattle.bcder.specs.declared.decode.header.Peeked.{Peeked};
 ghost use Rattle.bcder.specs.declared.mode.Mode.{Mode as ModeValue};
 ghost use Rattle.bcder.specs.Cause.{cause_of, of_content, of_memory, of_source, stop_cause};
@@ -15,7 +15,7 @@ ghost use Rattle.bcder.specs.Skipping.{IsPast, MovedBehind, SkippedBehind};
 ghost use Rattle.bcder.specs.Peek.{header as header_of, IsAllHere, Peeks};
 ghost use Rattle.bcder.specs.Skipping.{SkippedAll, SkippedNext, SkippedOne, SkippedValue};
 ghost use Rattle.bcder.specs.Stacked.{entries, entry_of, framed, halt_cause, joined, limit_in};
-ghost use Rattle.bcder.specs.Stacked.{unwound};
+ghost use Rattle.bcder.specs.Stacked.{limit_behind, unwound};
 ghost use Rattle.bcder.specs.Stream.{limit_left};
 ghost use Rattle.bcder.specs.Views.{after, before, limited_stream, Moved};
 ghost use Rattle.bcder.specs.Walking.{Between, ExactlyNext, Fault, NoFault};
@@ -124,15 +124,13 @@ impl Opened {
     /// for it.
     #[inline(always)]
     fn open(&mut self, len: Length, owed: Option<usize>) -> bool
-        requires { IsCounted self.old }
+        requires counted { IsCounted self.old }
+        requires few { self.old.depth + 1 < 2 ^ 64 }
         ensures counted { IsCounted self.new }
         ensures entries { result ≡ true → entries self.new ≡ entry_of len owed ∷ entries self.old }
         ensures full { result ≡ false → 4 ≤ self.old.depth }
         ensures same { result ≡ false → entries self.new ≡ entries self.old }
     {
-        let Some(depth) = self.depth.checked_add(1) else {
-            return false;
-        };
         match len {
             Length::Definite(len) => {
                 let frame = Frame {
@@ -146,31 +144,31 @@ impl Opened {
             }
             Length::Indefinite => self.inner += 1,
         }
-        self.depth = depth;
+        self.depth += 1;
         true
     }
 
-    /// Leaves the innermost value, and answers the limit behind it, where this is the limit at its
-    /// end.
+    /// Leaves the innermost value, and answers it if its length is definite.
     #[inline(always)]
-    fn close(&mut self, limit: Option<usize>) -> Option<usize>
+    fn close(&mut self) -> Option<Frame>
         requires counted { IsCounted self.old }
         requires some { 0 < self.old.depth }
         ensures counted { IsCounted self.new }
-        ensures leaves { Leaves (entries self.old) limit (entries self.new) result }
+        ensures leaves { (o : Option ℕ)
+            → Leaves (entries self.old) o (entries self.new) (limit_behind result o) }
         ensures fewer { self.new.depth + 1 ≡ self.old.depth }
     {
         self.depth -= 1;
         if self.inner > 0 {
             self.inner -= 1;
-            return limit;
+            return None;
         }
         match self.frames.pop() {
             Some(frame) => {
                 self.inner = frame.around;
-                frame.behind
+                Some(frame)
             }
-            None => limit,
+            None => None,
         }
     }
 
@@ -190,7 +188,8 @@ impl Opened {
 /// Opens a value whose header was passed over, if there is memory for it.
 #[inline(always)]
 fn open<S>(cons: &mut Constructed<'_, S>, opened: &mut Opened, len: Length) -> bool
-    requires { IsCounted opened.old }
+    requires counted { IsCounted opened.old }
+    requires few { opened.old.depth + 1 < 2 ^ 64 }
     ensures counted { IsCounted opened.new }
     ensures entries { result ≡ true
         → entries opened.new ≡ entry_of len (limit_in cons.old) ∷ entries opened.old }
@@ -230,8 +229,9 @@ fn leave<S>(cons: &mut Constructed<'_, S>, opened: &mut Opened)
     ensures mode { cons.new.mode ≡ cons.old.mode }
     ensures marked { cons.new.marked ≡ cons.old.marked }
 {
-    let limit = opened.close(cons.source.limit());
-    cons.source.set_limit(limit);
+    if let Some(frame) = opened.close() {
+        cons.source.set_limit(frame.behind);
+    }
     cons.kind = opened.kind();
     cons.state = State::Open;
 }
@@ -274,6 +274,7 @@ fn go_into<S: Source>(
     header: Header,
 ) -> Result<(), Bar<S::Error>>
     requires counted { IsCounted opened.old }
+    requires few { opened.old.depth + 1 < 2 ^ 64 }
     requires allowed { may_have cons.old.mode header.constructed header.len ≡ true }
     requires fits { FitsOwed header.len (limit_in cons.old) }
     ensures counted { IsCounted opened.new }

@@ -7,7 +7,7 @@ use Rattle.bcder.specs.Stacked.{TopIs, entries, source_of, limit_in}
 use Rattle.bcder.specs.Views.{of_constructed}
 use Rattle.bcder.proofs.Names.{within_constructed, moves_constructed_name}
 use Rattle.bcder.proofs.Taking.{allowed_entered}
-use Rattle.bcder.proofs.Running.{some_entry, out_counts, met_entered, entered_fits, visited_refused, visited_gone, visited_barred, first_went, first_barred, not_begun, went_in, stayed_out, went_out, went_wrong, entered_shorter, left_shorter, wrong_counts, frames_count, frames_unwound}
+use Rattle.bcder.proofs.Running.{some_entry, out_counts, met_entered, entered_fits, visited_refused, visited_gone, visited_barred, first_went, first_barred, not_begun, went_in, stayed_out, went_out, went_wrong, entered_shorter, left_shorter, wrong_counts, few_open, frames_count, frames_unwound}
 use Rattle.bcder.proofs.decode.content.skip.run.Given.{F-step}
 use Rattle.bcder.proofs.decode.content.skip.run.Goals as goal
 
@@ -151,3 +151,9 @@ returns-in-Err-next_header-clause-ran g c =
 
 pub returns-in-Err-next_header-clause-name : goal.returns-in-Err-next_header-clause-name
 returns-in-Err-next_header-clause-name g c = moves_constructed_name g.S.Source.stream c.loop-opened.cons c.next_header.new.self c.next_header.ensures.moves ∙ c.loop-opened.invariant.name
+
+pub go_into-requires-clause-few : goal.go_into-requires-clause-few
+go_into-requires-clause-few g c = (let x = c.new-opened.ensures.counted.depth in let y = ap length c.new-opened.ensures.none in omega (arith, x, y))
+
+pub go_into-requires-in-Ok-Some-clause-few : goal.go_into-requires-in-Ok-Some-clause-few
+go_into-requires-in-Ok-Some-clause-few g c = few_open c.loop-opened.opened c.loop-opened.invariant.counted _ _ _ _ _ _ _ (g.met.S.Source.sound c.args.cons.now.source.now.source) c.loop-opened.invariant.went.2
