@@ -1,7 +1,6 @@
 -- What reading a value gives, at each way that it can go.
-use Rattle.std.proofs.Common.{◌≡◌, ◌≢◌, ℕ, zero, suc, ◌+◌, ◌-◌, ◌%◌, ◌<◌, ◌≤◌, Bool, true, false, List, [], ◌∷◌, ◌++◌, length, get_or, take, drop, Option, Some, None, MatchOption, IfSome, IfNone, refl, sym, ap, subst, ◌∙◌, arith, inl, inr}
+use Rattle.std.proofs.Common.{◌≡◌, ◌≢◌, ℕ, zero, suc, ◌+◌, ◌%◌, ◌<◌, ◌≤◌, Bool, true, false, List, [], ◌∷◌, ◌++◌, length, get_or, take, drop, Option, Some, None, MatchOption, IfSome, IfNone, refl, sym, ap, subst, ◌∙◌, arith, inl, inr}
 use Rattle.std.proofs.lemmas.Bool.{cases_lt, lt-ltb, le-ltb, lt-leb}
-use Rattle.std.proofs.lemmas.Grind.{common_steps}
 use Rattle.std.proofs.lemmas.List.{length-append, length-drop, take_at, take-append-drop}
 use Rattle.bcder.specs.declared.mode.Mode.{Mode}
 use Rattle.bcder.specs.declared.length.Length.{Length}
@@ -100,12 +99,11 @@ begins_of_read mode w n o l r =
     let e : length s.front ≡ n = omega (arith, ap length s.is, length-append s.front (drop n w), length-drop n w) in
     record { tree = r.0; encodes = subst (λ v. IsEncoding mode r.0 v) (sym (ap (take n) s.is ∙ take_at s.front (drop n w) n e)) s.is_encoding; fits = l }
 
-pub short_begins : (w : List ℕ) (n m : ℕ) → AreOctets w → 2 ≤ length w → BeginPrimitive (get_or w 0 0) (get_or w 1 0) → m ≡ get_or w 1 0 → m ≤ length (take (length w - 2) (drop 2 w)) → n ≡ 2 + m → (mode : Mode) → BeginsWhole mode w n
+pub short_begins : (w : List ℕ) (n m : ℕ) → AreOctets w → 2 ≤ length w → BeginPrimitive (get_or w 0 0) (get_or w 1 0) → m ≡ get_or w 1 0 → 2 + m ≤ length w → n ≡ 2 + m → (mode : Mode) → BeginsWhole mode w n
 short_begins [] n m o two k e h r mode = absurd (omega arith)
 short_begins (b ∷ []) n m o two k e h r mode = absurd (omega arith)
 short_begins (b ∷ l ∷ x) n m o two k e h r mode =
-    let q : take (length (b ∷ l ∷ x) - 2) x ≡ x = grind (arith, common_steps) in
-    let f : l ≤ length x = omega (arith, h, e, ap length q) in
+    let f : l ≤ length x = omega (arith, h, e) in
     let c : n ≡ suc (suc l) = omega (arith, r, e) in
     rw c (begins_of_read mode (b ∷ l ∷ x) (suc (suc l)) o (omega arith) (short_read mode b l x o k f))
 

@@ -75,9 +75,10 @@ pub(crate) fn short_size(octets: &[u8]) -> Option<usize>
     ensures begins { IfSome result (λ n. (mode : ModeValue) → BeginsWhole mode octets.now n) }
 {
     match octets {
-        [first, len, rest @ ..] => {
-            if is_primitive(*first, *len) && usize::from(*len) <= rest.len() {
-                Some(2 + usize::from(*len))
+        [first, len, ..] => {
+            let size = 2 + usize::from(*len);
+            if is_primitive(*first, *len) && size <= octets.len() {
+                Some(size)
             } else {
                 None
             }

@@ -3,7 +3,7 @@ use Rattle.bcder.specs.Identifier.{AreOctets}
 use Rattle.bcder.proofs.Skip.{short_begins}
 use Rattle.bcder.proofs.plain.short_size.Goals as goal
 
-pub returns-then-from-rest-clause-begins : goal.returns-then-from-rest-clause-begins
-returns-then-from-rest-clause-begins c =
+pub returns-then-size-octets-clause-begins : goal.returns-then-size-octets-clause-begins
+returns-then-size-octets-clause-begins c =
     let o : AreOctets c.args.octets.now = λ i. omega (arith, c.type_inv.octets i) in
-    short_begins c.args.octets.now _ c.from-then-from-rest.result o c.in-len2-up.len_at_least (c.is_primitive.ensures c.if-is_primitive.true) c.from-then-from-rest.ensures (omega (arith, c.if-from-rest.true)) refl
+    short_begins c.args.octets.now _ c.from-size.result o c.in-len2-up.len_at_least (c.is_primitive.ensures c.if-is_primitive.true) c.from-size.ensures (omega (arith, c.if-size-octets.true)) refl

@@ -223,8 +223,8 @@ impl<'a, S: Source> Constructed<'a, S> {
         ensures mode { self.new.mode ≡ self.old.mode }
         ensures marked { self.new.marked ≡ self.old.marked }
     {
-        self.source.advance(size);
         self.state = State::Failed;
+        self.source.advance(size);
     }
 
     /// Passes over a header, or an end marker.
