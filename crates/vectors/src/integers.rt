@@ -1,6 +1,6 @@
 //! Integers: the numbers that contents octets are, in each type, and values that are read.
 use crate::fields::{find, next, octets_of};
-use crate::numbers::{self, Numbers, Readers};
+use crate::numbers::{self, Numbers, Readers, count, found};
 use crate::tally::Tally;
 use crate::written;
 use anyhow::Error;
@@ -36,19 +36,6 @@ pub struct Tallies {
 
     /// Integers compared, and their signs.
     pub ordered: Tally,
-}
-
-/// What was read, where it is no matter why nothing was.
-fn found<T: Drop, E: Drop>(outcome: Result<T, E>) -> Option<T> {
-    match outcome {
-        Ok(value) => Some(value),
-        Err(_) => None,
-    }
-}
-
-/// Compares a number with the one that std reads in a text.
-fn count<T: PartialEq + Drop>(tally: &mut Tally, read: Option<T>, wanted: Option<T>) {
-    tally.count(read == wanted);
 }
 
 /// Compares the conversions to types of 16 and 32 bits.

@@ -117,7 +117,7 @@ impl Numbers {
 }
 
 /// What was read, where it is no matter why nothing was.
-fn found<T: Drop, E: Drop>(outcome: Result<T, E>) -> Option<T> {
+pub fn found<T: Drop, E: Drop>(outcome: Result<T, E>) -> Option<T> {
     match outcome {
         Ok(value) => Some(value),
         Err(_) => None,
@@ -133,7 +133,7 @@ fn present<T: Drop, E: Drop>(outcome: Result<Option<T>, E>) -> Option<T> {
 }
 
 /// Compares what was read.
-fn count<T: PartialEq + Drop>(tally: &mut Tally, read: Option<T>, wanted: Option<T>) {
+pub fn count<T: PartialEq + Drop>(tally: &mut Tally, read: Option<T>, wanted: Option<T>) {
     tally.count(read == wanted);
 }
 
