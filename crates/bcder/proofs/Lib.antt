@@ -48,6 +48,7 @@ pub mod Fewest
 pub mod Held
 pub mod ReadBack
 pub mod TakenBack
+pub mod Writes
 pub mod Decimal
 pub mod Telling
 pub mod Growing

@@ -20,7 +20,10 @@ use Rattle.bcder.specs.Number.{HasMagnitude}
 use Rattle.bcder.specs.Tree.{Tree, primitive}
 use Rattle.bcder.specs.Encoding.{IsEncoding}
 use Rattle.bcder.specs.Octets.{definite}
-use Rattle.bcder.specs.Meaning.{Encoded, Meaning, octets_of, ContentsMeaning, IsLawfulContents, Exactly, truth_octets, ValueMeans, primitive_encoded, primitive_meaning}
+use Rattle.bcder.specs.Meaning.{Encoded, Meaning, octets_of, ContentsMeaning, IsLawfulContents, Exactly, ExactlyOctets, truth_octets, ValueMeans, primitive_encoded, primitive_meaning}
+use Rattle.bcder.specs.declared.oid.Oid.{Oid}
+use Rattle.bcder.specs.ObjectIdentifier.{IsComplete, identifier_tag}
+use Rattle.bcder.specs.ReadIdentifiers.{NoIdentifier}
 use Rattle.bcder.specs.ReadBack.{IsReadBack}
 use Rattle.bcder.specs.Content.{Reading, tagged, IsAbsent, IsElsewhere, none_left, other, marker}
 use Rattle.bcder.specs.Takes.{HasNone}
@@ -30,10 +33,10 @@ use Rattle.bcder.specs.Typed as typed
 use Rattle.bcder.specs.TakenBack.{StandsIn, SourceFailed, SourceFailedOrNoMemory, Answers, TakesBack, IsTakenBackBy, IsTakenBack}
 use Rattle.bcder.specs.laws.Complete.{only_at_front, definite_size}
 use Rattle.bcder.specs.laws.Integers.{integer_octets_are}
-use Rattle.bcder.specs.laws.Meanings.{primitive_lawful, Exactly_lawful, truth_octets_are}
+use Rattle.bcder.specs.laws.Meanings.{primitive_lawful, Exactly_lawful, ExactlyOctets_lawful, truth_octets_are}
 use Rattle.bcder.specs.laws.Octets.{AreOctets-nil}
 use Rattle.bcder.specs.laws.Written.{primitive_written}
-use Rattle.bcder.proofs.Contents.{unsigned_read, truth_read, integer_read, natural_read}
+use Rattle.bcder.proofs.Contents.{unsigned_read, truth_read, integer_read, natural_read, octets_read}
 use Rattle.bcder.proofs.Headers.{front_of_header, no_other_front}
 use Rattle.bcder.proofs.Moving.{open_not_ended, open_not_failed}
 
@@ -196,6 +199,22 @@ pub natural_taken : {X : Type 0} (n : ℕ) (mode : Mode) → length (integer_oct
 natural_taken {X} n mode short =
     let back = natural_read n in
     integer_taken_by {T = ℕ} {X = X} SourceFailedOrNoMemory (λ w m. AreInteger (pos m) w) NoUnsigned mode n (pos n) short (λ c e d f. inl f) back (or_memory {X = X} (λ w m. AreInteger (pos m) w) back.contents n back.read)
+
+-- ---- object identifiers
+
+abbrev holds_octets : List ℕ → Oid (List ℕ) → Type 0
+holds_octets w y = (y.0 ≡ w) × IsComplete w
+
+same_identifier : (a b : Oid (List ℕ)) → a.0 ≡ b.0 → a ≡ b
+same_identifier a b e = rw e refl
+
+pub identifier_taken : {X : Type 0} (y : Oid (List ℕ)) (mode : Mode) → IsComplete y.0 → length y.0 < 2 ^ 32 → AreOctets y.0 → IsTakenBackBy {X = X} SourceFailedOrNoMemory identifier_tag holds_octets NoIdentifier mode (ValueMeans identifier_tag (primitive_meaning identifier_tag) (ExactlyOctets y.0)) y
+identifier_taken {X} y mode complete short octets =
+    let back = octets_read {T = Oid (List ℕ)} y.0 holds_octets y octets (refl, complete) (λ z p. same_identifier z y p.0) in
+    taken_back_by {T = Oid (List ℕ)} {X = X} SourceFailedOrNoMemory identifier_tag holds_octets NoIdentifier mode y (λ c e d f. inl f) (ExactlyOctets y.0) (universal_value 6 (omega arith) (omega arith)) (ExactlyOctets_lawful y.0) back (omega (arith, short, ap length (back.only y.0 (refl, octets)))) (λ c e d r. elim r [
+      | inl none ↦ absurd (none.0 (back.read.1))
+      | inr memory ↦ inr memory
+    ])
 
 -- ---- decoded by a closure that takes one value, from a source that can't fail
 

@@ -9,7 +9,10 @@ use bcder::{ConstOid, Integer, Mode, Oid, Unsigned};
 use std::alloc::Global;
 use std::process::Abort;
 use std::test::Fail;
-use user::{Part, Request, Text, decode_extensions, write_and_read, write_request};
+use user::{
+    Part, Request, Text, decode_extensions, write_and_read, write_each, write_numbers,
+    write_request,
+};
 
 /// What a request asks for, made with openssl: a name of two attributes, a key on the curve
 /// prime256v1, and a password.
@@ -69,6 +72,22 @@ fn a_request_is_that_of_openssl(rt: HostRuntime) -> Result<(), Fail> {
 #[test]
 fn a_number_is_read_from_what_was_written(rt: HostRuntime) {
     holds(&rt, write_and_read(rt.alloc(), 300, Mode::Cer).is_ok());
+}
+
+#[test]
+fn lists_through_an_iterator(rt: HostRuntime) -> Result<(), Fail> {
+    let mut octets = Vec::new(rt.alloc());
+    let numbers = [5u32.encode(), 300u32.encode()];
+    holds(&rt, write_numbers(&numbers, Mode::Der, &mut octets).is_ok());
+    let mut values = Vec::new(rt.alloc());
+    values.push(true.encode())?;
+    values.push(false.encode())?;
+    holds(&rt, write_each(&values, Mode::Der, &mut octets).is_ok());
+    let wanted = [
+        0x30, 0x07, 0x02, 0x01, 0x05, 0x02, 0x02, 0x01, 0x2C, 0x01, 0x01, 0xFF, 0x01, 0x01, 0x00,
+    ];
+    holds(&rt, octets.as_slice() == wanted.as_slice());
+    Ok(())
 }
 
 #[test]

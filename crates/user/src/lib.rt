@@ -11,6 +11,7 @@ ghost use Rattle.bcder.specs.Views.{Moved, MovedContent, MovedOctets};
 
 mod certificate;
 mod extensions;
+mod lists;
 mod numbers;
 mod request;
 mod signed;
@@ -18,6 +19,7 @@ mod signed;
 use bcder::decode::{Constructed, Content, DecodeError, Primitive, Source};
 pub use certificate::{Certificate, Time, Validity, decode_certificate, decode_two};
 pub use extensions::{Basic, Extensions, decode_extensions};
+pub use lists::{write_each, write_numbers};
 pub use numbers::write_and_read;
 pub use request::{Part, Request, Text, write_request};
 pub use signed::{Signed, decode_signed};

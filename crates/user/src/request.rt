@@ -1,12 +1,14 @@
 //! Requests for certificates (RFC 2986, section 4), as they are written.
 ghost use Rattle.std.specs.Prelude.{◌≡◌};
-ghost use Rattle.bcder.specs.Identifier.{universal};
+ghost use Rattle.bcder.specs.Identifier.{universal, sequence_tag};
 ghost use Rattle.bcder.specs.Meaning.{ExactlyOctets};
+ghost use Rattle.bcder.specs.Written.{WroteConstructed};
 ghost use Rattle.bcder.specs.laws.Meanings.{ExactlyOctets_lawful};
 
 use bcder::encode::{
     EncodeError, PrimitiveContent, Values, WriteError, sequence, sequence_as, set, slice,
 };
+use bcder::laws::encoders::what_is_written_is_an_encoding;
 use bcder::{Mode, Oid, Tag};
 use std::io;
 
@@ -83,7 +85,9 @@ pub fn write_request<W: io::Write>(
     request: &Request<'_>,
     mode: Mode,
     target: &mut W,
-) -> Result<(), WriteError> {
+) -> Result<(), WriteError>
+    ensures { WroteConstructed W.contents target sequence_tag mode result }
+{
     let values = slice(request.values, |text: &Text<'_>| (*text).encode());
     let attribute = (Oid(request.attribute).encode(), set(&values));
     write_with_attributes(request, &sequence(&attribute), mode, target)
@@ -97,6 +101,7 @@ fn write_with_attributes<A: Values, W: io::Write>(
     target: &mut W,
 ) -> Result<(), WriteError>
     requires { A.can_encode attributes.now }
+    ensures { WroteConstructed W.contents target sequence_tag mode result }
 {
     let algorithm = (Oid(request.algorithm).encode(), Oid(request.curve).encode());
     let key = (sequence(&algorithm), request.key.encode_as(Tag::BIT_STRING));
@@ -113,6 +118,7 @@ fn write_with_key<K: Values, A: Values, W: io::Write>(
 ) -> Result<(), WriteError>
     requires key { K.can_encode key.now }
     requires attributes { A.can_encode attributes.now }
+    ensures { WroteConstructed W.contents target sequence_tag mode result }
 {
     let organization = (
         Oid(request.organization.kind).encode(),
@@ -134,7 +140,10 @@ fn write_parts<N: Values, K: Values, A: Values, W: io::Write>(
     requires name { N.can_encode name.now }
     requires key { K.can_encode key.now }
     requires attributes { A.can_encode attributes.now }
+    ensures { WroteConstructed W.contents target sequence_tag mode result }
 {
     let parts = (0u8.encode(), name, key, sequence_as(Tag::CTX_0, attributes));
-    sequence(&parts).write_encoded(mode, target)
+    let values = sequence(&parts);
+    what_is_written_is_an_encoding(&values, mode);
+    values.write_encoded(mode, target)
 }

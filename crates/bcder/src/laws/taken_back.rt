@@ -1,18 +1,23 @@
 //! What is written is taken back as the same value: wherever the encoding that an encoder means
 //! stands in front of content in its mode, the typed takes answer this value, and leave what
 //! follows.
-ghost use Rattle.std.specs.Prelude.{⊤, pos, length, ◌<◌, ◌^◌};
+ghost use Rattle.std.specs.Prelude.{◌≡◌, ⊤, pos, length, ◌<◌, ◌^◌};
 ghost use Rattle.std.specs.Int.{FitsUnsignedBits};
 ghost use Rattle.bcder.specs.Identifier.{boolean_tag, integer_tag, null_tag};
 ghost use Rattle.bcder.specs.Integer.{AreInteger, integer_octets};
 ghost use Rattle.bcder.specs.Readers.{IsUnsigned, IsTruth, IsNull, IsThis, MeanAnother, NoInteger};
+ghost use Rattle.bcder.specs.ObjectIdentifier.{IsComplete, identifier_tag};
+ghost use Rattle.bcder.specs.ReadIdentifiers.{NoIdentifier};
 ghost use Rattle.bcder.specs.Readers.{NoUnsigned};
 ghost use Rattle.bcder.specs.TakenBack.{AreTakenBack, IsTakenBackBy, SourceFailed};
 ghost use Rattle.bcder.specs.TakenBack.{SourceFailedOrNoMemory};
 
+use crate::decode::source::see_octets;
 use crate::encode::{Primitive, Values};
 use crate::int::{Integer, Unsigned};
 use crate::mode::Mode;
+use crate::oid::Oid;
+use bytes::Bytes;
 
 /// The unsigned integers of Rust are taken back by `Constructed::take_u8` to `take_u64`, unless the
 /// source fails, whose errors are of type `E`.
@@ -70,5 +75,18 @@ pub fn an_unsigned_is_taken_back<'a, E>(x: &'a Unsigned, mode: Mode)
         (record { tag = integer_tag; prim = x.entry }) mode) x.now }
 {
     let _x = x;
+    let _mode = mode;
+}
+
+/// An object identifier whose octets end with a subidentifier is taken back by `Oid::take_from`.
+pub fn an_identifier_is_taken_back<E>(x: &Oid<Bytes>, mode: Mode)
+    requires complete { IsComplete x.now.0 }
+    requires short { length x.now.0 < 2 ^ 32 }
+    ensures { IsTakenBackBy {X = E} SourceFailedOrNoMemory identifier_tag
+        (λ w oid. (oid.0 ≡ w) × IsComplete w) NoIdentifier mode
+        (⟦<Primitive<Oid<Bytes>> as Values>⟧.means
+        (record { tag = identifier_tag; prim = x.now }) mode) x.now }
+{
+    see_octets(x.0.as_slice());
     let _mode = mode;
 }
