@@ -78,6 +78,12 @@ module _ {A : Type 0} (M : Result A EncodeError → Type 0) (one : (m n : Result
   ]
 
 -- an error that `?` passes on
+pub passed_on : {lacks : Type 0} {w : List ℕ} {a b : Option (List ℕ)} {e : WriteError} (r : Result (Unit {0}) WriteError)
+    → IsErr r × IsErrAnd r (λ d. d ≡ e) → WroteOf lacks w a b (Err e) → WroteOf lacks w a b r
+passed_on {lacks} {w} {a} {b} (Ok u) is_err h = absurd is_err.1
+passed_on {lacks} {w} {a} {b} (Err d) is_err h = subst (λ x. WroteOf lacks w a b (Err x)) (sym is_err.1) h
+
+-- the same of a step that has a slot for its error
 pub halts : {lacks : Type 0} {w : List ℕ} {a b : Option (List ℕ)} {f : Failed} {e : WriteError} (r : Result (Unit {0}) Failed)
     → IsErr r × IsErrAnd r (λ d. d ≡ f) → WroteOf lacks w a b (Err e) → WroteOf lacks w a b (told r e)
 halts (Ok u) is_err h = absurd is_err.1
