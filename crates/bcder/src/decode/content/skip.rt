@@ -588,8 +588,8 @@ impl<'a, S: Source> Constructed<'a, S> {
     ///
     /// A value is passed exactly where its encoding stands in front, in the content's mode (X.690,
     /// 8.1.1), and the closure answers `Ok` each time. Of primitive values the contents octets
-    /// aren't looked at. Values may be nested to any depth: each level beyond four that are open at
-    /// a time takes memory, no level takes a level of calls.
+    /// aren't looked at. Values may be nested to any depth: of those of definite length, each
+    /// beyond four that are open at a time takes memory. No level takes a level of calls.
     ///
     /// # Errors
     ///
