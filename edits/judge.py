@@ -108,7 +108,7 @@ class Judge:
                 place(Edit(crate, file), batches, crate)
             except (BadEdit, OSError, UnicodeDecodeError) as why:
                 self.say(os.path.relpath(file, ROOT), False, why)
-        copy(ROOT, f"{self.scratch}/{name}")
+        copy(ROOT, f"{self.scratch}/{name}", name)
         self.note(f"{name}: a check without an edit, then {len(batches)} with edits")
         report = check(f"{self.scratch}/{name}/crates/{name}", PROCESSORS)
         if report.is_proved:
@@ -121,7 +121,7 @@ class Judge:
     def batch(self, crate, batch):
         """Judges edits of which no two clash, in one check."""
         folder, texts = f"{tempfile.mkdtemp(dir=self.scratch)}/edited", {}
-        copy(f"{self.scratch}/{crate.name}", folder)
+        copy(f"{self.scratch}/{crate.name}", folder, crate.name)
         for edit in batch:
             texts = edit.applied(texts, crate)
         for path, text in texts.items():
@@ -147,12 +147,30 @@ class Judge:
                 self.batch(crate, part)
 
 
-def copy(root, to):
-    """Copies a repository's crates with what earlier checks kept, so that only what an edit turns is checked."""
-    names = [f"{root}/{it}" for it in ("crates", "crates.txt", "HANDLES") if os.path.exists(f"{root}/{it}")]
-    os.mkdir(to)
-    subprocess.run(["cp", "-a", "--reflink=auto", *names, to], check=True)
-    for it in os.listdir(f"{to}/crates"):
+def lines_under(root, name):
+    """The lines of crates.txt for a crate and those below it."""
+    with open(f"{root}/crates.txt", encoding="utf-8") as it:
+        lines = {line.split(":")[0]: line for line in it if line.strip() and not line.startswith("#")}
+    found, todo = {}, [name]
+    while todo:
+        crate = todo.pop()
+        if crate in lines and crate not in found:
+            found[crate] = lines[crate]
+            todo += lines[crate].partition(":")[2].split()
+    return {it: line for it, line in lines.items() if it in found}
+
+
+def copy(root, to, name):
+    """Copies a crate and those below it with what earlier checks kept, so that only what an edit turns is checked."""
+    lines = lines_under(root, name)
+    os.makedirs(f"{to}/crates")
+    with open(f"{to}/crates.txt", "w", encoding="utf-8") as it:
+        it.writelines(lines.values())
+    if os.path.exists(f"{root}/HANDLES"):
+        shutil.copy(f"{root}/HANDLES", to)
+    folders = [f"{root}/crates/{it}" for it in lines]
+    subprocess.run(["cp", "-a", "--reflink=auto", *folders, f"{to}/crates"], check=True)
+    for it in lines:
         shutil.rmtree(f"{to}/crates/{it}/must-fail", ignore_errors=True)
 
 
