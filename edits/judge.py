@@ -118,7 +118,7 @@ class Judge:
             self.say(edit.label, False, f"{name} isn't proved without an edit, so nothing was tried")
         return []
 
-    def batch(self, crate, batch):
+    def batch(self, crate, batch, jobs):
         """Judges edits of which no two clash, in one check."""
         folder, texts = f"{tempfile.mkdtemp(dir=self.scratch)}/edited", {}
         copy(f"{self.scratch}/{crate.name}", folder, crate.name)
@@ -127,7 +127,7 @@ class Judge:
         for path, text in texts.items():
             with open(f"{folder}/crates/{crate.name}/{path}", "w", encoding="utf-8") as it:
                 it.write(text)
-        report = check(f"{folder}/crates/{crate.name}", max(1, PROCESSORS // 2))
+        report = check(f"{folder}/crates/{crate.name}", jobs)
         shutil.rmtree(folder)
         self.note(f"{crate.name}: a check of {len(batch)} edits")
         bad = report.uncompiled(texts, batch)
@@ -144,7 +144,7 @@ class Judge:
             half = len(rest) if bad else len(rest) // 2
             for part in filter(None, (rest[:half], rest[half:])):
                 self.note(f"{crate.name}: some edit doesn't compile; checking {len(part)} others")
-                self.batch(crate, part)
+                self.batch(crate, part, jobs)
 
 
 def lines_under(root, name):
@@ -208,9 +208,13 @@ def main(words):
         judge, batches = Judge(scratch), []
         for name, edits in chosen.items():
             batches += judge.crate(name, edits) if edits else []
-        # Two checks at a time, the largest first: the end of a check often waits for one long proof.
+        # Two checks at a time, the largest first: the end of a check often waits for one long proof. Each has
+        # the processors that its part of the edits comes to.
+        batches.sort(key=lambda it: -len(it[1]))
+        every = sum(len(it) for _, it in batches)
+        jobs = lambda edits: max(1, min(PROCESSORS - 1, round(PROCESSORS * len(edits) / every)))
         with ThreadPoolExecutor(2) as pool:
-            list(pool.map(lambda it: judge.batch(*it), sorted(batches, key=lambda it: -len(it[1]))))
+            list(pool.map(lambda it: judge.batch(*it, jobs(it[1])), batches))
         used = resource.getrusage(resource.RUSAGE_CHILDREN)
         minutes, work = (time.monotonic() - judge.began) / 60, (used.ru_utime + used.ru_stime) / 60
         print(f"{judge.refused} refused, {judge.failed} failed, in {minutes:.1f} minutes ({work:.1f} of one processor)")
