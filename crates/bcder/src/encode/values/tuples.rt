@@ -10,6 +10,26 @@ use crate::encode::{EncodeError, WriteError};
 use crate::mode::Mode;
 use std::io;
 
+/// The parts of a tuple, four at a time.
+macro_rules! parts {
+    ($a:ident, $b:ident, $c:ident, $d:ident $(, $rest:ident)*) => {
+        Four {
+            a: $a,
+            b: $b,
+            c: $c,
+            d: $d,
+            rest: parts!($($rest),*),
+        }
+    };
+    ($first:ident $(, $rest:ident)*) => {
+        Chain {
+            first: $first,
+            rest: parts!($($rest),*),
+        }
+    };
+    () => { End };
+}
+
 impl<A: Values> Values for (A,) {
     ghost means = { λ x mode. Joined (Then (A.means x.0 mode) NoValues) };
 
@@ -19,25 +39,12 @@ impl<A: Values> Values for (A,) {
 
     fn encoded_len(&self, mode: Mode) -> Result<usize, EncodeError> {
         let (a,) = self;
-        joined_len(
-            &Chain {
-                first: a,
-                rest: End,
-            },
-            mode,
-        )
+        joined_len(&parts!(a), mode)
     }
 
     fn write_encoded<W: io::Write>(&self, mode: Mode, target: &mut W) -> Result<(), WriteError> {
         let (a,) = self;
-        write_joined(
-            &Chain {
-                first: a,
-                rest: End,
-            },
-            mode,
-            target,
-        )
+        write_joined(&parts!(a), mode, target)
     }
 
     fn write_known<W: io::Write>(
@@ -48,16 +55,7 @@ impl<A: Values> Values for (A,) {
         why: &mut WriteError,
     ) -> Result<(), Failed> {
         let (a,) = self;
-        write_known_parts(
-            &Chain {
-                first: a,
-                rest: End,
-            },
-            size,
-            mode,
-            target,
-            why,
-        )
+        write_known_parts(&parts!(a), size, mode, target, why)
     }
 
     ghost lawful = { λ x mode can. Joined_lawful (Then_lawful (A.lawful x.0 mode can.0)
@@ -73,31 +71,12 @@ impl<A: Values, B: Values> Values for (A, B) {
 
     fn encoded_len(&self, mode: Mode) -> Result<usize, EncodeError> {
         let (a, b) = self;
-        joined_len(
-            &Chain {
-                first: a,
-                rest: Chain {
-                    first: b,
-                    rest: End,
-                },
-            },
-            mode,
-        )
+        joined_len(&parts!(a, b), mode)
     }
 
     fn write_encoded<W: io::Write>(&self, mode: Mode, target: &mut W) -> Result<(), WriteError> {
         let (a, b) = self;
-        write_joined(
-            &Chain {
-                first: a,
-                rest: Chain {
-                    first: b,
-                    rest: End,
-                },
-            },
-            mode,
-            target,
-        )
+        write_joined(&parts!(a, b), mode, target)
     }
 
     fn write_known<W: io::Write>(
@@ -108,19 +87,7 @@ impl<A: Values, B: Values> Values for (A, B) {
         why: &mut WriteError,
     ) -> Result<(), Failed> {
         let (a, b) = self;
-        write_known_parts(
-            &Chain {
-                first: a,
-                rest: Chain {
-                    first: b,
-                    rest: End,
-                },
-            },
-            size,
-            mode,
-            target,
-            why,
-        )
+        write_known_parts(&parts!(a, b), size, mode, target, why)
     }
 
     ghost lawful = { λ x mode can. Joined_lawful (Then_lawful (A.lawful x.0 mode can.0)
@@ -138,37 +105,12 @@ impl<A: Values, B: Values, C: Values> Values for (A, B, C) {
 
     fn encoded_len(&self, mode: Mode) -> Result<usize, EncodeError> {
         let (a, b, c) = self;
-        joined_len(
-            &Chain {
-                first: a,
-                rest: Chain {
-                    first: b,
-                    rest: Chain {
-                        first: c,
-                        rest: End,
-                    },
-                },
-            },
-            mode,
-        )
+        joined_len(&parts!(a, b, c), mode)
     }
 
     fn write_encoded<W: io::Write>(&self, mode: Mode, target: &mut W) -> Result<(), WriteError> {
         let (a, b, c) = self;
-        write_joined(
-            &Chain {
-                first: a,
-                rest: Chain {
-                    first: b,
-                    rest: Chain {
-                        first: c,
-                        rest: End,
-                    },
-                },
-            },
-            mode,
-            target,
-        )
+        write_joined(&parts!(a, b, c), mode, target)
     }
 
     fn write_known<W: io::Write>(
@@ -179,22 +121,7 @@ impl<A: Values, B: Values, C: Values> Values for (A, B, C) {
         why: &mut WriteError,
     ) -> Result<(), Failed> {
         let (a, b, c) = self;
-        write_known_parts(
-            &Chain {
-                first: a,
-                rest: Chain {
-                    first: b,
-                    rest: Chain {
-                        first: c,
-                        rest: End,
-                    },
-                },
-            },
-            size,
-            mode,
-            target,
-            why,
-        )
+        write_known_parts(&parts!(a, b, c), size, mode, target, why)
     }
 
     ghost lawful = { λ x mode can. Joined_lawful (Then_lawful (A.lawful x.0 mode can.0)
@@ -214,31 +141,12 @@ impl<A: Values, B: Values, C: Values, D: Values> Values for (A, B, C, D) {
 
     fn encoded_len(&self, mode: Mode) -> Result<usize, EncodeError> {
         let (a, b, c, d) = self;
-        joined_len(
-            &Four {
-                a,
-                b,
-                c,
-                d,
-                rest: End,
-            },
-            mode,
-        )
+        joined_len(&parts!(a, b, c, d), mode)
     }
 
     fn write_encoded<W: io::Write>(&self, mode: Mode, target: &mut W) -> Result<(), WriteError> {
         let (a, b, c, d) = self;
-        write_joined(
-            &Four {
-                a,
-                b,
-                c,
-                d,
-                rest: End,
-            },
-            mode,
-            target,
-        )
+        write_joined(&parts!(a, b, c, d), mode, target)
     }
 
     fn write_known<W: io::Write>(
@@ -249,19 +157,7 @@ impl<A: Values, B: Values, C: Values, D: Values> Values for (A, B, C, D) {
         why: &mut WriteError,
     ) -> Result<(), Failed> {
         let (a, b, c, d) = self;
-        write_known_parts(
-            &Four {
-                a,
-                b,
-                c,
-                d,
-                rest: End,
-            },
-            size,
-            mode,
-            target,
-            why,
-        )
+        write_known_parts(&parts!(a, b, c, d), size, mode, target, why)
     }
 
     ghost lawful = { λ x mode can. Joined_lawful (Then_lawful (A.lawful x.0 mode can.0)
@@ -281,37 +177,12 @@ impl<A: Values, B: Values, C: Values, D: Values, E: Values> Values for (A, B, C,
 
     fn encoded_len(&self, mode: Mode) -> Result<usize, EncodeError> {
         let (a, b, c, d, e) = self;
-        joined_len(
-            &Four {
-                a,
-                b,
-                c,
-                d,
-                rest: Chain {
-                    first: e,
-                    rest: End,
-                },
-            },
-            mode,
-        )
+        joined_len(&parts!(a, b, c, d, e), mode)
     }
 
     fn write_encoded<W: io::Write>(&self, mode: Mode, target: &mut W) -> Result<(), WriteError> {
         let (a, b, c, d, e) = self;
-        write_joined(
-            &Four {
-                a,
-                b,
-                c,
-                d,
-                rest: Chain {
-                    first: e,
-                    rest: End,
-                },
-            },
-            mode,
-            target,
-        )
+        write_joined(&parts!(a, b, c, d, e), mode, target)
     }
 
     fn write_known<W: io::Write>(
@@ -322,22 +193,7 @@ impl<A: Values, B: Values, C: Values, D: Values, E: Values> Values for (A, B, C,
         why: &mut WriteError,
     ) -> Result<(), Failed> {
         let (a, b, c, d, e) = self;
-        write_known_parts(
-            &Four {
-                a,
-                b,
-                c,
-                d,
-                rest: Chain {
-                    first: e,
-                    rest: End,
-                },
-            },
-            size,
-            mode,
-            target,
-            why,
-        )
+        write_known_parts(&parts!(a, b, c, d, e), size, mode, target, why)
     }
 
     ghost lawful = { λ x mode can. Joined_lawful (Then_lawful (A.lawful x.0 mode can.0)
@@ -361,43 +217,12 @@ impl<A: Values, B: Values, C: Values, D: Values, E: Values, F: Values> Values
 
     fn encoded_len(&self, mode: Mode) -> Result<usize, EncodeError> {
         let (a, b, c, d, e, f) = self;
-        joined_len(
-            &Four {
-                a,
-                b,
-                c,
-                d,
-                rest: Chain {
-                    first: e,
-                    rest: Chain {
-                        first: f,
-                        rest: End,
-                    },
-                },
-            },
-            mode,
-        )
+        joined_len(&parts!(a, b, c, d, e, f), mode)
     }
 
     fn write_encoded<W: io::Write>(&self, mode: Mode, target: &mut W) -> Result<(), WriteError> {
         let (a, b, c, d, e, f) = self;
-        write_joined(
-            &Four {
-                a,
-                b,
-                c,
-                d,
-                rest: Chain {
-                    first: e,
-                    rest: Chain {
-                        first: f,
-                        rest: End,
-                    },
-                },
-            },
-            mode,
-            target,
-        )
+        write_joined(&parts!(a, b, c, d, e, f), mode, target)
     }
 
     fn write_known<W: io::Write>(
@@ -408,25 +233,7 @@ impl<A: Values, B: Values, C: Values, D: Values, E: Values, F: Values> Values
         why: &mut WriteError,
     ) -> Result<(), Failed> {
         let (a, b, c, d, e, f) = self;
-        write_known_parts(
-            &Four {
-                a,
-                b,
-                c,
-                d,
-                rest: Chain {
-                    first: e,
-                    rest: Chain {
-                        first: f,
-                        rest: End,
-                    },
-                },
-            },
-            size,
-            mode,
-            target,
-            why,
-        )
+        write_known_parts(&parts!(a, b, c, d, e, f), size, mode, target, why)
     }
 
     ghost lawful = { λ x mode can. Joined_lawful (Then_lawful (A.lawful x.0 mode can.0)
@@ -451,49 +258,12 @@ impl<A: Values, B: Values, C: Values, D: Values, E: Values, F: Values, G: Values
 
     fn encoded_len(&self, mode: Mode) -> Result<usize, EncodeError> {
         let (a, b, c, d, e, f, g) = self;
-        joined_len(
-            &Four {
-                a,
-                b,
-                c,
-                d,
-                rest: Chain {
-                    first: e,
-                    rest: Chain {
-                        first: f,
-                        rest: Chain {
-                            first: g,
-                            rest: End,
-                        },
-                    },
-                },
-            },
-            mode,
-        )
+        joined_len(&parts!(a, b, c, d, e, f, g), mode)
     }
 
     fn write_encoded<W: io::Write>(&self, mode: Mode, target: &mut W) -> Result<(), WriteError> {
         let (a, b, c, d, e, f, g) = self;
-        write_joined(
-            &Four {
-                a,
-                b,
-                c,
-                d,
-                rest: Chain {
-                    first: e,
-                    rest: Chain {
-                        first: f,
-                        rest: Chain {
-                            first: g,
-                            rest: End,
-                        },
-                    },
-                },
-            },
-            mode,
-            target,
-        )
+        write_joined(&parts!(a, b, c, d, e, f, g), mode, target)
     }
 
     fn write_known<W: io::Write>(
@@ -504,28 +274,7 @@ impl<A: Values, B: Values, C: Values, D: Values, E: Values, F: Values, G: Values
         why: &mut WriteError,
     ) -> Result<(), Failed> {
         let (a, b, c, d, e, f, g) = self;
-        write_known_parts(
-            &Four {
-                a,
-                b,
-                c,
-                d,
-                rest: Chain {
-                    first: e,
-                    rest: Chain {
-                        first: f,
-                        rest: Chain {
-                            first: g,
-                            rest: End,
-                        },
-                    },
-                },
-            },
-            size,
-            mode,
-            target,
-            why,
-        )
+        write_known_parts(&parts!(a, b, c, d, e, f, g), size, mode, target, why)
     }
 
     ghost lawful = { λ x mode can. Joined_lawful (Then_lawful (A.lawful x.0 mode can.0)
@@ -553,43 +302,12 @@ impl<A: Values, B: Values, C: Values, D: Values, E: Values, F: Values, G: Values
 
     fn encoded_len(&self, mode: Mode) -> Result<usize, EncodeError> {
         let (a, b, c, d, e, f, g, h) = self;
-        joined_len(
-            &Four {
-                a,
-                b,
-                c,
-                d,
-                rest: Four {
-                    a: e,
-                    b: f,
-                    c: g,
-                    d: h,
-                    rest: End,
-                },
-            },
-            mode,
-        )
+        joined_len(&parts!(a, b, c, d, e, f, g, h), mode)
     }
 
     fn write_encoded<W: io::Write>(&self, mode: Mode, target: &mut W) -> Result<(), WriteError> {
         let (a, b, c, d, e, f, g, h) = self;
-        write_joined(
-            &Four {
-                a,
-                b,
-                c,
-                d,
-                rest: Four {
-                    a: e,
-                    b: f,
-                    c: g,
-                    d: h,
-                    rest: End,
-                },
-            },
-            mode,
-            target,
-        )
+        write_joined(&parts!(a, b, c, d, e, f, g, h), mode, target)
     }
 
     fn write_known<W: io::Write>(
@@ -600,25 +318,7 @@ impl<A: Values, B: Values, C: Values, D: Values, E: Values, F: Values, G: Values
         why: &mut WriteError,
     ) -> Result<(), Failed> {
         let (a, b, c, d, e, f, g, h) = self;
-        write_known_parts(
-            &Four {
-                a,
-                b,
-                c,
-                d,
-                rest: Four {
-                    a: e,
-                    b: f,
-                    c: g,
-                    d: h,
-                    rest: End,
-                },
-            },
-            size,
-            mode,
-            target,
-            why,
-        )
+        write_known_parts(&parts!(a, b, c, d, e, f, g, h), size, mode, target, why)
     }
 
     ghost lawful = { λ x mode can. Joined_lawful (Then_lawful (A.lawful x.0 mode can.0)
@@ -657,49 +357,12 @@ impl<
 
     fn encoded_len(&self, mode: Mode) -> Result<usize, EncodeError> {
         let (a, b, c, d, e, f, g, h, i) = self;
-        joined_len(
-            &Four {
-                a,
-                b,
-                c,
-                d,
-                rest: Four {
-                    a: e,
-                    b: f,
-                    c: g,
-                    d: h,
-                    rest: Chain {
-                        first: i,
-                        rest: End,
-                    },
-                },
-            },
-            mode,
-        )
+        joined_len(&parts!(a, b, c, d, e, f, g, h, i), mode)
     }
 
     fn write_encoded<W: io::Write>(&self, mode: Mode, target: &mut W) -> Result<(), WriteError> {
         let (a, b, c, d, e, f, g, h, i) = self;
-        write_joined(
-            &Four {
-                a,
-                b,
-                c,
-                d,
-                rest: Four {
-                    a: e,
-                    b: f,
-                    c: g,
-                    d: h,
-                    rest: Chain {
-                        first: i,
-                        rest: End,
-                    },
-                },
-            },
-            mode,
-            target,
-        )
+        write_joined(&parts!(a, b, c, d, e, f, g, h, i), mode, target)
     }
 
     fn write_known<W: io::Write>(
@@ -710,28 +373,7 @@ impl<
         why: &mut WriteError,
     ) -> Result<(), Failed> {
         let (a, b, c, d, e, f, g, h, i) = self;
-        write_known_parts(
-            &Four {
-                a,
-                b,
-                c,
-                d,
-                rest: Four {
-                    a: e,
-                    b: f,
-                    c: g,
-                    d: h,
-                    rest: Chain {
-                        first: i,
-                        rest: End,
-                    },
-                },
-            },
-            size,
-            mode,
-            target,
-            why,
-        )
+        write_known_parts(&parts!(a, b, c, d, e, f, g, h, i), size, mode, target, why)
     }
 
     ghost lawful = { λ x mode can. Joined_lawful (Then_lawful (A.lawful x.0 mode can.0)
@@ -772,55 +414,12 @@ impl<
 
     fn encoded_len(&self, mode: Mode) -> Result<usize, EncodeError> {
         let (a, b, c, d, e, f, g, h, i, j) = self;
-        joined_len(
-            &Four {
-                a,
-                b,
-                c,
-                d,
-                rest: Four {
-                    a: e,
-                    b: f,
-                    c: g,
-                    d: h,
-                    rest: Chain {
-                        first: i,
-                        rest: Chain {
-                            first: j,
-                            rest: End,
-                        },
-                    },
-                },
-            },
-            mode,
-        )
+        joined_len(&parts!(a, b, c, d, e, f, g, h, i, j), mode)
     }
 
     fn write_encoded<W: io::Write>(&self, mode: Mode, target: &mut W) -> Result<(), WriteError> {
         let (a, b, c, d, e, f, g, h, i, j) = self;
-        write_joined(
-            &Four {
-                a,
-                b,
-                c,
-                d,
-                rest: Four {
-                    a: e,
-                    b: f,
-                    c: g,
-                    d: h,
-                    rest: Chain {
-                        first: i,
-                        rest: Chain {
-                            first: j,
-                            rest: End,
-                        },
-                    },
-                },
-            },
-            mode,
-            target,
-        )
+        write_joined(&parts!(a, b, c, d, e, f, g, h, i, j), mode, target)
     }
 
     fn write_known<W: io::Write>(
@@ -832,25 +431,7 @@ impl<
     ) -> Result<(), Failed> {
         let (a, b, c, d, e, f, g, h, i, j) = self;
         write_known_parts(
-            &Four {
-                a,
-                b,
-                c,
-                d,
-                rest: Four {
-                    a: e,
-                    b: f,
-                    c: g,
-                    d: h,
-                    rest: Chain {
-                        first: i,
-                        rest: Chain {
-                            first: j,
-                            rest: End,
-                        },
-                    },
-                },
-            },
+            &parts!(a, b, c, d, e, f, g, h, i, j),
             size,
             mode,
             target,
@@ -900,61 +481,12 @@ impl<
 
     fn encoded_len(&self, mode: Mode) -> Result<usize, EncodeError> {
         let (a, b, c, d, e, f, g, h, i, j, k) = self;
-        joined_len(
-            &Four {
-                a,
-                b,
-                c,
-                d,
-                rest: Four {
-                    a: e,
-                    b: f,
-                    c: g,
-                    d: h,
-                    rest: Chain {
-                        first: i,
-                        rest: Chain {
-                            first: j,
-                            rest: Chain {
-                                first: k,
-                                rest: End,
-                            },
-                        },
-                    },
-                },
-            },
-            mode,
-        )
+        joined_len(&parts!(a, b, c, d, e, f, g, h, i, j, k), mode)
     }
 
     fn write_encoded<W: io::Write>(&self, mode: Mode, target: &mut W) -> Result<(), WriteError> {
         let (a, b, c, d, e, f, g, h, i, j, k) = self;
-        write_joined(
-            &Four {
-                a,
-                b,
-                c,
-                d,
-                rest: Four {
-                    a: e,
-                    b: f,
-                    c: g,
-                    d: h,
-                    rest: Chain {
-                        first: i,
-                        rest: Chain {
-                            first: j,
-                            rest: Chain {
-                                first: k,
-                                rest: End,
-                            },
-                        },
-                    },
-                },
-            },
-            mode,
-            target,
-        )
+        write_joined(&parts!(a, b, c, d, e, f, g, h, i, j, k), mode, target)
     }
 
     fn write_known<W: io::Write>(
@@ -966,28 +498,7 @@ impl<
     ) -> Result<(), Failed> {
         let (a, b, c, d, e, f, g, h, i, j, k) = self;
         write_known_parts(
-            &Four {
-                a,
-                b,
-                c,
-                d,
-                rest: Four {
-                    a: e,
-                    b: f,
-                    c: g,
-                    d: h,
-                    rest: Chain {
-                        first: i,
-                        rest: Chain {
-                            first: j,
-                            rest: Chain {
-                                first: k,
-                                rest: End,
-                            },
-                        },
-                    },
-                },
-            },
+            &parts!(a, b, c, d, e, f, g, h, i, j, k),
             size,
             mode,
             target,
@@ -1041,55 +552,12 @@ impl<
 
     fn encoded_len(&self, mode: Mode) -> Result<usize, EncodeError> {
         let (a, b, c, d, e, f, g, h, i, j, k, l) = self;
-        joined_len(
-            &Four {
-                a,
-                b,
-                c,
-                d,
-                rest: Four {
-                    a: e,
-                    b: f,
-                    c: g,
-                    d: h,
-                    rest: Four {
-                        a: i,
-                        b: j,
-                        c: k,
-                        d: l,
-                        rest: End,
-                    },
-                },
-            },
-            mode,
-        )
+        joined_len(&parts!(a, b, c, d, e, f, g, h, i, j, k, l), mode)
     }
 
     fn write_encoded<W: io::Write>(&self, mode: Mode, target: &mut W) -> Result<(), WriteError> {
         let (a, b, c, d, e, f, g, h, i, j, k, l) = self;
-        write_joined(
-            &Four {
-                a,
-                b,
-                c,
-                d,
-                rest: Four {
-                    a: e,
-                    b: f,
-                    c: g,
-                    d: h,
-                    rest: Four {
-                        a: i,
-                        b: j,
-                        c: k,
-                        d: l,
-                        rest: End,
-                    },
-                },
-            },
-            mode,
-            target,
-        )
+        write_joined(&parts!(a, b, c, d, e, f, g, h, i, j, k, l), mode, target)
     }
 
     fn write_known<W: io::Write>(
@@ -1101,25 +569,7 @@ impl<
     ) -> Result<(), Failed> {
         let (a, b, c, d, e, f, g, h, i, j, k, l) = self;
         write_known_parts(
-            &Four {
-                a,
-                b,
-                c,
-                d,
-                rest: Four {
-                    a: e,
-                    b: f,
-                    c: g,
-                    d: h,
-                    rest: Four {
-                        a: i,
-                        b: j,
-                        c: k,
-                        d: l,
-                        rest: End,
-                    },
-                },
-            },
+            &parts!(a, b, c, d, e, f, g, h, i, j, k, l),
             size,
             mode,
             target,
