@@ -260,11 +260,11 @@ pub out_counts : (mode : Mode) (h : Header) (s : Stream) (o : Option ℕ) (calls
 out_counts mode h s o calls es k v q fs p outer m e f i r = rw (e, f) (around_counts mode s outer (calls ++ heading k (length es) ∷ []) v (unwound es q) (subst (λ z. PassesCalls mode s z (calls ++ heading k (length es) ∷ []) v (unwound es q)) (sym i) m.passes) r)
 
 -- the limit around is told by the values of definite length
-pub frames_count : (v : Opened) (q outer : Option ℕ) → Counts outer (unwound (entries v) q) → Counts outer (unwound (framed v.frames) q)
-frames_count v q outer c = subst (Counts outer) (unwound_indefinites v.inner (framed v.frames) q) c
+pub frames_count : (v : Opened) (q outer : Option ℕ) → Counts outer (unwound (entries v) q) → Counts outer (unwound (framed v.frames.now) q)
+frames_count v q outer c = subst (Counts outer) (unwound_indefinites v.inner (framed v.frames.now) q) c
 
-pub frames_unwound : (v : Opened) (q r : Option ℕ) → r ≡ unwound (framed v.frames) q → r ≡ unwound (entries v) q
-frames_unwound v q r e = e ∙ sym (unwound_indefinites v.inner (framed v.frames) q)
+pub frames_unwound : (v : Opened) (q r : Option ℕ) → r ≡ unwound (framed v.frames.now) q → r ≡ unwound (entries v) q
+frames_unwound v q r e = e ∙ sym (unwound_indefinites v.inner (framed v.frames.now) q)
 
 pub wrong_counts : (mode : Mode) (h : Header) (s : Stream) (o : Option ℕ) (calls : List Heading) (es : List Entry) (t v : Stream) (p q outer : Option ℕ) (c d : Reading) (cs : c.stream ≡ limited p t) (co : c.owed ≡ p) (ds : d.stream ≡ limited q v) (do' : d.owed ≡ q) → Moves c d → IsUnderWay mode h s o calls es t p → outer ≡ o → IfSome outer (λ n. n < 2 ^ 64) → Counts outer (unwound es q)
 wrong_counts mode h s o calls es t v p q outer c d cs co ds do' m u i r =

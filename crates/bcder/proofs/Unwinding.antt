@@ -37,7 +37,7 @@ around_count [] = omega arith
 around_count (f ∷ fs) = (let x = around_count fs in omega (arith, x, indefinites_count f.around (around fs)))
 
 pub inner_least : (v : Opened) → IsCounted v → v.inner ≤ v.depth
-inner_least v c = omega (arith, c.depth, indefinites_count v.inner (framed v.frames))
+inner_least v c = omega (arith, c.depth, indefinites_count v.inner (framed v.frames.now))
 
 -- what was refused had no room
 pub no_room : {T E : Type 0} (v : SmallVec Frame) (r : Result T E) → (HasRoomFor v 1 → IsOk r) → is_err r ≡ true → v.capacity ≤ small_vec_len v
@@ -50,8 +50,8 @@ no_room v r h e = elim (cases_lt (small_vec_len v) v.capacity) [
     wrong (Ok x) a b = cc
     wrong (Err x) a b = cc
 
-pub full_deep : (v : Opened) → IsCounted v → v.frames.capacity ≤ small_vec_len v.frames → 4 ≤ v.depth
-full_deep v c l = (let x : 4 ≤ v.frames.capacity = c.inline in omega (arith, c.depth, indefinites_count v.inner (framed v.frames), around_count (reverse v.frames.items), length-reverse v.frames.items))
+pub full_deep : (v : Opened) → IsCounted v → v.frames.now.capacity ≤ small_vec_len v.frames.now → 4 ≤ v.depth
+full_deep v c l = (let x : 4 ≤ v.frames.now.capacity = c.inline in omega (arith, c.depth, indefinites_count v.inner (framed v.frames.now), around_count (reverse v.frames.now.items), length-reverse v.frames.now.items))
 
 pub top_indefinite : (n : ℕ) (es : List Entry) (k : Kind) → 0 < n → k ≡ kind.Indefinite → TopIs (indefinites n es) k
 top_indefinite zero es k l e = absurd (omega arith)

@@ -252,7 +252,7 @@ framed v = around (reverse v.items)
 
 -- the open values, the innermost first
 abbrev pub entries : Opened → List Entry
-entries v = indefinites v.inner (framed v.frames)
+entries v = indefinites v.inner (framed v.frames.now)
 
 -- the limit behind a value that was left, with so much owed at its end
 abbrev pub limit_behind : Option Frame → Option ℕ → Option ℕ
@@ -261,7 +261,7 @@ limit_behind (Some f) o = f.behind
 
 pub record IsCounted (v : Opened) : Type 0 where
   pub depth : v.depth ≡ length (entries v)
-  pub inline : 4 ≤ v.frames.capacity
+  pub inline : 4 ≤ v.frames.now.capacity
 
 -- the source inside content, and its limit
 abbrev pub source_of : {S : Type 0} → (S → Stream) → Constructed S → Stream

@@ -54,15 +54,16 @@ impl Default for Frame {
 
 /// The values that are open. Those of definite length take memory, the others are counted.
 #[derive(Drop)]
-struct Opened {
+struct Opened<'f> {
     /// How many they are.
     depth: usize,
 
     /// How many of indefinite length are open inside the innermost of definite length.
     inner: usize,
 
-    /// Those of definite length, the innermost last.
-    frames: SmallVec<Frame, 4>,
+    /// Those of definite length, the innermost last. They stand apart, so that the numbers need no
+    /// place in memory.
+    frames: &'f mut SmallVec<Frame, 4>,
 }
 
 /// Why the content of a value wasn't gone into.
@@ -106,17 +107,19 @@ fn joined(behind: Option<usize>, left: Option<usize>) -> Option<usize>
     }
 }
 
-impl Opened {
-    /// No values.
+impl<'f> Opened<'f> {
+    /// No values, over a stack that is empty.
     #[inline(always)]
-    fn new(alloc: Global) -> Opened
+    fn new(frames: &'f mut SmallVec<Frame, 4>) -> Opened<'f>
+        requires empty { frames.old.items ≡ [] }
+        requires room { 4 ≤ frames.old.capacity }
         ensures counted { IsCounted result }
         ensures none { entries result ≡ [] }
     {
         Opened {
             depth: 0,
             inner: 0,
-            frames: SmallVec::new(alloc),
+            frames,
         }
     }
 
@@ -187,7 +190,7 @@ impl Opened {
 
 /// Opens a value whose header was passed over, if there is memory for it.
 #[inline(always)]
-fn open<S>(cons: &mut Constructed<'_, S>, opened: &mut Opened, len: Length) -> bool
+fn open<S>(cons: &mut Constructed<'_, S>, opened: &mut Opened<'_>, len: Length) -> bool
     requires counted { IsCounted opened.old }
     requires few { opened.old.depth + 1 < 2 ^ 64 }
     ensures counted { IsCounted opened.new }
@@ -215,7 +218,7 @@ fn open<S>(cons: &mut Constructed<'_, S>, opened: &mut Opened, len: Length) -> b
 
 /// Goes on behind the innermost open value, which ended.
 #[inline(always)]
-fn leave<S>(cons: &mut Constructed<'_, S>, opened: &mut Opened)
+fn leave<S>(cons: &mut Constructed<'_, S>, opened: &mut Opened<'_>)
     requires counted { IsCounted opened.old }
     requires some { 0 < opened.old.depth }
     ensures counted { IsCounted opened.new }
@@ -270,7 +273,7 @@ fn unwind<S>(source: &mut LimitedSource<S>, frames: &mut SmallVec<Frame, 4>, out
 #[inline(always)]
 fn go_into<S: Source>(
     cons: &mut Constructed<'_, S>,
-    opened: &mut Opened,
+    opened: &mut Opened<'_>,
     header: Header,
 ) -> Result<(), Bar<S::Error>>
     requires counted { IsCounted opened.old }
@@ -310,40 +313,41 @@ fn go_into<S: Source>(
 fn run<S: Source, F>(
     cons: &mut Constructed<'_, S>,
     alloc: Global,
-    header: Header,
+    outermost: Header,
     op: &mut F,
 ) -> Result<(), Halt<S::Error>>
 where
     F: FnMut(Tag, bool, usize) -> Result<(), ContentError>,
     requires callable { F.IsAlwaysCallable op.old }
-    requires allowed { may_have cons.old.mode header.constructed header.len ≡ true }
-    requires fits { FitsOwed header.len (limit_in cons.old) }
-    ensures ran { Ran S.stream F.step cons header op result }
+    requires allowed { may_have cons.old.mode outermost.constructed outermost.len ≡ true }
+    requires fits { FitsOwed outermost.len (limit_in cons.old) }
+    ensures ran { Ran S.stream F.step cons outermost op result }
     ensures name { cons.new.source.ghost_name ≡ cons.old.source.ghost_name }
 {
     let outer = owed(cons.source);
-    let mut opened = Opened::new(alloc);
-    if let Err(error) = op(header.tag, header.constructed, 0) {
+    let mut frames = SmallVec::new(alloc);
+    let mut opened = Opened::new(&mut frames);
+    if let Err(error) = op(outermost.tag, outermost.constructed, 0) {
         return Err(Halt::Refused(error));
     }
-    if let Err(bar) = go_into(cons, &mut opened, header) {
+    if let Err(bar) = go_into(cons, &mut opened, outermost) {
         return Err(Halt::Barred(bar));
     }
     while opened.depth > 0 {
         match cons.next_header() {
             Ok(Some(header)) => {
                 if let Err(error) = op(header.tag, header.constructed, opened.depth) {
-                    unwind(cons.source, &mut opened.frames, outer);
+                    unwind(cons.source, opened.frames, outer);
                     return Err(Halt::Refused(error));
                 }
                 if let Err(bar) = go_into(cons, &mut opened, header) {
-                    unwind(cons.source, &mut opened.frames, outer);
+                    unwind(cons.source, opened.frames, outer);
                     return Err(Halt::Barred(bar));
                 }
             }
             Ok(None) => leave(cons, &mut opened),
             Err(stop) => {
-                unwind(cons.source, &mut opened.frames, outer);
+                unwind(cons.source, opened.frames, outer);
                 return Err(Halt::Barred(Bar::Stopped(stop)));
             }
         }
