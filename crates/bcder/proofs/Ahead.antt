@@ -1,6 +1,6 @@
 -- What a call that looks ahead for a primitive value says of the content before it looked.
 use Rattle.std.proofs.Common.{◌≡◌, ◌⊎◌, ℕ, ◌≤◌, Bool, true, false, refl, List, length, take, drop, Option, Some, None, Ok, Err, sym, ◌∙◌, subst, inl, inr}
-use Rattle.std.specs.Prelude.{Result, IfSome}
+use Rattle.std.specs.Prelude.{Result, IfSome, IsErrAnd}
 use Rattle.std.specs.Borrow.{MutBor}
 use Rattle.bcder.specs.declared.mode.Mode.{Mode}
 use Rattle.bcder.specs.declared.length.Length.TheVariants.{Definite, Indefinite}
@@ -119,3 +119,8 @@ module _ {C T X S : Type 0} (view : C → Reading) (post : Tag → MutBor C → 
   pub next_stopped : (stopped : S → Cause ContentError) (s : S) (e : DecodeError X) → (IsOfContent (stopped s) → IsRefusal e) → (stopped s ≡ of_source → cause_of e ≡ of_source) → d.marked ≡ c.marked → d.state ≡ Failed → RefusesHeader stopped (tagged t) c s d ⊎ HasForm true (tagged t) c × IsOfContent (stopped s) → TakesNext view post (Some true) (tagged t) c (Err e) d
   next_stopped stopped s e own lost m f (inl h) = next_refused view post (Some true) (tagged t) c d mode e (header_stopped stopped cause_of s e own lost c d (tagged t) h) m f
   next_stopped stopped s e own lost m f (inr x) = record { value = tt; shorter = tt; none = tt; refused = by_form x.0 (own x.1) m; failed = f; mode = mode }
+
+  -- the same of an answer
+  pub next_stops : (stopped : S → Cause ContentError) (s : S) (r : Result (Option T) (DecodeError X)) → IsErrAnd r (λ e. (IsOfContent (stopped s) → IsRefusal e) × (stopped s ≡ of_source → cause_of e ≡ of_source)) → d.marked ≡ c.marked → d.state ≡ Failed → RefusesHeader stopped (tagged t) c s d ⊎ HasForm true (tagged t) c × IsOfContent (stopped s) → TakesNext view post (Some true) (tagged t) c r d
+  next_stops stopped s (Err e) y m f h = next_stopped stopped s e y.0 y.1 m f h
+  next_stops stopped s (Ok _) y m f h = elim y [ ]

@@ -107,8 +107,10 @@ fn small<N: Number>(first: u8) -> Option<N>
     ensures value { IfSome result (λ x. IsNumber N.value N.in_range (first ∷ []) x) }
     ensures none { IfNone result (IsNoNumber N.in_range (first ∷ [])) }
 {
-    let negative = first >= 0x80;
-    N::of(negative, u128::from(turned(negative, first)))
+    if first >= 0x80 {
+        return N::of(true, u128::from(turned(true, first)));
+    }
+    N::of(false, u128::from(first))
 }
 
 /// The number of a type that contents octets are, if they are of one.
@@ -120,7 +122,11 @@ pub(crate) fn number_at<N: Number>(octets: &[u8]) -> Option<N>
     if let [first] = octets {
         return small(*first);
     }
-    any_number(octets)
+    // taken apart, so that one octet keeps to its own path
+    let Some(number) = any_number(octets) else {
+        return None;
+    };
+    Some(number)
 }
 
 /// The same of any octets.

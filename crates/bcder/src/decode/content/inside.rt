@@ -196,13 +196,15 @@ where
         RefusesContent cause_of (of_primitive S.stream) (F.post op) tag
         (octets_before S.stream octets) e (octets_after S.stream octets)) }
 {
-    match op(tag, octets) {
-        Ok(value) => match octets.finish() {
-            Ok(()) => Ok(value),
-            Err(error) => Err(error),
-        },
-        Err(error) => Err(error),
+    let value = match op(tag, octets) {
+        Ok(value) => value,
+        Err(error) => return Err(error),
+    };
+    match octets.finish() {
+        Ok(()) => {}
+        Err(error) => return Err(error),
     }
+    Ok(value)
 }
 
 /// Calls the closure on values, which then are at their end.
@@ -404,20 +406,19 @@ impl<'a, S: Source> Constructed<'a, S> {
             marked: false,
             start,
         };
-        match run_octets(&mut octets, header.tag, op) {
-            Ok(value) => {
-                let marked = octets.marked;
-                go_outside(source, outer, header.len);
-                self.marked = either(self.marked, marked);
-                Ok(value)
-            }
+        let value = match run_octets(&mut octets, header.tag, op) {
+            Ok(value) => value,
             Err(error) => {
                 let marked = octets.marked;
                 go_outside(source, outer, header.len);
                 self.marked = either(self.marked, marked);
-                Err(error)
+                return Err(error);
             }
-        }
+        };
+        let marked = octets.marked;
+        go_outside(source, outer, header.len);
+        self.marked = either(self.marked, marked);
+        Ok(value)
     }
 
     /// Takes the values behind a header of a constructed value.
@@ -497,13 +498,12 @@ impl<'a, S: Source> Constructed<'a, S> {
         if header.constructed {
             return Err(self.refusal("expected a primitive value"));
         }
-        match self.take_octets(header, op) {
-            Ok(value) => {
-                self.state = State::Open;
-                Ok(Some(value))
-            }
-            Err(error) => Err(error),
-        }
+        let value = match self.take_octets(header, op) {
+            Ok(value) => value,
+            Err(error) => return Err(error),
+        };
+        self.state = State::Open;
+        Ok(Some(value))
     }
 
     /// The same of a value that has to be constructed.

@@ -85,18 +85,19 @@ impl<'a, S: Source> Constructed<'a, S> {
         ensures moves { Moved S.stream self }
         ensures took { TookNextOctets S.stream self (tagged tag) (Untagged (F.post op)) result }
     {
-        match self.next_octets_if(tag) {
-            Ok(Some(len)) => self.octets_behind(
-                octets_header(tag, len),
-                |_tag, octets|
-                    requires { (p : _) → p.now ≡ octets.now → F.pre op p }
-                    ensures { AnsweredOn (of_primitive S.stream) (F.post op)
-                        (octets_before S.stream octets) result (octets_after S.stream octets) }
-                { op(octets) },
-            ),
-            Ok(None) => Ok(None),
-            Err(stop) => Err(self.stopped(stop)),
-        }
+        let len = match self.next_octets_if(tag) {
+            Ok(Some(len)) => len,
+            Ok(None) => return Ok(None),
+            Err(stop) => return self.stops(stop),
+        };
+        self.octets_behind(
+            octets_header(tag, len),
+            |_tag, octets|
+                requires { (p : _) → p.now ≡ octets.now → F.pre op p }
+                ensures { AnsweredOn (of_primitive S.stream) (F.post op)
+                    (octets_before S.stream octets) result (octets_after S.stream octets) }
+            { op(octets) },
+        )
     }
 
     /// Takes the next value, which has to have this tag and be primitive.

@@ -138,13 +138,11 @@ impl<'a, S: Source> Primitive<'a, S> {
             Ok(len) => len,
             Err(error) => return Err(error),
         };
-        match number_at(self.all(len)) {
-            Some(number) => {
-                self.pass_all(len);
-                Ok(number)
-            }
-            None => Err(self.refusal("no integer of this type")),
-        }
+        let Some(number) = number_at(self.all(len)) else {
+            return Err(self.refusal("no integer of this type"));
+        };
+        self.pass_all(len);
+        Ok(number)
     }
 
     /// Reads all octets as a BOOLEAN (X.690, 8.2), and takes them: in BER one octet, 0 for false

@@ -1,6 +1,6 @@
 //! Passing over the header of the next value.
 ghost use Rattle.std.specs.Prelude.{◌≡◌, ◌⊎◌, ◌≤◌, true, false, length, take, IsTrue, Some};
-ghost use Rattle.std.specs.Prelude.{IfOk, IfErr, IfSome, IfNone, OnOk, OnErr};
+ghost use Rattle.std.specs.Prelude.{IfOk, IfErr, IfSome, IfNone, IsErrAnd, OnOk, OnErr};
 ghost use Rattle.bcder.specs.Calls.{popped};
 ghost use Rattle.bcder.specs.Cause.{cause_of, stop_cause, of_source, IsOfContent, IsRefusal};
 ghost use Rattle.bcder.specs.Cause.{NamesTag};
@@ -156,6 +156,16 @@ impl<'a, S: Source> Constructed<'a, S> {
             Stop::Refused(why) => self.refusal(why.text()),
             Stop::Source(error) => DecodeError::Source(error),
         }
+    }
+
+    /// The same as an answer. It is a call of its own, so that no room for an error is cleared where
+    /// nothing stops.
+    #[inline(always)]
+    pub(super) fn stops<T>(&self, stop: Stop<S::Error>) -> Result<T, DecodeError<S::Error>>
+        ensures { IsErrAnd result (λ e. (IsOfContent (stop_cause stop) → IsRefusal e)
+            × (stop_cause stop ≡ of_source → cause_of e ≡ of_source)) }
+    {
+        Err(self.stopped(stop))
     }
 
     /// A refusal of what is not this tag.

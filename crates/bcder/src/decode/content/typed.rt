@@ -13,16 +13,6 @@ use crate::tag::Tag;
 
 #[tactic(auto, using(crate::proofs::moves_refl))]
 impl<'a, S: Source> Constructed<'a, S> {
-    /// Takes the next value if it is an INTEGER, as a number of a type.
-    #[inline(always)]
-    fn take_opt_number<N: Number + Drop>(&mut self) -> Result<Option<N>, DecodeError<S::Error>>
-        ensures moves { Moved S.stream self }
-        ensures took { TookNextAs S.stream self integer_tag
-            (IsNumber N.value N.in_range) result }
-    {
-        self.take_opt_primitive_if(Tag::INTEGER, |octets| octets.read_number())
-    }
-
     /// Takes the next value, which has to be an INTEGER, as a number of a type.
     #[inline(always)]
     fn take_number<N: Number + Drop>(&mut self) -> Result<N, DecodeError<S::Error>>
@@ -124,7 +114,7 @@ impl<'a, S: Source> Constructed<'a, S> {
         ensures moves { Moved S.stream self }
         ensures took { TookNextAs S.stream self integer_tag (IsUnsigned 8) result }
     {
-        self.take_opt_number()
+        self.take_opt_primitive_if(Tag::INTEGER, |octets| octets.to_u8())
     }
 
     /// Takes the next value, which has to be an INTEGER (X.690, 8.3) that a `u16` holds.
@@ -152,7 +142,7 @@ impl<'a, S: Source> Constructed<'a, S> {
         ensures moves { Moved S.stream self }
         ensures took { TookNextAs S.stream self integer_tag (IsUnsigned 16) result }
     {
-        self.take_opt_number()
+        self.take_opt_primitive_if(Tag::INTEGER, |octets| octets.to_u16())
     }
 
     /// Takes the next value, which has to be an INTEGER (X.690, 8.3) that a `u32` holds.
@@ -180,7 +170,7 @@ impl<'a, S: Source> Constructed<'a, S> {
         ensures moves { Moved S.stream self }
         ensures took { TookNextAs S.stream self integer_tag (IsUnsigned 32) result }
     {
-        self.take_opt_number()
+        self.take_opt_primitive_if(Tag::INTEGER, |octets| octets.to_u32())
     }
 
     /// Takes the next value, which has to be an INTEGER (X.690, 8.3) that a `u64` holds.
@@ -208,7 +198,7 @@ impl<'a, S: Source> Constructed<'a, S> {
         ensures moves { Moved S.stream self }
         ensures took { TookNextAs S.stream self integer_tag (IsUnsigned 64) result }
     {
-        self.take_opt_number()
+        self.take_opt_primitive_if(Tag::INTEGER, |octets| octets.to_u64())
     }
 
     /// Takes the next value, which has to be the INTEGER with this value.

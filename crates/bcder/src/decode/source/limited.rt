@@ -236,8 +236,8 @@ impl<S: Source> Source for LimitedSource<S> {
     }
 
     fn advance(&mut self, len: usize) {
-        if let Some(limit) = self.limit {
-            self.limit = Some(limit - len);
+        if let Some(limit) = &mut self.limit {
+            *limit -= len;
         }
         self.source.advance(len)
     }

@@ -10,6 +10,6 @@ returns-then-header g c = of_form _ refl (ap Some (sym c.if-header.true)) c.refu
 pub returns-in-Err : goal.returns-in-Err
 returns-in-Err g c = refused _ refl c.in-Err.ensures.taken
 
-pub returns-in-Ok : goal.returns-in-Ok
+pub returns : goal.returns
 unfolding of_constructed
-returns-in-Ok g c = taken _ (of_constructed g.S.Source.stream c.take_octets.new.self) refl c.in-Ok.ensures.taken refl
+returns g c = taken _ (of_constructed g.S.Source.stream c.take_octets.new.self) refl c.in-Ok.ensures.taken refl

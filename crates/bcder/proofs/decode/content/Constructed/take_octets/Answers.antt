@@ -6,24 +6,24 @@ use Rattle.bcder.specs.Views.{of_constructed, of_primitive}
 use Rattle.bcder.proofs.Inner.{octets_taken}
 use Rattle.bcder.proofs.decode.content.Constructed.take_octets.Goals as goal
 
-pub returns-in-Ok : goal.returns-in-Ok
+pub returns : goal.returns
 unfolding of_constructed of_primitive
-returns-in-Ok g c =
-    let limit : c.go_outside.new.source.limit ≡ limit_outside c.args.header.len c.go_inside-outer.result c.run_octets.new.octets.source.now.limit = search rules in
-    let source : c.go_outside.new.source.source ≡ c.run_octets.new.octets.source.now.source = search rules in
+returns g c =
+    let limit : c.go_outside-2.new.source.limit ≡ limit_outside c.args.header.len c.go_inside-outer.result c.run_octets.new.octets.source.now.limit = search rules in
+    let source : c.go_outside-2.new.source.source ≡ c.run_octets.new.octets.source.now.source = search rules in
     record {
-      taken = octets_taken cause_of (of_primitive g.S.Source.stream) _ (of_constructed g.S.Source.stream c.args.self.now) _ (header c.args.header) _ refl refl refl refl _ c.either-self.ensures
-          g.S.Source.stream c.args.self.now.source.now c.go_inside-outer.new.source c.run_octets.new.octets.source.now c.go_outside.new.source c.go_inside-outer.result
+      taken = octets_taken cause_of (of_primitive g.S.Source.stream) _ (of_constructed g.S.Source.stream c.args.self.now) _ (header c.args.header) _ refl refl refl refl _ c.either-self-2.ensures
+          g.S.Source.stream c.args.self.now.source.now c.go_inside-outer.new.source c.run_octets.new.octets.source.now c.go_outside-2.new.source c.go_inside-outer.result
           refl refl c.go_inside-outer.ensures.outer c.go_inside-outer.ensures.limit c.go_inside-outer.ensures.source limit source refl refl c.requires.fits c.requires.form c.requires.allowed (g.met.S.Source.sound c.args.self.now.source.now.source) (record { handed = _; left = of_primitive g.S.Source.stream c.run_octets.new.octets; runs = record { stream = refl; owed = refl; kind = refl; state = refl; mode = refl; marked = refl; left_stream = refl; left_owed = refl; moves = c.run_octets.ensures.moves }; marks = refl; answers = c.in-Ok.ensures.ok; refuses = tt });
     }
 
 pub returns-in-Err : goal.returns-in-Err
 unfolding of_constructed of_primitive
 returns-in-Err g c =
-    let limit : c.go_outside-in-Err.new.source.limit ≡ limit_outside c.args.header.len c.go_inside-outer.result c.run_octets.new.octets.source.now.limit = search rules in
-    let source : c.go_outside-in-Err.new.source.source ≡ c.run_octets.new.octets.source.now.source = search rules in
+    let limit : c.go_outside.new.source.limit ≡ limit_outside c.args.header.len c.go_inside-outer.result c.run_octets.new.octets.source.now.limit = search rules in
+    let source : c.go_outside.new.source.source ≡ c.run_octets.new.octets.source.now.source = search rules in
     record {
-      taken = octets_taken cause_of (of_primitive g.S.Source.stream) _ (of_constructed g.S.Source.stream c.args.self.now) _ (header c.args.header) _ refl refl refl refl _ c.either-self-in-Err.ensures
-          g.S.Source.stream c.args.self.now.source.now c.go_inside-outer.new.source c.run_octets.new.octets.source.now c.go_outside-in-Err.new.source c.go_inside-outer.result
+      taken = octets_taken cause_of (of_primitive g.S.Source.stream) _ (of_constructed g.S.Source.stream c.args.self.now) _ (header c.args.header) _ refl refl refl refl _ c.either-self.ensures
+          g.S.Source.stream c.args.self.now.source.now c.go_inside-outer.new.source c.run_octets.new.octets.source.now c.go_outside.new.source c.go_inside-outer.result
           refl refl c.go_inside-outer.ensures.outer c.go_inside-outer.ensures.limit c.go_inside-outer.ensures.source limit source refl refl c.requires.fits c.requires.form c.requires.allowed (g.met.S.Source.sound c.args.self.now.source.now.source) (record { handed = _; left = of_primitive g.S.Source.stream c.run_octets.new.octets; runs = record { stream = refl; owed = refl; kind = refl; state = refl; mode = refl; marked = refl; left_stream = refl; left_owed = refl; moves = c.run_octets.ensures.moves }; marks = refl; answers = tt; refuses = c.in-Err.ensures.refused });
     }

@@ -7,7 +7,7 @@ use Rattle.bcder.specs.Content.{tagged, Enters}
 use Rattle.bcder.specs.Peek.{header}
 use Rattle.bcder.specs.Views.{of_constructed, of_primitive}
 use Rattle.bcder.proofs.Carrying.{carries}
-use Rattle.bcder.proofs.Ahead.{next_stopped}
+use Rattle.bcder.proofs.Ahead.{next_stops}
 use Rattle.bcder.proofs.Taking.{takes_next, moves_next, next_none, inside_entered, allowed_entered, said_behind, moves_on}
 use Rattle.bcder.proofs.decode.content.Constructed.take_opt_primitive_if.Goals as goal
 
@@ -41,15 +41,15 @@ octets_behind-requires-clause-fits g c =
     let e = subst (λ k. Enters (of_constructed g.S.Source.stream c.args.self.now) (header k) (of_constructed g.S.Source.stream c.next_octets_if.new.self)) (sym h) (rw c.in-Ok-Some.field-0-is at c.in-Ok-Some.ensures.entered.entered) in
     e.fits
 
-pub returns-in-Ok-Some-clause-moves : goal.returns-in-Ok-Some-clause-moves
-returns-in-Ok-Some-clause-moves g c =
+pub returns-clause-moves : goal.returns-clause-moves
+returns-clause-moves g c =
     let h = c.octets_header.ensures in
     let t = ap (λ (k : Kept). k.tag) h in
     let e = subst (λ k. Enters (of_constructed g.S.Source.stream c.args.self.now) (header k) (of_constructed g.S.Source.stream c.next_octets_if.new.self)) (sym h) (rw c.in-Ok-Some.field-0-is at c.in-Ok-Some.ensures.entered.entered) in
     carries _ _ (moves_next (of_primitive g.S.Source.stream) _ (Some true) (tagged c.args.tag) (of_constructed g.S.Source.stream c.args.self.now) _ _ (header c.octets_header.result) t e _ c.octets_behind.ensures)
 
-pub returns-in-Ok-Some-clause-took : goal.returns-in-Ok-Some-clause-took
-returns-in-Ok-Some-clause-took g c =
+pub returns-clause-took : goal.returns-clause-took
+returns-clause-took g c =
     let h = c.octets_header.ensures in
     let t = ap (λ (k : Kept). k.tag) h in
     let e = subst (λ k. Enters (of_constructed g.S.Source.stream c.args.self.now) (header k) (of_constructed g.S.Source.stream c.next_octets_if.new.self)) (sym h) (rw c.in-Ok-Some.field-0-is at c.in-Ok-Some.ensures.entered.entered) in
@@ -68,5 +68,5 @@ returns-in-Err-clause-moves g c = carries _ _ c.next_octets_if.ensures.moves
 pub returns-in-Err-clause-took : goal.returns-in-Err-clause-took
 unfolding of_constructed
 returns-in-Err-clause-took g c =
-    next_stopped (of_primitive g.S.Source.stream) _ (of_constructed g.S.Source.stream c.args.self.now) (of_constructed g.S.Source.stream c.next_octets_if.new.self) c.next_octets_if.ensures.entered.mode c.args.tag
-    stop_cause _ _ c.stopped.ensures.refused c.stopped.ensures.source c.next_octets_if.ensures.entered.marked c.in-Err.ensures.entered.failed c.in-Err.ensures.entered.refused
+    next_stops (of_primitive g.S.Source.stream) _ (of_constructed g.S.Source.stream c.args.self.now) (of_constructed g.S.Source.stream c.next_octets_if.new.self) c.next_octets_if.ensures.entered.mode c.args.tag
+    stop_cause _ _ c.stops.ensures c.next_octets_if.ensures.entered.marked c.in-Err.ensures.entered.failed c.in-Err.ensures.entered.refused

@@ -14,8 +14,8 @@ returns-in-Err-finish-clause-refused g c =
     (record { handed = _; left = _; handed_is = refl; left_is = refl; called = c.in-Ok.ensures })
     (subst (λ z. Moves (of_primitive g.S.Source.stream c.op.new.arg3) (of_primitive g.S.Source.stream z)) (sym c.finish.ensures.same) (moves_refl _)) c.in-Err-finish.ensures.refused
 
-pub returns-in-Ok-finish-clause-ok : goal.returns-in-Ok-finish-clause-ok
-returns-in-Ok-finish-clause-ok g c = record {
+pub returns-clause-ok : goal.returns-clause-ok
+returns-clause-ok g c = record {
   left = of_primitive g.S.Source.stream c.op.new.arg3;
   answered = record { handed = _; left = _; handed_is = refl; left_is = refl; called = c.in-Ok.ensures };
   finishes = (subst (λ z. Moves (of_primitive g.S.Source.stream c.op.new.arg3) (of_primitive g.S.Source.stream z)) (sym c.finish.ensures.same) (moves_refl _));
