@@ -656,6 +656,7 @@ impl<'a, S: Source> Constructed<'a, S> {
     fn skip_any(&mut self, alloc: Global) -> Result<Option<()>, DecodeError<S::Error>>
         ensures moves { Moves (before S.stream self) (after S.stream self) }
         ensures skipped { SkippedOne S.stream self result }
+        ensures name { self.new.source.ghost_name ≡ self.old.source.ghost_name }
     {
         match self.pass_at_hand(Looked::Shallow) {
             Ok(true) => Ok(Some(())),
@@ -664,13 +665,24 @@ impl<'a, S: Source> Constructed<'a, S> {
         }
     }
 
-    /// The same, with room for the answer that is cleared here, and not before the first look.
+    /// The same, with room for the answer that is cleared here, and not before the first look. It
+    /// lends a copy of the content, and what the copy becomes is set: so content that is a local of
+    /// a caller has no address, and its state and kind aren't looked up at each value.
     #[inline(always)]
     fn skip_on(&mut self, alloc: Global) -> Result<Option<()>, DecodeError<S::Error>>
         ensures moves { Moves (before S.stream self) (after S.stream self) }
         ensures skipped { SkippedOne S.stream self result }
     {
-        let skipped = self.skip_any(alloc);
+        let mut copy = Constructed {
+            source: &mut *self.source,
+            kind: self.kind,
+            state: self.state,
+            mode: self.mode,
+            marked: self.marked,
+            start: self.start,
+        };
+        let skipped = copy.skip_any(alloc);
+        self.state = copy.state;
         skipped
     }
 

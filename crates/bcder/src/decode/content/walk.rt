@@ -260,16 +260,38 @@ fn walk_next<S: Source>(cons: &mut Constructed<'_, S>) -> Result<Option<()>, Sto
 {
     match cons.pass_at_hand(Looked::Short) {
         Ok(true) => Ok(Some(())),
-        Ok(false) => walk_any(cons),
+        Ok(false) => walk_apart(cons),
         Err(stop) => Err(stop),
     }
 }
 
-/// The same, whatever stands in front.
+/// The same, whatever stands in front. It lends a copy of the content, and what the copy becomes
+/// is set: so content that is a local of a caller has no address, and its state and kind aren't
+/// looked up at each value.
+#[inline(always)]
+fn walk_apart<S: Source>(cons: &mut Constructed<'_, S>) -> Result<Option<()>, Stop<S::Error>>
+    ensures moves { Between S.stream cons Moves }
+    ensures passed { PassedStep S.stream cons result }
+{
+    let mut copy = Constructed {
+        source: &mut *cons.source,
+        kind: cons.kind,
+        state: cons.state,
+        mode: cons.mode,
+        marked: cons.marked,
+        start: cons.start,
+    };
+    let passed = walk_any(&mut copy);
+    cons.state = copy.state;
+    passed
+}
+
+/// The same, out of line.
 #[inline(never)]
 fn walk_any<S: Source>(cons: &mut Constructed<'_, S>) -> Result<Option<()>, Stop<S::Error>>
     ensures moves { Between S.stream cons Moves }
     ensures passed { PassedStep S.stream cons result }
+    ensures name { cons.new.source.ghost_name ≡ cons.old.source.ghost_name }
 {
     match cons.pass_at_hand(Looked::Any) {
         Ok(true) => Ok(Some(())),
