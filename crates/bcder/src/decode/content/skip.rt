@@ -666,8 +666,9 @@ impl<'a, S: Source> Constructed<'a, S> {
     }
 
     /// The same, with room for the answer that is cleared here, and not before the first look. It
-    /// lends a copy of the content, and what the copy becomes is set: so content that is a local of
-    /// a caller has no address, and its state and kind aren't looked up at each value.
+    /// lends a copy of the content, and where no value was passed the state of the copy is set: so
+    /// content that is a local of a caller has no address, and a loop over its values neither looks
+    /// its state up nor its kind.
     #[inline(always)]
     fn skip_on(&mut self, alloc: Global) -> Result<Option<()>, DecodeError<S::Error>>
         ensures moves { Moves (before S.stream self) (after S.stream self) }
@@ -681,9 +682,17 @@ impl<'a, S: Source> Constructed<'a, S> {
             marked: self.marked,
             start: self.start,
         };
-        let skipped = copy.skip_any(alloc);
-        self.state = copy.state;
-        skipped
+        match copy.skip_any(alloc) {
+            Ok(Some(())) => Ok(Some(())),
+            Ok(None) => {
+                self.state = copy.state;
+                Ok(None)
+            }
+            Err(error) => {
+                self.state = State::Failed;
+                Err(error)
+            }
+        }
     }
 
     /// Passes over the next value, or answers `None` at the end of the content, whose marker it
