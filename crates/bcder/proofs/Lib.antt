@@ -13,6 +13,7 @@ pub mod Headers
 pub mod Entering
 pub mod Ahead
 pub mod Names
+pub mod Naming
 pub mod Refusing
 pub mod Inner
 pub mod Taking

@@ -98,8 +98,21 @@ fn value_at(mode: Mode, octets: &[u8]) -> Option<&[u8]>
 {
     match short_size(octets) {
         Some(size) => Some(octets.split_at(size).1),
-        None => any_at(mode, octets),
+        None => apart_at(mode, octets),
     }
+}
+
+/// The same, with room for the answer that is cleared here, and not before the first look.
+#[cycle(plain)]
+#[inline(always)]
+fn apart_at(mode: Mode, octets: &[u8]) -> Option<&[u8]>
+    ensures read { MatchOption result
+        (read_tree mode octets.now ≡ None)
+        (λ r. (t : Tree) × (read_tree mode octets.now ≡ Some (t, r.now))) }
+    ensures less { IfSome result (λ r. length r.now + 2 ≤ length octets.now) }
+{
+    let rest = any_at(mode, octets);
+    rest
 }
 
 /// The same, whatever value it is.

@@ -37,8 +37,20 @@ fn value_within(mode: Mode, octets: &[u8], levels: usize) -> Option<&[u8]>
 {
     match short_size(octets) {
         Some(size) => Some(octets.split_at(size).1),
-        None => any_within(mode, octets, levels),
+        None => apart_within(mode, octets, levels),
     }
+}
+
+/// The same, with room for the answer that is cleared here, and not before the first look.
+#[cycle(levels)]
+#[inline(always)]
+fn apart_within(mode: Mode, octets: &[u8], levels: usize) -> Option<&[u8]>
+    ensures read { IfSome result
+        (λ r. (t : Tree) × (read_tree mode octets.now ≡ Some (t, r.now))) }
+    ensures less { IfSome result (λ r. length r.now + 2 ≤ length octets.now) }
+{
+    let rest = any_within(mode, octets, levels);
+    rest
 }
 
 /// The same, whatever value it is.

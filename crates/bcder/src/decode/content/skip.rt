@@ -660,6 +660,7 @@ impl<'a, S: Source> Constructed<'a, S> {
     fn skip_any(&mut self, alloc: Global) -> Result<Option<()>, DecodeError<S::Error>>
         ensures moves { Moves (before S.stream self) (after S.stream self) }
         ensures skipped { SkippedOne S.stream self result }
+        ensures name { self.new.source.ghost_name ≡ self.old.source.ghost_name }
     {
         match self.pass_at_hand(Looked::Shallow) {
             Ok(true) => Ok(Some(())),
@@ -668,14 +669,34 @@ impl<'a, S: Source> Constructed<'a, S> {
         }
     }
 
-    /// The same, with room for the answer that is cleared here, and not before the first look.
+    /// The same, with room for the answer that is cleared here, and not before the first look. It
+    /// lends a copy of the content, and where no value was passed the state of the copy is set: so
+    /// content that is a local of a caller has no address, and a loop over its values neither looks
+    /// its state up nor its kind.
     #[inline(always)]
     fn skip_on(&mut self, alloc: Global) -> Result<Option<()>, DecodeError<S::Error>>
         ensures moves { Moves (before S.stream self) (after S.stream self) }
         ensures skipped { SkippedOne S.stream self result }
     {
-        let skipped = self.skip_any(alloc);
-        skipped
+        let mut copy = Constructed {
+            source: &mut *self.source,
+            kind: self.kind,
+            state: self.state,
+            mode: self.mode,
+            marked: self.marked,
+            start: self.start,
+        };
+        match copy.skip_any(alloc) {
+            Ok(Some(())) => Ok(Some(())),
+            Ok(None) => {
+                self.state = copy.state;
+                Ok(None)
+            }
+            Err(error) => {
+                self.state = State::Failed;
+                Err(error)
+            }
+        }
     }
 
     /// Passes over the next value, or answers `None` at the end of the content, whose marker it

@@ -168,22 +168,14 @@ impl<'a, S: Source> Constructed<'a, S> {
     }
 
     /// Passes over the next value in one go where it is one that is looked for and all of its
-    /// octets are at hand, and says whether it did. The source is asked once at most, and not where
-    /// no octets are owed.
+    /// octets are at hand, and says whether it did. The source is asked once.
     #[tactic(auto, unfolding(crate::specs::Views::of_constructed))]
     #[inline(always)]
-    pub(super) fn pass_at_hand(&mut self, looked: Looked) -> Result<bool, Stop<S::Error>>
+    fn pass_looked(&mut self, looked: Looked) -> Result<bool, Stop<S::Error>>
+        requires { self.old.state ≡ State.Open }
         ensures moves { Between S.stream self Moves }
         ensures passed { PassedAtOnce S.stream self result }
     {
-        let State::Open = self.state else {
-            return Ok(false);
-        };
-        if let Kind::Definite = self.kind {
-            if let Some(0) = self.source.limit() {
-                return Ok(false);
-            }
-        }
         match self.look_at_whole(looked) {
             Ok(Some(size)) => {
                 self.pass_over(size);
@@ -195,6 +187,28 @@ impl<'a, S: Source> Constructed<'a, S> {
                 Err(Stop::Source(error))
             }
         }
+    }
+
+    /// The same of content in any state. The source is asked once at most, and not where no octets
+    /// are owed. Where there is no limit, that is asked once too.
+    #[tactic(auto, unfolding(crate::specs::Views::of_constructed))]
+    #[inline(always)]
+    pub(super) fn pass_at_hand(&mut self, looked: Looked) -> Result<bool, Stop<S::Error>>
+        ensures moves { Between S.stream self Moves }
+        ensures passed { PassedAtOnce S.stream self result }
+    {
+        let State::Open = self.state else {
+            return Ok(false);
+        };
+        let Some(owed) = self.source.limit() else {
+            return self.pass_looked(looked);
+        };
+        if let Kind::Definite = self.kind {
+            if owed == 0 {
+                return Ok(false);
+            }
+        }
+        self.pass_looked(looked)
     }
 
     /// Passes over a primitive value in one step where all of its octets come, and says whether it
@@ -260,16 +274,46 @@ fn walk_next<S: Source>(cons: &mut Constructed<'_, S>) -> Result<Option<()>, Sto
 {
     match cons.pass_at_hand(Looked::Short) {
         Ok(true) => Ok(Some(())),
-        Ok(false) => walk_any(cons),
+        Ok(false) => walk_apart(cons),
         Err(stop) => Err(stop),
     }
 }
 
-/// The same, whatever stands in front.
+/// The same, whatever stands in front. It lends a copy of the content, and where no value was
+/// passed the state of the copy is set: so content that is a local of a caller has no address, and
+/// a loop over its values neither looks its state up nor its kind.
+#[inline(always)]
+fn walk_apart<S: Source>(cons: &mut Constructed<'_, S>) -> Result<Option<()>, Stop<S::Error>>
+    ensures moves { Between S.stream cons Moves }
+    ensures passed { PassedStep S.stream cons result }
+{
+    let mut copy = Constructed {
+        source: &mut *cons.source,
+        kind: cons.kind,
+        state: cons.state,
+        mode: cons.mode,
+        marked: cons.marked,
+        start: cons.start,
+    };
+    match walk_any(&mut copy) {
+        Ok(Some(())) => Ok(Some(())),
+        Ok(None) => {
+            cons.state = copy.state;
+            Ok(None)
+        }
+        Err(stop) => {
+            cons.state = State::Failed;
+            Err(stop)
+        }
+    }
+}
+
+/// The same, out of line.
 #[inline(never)]
 fn walk_any<S: Source>(cons: &mut Constructed<'_, S>) -> Result<Option<()>, Stop<S::Error>>
     ensures moves { Between S.stream cons Moves }
     ensures passed { PassedStep S.stream cons result }
+    ensures name { cons.new.source.ghost_name ≡ cons.old.source.ghost_name }
 {
     match cons.pass_at_hand(Looked::Any) {
         Ok(true) => Ok(Some(())),

@@ -1,0 +1,126 @@
+-- Content behind another borrow of its source: what was done to it was done to the content itself.
+use Rattle.std.proofs.Common.{◌≡◌, ℕ, Bool, List, Option, Some, None, refl, ap, sym, ◌∙◌, subst, inl, inr}
+use Rattle.std.specs.Borrow.{GName}
+use Rattle.std.specs.Prelude.{Result, Ok, Err}
+use Rattle.bcder.specs.declared.mode.Mode.{Mode}
+use Rattle.bcder.specs.declared.decode.content.State.{State}
+use Rattle.bcder.specs.declared.decode.error.ContentError.{ContentError}
+use Rattle.bcder.specs.Cause.{Cause}
+use Rattle.bcder.specs.Preorder.{Heading}
+use Rattle.bcder.specs.Stream.{Stream}
+use Rattle.bcder.specs.Content.{Reading, Form, Moves, Whole, IsAtEnd, of_octets, of_definite, of_indefinite, of_unbounded, EndsBefore, NotAtEnd}
+use Rattle.bcder.specs.Walking.{NoValue, PassesValue, PassedBy}
+use Rattle.bcder.specs.Walking as walking
+use Rattle.bcder.specs.Skipping.{WereCalls, RefusesOne, SkippedOneBy}
+use Rattle.bcder.specs.Skipping as skipping
+
+-- the same content, behind a borrow of this name
+abbrev pub named : GName → Reading → Reading
+named n c = record { stream = c.stream; owed = c.owed; kind = c.kind; state = c.state; mode = c.mode; marked = c.marked; name = n }
+
+module _ (n : GName) where
+  whole_named : (m : Mode) (c d : Reading) (p : List ℕ) → Whole m c p d → Whole m (named n c) p (named n d)
+  whole_named m c d p w = record { trees = w.trees; values = w.values; close = w.close; split = w.split; encodes = w.encodes; closes = w.closes }
+
+  moves_named : (c d : Reading) → Moves c d → Moves (named n c) (named n d)
+  unfolding Moves
+  moves_named c d a = record {
+    passed = a.passed;
+    rest = a.rest;
+    owed = a.owed;
+    kept = a.kept;
+    kind = a.kind;
+    mode = a.mode;
+    name = refl;
+    faults = a.faults;
+    ended = a.ended;
+    failed = a.failed;
+    marked = a.marked;
+    ends = a.ends;
+    whole = λ x o. whole_named _ c d a.passed (a.whole x o);
+  }
+
+  at_end_named : (c : Reading) (after : List ℕ) → IsAtEnd c after → IsAtEnd (named n c) after
+  at_end_named c after (of_octets k o) = of_octets k o
+  at_end_named c after (of_definite k o) = of_definite k o
+  at_end_named c after (of_indefinite k m) = of_indefinite k m
+  at_end_named c after (of_unbounded k e) = of_unbounded k e
+
+  at_end_unnamed : (c : Reading) (after : List ℕ) → IsAtEnd (named n c) after → IsAtEnd c after
+  at_end_unnamed c after (of_octets k o) = of_octets k o
+  at_end_unnamed c after (of_definite k o) = of_definite k o
+  at_end_unnamed c after (of_indefinite k m) = of_indefinite k m
+  at_end_unnamed c after (of_unbounded k e) = of_unbounded k e
+
+  ends_named : (c : Reading) (after : List ℕ) → EndsBefore c after → EndsBefore (named n c) after
+  ends_named c after (inl e) = inl e
+  ends_named c after (inr e) = inr (e.0, at_end_named c after e.1)
+
+  ends_unnamed : (c : Reading) (after : List ℕ) → EndsBefore (named n c) after → EndsBefore c after
+  ends_unnamed c after (inl e) = inl e
+  ends_unnamed c after (inr e) = inr (e.0, at_end_unnamed c after e.1)
+
+  open_named : (c : Reading) → NotAtEnd c → NotAtEnd (named n c)
+  open_named c o = record { none = λ after e. o.none after (ends_unnamed c after e) }
+
+  nothing_named : (c : Reading) → NoValue c → NoValue (named n c)
+  nothing_named c v = record { none = v.none }
+
+  value_named : (c d : Reading) → PassesValue c d → PassesValue (named n c) (named n d)
+  value_named c d p = record {
+    tree = p.tree;
+    value = p.value;
+    has = record { usable = p.has.usable; encodes = p.has.encodes; rest = p.has.rest };
+    only = p.only;
+    stays = p.stays;
+  }
+
+  module _ {E : Type 0} (why : E → Cause ContentError) (c d : Reading) where
+    refused_named : (x : E) → walking.RefusesWalk why c x d → walking.RefusesWalk why (named n c) x (named n d)
+    refused_named x (walking.RefusesWalk.failed h o) = walking.RefusesWalk.failed h o
+    refused_named x (walking.RefusesWalk.source h g) = walking.RefusesWalk.source h g
+    refused_named x (walking.RefusesWalk.nothing h v q o) = walking.RefusesWalk.nothing h (nothing_named c v) (open_named c q) o
+
+    passed_named : {T : Type 0} (r : Result (Option T) E) → PassedBy why c r d → PassedBy why (named n c) r (named n d)
+    passed_named (Ok None) p = record { value = tt; end = ends_named c d.stream.rest p.end; done = p.done; no_fault = p.no_fault; refused = tt; failed = tt; mode = p.mode; marked = p.marked }
+    passed_named (Ok (Some x)) p = record { value = value_named c d p.value; end = tt; done = tt; no_fault = p.no_fault; refused = tt; failed = tt; mode = p.mode; marked = p.marked }
+    passed_named (Err x) p = record { value = tt; end = tt; done = tt; no_fault = tt; refused = refused_named x p.refused; failed = p.failed; mode = p.mode; marked = p.marked }
+
+    calls_named : (calls : List Heading) → WereCalls c calls d → WereCalls (named n c) calls (named n d)
+    calls_named calls w = record {
+      some = w.some;
+      one = λ t v after h. w.one t v after (record { usable = h.usable; encodes = h.encodes; rest = h.rest });
+      stand = w.stand;
+      twice = w.twice;
+      usable = λ m. ((w.usable m).0, open_named c (w.usable m).1);
+    }
+
+    one_named : (y : E) → RefusesOne why c y d → RefusesOne why (named n c) y (named n d)
+    one_named y (skipping.RefusesOne.by_walk r) = skipping.RefusesOne.by_walk (refused_named y r)
+    one_named y (skipping.RefusesOne.by_depth g j) = skipping.RefusesOne.by_depth (record { calls = g.calls; last = g.last; were = calls_named _ g.were; constructed = g.constructed; deep = g.deep }) j
+
+    skipped_named : {T : Type 0} (r : Result (Option T) E) → SkippedOneBy why c r d → SkippedOneBy why (named n c) r (named n d)
+    skipped_named (Ok None) p = record { value = tt; end = ends_named c d.stream.rest p.end; done = p.done; no_fault = p.no_fault; refused = tt; failed = tt; mode = p.mode; marked = p.marked }
+    skipped_named (Ok (Some x)) p = record { value = value_named c d p.value; end = tt; done = tt; no_fault = p.no_fault; refused = tt; failed = tt; mode = p.mode; marked = p.marked }
+    skipped_named (Err x) p = record { value = tt; end = tt; done = tt; no_fault = tt; refused = one_named x p.refused; failed = p.failed; mode = p.mode; marked = p.marked }
+
+same_fields : (s s' : Stream) → s ≡ s' → (o o' : Option ℕ) → o ≡ o' → (k k' : Form) → k ≡ k' → (t t' : State) → t ≡ t' → (m m' : Mode) → m ≡ m' → (b b' : Bool) → b ≡ b' → (n n' : GName) → n ≡ n' → ◌≡◌ {A = Reading} (record { stream = s; owed = o; kind = k; state = t; mode = m; marked = b; name = n }) (record { stream = s'; owed = o'; kind = k'; state = t'; mode = m'; marked = b'; name = n' })
+same_fields s s' es o o' eo k k' ek t t' et m m' em b b' eb n n' en = cc
+
+-- content e is what d is, which content c became by a step, behind a borrow of another name
+module _ (n : GName) (c d e : Reading) (s : d.stream ≡ e.stream) (o : d.owed ≡ e.owed) (k : c.kind ≡ e.kind) (t : d.state ≡ e.state) (m : c.mode ≡ e.mode) (b : c.marked ≡ e.marked) (l : n ≡ e.name) (mv : Moves c d) (md : d.mode ≡ c.mode) (mk : d.marked ≡ c.marked) where
+  moved_kind : d.kind ≡ c.kind
+  unfolding Moves
+  moved_kind = mv.kind
+
+  is_named : named n d ≡ e
+  is_named = same_fields d.stream e.stream s d.owed e.owed o d.kind e.kind (moved_kind ∙ k) d.state e.state t d.mode e.mode (md ∙ m) d.marked e.marked (mk ∙ b) n e.name l
+
+  pub moves_behind : Moves (named n c) e
+  moves_behind = subst (λ z. Moves (named n c) z) is_named (moves_named n c d mv)
+
+  pub passed_behind : {T E : Type 0} (why : E → Cause ContentError) (r : Result (Option T) E) → PassedBy why c r d → PassedBy why (named n c) r e
+  passed_behind why r p = subst (λ z. PassedBy why (named n c) r z) is_named (passed_named n why c d r p)
+
+  pub skipped_behind : {T E : Type 0} (why : E → Cause ContentError) (r : Result (Option T) E) → SkippedOneBy why c r d → SkippedOneBy why (named n c) r e
+  skipped_behind why r p = subst (λ z. SkippedOneBy why (named n c) r z) is_named (skipped_named n why c d r p)
