@@ -68,13 +68,12 @@ class Edit:
     def applied(self, texts, crate):
         """The texts with this edit in them: those given, or else the crate's."""
         texts = dict(texts)
-        for path, old, new in self.pairs:
+        for path, before, old, new in self.pairs:
             if path not in crate.texts:
                 raise BadEdit(f"stale: there is no file {path}")
             text = texts.get(path, crate.texts[path])
-            if text.count(old) != 1:
-                raise BadEdit(f"stale: its 'old:' text is in {path} {text.count(old)} times, and not once: {old[:90]}")
-            texts[path] = text.replace(old, new)
+            at = place_of(old, before, text, path)
+            texts[path] = text[:at] + new + text[at + len(old) :]
         return texts
 
     def clashes(self, other):
@@ -89,23 +88,44 @@ def last(name):
     return name.split("::")[-1]
 
 
+def place_of(old, before, text, path):
+    """Where the old text begins: it stands once, or it is the first behind the texts of the `after:` lines.
+
+    Of these the first stands once, and each further one is the first behind the one before it.
+    """
+    kind, first = ("after", before[0]) if before else ("old", old)
+    if text.count(first) != 1:
+        raise BadEdit(f"stale: its '{kind}:' text is in {path} {text.count(first)} times, and not once: {first[:90]}")
+    begin = behind = text.find(first)
+    # All stand in one item of the file, so that a text that is gone isn't found in the next one.
+    end = text.find("\n}", begin) if before else len(text)
+    for it in [*before, old]:
+        at = text.find(it, behind, end)
+        if at < 0:
+            raise BadEdit(f"stale: {path} hasn't this text behind '{first[:60]}': {it[:90]}")
+        behind = at + len(it)
+    return at
+
+
 def pairs_of(text):
-    """The path, the old and the new text of each pair of lines of an edit."""
-    path = old = None
+    """The path, the texts before, the old and the new text of each pair of lines of an edit."""
+    path, old, before = None, None, []
     for line in text.split("\n"):
         if line.startswith("file: "):
             path = line[6:].strip()
             if not path.startswith("src/"):
                 raise BadEdit(f"{path} isn't below src/: an edit of a contract or a proof shows nothing")
+        elif line.startswith("after: "):
+            before.append(line[7:])
         elif line.startswith("old: "):
             old = line[5:]
         elif line.startswith("new:"):
             if not path or not old:
                 raise BadEdit("a 'new:' line stands before any 'file:' or 'old:' line")
-            yield path, old, line[5:] if line.startswith("new: ") else line[4:]
-            old = None
+            yield path, before, old, line[5:] if line.startswith("new: ") else line[4:]
+            old, before = None, []
         elif line.strip():
-            raise BadEdit(f"a line is no 'file:', 'old:' or 'new:' line: {line[:60]}")
+            raise BadEdit(f"a line is no 'file:', 'after:', 'old:' or 'new:' line: {line[:60]}")
 
 
 def place(edit, batches, crate):

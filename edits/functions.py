@@ -109,9 +109,16 @@ def impl_name(head):
     at = head.index("for") if "for" in head else -1
 
     def written(words):
-        text = ""
+        if words[:1] == ["("]:
+            # `()` is `Unit`, and `(A, B)` of two parameters `Tuple2`.
+            count = len([it for it in words if re.match(r"[^\W\d]", it)])
+            return f"Tuple{count}" if count else "Unit"
+        text, depth = "", 0
         for at, word in enumerate(words):
-            if re.match(r"[^\W\d]", word) and word not in ("mut", *own) and words[at + 1 : at + 2] != [":"]:
+            depth += (word == "<") - (word == ">")
+            # Of a path the last name is written, and of one between `<` and `>` each.
+            is_above = words[at + 1 : at + 2] == [":"] and not depth
+            if re.match(r"[^\W\d]", word) and word not in ("mut", *own) and not is_above:
                 text += word[0].upper() + word[1:]
             else:
                 text += {"&": "Ref", "mut": "Mut", "[": "Slice"}.get(word, "")

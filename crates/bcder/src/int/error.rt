@@ -45,6 +45,13 @@ pub enum IntegerError {
 }
 
 impl fmt::Display for IntegerError {
+    ghost use Rattle.bcder.specs.declared.int.error.IntegerError.TheVariants.{Invalid, NoMemory};
+
+    ghost output = { elim [
+      | Invalid error ↦ ⟦<InvalidInteger as fmt::Display>⟧.output error
+      | NoMemory ↦ Some (codes "out of memory")
+    ] };
+
     fn fmt<W: fmt::Write>(&self, f: &mut fmt::Formatter<W>) -> fmt::Result {
         match self {
             IntegerError::Invalid(error) => write!(f, "{error}"),
