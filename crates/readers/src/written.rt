@@ -1,6 +1,6 @@
-//! Tests that write a request as `user` does, read what extensions say, and write and read numbers,
-//! identifiers and octets. What is expected of the first two is what openssl wrote, and what
-//! `openssl asn1parse` shows of it; of the others it is worked out by hand.
+//! Tests that write a request as `writers` does, read what extensions say, and write and read
+//! numbers, identifiers and octets. What is expected of the first two is what openssl wrote, and
+//! what `openssl asn1parse` shows of it; of the others it is worked out by hand.
 ghost use Rattle.bcder.specs.Views.{Moved, MovedOctets};
 
 use bcder::decode::{Constructed, DecodeError, Primitive, SliceSource, Source};
@@ -9,10 +9,8 @@ use bcder::{ConstOid, Integer, Mode, Oid, Unsigned};
 use std::alloc::Global;
 use std::process::Abort;
 use std::test::Fail;
-use user::{
-    Part, Request, Text, decode_extensions, write_and_read, write_each, write_numbers,
-    write_request,
-};
+use user::decode_extensions;
+use writers::{Part, Request, Text, write_and_read, write_each, write_numbers, write_request};
 
 /// What a request asks for, made with openssl: a name of two attributes, a key on the curve
 /// prime256v1, and a password.

@@ -1,9 +1,10 @@
 //! Certificates (RFC 5280, section 4.1).
 ghost use Rattle.std.specs.Prelude.{◌≡◌, ℕ, List, ◌++◌};
-ghost use Rattle.bcder.specs.Views.{Moved};
+ghost use Rattle.bcder.specs.Views.{Moved, MovedOctets};
 
-use crate::take_len;
-use bcder::decode::{Constructed, ContentError, DecodeError, Source, walk};
+use crate::lists::{List, take_list};
+use crate::{skip_octets, take_len_of};
+use bcder::decode::{Constructed, ContentError, DecodeError, Primitive, Source, walk};
 use bcder::{Mode, Tag};
 
 /// A time, by the number of its octets.
@@ -23,17 +24,25 @@ impl Time {
     ) -> Result<Time, DecodeError<S::Error>>
         ensures { Moved S.stream cons }
     {
-        cons.take_primitive(|tag, octets| {
-            let len = octets.remaining();
-            octets.skip_all()?;
-            if tag == Tag::UTC_TIME {
-                Ok(Time::Utc(len))
-            } else if tag == Tag::GENERALIZED_TIME {
-                Ok(Time::Generalized(len))
-            } else {
-                Err(octets.content_err(ContentError::from_static("expected a time")))
-            }
-        })
+        cons.take_primitive(|tag, octets| Time::from_primitive(tag, octets))
+    }
+
+    /// The same, from its tag and its contents octets.
+    fn from_primitive<S: Source>(
+        tag: Tag,
+        octets: &mut Primitive<'_, S>,
+    ) -> Result<Time, DecodeError<S::Error>>
+        ensures { MovedOctets S.stream octets }
+    {
+        let len = octets.remaining();
+        octets.skip_all()?;
+        if tag == Tag::UTC_TIME {
+            Ok(Time::Utc(len))
+        } else if tag == Tag::GENERALIZED_TIME {
+            Ok(Time::Generalized(len))
+        } else {
+            Err(octets.content_err(ContentError::from_static("expected a time")))
+        }
     }
 }
 
@@ -77,7 +86,7 @@ pub(crate) fn skip_algorithm_parts<S: Source>(
 ) -> Result<(), DecodeError<S::Error>>
     ensures { Moved S.stream cons }
 {
-    cons.take_primitive_if(Tag::OID, |oid| oid.skip_all())?;
+    skip_octets(Tag::OID, cons)?;
     walk(cons)?;
     Ok(())
 }
@@ -153,60 +162,98 @@ impl Certificate {
     {
         let certificate = Certificate::take_signed(cons)?;
         skip_algorithm(cons)?;
-        cons.take_primitive_if(Tag::BIT_STRING, |signature| signature.skip_all())?;
+        skip_octets(Tag::BIT_STRING, cons)?;
         Ok(certificate)
     }
 
-    /// What is signed, in one closure.
+    /// What is signed: a SEQUENCE of the fields, and of what later versions add to them.
     fn take_signed<S: Source>(
         cons: &mut Constructed<'_, S>,
     ) -> Result<Certificate, DecodeError<S::Error>>
         ensures { Moved S.stream cons }
     {
-        cons.take_sequence(
-            |cons|
-                ensures { Moved S.stream cons }
-            {
-                let version = cons.take_opt_constructed_if(Tag::CTX_0, |cons| cons.take_u8())?;
-                let serial = cons.take_primitive_if(Tag::INTEGER, |serial| take_len(serial))?;
-                skip_algorithm(cons)?;
-                let issuer = take_name(cons)?;
-                let validity = Validity::take_from(cons)?;
-                let subject = take_name(cons)?;
-                let key = cons.take_sequence(|cons| {
-                    skip_algorithm(cons)?;
-                    cons.take_primitive_if(Tag::BIT_STRING, |key| take_len(key))
-                })?;
-                let mut certificate = Certificate {
-                    version: version.unwrap_or(0).saturating_add(1),
-                    serial,
-                    issuer,
-                    validity,
-                    subject,
-                    key,
-                    extensions: 0,
-                    critical: 0,
-                };
-                if certificate.version < 2 {
-                    return Ok(certificate);
-                }
-                cons.take_opt_primitive_if(Tag::CTX_1, |issuer| issuer.skip_all())?;
-                cons.take_opt_primitive_if(Tag::CTX_2, |subject| subject.skip_all())?;
-                if certificate.version < 3 {
-                    return Ok(certificate);
-                }
-                let extensions = cons.take_opt_constructed_if(
-                    Tag::CTX_3,
-                    |cons| Extensions::take_from(cons),
-                )?;
-                if let Some(extensions) = extensions {
-                    certificate.extensions = extensions.all;
-                    certificate.critical = extensions.critical;
-                }
-                Ok(certificate)
-            },
-        )
+        cons.take_sequence(|cons| {
+            let mut certificate = Certificate::take_fields(cons)?;
+            certificate.take_added(cons)?;
+            Ok(certificate)
+        })
     }
+
+    /// The fields that are in each version.
+    fn take_fields<S: Source>(
+        cons: &mut Constructed<'_, S>,
+    ) -> Result<Certificate, DecodeError<S::Error>>
+        ensures { Moved S.stream cons }
+    {
+        let version = take_version(cons)?;
+        let serial = take_len_of(Tag::INTEGER, cons)?;
+        skip_algorithm(cons)?;
+        let issuer = take_name(cons)?;
+        let validity = Validity::take_from(cons)?;
+        let subject = take_name(cons)?;
+        let key = take_key(cons)?;
+        Ok(Certificate {
+            version,
+            serial,
+            issuer,
+            validity,
+            subject,
+            key,
+            extensions: 0,
+            critical: 0,
+        })
+    }
+
+    /// What comes from version 2 on, the unique identifiers, and from version 3 on.
+    fn take_added<S: Source>(
+        &mut self,
+        cons: &mut Constructed<'_, S>,
+    ) -> Result<(), DecodeError<S::Error>>
+        ensures { Moved S.stream cons }
+    {
+        if self.version < 2 {
+            return Ok(());
+        }
+        skip_opt_octets(Tag::CTX_1, cons)?;
+        skip_opt_octets(Tag::CTX_2, cons)?;
+        if self.version < 3 {
+            return Ok(());
+        }
+        if let Some(extensions) = Extensions::take_from(cons)? {
+            self.extensions = extensions.all;
+            self.critical = extensions.critical;
+        }
+        Ok(())
+    }
+}
+
+/// The version of a certificate: an INTEGER that is less by 1, tagged by `[0]`, or nothing for 1.
+fn take_version<S: Source>(cons: &mut Constructed<'_, S>) -> Result<u8, DecodeError<S::Error>>
+    ensures { Moved S.stream cons }
+{
+    let version = cons.take_opt_constructed_if(Tag::CTX_0, |cons| cons.take_u8())?;
+    Ok(version.unwrap_or(0).saturating_add(1))
+}
+
+/// A key: a SEQUENCE of an algorithm and a BIT STRING. It answers the number of its octets.
+fn take_key<S: Source>(cons: &mut Constructed<'_, S>) -> Result<usize, DecodeError<S::Error>>
+    ensures { Moved S.stream cons }
+{
+    cons.take_sequence(|cons| {
+        skip_algorithm(cons)?;
+        take_len_of(Tag::BIT_STRING, cons)
+    })
+}
+
+/// Passes over a primitive value of a tag, if it is there.
+fn skip_opt_octets<S: Source>(
+    tag: Tag,
+    cons: &mut Constructed<'_, S>,
+) -> Result<(), DecodeError<S::Error>>
+    ensures { Moved S.stream cons }
+{
+    cons.take_opt_primitive_if(tag, |octets| octets.skip_all())?;
+    Ok(())
 }
 
 /// How many extensions there are.
@@ -217,32 +264,32 @@ struct Extensions {
 }
 
 impl Extensions {
-    /// A SEQUENCE OF extensions, each a SEQUENCE of an OBJECT IDENTIFIER, perhaps a BOOLEAN, and an
-    /// OCTET STRING.
+    /// A SEQUENCE OF extensions, tagged by `[3]`, if it is there.
     fn take_from<S: Source>(
         cons: &mut Constructed<'_, S>,
-    ) -> Result<Extensions, DecodeError<S::Error>>
+    ) -> Result<Option<Extensions>, DecodeError<S::Error>>
         ensures { Moved S.stream cons }
     {
-        let mut all = 0u64;
-        let mut critical = 0u64;
-        cons.take_sequence(|cons| {
-            cons.while_some(|cons| {
-                cons.take_opt_sequence(
-                    |cons|
-                        ensures { Moved S.stream cons }
-                    {
-                        cons.take_primitive_if(Tag::OID, |oid| oid.skip_all())?;
-                        if cons.take_opt_bool()?.unwrap_or(false) {
-                            critical = critical.saturating_add(1);
-                        }
-                        all = all.saturating_add(1);
-                        cons.take_primitive_if(Tag::OCTET_STRING, |value| value.skip_all())
-                    },
-                )
-            })
-        })?;
-        Ok(Extensions { all, critical })
+        let none = Extensions {
+            all: 0,
+            critical: 0,
+        };
+        cons.take_opt_constructed_if(Tag::CTX_3, |cons| take_list(Tag::SEQUENCE, none, cons))
+    }
+}
+
+/// Each is a SEQUENCE of an OBJECT IDENTIFIER, perhaps a BOOLEAN, and an OCTET STRING.
+impl List for Extensions {
+    fn take_one<S: Source>(
+        &mut self,
+        cons: &mut Constructed<'_, S>,
+    ) -> Result<(), DecodeError<S::Error>> {
+        skip_octets(Tag::OID, cons)?;
+        if cons.take_opt_bool()?.unwrap_or(false) {
+            self.critical = self.critical.saturating_add(1);
+        }
+        self.all = self.all.saturating_add(1);
+        skip_octets(Tag::OCTET_STRING, cons)
     }
 }
 

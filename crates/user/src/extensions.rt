@@ -2,7 +2,7 @@
 //! 4.2).
 ghost use Rattle.bcder.specs.Views.{Moved};
 
-use crate::take_len;
+use crate::{skip_octets, take_len_of};
 use bcder::decode::{Constructed, ContentError, DecodeError, SliceSource, Source};
 use bcder::{ConstOid, Mode, Oid, Tag};
 use std::alloc::Global;
@@ -28,11 +28,26 @@ impl Basic {
     fn take_from<S: Source>(cons: &mut Constructed<'_, S>) -> Result<Basic, DecodeError<S::Error>>
         ensures { Moved S.stream cons }
     {
-        cons.take_sequence(|cons| {
-            let authority = cons.take_opt_bool()?.unwrap_or(false);
-            let path = cons.take_opt_u8()?;
-            Ok(Basic { authority, path })
-        })
+        cons.take_sequence(|cons| Basic::take_parts(cons))
+    }
+
+    /// What is inside that SEQUENCE.
+    fn take_parts<S: Source>(cons: &mut Constructed<'_, S>) -> Result<Basic, DecodeError<S::Error>>
+        ensures { Moved S.stream cons }
+    {
+        let authority = cons.take_opt_bool()?.unwrap_or(false);
+        let path = cons.take_opt_u8()?;
+        Ok(Basic { authority, path })
+    }
+
+    /// The same SEQUENCE inside an OCTET STRING.
+    fn take_inside<S: Source>(cons: &mut Constructed<'_, S>) -> Result<Basic, DecodeError<S::Error>>
+        ensures { Moved S.stream cons }
+    {
+        cons.take_primitive_if(
+            Tag::OCTET_STRING,
+            |value| value.with_slice_all(|octets| decode_basic(octets)),
+        )
     }
 }
 
@@ -92,15 +107,12 @@ impl Extensions {
         let kind = Oid::take_from(alloc, cons)?;
         cons.take_opt_bool()?;
         if kind.same_as(&BASIC_CONSTRAINTS) {
-            self.basic = Some(cons.take_primitive_if(
-                Tag::OCTET_STRING,
-                |value| value.with_slice_all(|octets| decode_basic(octets)),
-            )?);
+            self.basic = Some(Basic::take_inside(cons)?);
         } else if kind.same_as(&KEY_USAGE) {
-            self.usage = Some(cons.take_primitive_if(Tag::OCTET_STRING, |value| take_len(value))?);
+            self.usage = Some(take_len_of(Tag::OCTET_STRING, cons)?);
         } else {
             self.others = self.others.saturating_add(1);
-            cons.take_primitive_if(Tag::OCTET_STRING, |value| value.skip_all())?;
+            skip_octets(Tag::OCTET_STRING, cons)?;
         }
         Ok(())
     }

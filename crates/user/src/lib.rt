@@ -2,9 +2,9 @@
 //!
 //! A function that takes from content has one clause, that it moves it: `Moved S.stream cons`. A
 //! closure has none, or that same one where it has more than two steps, a loop, or a choice by the
-//! form of content (`MovedContent S.stream content`). A loop is [`Constructed::while_some`], which
-//! asks for no more. [`count_all`] has one by `while let`, with an invariant and a measure in a
-//! file.
+//! form of content (`MovedContent S.stream content`); long readers are functions of few steps. A
+//! loop is [`Constructed::while_some`], which asks for no more, and lists share one (`lists`).
+//! [`count_all`] has one by `while let`, with an invariant and a measure in a file.
 #![tactic(auto, using(bcder::proofs::Moving::moves_refl))]
 
 ghost use Rattle.bcder.specs.Views.{Moved, MovedContent, MovedOctets};
@@ -12,16 +12,12 @@ ghost use Rattle.bcder.specs.Views.{Moved, MovedContent, MovedOctets};
 mod certificate;
 mod extensions;
 mod lists;
-mod numbers;
-mod request;
 mod signed;
 
+use bcder::Tag;
 use bcder::decode::{Constructed, Content, DecodeError, Primitive, Source};
 pub use certificate::{Certificate, Time, Validity, decode_certificate, decode_two};
 pub use extensions::{Basic, Extensions, decode_extensions};
-pub use lists::{write_each, write_numbers};
-pub use numbers::write_and_read;
-pub use request::{Part, Request, Text, write_request};
 pub use signed::{Signed, decode_signed};
 
 /// The number of the contents octets, which are passed over.
@@ -31,6 +27,26 @@ fn take_len<S: Source>(octets: &mut Primitive<'_, S>) -> Result<usize, DecodeErr
     let len = octets.remaining();
     octets.skip_all()?;
     Ok(len)
+}
+
+/// Passes over a primitive value of a tag.
+fn skip_octets<S: Source>(
+    tag: Tag,
+    cons: &mut Constructed<'_, S>,
+) -> Result<(), DecodeError<S::Error>>
+    ensures { Moved S.stream cons }
+{
+    cons.take_primitive_if(tag, |octets| octets.skip_all())
+}
+
+/// The number of the contents octets of a primitive value of a tag.
+fn take_len_of<S: Source>(
+    tag: Tag,
+    cons: &mut Constructed<'_, S>,
+) -> Result<usize, DecodeError<S::Error>>
+    ensures { Moved S.stream cons }
+{
+    cons.take_primitive_if(tag, |octets| take_len(octets))
 }
 
 /// The number of primitive values up to the end, by a loop over them.

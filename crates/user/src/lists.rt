@@ -1,39 +1,51 @@
-//! Lists that are written through an iterator over them.
-//!
-//! What `iter` asks of an iterator, that each clone gives the same items, is found by the lemmas
-//! that the next line names.
-#![tactic(auto, using(bcder::specs::laws::Listed::gives_one_list))]
+//! Lists of SEQUENCEs, which are read one by one.
+ghost use Rattle.bcder.specs.Views.{Moved};
 
-ghost use Rattle.std.specs.Prelude.{All};
+use bcder::Tag;
+use bcder::decode::{Constructed, DecodeError, Source};
 
-use bcder::Mode;
-use bcder::encode::{Primitive, Values, WriteError, iter, sequence};
-use std::io;
-
-/// Writes a SEQUENCE OF INTEGER (X.690, 8.10).
-///
-/// # Errors
-///
-/// Those of [`Values::write_encoded`].
-pub fn write_numbers<W: io::Write>(
-    numbers: &[Primitive<u32>],
-    mode: Mode,
-    target: &mut W,
-) -> Result<(), WriteError> {
-    sequence(iter(numbers.iter())).write_encoded(mode, target)
+/// What is kept of a list.
+pub(crate) trait List: Sized + Drop {
+    /// Takes what is inside the next SEQUENCE, and keeps what is looked at of it.
+    fn take_one<S: Source>(
+        &mut self,
+        cons: &mut Constructed<'_, S>,
+    ) -> Result<(), DecodeError<S::Error>>
+        ensures { Moved S.stream cons };
 }
 
-/// Writes the values of a vector, one after the other.
-///
-/// # Errors
-///
-/// Those of [`Values::write_encoded`].
-pub fn write_each<V: Values, W: io::Write>(
-    values: &Vec<V>,
-    mode: Mode,
-    target: &mut W,
-) -> Result<(), WriteError>
-    requires { All V.can_encode values.now.items }
+/// SEQUENCEs up to the end.
+fn take_each<L: List, S: Source>(
+    list: &mut L,
+    cons: &mut Constructed<'_, S>,
+) -> Result<(), DecodeError<S::Error>>
+    ensures { Moved S.stream cons }
 {
-    iter(values).write_encoded(mode, target)
+    cons.while_some(|cons| cons.take_opt_sequence(|cons| list.take_one(cons)))
+}
+
+/// A list with a tag, from an empty one.
+pub(crate) fn take_list<L: List, S: Source>(
+    tag: Tag,
+    empty: L,
+    cons: &mut Constructed<'_, S>,
+) -> Result<L, DecodeError<S::Error>>
+    ensures { Moved S.stream cons }
+{
+    let mut list = empty;
+    cons.take_constructed_if(tag, |cons| take_each(&mut list, cons))?;
+    Ok(list)
+}
+
+/// The same, where the list may be left out: it is empty then.
+pub(crate) fn take_opt_list<L: List, S: Source>(
+    tag: Tag,
+    empty: L,
+    cons: &mut Constructed<'_, S>,
+) -> Result<L, DecodeError<S::Error>>
+    ensures { Moved S.stream cons }
+{
+    let mut list = empty;
+    cons.take_opt_constructed_if(tag, |cons| take_each(&mut list, cons))?;
+    Ok(list)
 }

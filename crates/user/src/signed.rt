@@ -1,9 +1,10 @@
 //! Signed messages (RFC 5652, section 5).
-ghost use Rattle.bcder.specs.Views.{Moved, MovedContent};
+ghost use Rattle.bcder.specs.Views.{Moved};
 
 use crate::certificate::{Certificate, skip_algorithm, skip_algorithm_parts, take_name};
-use crate::take_len;
-use bcder::decode::{Constructed, Content, ContentError, DecodeError, Source, walk};
+use crate::lists::{List, take_list, take_opt_list};
+use crate::{skip_octets, take_len_of};
+use bcder::decode::{Constructed, DecodeError, Source, walk};
 use bcder::{Mode, Tag};
 
 /// What a signed message holds, as far as it is read here.
@@ -36,7 +37,7 @@ impl Signed {
         ensures { Moved S.stream cons }
     {
         cons.take_sequence(|cons| {
-            cons.take_primitive_if(Tag::OID, |oid| oid.skip_all())?;
+            skip_octets(Tag::OID, cons)?;
             cons.take_constructed_if(Tag::CTX_0, |cons| {
                 cons.take_sequence(|cons| Signed::take_parts(cons))
             })
@@ -48,23 +49,19 @@ impl Signed {
         ensures { Moved S.stream cons }
     {
         cons.take_u8()?;
-        let digests = cons.take_set(|cons| count_algorithms(cons))?;
-        let message = cons.take_sequence(|cons| {
-            cons.take_primitive_if(Tag::OID, |oid| oid.skip_all())?;
-            cons.take_opt_constructed_if(Tag::CTX_0, |cons| {
-                cons.take_primitive_if(Tag::OCTET_STRING, |message| take_len(message))
-            })
-        })?;
-        let certificates = cons.take_opt_constructed_if(
-            Tag::CTX_0,
-            |cons| count_certificates(cons),
-        )?;
-        let lists = cons.take_opt_constructed_if(Tag::CTX_1, |cons| count_lists(cons))?;
-        let signers = cons.take_set(|cons| Signers::take_from(cons))?;
+        let digests = take_list(Tag::SET, Algorithms(0), cons)?;
+        let message = take_message(cons)?;
+        let certificates = take_opt_list(Tag::CTX_0, Certificates(0), cons)?;
+        let lists = cons.take_opt_constructed_if(Tag::CTX_1, |cons| count_values(cons))?;
+        let none = Signers {
+            all: 0,
+            attributes: 0,
+        };
+        let signers = take_list(Tag::SET, none, cons)?;
         Ok(Signed {
-            digests,
+            digests: digests.0,
             message,
-            certificates: certificates.unwrap_or(0),
+            certificates: certificates.0,
             lists: lists.unwrap_or(0),
             signers: signers.all,
             attributes: signers.attributes,
@@ -72,50 +69,69 @@ impl Signed {
     }
 }
 
-/// Algorithms up to the end.
-fn count_algorithms<S: Source>(cons: &mut Constructed<'_, S>) -> Result<u64, DecodeError<S::Error>>
-    ensures { Moved S.stream cons }
-{
-    let mut count = 0u64;
-    cons.while_some(|cons| {
-        cons.take_opt_sequence(|cons| {
-            count = count.saturating_add(1);
-            skip_algorithm_parts(cons)
-        })
-    })?;
-    Ok(count)
-}
-
-/// Certificates up to the end.
-fn count_certificates<S: Source>(
+/// What is signed: a SEQUENCE of an OBJECT IDENTIFIER and, if it is inside, the message, tagged by
+/// `[0]`. It answers the number of the message's octets.
+fn take_message<S: Source>(
     cons: &mut Constructed<'_, S>,
-) -> Result<u64, DecodeError<S::Error>>
+) -> Result<Option<usize>, DecodeError<S::Error>>
+    ensures { Moved S.stream cons }
+{
+    cons.take_sequence(|cons| {
+        skip_octets(Tag::OID, cons)?;
+        cons.take_opt_constructed_if(Tag::CTX_0, |cons| take_len_of(Tag::OCTET_STRING, cons))
+    })
+}
+
+/// The number of algorithms.
+#[derive(Clone, Copy)]
+struct Algorithms(u64);
+
+impl List for Algorithms {
+    fn take_one<S: Source>(
+        &mut self,
+        cons: &mut Constructed<'_, S>,
+    ) -> Result<(), DecodeError<S::Error>> {
+        self.0 = self.0.saturating_add(1);
+        skip_algorithm_parts(cons)
+    }
+}
+
+/// The number of certificates.
+#[derive(Clone, Copy)]
+struct Certificates(u64);
+
+impl List for Certificates {
+    fn take_one<S: Source>(
+        &mut self,
+        cons: &mut Constructed<'_, S>,
+    ) -> Result<(), DecodeError<S::Error>> {
+        self.0 = self.0.saturating_add(1);
+        Certificate::take_parts(cons)?;
+        Ok(())
+    }
+}
+
+/// The number of values up to the end, of which only the headers are looked at.
+fn count_values<S: Source>(cons: &mut Constructed<'_, S>) -> Result<u64, DecodeError<S::Error>>
     ensures { Moved S.stream cons }
 {
     let mut count = 0u64;
-    cons.while_some(|cons| {
-        cons.take_opt_sequence(|cons| {
-            count = count.saturating_add(1);
-            Certificate::take_parts(cons)?;
-            Ok(())
-        })
-    })?;
+    cons.while_some(|cons| skip_value(&mut count, cons))?;
     Ok(count)
 }
 
-/// Revocation lists up to the end, of which only the headers are looked at.
-fn count_lists<S: Source>(cons: &mut Constructed<'_, S>) -> Result<u64, DecodeError<S::Error>>
+/// The next value, which is counted.
+fn skip_value<S: Source>(
+    count: &mut u64,
+    cons: &mut Constructed<'_, S>,
+) -> Result<Option<()>, DecodeError<S::Error>>
     ensures { Moved S.stream cons }
 {
-    let mut count = 0u64;
-    cons.while_some(|cons| {
-        let list = walk(cons)?;
-        if list.is_some() {
-            count = count.saturating_add(1);
-        }
-        Ok(list)
-    })?;
-    Ok(count)
+    let value = walk(cons)?;
+    if value.is_some() {
+        *count = count.saturating_add(1);
+    }
+    Ok(value)
 }
 
 /// How many signers there are, and attributes of all of them.
@@ -125,22 +141,15 @@ struct Signers {
     attributes: u64,
 }
 
-impl Signers {
-    /// Signers up to the end.
-    fn take_from<S: Source>(cons: &mut Constructed<'_, S>) -> Result<Signers, DecodeError<S::Error>>
-        ensures { Moved S.stream cons }
-    {
-        let mut all = 0u64;
-        let mut attributes = 0u64;
-        cons.while_some(|cons| {
-            cons.take_opt_sequence(|cons| {
-                let found = take_signer(cons)?;
-                all = all.saturating_add(1);
-                attributes = attributes.saturating_add(found);
-                Ok(())
-            })
-        })?;
-        Ok(Signers { all, attributes })
+impl List for Signers {
+    fn take_one<S: Source>(
+        &mut self,
+        cons: &mut Constructed<'_, S>,
+    ) -> Result<(), DecodeError<S::Error>> {
+        let attributes = take_signer(cons)?;
+        self.all = self.all.saturating_add(1);
+        self.attributes = self.attributes.saturating_add(attributes);
+        Ok(())
     }
 }
 
@@ -151,16 +160,11 @@ fn take_signer<S: Source>(cons: &mut Constructed<'_, S>) -> Result<u64, DecodeEr
     cons.take_u8()?;
     skip_signer_name(cons)?;
     skip_algorithm(cons)?;
-    let signed = cons.take_opt_constructed_if(Tag::CTX_0, |cons| count_attributes(cons))?;
+    let signed = take_opt_list(Tag::CTX_0, Attributes(0), cons)?;
     skip_algorithm(cons)?;
-    cons.take_primitive_if(Tag::OCTET_STRING, |signature| signature.skip_all())?;
-    let unsigned = cons.take_opt_constructed_if(Tag::CTX_1, |cons| count_attributes(cons))?;
-    match (signed, unsigned) {
-        (Some(signed), Some(unsigned)) => Ok(signed.saturating_add(unsigned)),
-        (Some(count), None) => Ok(count),
-        (None, Some(count)) => Ok(count),
-        (None, None) => Ok(0),
-    }
+    skip_octets(Tag::OCTET_STRING, cons)?;
+    let unsigned = take_opt_list(Tag::CTX_1, Attributes(0), cons)?;
+    Ok(signed.0.saturating_add(unsigned.0))
 }
 
 /// Who signed: a SEQUENCE of the name of an issuer and a serial number, or the octets of a key's
@@ -168,42 +172,31 @@ fn take_signer<S: Source>(cons: &mut Constructed<'_, S>) -> Result<u64, DecodeEr
 fn skip_signer_name<S: Source>(cons: &mut Constructed<'_, S>) -> Result<(), DecodeError<S::Error>>
     ensures { Moved S.stream cons }
 {
-    cons.take_value(
-        |tag, content|
-            ensures { MovedContent S.stream content }
-        {
-            match content {
-                Content::Primitive(key) => {
-                    if tag != Tag::CTX_0 {
-                        return Err(key.content_err(ContentError::from_static("expected a key")));
-                    }
-                    key.skip_all()
-                }
-                Content::Constructed(cons) => {
-                    if tag != Tag::SEQUENCE {
-                        return Err(cons.content_err(ContentError::from_static("expected a name")));
-                    }
-                    take_name(cons)?;
-                    cons.take_primitive_if(Tag::INTEGER, |serial| serial.skip_all())
-                }
-            }
-        },
-    )
+    let name = cons.take_opt_sequence(|cons| {
+        take_name(cons)?;
+        skip_octets(Tag::INTEGER, cons)
+    })?;
+    match name {
+        Some(()) => Ok(()),
+        None => skip_octets(Tag::CTX_0, cons),
+    }
 }
 
-/// Attributes up to the end, each a SEQUENCE of an OBJECT IDENTIFIER and a SET OF any values.
-fn count_attributes<S: Source>(cons: &mut Constructed<'_, S>) -> Result<u64, DecodeError<S::Error>>
-    ensures { Moved S.stream cons }
-{
-    let mut count = 0u64;
-    cons.while_some(|cons| {
-        cons.take_opt_sequence(|cons| {
-            count = count.saturating_add(1);
-            cons.take_primitive_if(Tag::OID, |oid| oid.skip_all())?;
-            cons.take_set(|cons| cons.while_some(|cons| walk(cons)))
-        })
-    })?;
-    Ok(count)
+/// The number of attributes.
+#[derive(Clone, Copy)]
+struct Attributes(u64);
+
+/// Each is a SEQUENCE of an OBJECT IDENTIFIER and a SET OF any values.
+impl List for Attributes {
+    fn take_one<S: Source>(
+        &mut self,
+        cons: &mut Constructed<'_, S>,
+    ) -> Result<(), DecodeError<S::Error>> {
+        self.0 = self.0.saturating_add(1);
+        skip_octets(Tag::OID, cons)?;
+        cons.take_set(|cons| count_values(cons))?;
+        Ok(())
+    }
 }
 
 /// A signed message at the front of a source that is handed in.

@@ -16,7 +16,7 @@ use Rattle.bcder.specs.Integer.{integer_octets}
 use Rattle.bcder.specs.Meaning.{Encoded, Meaning, Exactly, ValueMeans, primitive_meaning, octets_of}
 use Rattle.bcder.proofs.TakenBack.{written_whole}
 use Rattle.bcder.specs.Encoders.{Writes, RefusesBy}
-use Rattle.user.specs.Numbers.{IsOfTarget}
+use Rattle.writers.specs.Numbers.{IsOfTarget}
 
 -- one that means octets refuses none
 never_refused : (M : Meaning → Type 0) (a : Encoded) → ((m : Meaning) → M m → m ≡ Ok a) → (e : EncodeError) → RefusesBy M ⊥ e → ⊥

@@ -1,6 +1,8 @@
 //! Numbers that are written, and read again.
+#![tactic(auto, using(bcder::proofs::Moving::moves_refl))]
+
 ghost use Rattle.std.specs.Prelude.{◌≡◌, IfOk, IfErr};
-ghost use Rattle.user.specs.Numbers.{IsOfTarget};
+ghost use Rattle.writers.specs.Numbers.{IsOfTarget};
 
 use bcder::Mode;
 use bcder::encode::{PrimitiveContent, Values, WriteError};

@@ -2,11 +2,11 @@ use Rattle.std.proofs.Common.{arith, ◌∙◌, ap, ◌≡◌, ◌++◌, Some, r
 use Rattle.bcder.specs.Identifier.{integer_tag}
 use Rattle.bcder.specs.Readers.{IsUnsigned}
 use Rattle.bcder.proofs.TakenBack.{decoded_is, decoded}
-use Rattle.user.proofs.Targets.{refused_target, written, no_source_error}
+use Rattle.writers.proofs.Targets.{refused_target, written, no_source_error}
 use Rattle.std.specs.Prelude.{Err}
 use Rattle.bcder.proofs.Refusing.{residual}
-use Rattle.user.specs.Numbers.{IsOfTarget}
-use Rattle.user.proofs.numbers.write_and_read.Goals as goal
+use Rattle.writers.specs.Numbers.{IsOfTarget}
+use Rattle.writers.proofs.numbers.write_and_read.Goals as goal
 
 pub returns-in_err-write_encoded-clause-refused : goal.returns-in_err-write_encoded-clause-refused
 returns-in_err-write_encoded-clause-refused c =
