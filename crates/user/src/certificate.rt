@@ -166,73 +166,49 @@ impl Certificate {
         Ok(certificate)
     }
 
-    /// What is signed: a SEQUENCE of the fields, and of what later versions add to them.
+    /// What is signed, in one closure.
     fn take_signed<S: Source>(
         cons: &mut Constructed<'_, S>,
     ) -> Result<Certificate, DecodeError<S::Error>>
         ensures { Moved S.stream cons }
     {
-        cons.take_sequence(|cons| {
-            let mut certificate = Certificate::take_fields(cons)?;
-            certificate.take_added(cons)?;
-            Ok(certificate)
-        })
+        cons.take_sequence(
+            |cons|
+                ensures { Moved S.stream cons }
+            {
+                let version = cons.take_opt_constructed_if(Tag::CTX_0, |cons| cons.take_u8())?;
+                let serial = take_len_of(Tag::INTEGER, cons)?;
+                skip_algorithm(cons)?;
+                let issuer = take_name(cons)?;
+                let validity = Validity::take_from(cons)?;
+                let subject = take_name(cons)?;
+                let key = take_key(cons)?;
+                let mut certificate = Certificate {
+                    version: version.unwrap_or(0).saturating_add(1),
+                    serial,
+                    issuer,
+                    validity,
+                    subject,
+                    key,
+                    extensions: 0,
+                    critical: 0,
+                };
+                if certificate.version < 2 {
+                    return Ok(certificate);
+                }
+                skip_opt_octets(Tag::CTX_1, cons)?;
+                skip_opt_octets(Tag::CTX_2, cons)?;
+                if certificate.version < 3 {
+                    return Ok(certificate);
+                }
+                if let Some(extensions) = Extensions::take_from(cons)? {
+                    certificate.extensions = extensions.all;
+                    certificate.critical = extensions.critical;
+                }
+                Ok(certificate)
+            },
+        )
     }
-
-    /// The fields that are in each version.
-    fn take_fields<S: Source>(
-        cons: &mut Constructed<'_, S>,
-    ) -> Result<Certificate, DecodeError<S::Error>>
-        ensures { Moved S.stream cons }
-    {
-        let version = take_version(cons)?;
-        let serial = take_len_of(Tag::INTEGER, cons)?;
-        skip_algorithm(cons)?;
-        let issuer = take_name(cons)?;
-        let validity = Validity::take_from(cons)?;
-        let subject = take_name(cons)?;
-        let key = take_key(cons)?;
-        Ok(Certificate {
-            version,
-            serial,
-            issuer,
-            validity,
-            subject,
-            key,
-            extensions: 0,
-            critical: 0,
-        })
-    }
-
-    /// What comes from version 2 on, the unique identifiers, and from version 3 on.
-    fn take_added<S: Source>(
-        &mut self,
-        cons: &mut Constructed<'_, S>,
-    ) -> Result<(), DecodeError<S::Error>>
-        ensures { Moved S.stream cons }
-    {
-        if self.version < 2 {
-            return Ok(());
-        }
-        skip_opt_octets(Tag::CTX_1, cons)?;
-        skip_opt_octets(Tag::CTX_2, cons)?;
-        if self.version < 3 {
-            return Ok(());
-        }
-        if let Some(extensions) = Extensions::take_from(cons)? {
-            self.extensions = extensions.all;
-            self.critical = extensions.critical;
-        }
-        Ok(())
-    }
-}
-
-/// The version of a certificate: an INTEGER that is less by 1, tagged by `[0]`, or nothing for 1.
-fn take_version<S: Source>(cons: &mut Constructed<'_, S>) -> Result<u8, DecodeError<S::Error>>
-    ensures { Moved S.stream cons }
-{
-    let version = cons.take_opt_constructed_if(Tag::CTX_0, |cons| cons.take_u8())?;
-    Ok(version.unwrap_or(0).saturating_add(1))
 }
 
 /// A key: a SEQUENCE of an algorithm and a BIT STRING. It answers the number of its octets.
