@@ -1,5 +1,5 @@
 -- Content behind another borrow of its source: what was done to it was done to the content itself.
-use Rattle.std.proofs.Common.{◌≡◌, ℕ, Bool, List, Option, Some, None, refl, ap, sym, ◌∙◌, subst, inl, inr}
+use Rattle.std.proofs.Common.{◌≡◌, ℕ, Bool, List, Option, Some, None, refl, ◌∙◌, subst, inl, inr}
 use Rattle.std.specs.Borrow.{GName}
 use Rattle.std.specs.Prelude.{Result, Ok, Err}
 use Rattle.bcder.specs.declared.mode.Mode.{Mode}
