@@ -158,8 +158,8 @@ impl<'a, S: Source> Constructed<'a, S> {
         }
     }
 
-    /// The same as an answer. It is a call of its own, so that no room for an error is cleared where
-    /// nothing stops.
+    /// The same as an answer. It is a call of its own, so that no room for an error is cleared
+    /// where nothing stops.
     #[inline(always)]
     pub(super) fn stops<T>(&self, stop: Stop<S::Error>) -> Result<T, DecodeError<S::Error>>
         ensures { IsErrAnd result (λ e. (IsOfContent (stop_cause stop) → IsRefusal e)
