@@ -2,9 +2,9 @@
 //!
 //! A function that takes from content has one clause, that it moves it: `Moved S.stream cons`. A
 //! closure has none, or that same one where it has more than two steps, a loop, or a choice by the
-//! form of content (`MovedContent S.stream content`); long readers are functions of few steps. A
-//! loop is [`Constructed::while_some`], which asks for no more, and lists share one (`lists`).
-//! [`count_all`] has one by `while let`, with an invariant and a measure in a file.
+//! form of content (`MovedContent S.stream content`). A loop is [`Constructed::while_some`], which
+//! asks for no more, and lists of SEQUENCEs share one (`lists`). [`count_all`] has a loop by
+//! `while let`, with an invariant and a measure in a file.
 #![tactic(auto, using(bcder::proofs::Moving::moves_refl))]
 
 ghost use Rattle.bcder.specs.Views.{Moved, MovedContent, MovedOctets};
