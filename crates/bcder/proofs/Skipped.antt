@@ -1,6 +1,7 @@
 -- What skipping promises of content, by what a run over the content of a value did.
-use Rattle.std.proofs.Common.{◌≡◌, ◌≢◌, inl, inr, ℕ, ◌+◌, ◌*◌, ◌≤◌, true, false, List, [], ◌∷◌, ◌++◌, length, take, Option, Some, None, Ok, Err, refl, sym, ap, subst, ◌∙◌, arith, append_assoc, append-nil, length-append}
+use Rattle.std.proofs.Common.{◌≡◌, ◌≢◌, inl, inr, ℕ, ◌+◌, ◌*◌, ◌≤◌, true, false, List, [], ◌∷◌, ◌++◌, length, take, Option, Some, None, Ok, Err, min, refl, sym, ap, subst, ◌∙◌, arith, append_assoc, append-nil, length-append}
 use Rattle.std.specs.Prelude.{Result, IsOk, IsErrAnd, ◌⊎◌, ◌<◌}
+use Rattle.std.proofs.Math.Nat.{min-le_right}
 use Rattle.std.proofs.lemmas.List.{append_cancel_right}
 use Rattle.bcder.specs.declared.mode.Mode.{Mode}
 use Rattle.bcder.specs.declared.decode.content.State.TheVariants.{Open, Ended, Failed}
@@ -14,11 +15,11 @@ use Rattle.bcder.specs.Tree.{Tree, primitive}
 use Rattle.bcder.specs.Encoding.{IsEncoding}
 use Rattle.bcder.specs.Preorder.{Heading, preorder}
 use Rattle.bcder.specs.Reading.{Header, read_header, read_contents, read_list, read_tree}
-use Rattle.bcder.specs.Stream.{Stream, Grew, cut, past, limited}
+use Rattle.bcder.specs.Stream.{Stream, Grew, capped, cut, past, limited}
 use Rattle.std.proofs.lemmas.Grind.{common_steps}
 use Rattle.bcder.specs.declared.decode.header.Header.{Header as Kept}
 use Rattle.bcder.specs.declared.length.Length.TheVariants.{Definite}
-use Rattle.bcder.specs.Peek.{header as header_of, IsAllHere}
+use Rattle.bcder.specs.Peek.{header as header_of, IsAllHere, IsAtHand}
 use Rattle.bcder.specs.Content.{Accepts, FitsOwed, Reading, Octets, Resembles, any, Falls, Moves, Advances, Enters, EndsBefore, EndsAt, IsDone, NotAtEnd}
 use Rattle.bcder.specs.Grammar.{IsOnly}
 use Rattle.bcder.specs.Walking.{HasValue, NoValue, PassesValue, RefusesWalk, AnswersNext, HasValues, Walks}
@@ -200,6 +201,20 @@ whole_accepted j d h n w l wi a = (w.is_value, rw (w.form, w.tells) refl, rw w.t
         let z : length (take 2 j.stream.rest) ≤ 2 = grind (arith, common_steps) in
         let u : k ≡ length (take 2 j.stream.rest) + m = f in
         omega (arith, x, y, z, u, l)
+
+-- behind the header of a primitive value whose octets are at hand, its contents octets are
+pub behind_at_hand : (p : Option ℕ) (a : ℕ) (h : Kept) (n : ℕ) → IsAllHere h n → capped p a + 2 ≡ n → IsAtHand h.len a
+behind_at_hand p a h n w e k t = go p e
+  where
+    same : Definite w.len ≡ Definite k
+    same = sym w.tells ∙ t
+
+    len : w.len ≡ k
+    len = cc
+
+    go : (p : Option ℕ) → capped p a + 2 ≡ n → k ≤ a
+    go None e = let y : 2 + w.len ≤ n = w.within in omega (arith, y, e, len)
+    go (Some m) e = let y : 2 + w.len ≤ n = w.within in let z : min m a ≤ a = min-le_right m a in omega (arith, y, e, len, z)
 
 -- ---- the same of content of which only the header was passed
 

@@ -8,6 +8,7 @@ use Rattle.bcder.specs.declared.decode.header.PeekedIf.{PeekedIf}
 use Rattle.bcder.specs.declared.decode.header.PeekedIf.TheVariants as peeked_if
 use Rattle.bcder.specs.declared.decode.header.Seen.{Seen}
 use Rattle.bcder.specs.declared.decode.header.Seen.TheVariants as seen
+use Rattle.bcder.specs.declared.length.Length.{Length}
 use Rattle.bcder.specs.declared.length.Length.TheVariants.{Definite}
 use Rattle.bcder.specs.Identifier.{Tag}
 use Rattle.bcder.specs.Reading.{Header, is_value_tag, read_identifier, read_length, read_front}
@@ -62,6 +63,10 @@ SeesIf mode t (Some s) w = SeesOf mode t s w
 -- a header of two octets, in every mode and whatever follows them
 abbrev pub StandsShort : Kept → List ℕ → Type 0
 StandsShort h w = (2 ≤ length w) × ((mode : Mode) (x : List ℕ) → read_front mode (w ++ x) ≡ Some (header h, drop 2 (w ++ x)))
+
+-- the contents octets of this length are among so many
+abbrev pub IsAtHand : Length → ℕ → Type 0
+IsAtHand l n = (k : ℕ) → l ≡ Definite k → k ≤ n
 
 -- the header of two octets of a primitive value, whose octets are among n
 pub record IsAllHere (h : Kept) (n : ℕ) : Type 0 where

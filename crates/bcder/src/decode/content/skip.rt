@@ -12,10 +12,10 @@ ghost use Rattle.bcder.specs.Inside.{kind_behind, limit_inside};
 ghost use Rattle.bcder.specs.Stacked.{Counts, Gone, IsCounted, Leaves, Ran, RanOverSource, TopIs};
 ghost use Rattle.bcder.specs.Skipping.{ExactlyAll, ExactlySkipped, ExactlyValue, FoundMemory};
 ghost use Rattle.bcder.specs.Skipping.{IsPast, MovedBehind, SkippedBehind};
-ghost use Rattle.bcder.specs.Peek.{header as header_of, IsAllHere, Peeks};
+ghost use Rattle.bcder.specs.Peek.{header as header_of, IsAllHere, IsAtHand, Peeks};
 ghost use Rattle.bcder.specs.Skipping.{SkippedAll, SkippedNext, SkippedOne, SkippedValue};
 ghost use Rattle.bcder.specs.Stacked.{entries, entry_of, framed, halt_cause, joined, limit_in};
-ghost use Rattle.bcder.specs.Stacked.{limit_behind, unwound};
+ghost use Rattle.bcder.specs.Stacked.{limit_behind, source_of, unwound};
 ghost use Rattle.bcder.specs.Stream.{limit_left};
 ghost use Rattle.bcder.specs.Views.{after, before, limited_stream, Moved};
 ghost use Rattle.bcder.specs.Walking.{Between, ExactlyNext, Fault, NoFault};
@@ -444,6 +444,37 @@ impl<'a, S: Source> Constructed<'a, S> {
         }
     }
 
+    /// The same where all of the contents octets are at hand.
+    #[inline(always)]
+    fn skip_octets_at_hand<F>(
+        &mut self,
+        header: Header,
+        op: &mut F,
+    ) -> Result<Option<()>, DecodeError<S::Error>>
+    where
+        F: FnMut(Tag, bool, usize) -> Result<(), ContentError>,
+        requires callable { F.IsAlwaysCallable op.old }
+        requires primitive { header.constructed ≡ false }
+        requires definite { header.len ≡ Length.Indefinite → ⊥ }
+        requires fits { FitsOwed header.len (limit_in self.old) }
+        requires at_hand { IsAtHand header.len (source_of S.stream self.old).avail }
+        ensures moves { MovedBehind S.stream self header }
+        ensures skipped { SkippedBehind S.stream F.step self header op result }
+    {
+        if let Err(error) = op(header.tag, header.constructed, 0) {
+            return Err(self.halted(Halt::Refused(error)));
+        }
+        match header.len {
+            Length::Definite(len) => {
+                self.source.pass_owed(len);
+                self.state = State::Open;
+                Ok(Some(()))
+            }
+            // No primitive value has it (X.690, 8.1.3.2), and none is passed over here.
+            Length::Indefinite => Err(self.halted(Halt::Barred(Bar::NoMemory))),
+        }
+    }
+
     /// The same of a constructed value.
     #[inline(always)]
     fn skip_values<F>(
@@ -519,6 +550,8 @@ impl<'a, S: Source> Constructed<'a, S> {
             IsPast (before S.stream self) (header_of h) (after S.stream self))) }
         ensures primitive { IfOk result (λ o. IfSome o (λ h. h.constructed ≡ false)) }
         ensures definite { IfOk result (λ o. IfSome o (λ h. h.len ≡ Length.Indefinite → ⊥)) }
+        ensures at_hand { IfOk result (λ o. IfSome o (λ h.
+            IsAtHand h.len (source_of S.stream self.new).avail)) }
         ensures same { IfOk result (λ o. IfNone o (Between S.stream self Resembles)) }
         ensures no_fault { OnOk result (NoFault S.stream self) }
         ensures fault { IfErr result (λ e. (stop_cause e ≡ of_source) × Fault S.stream self) }
@@ -578,8 +611,11 @@ impl<'a, S: Source> Constructed<'a, S> {
         ensures moves { Moves (before S.stream self) (after S.stream self) }
         ensures skipped { SkippedNext S.stream F.step self op result }
     {
-        let skipped = self.skip_next(alloc, op);
-        skipped
+        match self.skip_next(alloc, op) {
+            Ok(Some(())) => Ok(Some(())),
+            Ok(None) => Ok(None),
+            Err(error) => Err(error),
+        }
     }
 
     /// Passes over the next value, or answers `None` at the end of the content, whose marker it
@@ -614,7 +650,7 @@ impl<'a, S: Source> Constructed<'a, S> {
         ensures exact { ExactlySkipped S.stream F.step self op result }
     {
         match self.enter_at_hand() {
-            Ok(Some(header)) => self.skip_octets(header, op),
+            Ok(Some(header)) => self.skip_octets_at_hand(header, op),
             Ok(None) => self.skip_next_on(alloc, op),
             Err(stop) => Err(self.stopped(stop)),
         }

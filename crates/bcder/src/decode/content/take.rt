@@ -1,5 +1,5 @@
 //! Passing over the header of the next value.
-ghost use Rattle.std.specs.Prelude.{◌≡◌, ◌⊎◌, ◌≤◌, true, false, length, take, IsTrue, Some};
+ghost use Rattle.std.specs.Prelude.{◌≡◌, ◌⊎◌, ◌+◌, ◌≤◌, true, false, length, take, IsTrue, Some};
 ghost use Rattle.std.specs.Prelude.{IfOk, IfErr, IfSome, IfNone, IsErrAnd, OnOk, OnErr};
 ghost use Rattle.bcder.specs.Calls.{popped};
 ghost use Rattle.bcder.specs.Cause.{cause_of, stop_cause, of_source, IsOfContent, IsRefusal};
@@ -226,6 +226,8 @@ impl<'a, S: Source> Constructed<'a, S> {
             (take size (before S.stream self).stream.rest) }
         ensures octets { AreOctets (before S.stream self).stream.rest }
         ensures within { size ≤ length (before S.stream self).stream.rest }
+        ensures avail { (limited_stream S.stream self.new.source.now).avail + size
+            ≡ (limited_stream S.stream self.old.source.now).avail }
         ensures no_fault { (after S.stream self).stream.faults
             ≡ (before S.stream self).stream.faults }
         ensures state { self.new.state ≡ State.Failed }

@@ -108,6 +108,23 @@ impl<S: Source> LimitedSource<S> {
         Ok(())
     }
 
+    /// Passes over so many octets, which the limit allows and which are at hand.
+    #[inline(always)]
+    pub(crate) fn pass_owed(&mut self, len: usize)
+        requires owed { FitsOwed (Length.Definite len) self.old.limit }
+        requires at_hand { len ≤ (inside S.stream self.old).avail }
+        ensures enough { len ≤ length (inside S.stream self.old).rest }
+        ensures limit { self.new.limit ≡ popped self.old.limit len (Some 0) }
+        ensures rest { (inside S.stream self.new).rest ≡ drop len (inside S.stream self.old).rest }
+        ensures no_fault { SameFaults (inside S.stream) self }
+        ensures kept { SameKept (inside S.stream) self }
+    {
+        self.source.advance(len);
+        if let Some(owed) = self.limit {
+            self.limit = Some(owed - len);
+        }
+    }
+
     /// Passes over so many octets, which the limit allows. A refusal passes over none.
     #[inline(always)]
     pub(crate) fn skip_owed(&mut self, len: usize) -> Result<(), Stop<S::Error>>

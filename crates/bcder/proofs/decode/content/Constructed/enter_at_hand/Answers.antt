@@ -4,7 +4,7 @@ use Rattle.bcder.specs.Views.{of_constructed, limited_stream}
 use Rattle.bcder.proofs.Entering.{enters, within, looked_enters, looked_moves, looked_failed, no_fewer, grew_least}
 use Rattle.bcder.proofs.Moving.{moves_trans, moves_failed, open_not_ended}
 use Rattle.bcder.proofs.Names.{within_constructed}
-use Rattle.bcder.proofs.Skipped.{whole_accepted}
+use Rattle.bcder.proofs.Skipped.{whole_accepted, behind_at_hand}
 use Rattle.bcder.proofs.decode.content.Constructed.enter_at_hand.Goals as goal
 
 pub returns-in-Ok-Some-clause-moves : goal.returns-in-Ok-Some-clause-moves
@@ -36,3 +36,9 @@ returns-in-Ok-None-clause-moves g c = looked_moves _ _ c.look_at_octets.ensures.
 pub returns-in-Err-clause-moves : goal.returns-in-Err-clause-moves
 unfolding of_constructed
 returns-in-Err-clause-moves g c = looked_failed _ _ c.look_at_octets.ensures.same (grew_least _ _ c.in-Err.ensures.fault) _ c.in-Open.is refl refl refl refl refl refl refl
+
+pub returns-in-Ok-Some-clause-at_hand : goal.returns-in-Ok-Some-clause-at_hand
+unfolding of_constructed
+returns-in-Ok-Some-clause-at_hand g c =
+    let w = rw c.in-Ok-Some.field-0-is at c.in-Ok-Some.ensures.whole in
+    behind_at_hand c.pass.new.self.source.now.limit (g.S.Source.stream c.pass.new.self.source.now.source).avail c.in-Ok-Some.header _ w c.pass.ensures.avail

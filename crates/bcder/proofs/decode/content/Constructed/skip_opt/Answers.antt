@@ -7,29 +7,29 @@ use Rattle.bcder.proofs.Names.{within_constructed}
 use Rattle.bcder.proofs.Skipped.{skipped_none, answers_skip, looked_told}
 use Rattle.bcder.proofs.decode.content.Constructed.skip_opt.Goals as goal
 
-pub skip_octets-requires-clause-primitive : goal.skip_octets-requires-clause-primitive
+pub skip_octets_at_hand-requires-clause-primitive : goal.skip_octets_at_hand-requires-clause-primitive
 unfolding of_constructed
-skip_octets-requires-clause-primitive g c = rw c.in-Ok-Some.field-0-is at c.in-Ok-Some.ensures.primitive
+skip_octets_at_hand-requires-clause-primitive g c = rw c.in-Ok-Some.field-0-is at c.in-Ok-Some.ensures.primitive
 
-pub skip_octets-requires-clause-definite : goal.skip_octets-requires-clause-definite
+pub skip_octets_at_hand-requires-clause-definite : goal.skip_octets_at_hand-requires-clause-definite
 unfolding of_constructed
-skip_octets-requires-clause-definite g c = rw c.in-Ok-Some.field-0-is at c.in-Ok-Some.ensures.definite
+skip_octets_at_hand-requires-clause-definite g c = rw c.in-Ok-Some.field-0-is at c.in-Ok-Some.ensures.definite
 
-pub skip_octets-requires-clause-fits : goal.skip_octets-requires-clause-fits
+pub skip_octets_at_hand-requires-clause-fits : goal.skip_octets_at_hand-requires-clause-fits
 unfolding of_constructed
-skip_octets-requires-clause-fits g c = (rw c.in-Ok-Some.field-0-is at c.in-Ok-Some.ensures.entered).enters.fits
+skip_octets_at_hand-requires-clause-fits g c = (rw c.in-Ok-Some.field-0-is at c.in-Ok-Some.ensures.entered).enters.fits
 
 pub returns-in-Ok-Some-clause-moves : goal.returns-in-Ok-Some-clause-moves
 unfolding of_constructed
-returns-in-Ok-Some-clause-moves g c = carries _ _ (c.skip_octets.ensures.moves (of_constructed g.S.Source.stream c.args.self.now) (rw c.in-Ok-Some.field-0-is at c.in-Ok-Some.ensures.entered))
+returns-in-Ok-Some-clause-moves g c = carries _ _ (c.skip_octets_at_hand.ensures.moves (of_constructed g.S.Source.stream c.args.self.now) (rw c.in-Ok-Some.field-0-is at c.in-Ok-Some.ensures.entered))
 
 pub returns-in-Ok-Some-clause-skipped : goal.returns-in-Ok-Some-clause-skipped
 unfolding of_constructed
-returns-in-Ok-Some-clause-skipped g c = c.skip_octets.ensures.skipped (of_constructed g.S.Source.stream c.args.self.now) (rw c.in-Ok-Some.field-0-is at c.in-Ok-Some.ensures.entered)
+returns-in-Ok-Some-clause-skipped g c = c.skip_octets_at_hand.ensures.skipped (of_constructed g.S.Source.stream c.args.self.now) (rw c.in-Ok-Some.field-0-is at c.in-Ok-Some.ensures.entered)
 
 pub returns-in-Ok-Some-clause-exact : goal.returns-in-Ok-Some-clause-exact
 unfolding of_constructed
-returns-in-Ok-Some-clause-exact g c = λ n. answers_skip cause_of _ _ _ _ _ (within_constructed g.S.Source.stream g.met.S.Source.sound c.args.self.now) n _ (c.skip_octets.ensures.skipped (of_constructed g.S.Source.stream c.args.self.now) (rw c.in-Ok-Some.field-0-is at c.in-Ok-Some.ensures.entered))
+returns-in-Ok-Some-clause-exact g c = λ n. answers_skip cause_of _ _ _ _ _ (within_constructed g.S.Source.stream g.met.S.Source.sound c.args.self.now) n _ (c.skip_octets_at_hand.ensures.skipped (of_constructed g.S.Source.stream c.args.self.now) (rw c.in-Ok-Some.field-0-is at c.in-Ok-Some.ensures.entered))
 
 pub returns-in-Ok-None-clause-moves : goal.returns-in-Ok-None-clause-moves
 unfolding of_constructed
@@ -54,3 +54,7 @@ returns-in-Err-clause-skipped g c = skipped_none cause_of _ (of_constructed g.S.
 pub returns-in-Err-clause-exact : goal.returns-in-Err-clause-exact
 unfolding of_constructed
 returns-in-Err-clause-exact g c = λ n. answers_skip cause_of _ _ _ _ _ (within_constructed g.S.Source.stream g.met.S.Source.sound c.args.self.now) n _ (skipped_none cause_of _ (of_constructed g.S.Source.stream c.args.self.now) (of_constructed g.S.Source.stream c.enter_at_hand.new.self) c.args.op.now c.enter_at_hand.ensures.mode c.enter_at_hand.ensures.marked c.stopped.result c.enter_at_hand.ensures.moves (source (c.stopped.ensures.source c.in-Err.ensures.fault.0) c.in-Err.ensures.fault.1) c.in-Err.ensures.failed)
+
+pub skip_octets_at_hand-requires-clause-at_hand : goal.skip_octets_at_hand-requires-clause-at_hand
+unfolding of_constructed
+skip_octets_at_hand-requires-clause-at_hand g c = rw c.in-Ok-Some.field-0-is at c.in-Ok-Some.ensures.at_hand
