@@ -598,7 +598,8 @@ impl<'a, S: Source> Constructed<'a, S> {
         }
     }
 
-    /// The same, with room for the answer that is cleared here, and not before the first look.
+    /// The same, with room for the answer that is cleared here, and not before the first look. Each
+    /// arm makes its answer anew, so that the octets of an error are moved only where there is one.
     #[inline(always)]
     fn skip_next_on<F>(
         &mut self,
