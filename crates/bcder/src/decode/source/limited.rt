@@ -147,10 +147,7 @@ impl<S: Source> LimitedSource<S> {
                 if found < len {
                     return Err(Stop::Refused(Why::Short));
                 }
-                self.source.advance(len);
-                if let Some(owed) = self.limit {
-                    self.limit = Some(owed - len);
-                }
+                self.pass_owed(len);
                 Ok(())
             }
             Err(error) => Err(Stop::Source(error)),
