@@ -23,6 +23,9 @@ PROCESSORS = len(os.sched_getaffinity(0))
 ERROR = re.compile(r"^(?:\./)?((?:src|specs|proofs)/\S+?):(\d+):\d+: error(?:\[[\w-]+\])?: (.*)")
 # Where an answer fails so, the edit took away a step that it names, and nothing is said of the contract.
 NAMES = re.compile(r"has no field|is not in scope|has no `|was not admitted|is no name|cannot continue")
+# Goals that a body raises for its own steps. Where these alone fail, no clause of the function was tried.
+STEPS = re.compile(r"(?:overflow_\w+|divide\w*|shift\w*|(?:slice_)?bounds|index(?:_mut)?|range)(?:-.*)?")
+BY_STEPS = " (steps of the body, and no clause)"
 
 
 class Report:
@@ -50,11 +53,13 @@ class Report:
         state = self.states[symbol]
         goals = re.search(r"`search` did not prove (`[^`]*`(?:, `[^`]*`)*)", state)
         if goals:
-            return True, f"{symbol}: {goals[1]}"
+            only = all(STEPS.fullmatch(it) for it in re.findall(r"`([^`]*)`", goals[1]))
+            return True, f"{symbol}: {goals[1]}{BY_STEPS if only else ''}"
         errors = list(self.answers_of(symbol))
         told = dict.fromkeys(re.sub(r"(`[^`]*`).*", r"\1", it) for it in errors if not NAMES.search(it))
         if told:
-            return True, f"{symbol}: its answers don't prove {', '.join(told)}"
+            only = all(STEPS.fullmatch(it.strip("`")) for it in told)
+            return True, f"{symbol}: its answers don't prove {', '.join(told)}{BY_STEPS if only else ''}"
         if errors:
             return False, f"{symbol} fails only for a name in its answers, which says nothing of its contract: {errors[0][:200]}"
         return False, f"{symbol}: {state[:200]}"
@@ -70,7 +75,7 @@ class Report:
             symbols += [symbol, *[it for it in self.states if it.startswith(inner)]]
         # An edit of a constant stands alone, so what fails fails by it.
         told = [self.refusal(it) for it in symbols or self.states if self.states[it] != "proved"]
-        refused = [why for is_refused, why in told if is_refused]
+        refused = sorted((why for is_refused, why in told if is_refused), key=lambda it: it.endswith(BY_STEPS))
         if refused:
             return True, refused[0]
         names = ", ".join(name for _, name in edit.turns) or "each function"
@@ -90,11 +95,12 @@ class Report:
 class Judge:
     def __init__(self, scratch):
         self.scratch, self.began, self.lock = scratch, time.monotonic(), threading.Lock()
-        self.refused = self.failed = 0
+        self.refused = self.failed = self.by_steps = 0
 
     def say(self, label, is_refused, why):
         with self.lock:
             self.refused, self.failed = self.refused + is_refused, self.failed + (not is_refused)
+            self.by_steps += is_refused and why.endswith(BY_STEPS)
             print(f"{'refused' if is_refused else 'NOT REFUSED'} {label}: {why}", flush=True)
 
     def note(self, text):
@@ -217,7 +223,8 @@ def main(words):
             list(pool.map(lambda it: judge.batch(*it, jobs(it[1])), batches))
         used = resource.getrusage(resource.RUSAGE_CHILDREN)
         minutes, work = (time.monotonic() - judge.began) / 60, (used.ru_utime + used.ru_stime) / 60
-        print(f"{judge.refused} refused, {judge.failed} failed, in {minutes:.1f} minutes ({work:.1f} of one processor)")
+        told = f"{judge.refused} refused ({judge.by_steps} at steps of their bodies alone), {judge.failed} failed"
+        print(f"{told}, in {minutes:.1f} minutes ({work:.1f} of one processor)")
         return 1 if judge.failed or not judge.refused else 0
 
 

@@ -56,6 +56,13 @@ const SIGNED: &str = "\
 31ebd135957cdfcd8f6be617793e5b56e88b3f3ba072024fc749164d408b022100efebee83c4118d0ff6b8be5f35e9dc\
 251fe15bd4d840c44cce33282d2c6db4ce";
 
+/// The same without certificates and attributes, and with the identifier of its signer's key.
+const SIGNED_BY_KEY: &str = "\
+3081b906092a864886f70d010702a081ab3081a8020103310d300b0609608648016503040201301406092a864886f70d\
+010701a007040568656c6c6f317e307c0201038014e99878ffb45190c9d4ea736b64cb1c63c924998e300b0609608648\
+016503040201300a06082a8648ce3d04030204483046022100bcb76fd83c45054c4bf895e6a8d41bada1458e695b5854\
+5c7f867032a3f1b87b022100f7b9833480244ab1c5365ab1ff00fc1c4ec7f5d4c7a8964ba996fcdd58da1f2d";
+
 #[test]
 fn reads_a_certificate(rt: HostRuntime) -> Result<(), Fail> {
     let octets = hex::decode(rt.alloc(), CERTIFICATE)?;
@@ -78,6 +85,16 @@ fn reads_a_signed_message(rt: HostRuntime) -> Result<(), Fail> {
     assert_eq!(rt; (found.digests, found.certificates, found.lists), (1, 1, 0));
     assert_eq!(rt; found.message, Some(5));
     assert_eq!(rt; (found.signers, found.attributes), (1, 4));
+    Ok(())
+}
+
+#[test]
+fn reads_a_signer_by_its_key(rt: HostRuntime) -> Result<(), Fail> {
+    let octets = hex::decode(rt.alloc(), SIGNED_BY_KEY)?;
+    let found = decode_signed(SliceSource::new(&octets))?;
+    assert_eq!(rt; (found.digests, found.certificates, found.lists), (1, 0, 0));
+    assert_eq!(rt; found.message, Some(5));
+    assert_eq!(rt; (found.signers, found.attributes), (1, 0));
     Ok(())
 }
 

@@ -692,24 +692,37 @@ impl<'a, S: Source> Constructed<'a, S> {
         self.skip_opt(alloc, &mut all)
     }
 
+    /// The same, with room for the answer that is cleared here, and not before the first look. Each
+    /// arm makes its answer anew, so that the octets of an error are moved only where there is one.
+    #[inline(always)]
+    fn skip_stacked_on(&mut self, alloc: Global) -> Result<Option<()>, DecodeError<S::Error>>
+        ensures moves { Moves (before S.stream self) (after S.stream self) }
+        ensures skipped { SkippedOne S.stream self result }
+    {
+        match self.skip_stacked(alloc) {
+            Ok(Some(())) => Ok(Some(())),
+            Ok(None) => Ok(None),
+            Err(error) => Err(error),
+        }
+    }
+
     /// As `skip_one`, whatever stands in front.
-    #[inline(never)]
+    #[inline(always)]
     fn skip_any(&mut self, alloc: Global) -> Result<Option<()>, DecodeError<S::Error>>
         ensures moves { Moves (before S.stream self) (after S.stream self) }
         ensures skipped { SkippedOne S.stream self result }
         ensures name { self.new.source.ghost_name ≡ self.old.source.ghost_name }
     {
-        match self.pass_at_hand(Looked::Shallow) {
+        match self.pass_shallow() {
             Ok(true) => Ok(Some(())),
-            Ok(false) => self.skip_stacked(alloc),
+            Ok(false) => self.skip_stacked_on(alloc),
             Err(stop) => Err(self.stopped(stop)),
         }
     }
 
-    /// The same, with room for the answer that is cleared here, and not before the first look. It
-    /// lends a copy of the content, and where no value was passed the state of the copy is set: so
-    /// content that is a local of a caller has no address, and a loop over its values neither looks
-    /// its state up nor its kind.
+    /// The same. It lends a copy of the content, and where no value was passed the state of the
+    /// copy is set: so content that is a local of a caller has no address, and a loop over its
+    /// values neither looks its state up nor its kind.
     #[inline(always)]
     fn skip_on(&mut self, alloc: Global) -> Result<Option<()>, DecodeError<S::Error>>
         ensures moves { Moves (before S.stream self) (after S.stream self) }

@@ -22,14 +22,14 @@ use crate::decode::stop::Stop;
 use crate::length::Length;
 use crate::mode::Mode;
 use crate::plain::levels::size_within;
-use crate::plain::{short_size, skip_one};
+use crate::plain::short_size;
 
 /// Passes over the next value, or answers `None` at the end of the content, whose marker it takes.
 ///
 /// A value is passed exactly where an encoding of one stands in front, in the content's mode
 /// (X.690, 8.1.1), unless the source fails. Its identifier octets, length octets and
 /// end-of-contents octets and those of all values inside it are looked at. Contents octets of
-/// primitive values are not. No memory is taken, but each level of values takes a level of calls.
+/// primitive values are not. No memory is taken, but a level of values may take a level of calls.
 ///
 /// # Errors
 ///
@@ -84,9 +84,6 @@ pub(super) enum Looked {
 
     /// Those that take no more than some levels of calls.
     Shallow,
-
-    /// All.
-    Any,
 }
 
 /// How many octets the value at the front has, if it is one that is looked for and all of its
@@ -98,10 +95,6 @@ fn whole_size(mode: Mode, octets: &[u8], looked: Looked) -> Option<usize>
     match looked {
         Looked::Short => short_size(octets),
         Looked::Shallow => size_within(mode, octets),
-        Looked::Any => match skip_one(mode, octets) {
-            Some(rest) => Some(octets.len() - rest.len()),
-            None => None,
-        },
     }
 }
 
@@ -211,6 +204,15 @@ impl<'a, S: Source> Constructed<'a, S> {
         self.pass_looked(looked)
     }
 
+    /// The same of a value that takes no more than some levels of calls, out of line.
+    #[inline(never)]
+    pub(super) fn pass_shallow(&mut self) -> Result<bool, Stop<S::Error>>
+        ensures moves { Between S.stream self Moves }
+        ensures passed { PassedAtOnce S.stream self result }
+    {
+        self.pass_at_hand(Looked::Shallow)
+    }
+
     /// Passes over a primitive value in one step where all of its octets come, and says whether it
     /// did.
     #[tactic(auto, unfolding(crate::specs::Views::of_constructed))]
@@ -315,7 +317,7 @@ fn walk_any<S: Source>(cons: &mut Constructed<'_, S>) -> Result<Option<()>, Stop
     ensures passed { PassedStep S.stream cons result }
     ensures name { cons.new.source.ghost_name ≡ cons.old.source.ghost_name }
 {
-    match cons.pass_at_hand(Looked::Any) {
+    match cons.pass_at_hand(Looked::Shallow) {
         Ok(true) => Ok(Some(())),
         Ok(false) => step(cons),
         Err(stop) => Err(stop),
