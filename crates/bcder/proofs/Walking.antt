@@ -275,13 +275,13 @@ module _ (c i : Reading) (after : List ℕ) (f : HasHeader any c after) (g : Han
   not_unbounded : i.kind ≡ UnboundedValues → ⊥
   not_unbounded e = form_bounded f.form f.len i.kind g.form e
 
--- content that is done is at its end, unless it is unbounded
-pub done_here : (j : Reading) (f : Form) → j.kind ≡ f → (f ≡ UnboundedValues → ⊥) → IsDone j → EndsAt j j
-done_here j f e u (inl s) = inl s
-done_here j octets e u (inr s) = inr (s.0, of_octets e (subst (λ x. IsUsedUp x j.owed) e s.1))
-done_here j (values kind.Definite) e u (inr s) = inr (s.0, of_definite e (subst (λ x. IsUsedUp x j.owed) e s.1))
-done_here j (values kind.Indefinite) e u (inr s) = absurd (subst (λ x. IsUsedUp x j.owed) e s.1)
-done_here j (values kind.Unbounded) e u (inr s) = absurd (u refl)
+-- content that is done is at its end
+pub done_here : (j : Reading) (f : Form) → j.kind ≡ f → IsDone j → EndsAt j j
+done_here j f e (inl s) = inl s
+done_here j octets e (inr s) = inr (s.0, of_octets e (subst (λ x. IsUsedUp x j.owed j.stream.rest) e s.1))
+done_here j (values kind.Definite) e (inr s) = inr (s.0, of_definite e (subst (λ x. IsUsedUp x j.owed j.stream.rest) e s.1))
+done_here j (values kind.Indefinite) e (inr s) = absurd (subst (λ x. IsUsedUp x j.owed j.stream.rest) e s.1)
+done_here j (values kind.Unbounded) e (inr s) = inr (s.0, of_unbounded e (subst (λ x. IsUsedUp x j.owed j.stream.rest) e s.1))
 
 not_failed_done : (j : Reading) → IsDone j → j.state ≡ Failed → ⊥
 not_failed_done j (inl s) e = (let x : Ended ≡ Failed = sym s ∙ e in cc)
@@ -300,4 +300,4 @@ module _ {E : Type 0} (why : E → Cause ContentError) (e : E) (c d i j : Readin
   pub refused_end : (l : Reading) → IsDone l → Moves i l → RefusesEnd why l e j → (why e ≡ of_source) × Grew c.stream.faults d.stream.faults
   refused_end l q m (left_failed x a) = absurd (not_failed_done l q x)
   refused_end l q m (source_failed k x) = (k, let y : i.stream.faults ≤ l.stream.faults = moves_faults i l m in let z : c.stream.faults ≤ l.stream.faults = omega arith in grew_between _ _ _ _ z x s)
-  refused_end l q m (left_open x a) = absurd (x.none l.stream.rest (done_here l i.kind (moves_kind i l m) (not_unbounded c i after f g) q))
+  refused_end l q m (left_open x a) = absurd (x.none l.stream.rest (done_here l i.kind (moves_kind i l m) q))
