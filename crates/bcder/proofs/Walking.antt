@@ -13,7 +13,7 @@ use Rattle.bcder.specs.Encoding.{IsEncoding, AreEncodings}
 use Rattle.bcder.specs.Stream.{Grew}
 use Rattle.bcder.specs.declared.decode.error.ContentError.{ContentError}
 use Rattle.bcder.specs.Cause.{Cause, of_source, IsOfContent}
-use Rattle.bcder.specs.Content.{Reading, Form, octets, values, Octets, DefiniteValues, IndefiniteValues, UnboundedValues, any, HasHeader, HasMarker, Moves, MovesBy, Falls, FitsOwed, IsDone, IsUsedUp, IsAtEnd, of_octets, of_definite, of_indefinite, of_unbounded, EndsBefore, EndsAt, NotAtEnd, NothingThere}
+use Rattle.bcder.specs.Content.{Reading, Form, octets, values, Octets, DefiniteValues, IndefiniteValues, any, HasHeader, HasMarker, Moves, MovesBy, Falls, FitsOwed, IsDone, IsUsedUp, IsAtEnd, of_octets, of_definite, of_indefinite, of_unbounded, EndsBefore, EndsAt, NotAtEnd, NothingThere}
 use Rattle.bcder.specs.Calls.{Hands, IsFormOf, ContentOf, RefusesEnd, left_failed, source_failed, left_open}
 use Rattle.bcder.specs.Walking.{HasValue, NoValue, PassesValue, ClosesBefore, HasValues, IsShort, AllBy, Walks, broken, short}
 use Rattle.bcder.specs.Walking as walking
@@ -217,11 +217,6 @@ form_definite f l n k a b h = subst (λ x. IsFormOf true x k) b (subst (λ x. Is
 form_indefinite : (f : Bool) (l : Length) (k : Form) → l ≡ Indefinite → IsFormOf f l k → k ≡ IndefiniteValues
 form_indefinite f l k b h = subst (λ x. IsFormOf f x k) b h
 
-form_bounded : (f : Bool) (l : Length) (k : Form) → IsFormOf f l k → k ≡ UnboundedValues → ⊥
-form_bounded f Indefinite k h e = (let z : IndefiniteValues ≡ UnboundedValues = sym h ∙ e in cc)
-form_bounded false (Definite n) k h e = (let z : Octets ≡ UnboundedValues = sym h ∙ e in cc)
-form_bounded true (Definite n) k h e = (let z : DefiniteValues ≡ UnboundedValues = sym h ∙ e in cc)
-
 -- the octets that a length counts
 take_front : (n : ℕ) (b x y : List ℕ) → n ≡ length b → y ≡ b ++ x → take n y ≡ b
 take_front n b x y e s = ap (take n) s ∙ take_at b x n (sym e)
@@ -271,9 +266,6 @@ module _ (c i : Reading) (after : List ℕ) (f : HasHeader any c after) (g : Han
 
   pub short_front : i.kind ≡ Octets → IsShort i → NoValue c
   short_front k n = record { none = λ t v x e r. short_shape x k n (shape_in t v x e r) }
-
-  not_unbounded : i.kind ≡ UnboundedValues → ⊥
-  not_unbounded e = form_bounded f.form f.len i.kind g.form e
 
 -- content that is done is at its end
 pub done_here : (j : Reading) (f : Form) → j.kind ≡ f → IsDone j → EndsAt j j
