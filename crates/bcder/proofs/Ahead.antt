@@ -82,7 +82,7 @@ module _ (c d e : Reading) (s : Resembles c d) (f : d.stream.faults ≡ c.stream
   form_ahead x = record { usable = sym s.state ∙ x.usable; after = x.after; front = header_alike d c (alike c d s) (tagged t) x.after x.front; is = x.is }
 
   pub ahead : {E : Type 0} (why : E → Cause ContentError) (r : Result (Option ℕ) E) → EntersOctets why t d r e → EntersOctets why t c r e
-  ahead why (Ok (Some n)) p = record { entered = looked_enters c d s (no_fewer _ _ f) _ e p.entered; none = tt; refused = tt; failed = tt; mode = p.mode ∙ s.mode; marked = p.marked ∙ s.marked }
+  ahead why (Ok (Some n)) p = record { entered = looked_enters c d s (no_fewer _ _ f) f _ e p.entered; none = tt; refused = tt; failed = tt; mode = p.mode ∙ s.mode; marked = p.marked ∙ s.marked }
   ahead why (Ok None) p = record { entered = tt; none = none_ahead p.none; refused = tt; failed = tt; mode = p.mode ∙ s.mode; marked = p.marked ∙ s.marked }
   ahead why (Err x) p = record {
     entered = tt;

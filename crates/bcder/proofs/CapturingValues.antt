@@ -15,7 +15,7 @@ use Rattle.bcder.specs.Stream.{Grew}
 use Rattle.bcder.specs.Captured.{Kept, AreWhole}
 use Rattle.bcder.specs.Capturing.{IsCaptureOf, Captures, RefusesCapture, RefusesLeft, by_content, by_source, by_memory}
 use Rattle.bcder.specs.CapturingValues.{RefusesWhere, failed, source, nothing, memory, WantsMemory, CapturesBy, PassesBy, CapturesValue, HasNoValue, CapturesValues, HasOthers, PassesToEnd}
-use Rattle.bcder.specs.Content.{Reading, Form, octets, values, Octets, IndefiniteValues, label, Closes, Moves, Falls, HasMarker, IsAtEnd, of_octets, of_definite, of_indefinite, of_unbounded, EndsBefore, EndsAt, IsDone, IsUsedUp}
+use Rattle.bcder.specs.Content.{Reading, Form, octets, values, Octets, IndefiniteValues, label, Closes, Moves, Falls, HasMarker, EndsAt, IsDone, IsUsedUp}
 use Rattle.bcder.specs.Decoding.{AnsweredOn, by_closure, left_failed}
 use Rattle.bcder.specs.Walking.{HasValue, PassesValue, ClosesBefore, HasValues, Walks}
 use Rattle.bcder.specs.Walking as walking
@@ -162,33 +162,19 @@ falls_to_none : (o : Option ℕ) (n : ℕ) → Falls o n (Some 0) → o ≡ Some
 falls_to_none None n f = absurd (f refl)
 falls_to_none (Some m) n f = ap Some (let e : m ≡ n = omega arith in e)
 
-nothing_behind : (v w : List ℕ) → v ++ w ≡ [] → w ≡ []
-nothing_behind [] w e = e
-nothing_behind (b ∷ v) w e = absurd (let l = ap length e in omega arith)
-
 both_empty : (v w : List ℕ) → v ++ w ≡ [] → v ≡ []
 both_empty [] w e = refl
 both_empty (b ∷ v) w e = absurd (let l = ap length e in omega arith)
 
 -- content is at its end where it was passed to it
-ends_of : (c i : Reading) (x : List ℕ) → c.state ≡ i.state → c.kind ≡ i.kind → c.owed ≡ i.owed → c.mode ≡ i.mode → c.stream.rest ≡ i.stream.rest → EndsBefore i x → EndsBefore c x
-ends_of c i x s k o m r (inl e) = inl (s ∙ e)
-ends_of c i x s k o m r (inr e) = inr (s ∙ e.0, at_end e.1)
-  where
-    at_end : IsAtEnd i x → IsAtEnd c x
-    at_end (of_octets q z) = of_octets (k ∙ q) (o ∙ z)
-    at_end (of_definite q z) = of_definite (k ∙ q) (o ∙ z)
-    at_end (of_indefinite q z) = of_indefinite (k ∙ q) (record { marker = z.marker; is_end = rw m z.is_end; rest = r ∙ z.rest })
-    at_end (of_unbounded q z) = of_unbounded (k ∙ q) (r ∙ z)
-
-done_of : (c i : Reading) → c.state ≡ i.state → c.kind ≡ i.kind → c.owed ≡ i.owed → IsDone i → IsDone c
-done_of c i s k o (inl e) = inl (s ∙ e)
-done_of c i s k o (inr e) = inr (s ∙ e.0, subst (λ z. IsUsedUp z c.owed) (sym k) (subst (λ z. IsUsedUp i.kind z) (sym o) e.1))
+done_of : (c i : Reading) → c.state ≡ i.state → c.kind ≡ i.kind → c.owed ≡ i.owed → c.stream.rest ≡ i.stream.rest → IsDone i → IsDone c
+done_of c i s k o r (inl e) = inl (s ∙ e)
+done_of c i s k o r (inr e) = inr (s ∙ e.0, subst (λ z. IsUsedUp z c.owed c.stream.rest) (sym k) (subst (λ z. IsUsedUp i.kind z c.stream.rest) (sym o) (subst (λ z. IsUsedUp i.kind i.owed z) (sym r) e.1)))
 
 pub end_usable : (i j : Reading) → PassesToEnd i j → j.state ≢ Failed
-end_usable i j h e = elim h.done [ inl x ↦ (let y : Ended ≡ Failed = sym x ∙ e in cc) | inr x ↦ (let y : Open ≡ Failed = sym x.0 ∙ e in cc) ]
+end_usable i j h e = elim h [ inl x ↦ (let y : Ended ≡ Failed = sym x ∙ e in cc) | inr x ↦ (let y : Open ≡ Failed = sym x.0 ∙ e in cc) ]
 
-module _ {C X : Type 0} (view : C → Reading) (post : MutBor C → Result (Unit {0}) (DecodeError X) → MutBor C → Type 0) (c d : Reading) (k : Kept) (h : Captures view post c k d) (form : c.kind ≢ Octets) (m : Moves c d) (dm : d.mode ≡ c.mode) (q : PassesToEnd h.handed h.left) (f : h.left.marked ≡ false) where
+module _ {C X : Type 0} (view : C → Reading) (post : MutBor C → Result (Unit {0}) (DecodeError X) → MutBor C → Type 0) (c d : Reading) (k : Kept) (h : Captures view post c k d) (form : c.kind ≢ Octets) (m : Moves c d) (q : PassesToEnd h.handed h.left) (f : h.left.marked ≡ false) where
   same_mode : k.mode ≡ c.mode
   same_mode = h.mode ∙ ap (λ z. label c.mode z) f
 
@@ -196,15 +182,8 @@ module _ {C X : Type 0} (view : C → Reading) (post : MutBor C → Result (Unit
   unfolding Moves
   same_kind = m.kind ∙ sym h.hands.kind ∙ sym h.moves.kind
 
-  left_mode : d.mode ≡ h.left.mode
-  unfolding Moves
-  left_mode = dm ∙ sym h.hands.mode ∙ sym (h.moves.mode f)
-
-  at_the_end : EndsBefore d d.stream.rest
-  at_the_end = subst (λ z. EndsBefore d z) (sym h.rest) (ends_of d h.left h.left.stream.rest h.state same_kind h.owed left_mode h.rest q.ends)
-
   is_done : IsDone d
-  is_done = done_of d h.left h.state same_kind h.owed q.done
+  is_done = done_of d h.left h.state same_kind h.owed h.rest q
 
   all_passed : (p : List ℕ) → c.stream.rest ≡ p ++ d.stream.rest → p ≡ k.octets ++ h.holds.close
   all_passed p e = append_cancel_right p (k.octets ++ h.holds.close) d.stream.rest (sym e ∙ h.holds.rest ∙ sym (append_assoc k.octets h.holds.close d.stream.rest))
@@ -225,20 +204,11 @@ module _ {C X : Type 0} (view : C → Reading) (post : MutBor C → Result (Unit
   marked_by : c.state ≡ Open → d.state ≡ Ended → HasMarker c.mode (h.holds.close ++ d.stream.rest) d.stream.rest
   marked_by o e = elim h.holds.closes [ inl x ↦ absurd (open_not_ended c.state o (sym x.1 ∙ e)) | inr x ↦ record { marker = h.holds.close; is_end = rw (← same_mode) x.0; rest = refl } ]
 
-  used_up : (g : Form) → d.kind ≡ g → g ≢ IndefiniteValues → c.state ≡ Open → c.kind ≡ g → (d.state ≡ Open) × IsUsedUp g d.owed
-  used_up g e n o ck = elim is_done [ inl x ↦ absurd (n (sym ck ∙ ended_by o x)) | inr x ↦ (x.0, subst (λ z. IsUsedUp z d.owed) e x.1) ]
+  used_up : (g : Form) → d.kind ≡ g → g ≢ IndefiniteValues → c.state ≡ Open → c.kind ≡ g → (d.state ≡ Open) × IsUsedUp g d.owed d.stream.rest
+  used_up g e n o ck = elim is_done [ inl x ↦ absurd (n (sym ck ∙ ended_by o x)) | inr x ↦ (x.0, subst (λ z. IsUsedUp z d.owed d.stream.rest) e x.1) ]
 
   unmarked_close : d.state ≡ Open → h.holds.close ≡ []
   unmarked_close o = closed_by_none k.mode c d h.holds.close o h.holds.closes
-
-  nothing_left : d.kind ≡ values kind.Unbounded → d.state ≡ Open → d.stream.rest ≡ []
-  nothing_left e o = elim at_the_end [ inl x ↦ absurd (open_not_ended d.state o x) | inr x ↦ unbounded_end x.1 ]
-    where
-      unbounded_end : IsAtEnd d d.stream.rest → d.stream.rest ≡ []
-      unbounded_end (of_octets q z) = absurd (let y : octets ≡ values kind.Unbounded = sym q ∙ e in cc)
-      unbounded_end (of_definite q z) = absurd (let y : values kind.Definite ≡ values kind.Unbounded = sym q ∙ e in cc)
-      unbounded_end (of_indefinite q z) = absurd (let y : values kind.Indefinite ≡ values kind.Unbounded = sym q ∙ e in cc)
-      unbounded_end (of_unbounded q z) = z
 
   of_kind : {g : Form} → c.kind ≡ g → d.kind ≡ g
   unfolding Moves
@@ -250,10 +220,10 @@ module _ {C X : Type 0} (view : C → Reading) (post : MutBor C → Result (Unit
       let u = used_up (values kind.Definite) (of_kind e) (λ z. cc) o e in
       let w : Falls c.owed (length (k.octets ++ h.holds.close)) (Some 0) = subst (λ z. Falls c.owed (length (k.octets ++ h.holds.close)) z) u.1 fell in
       falls_to_none c.owed (length (k.octets ++ h.holds.close)) w ∙ ap (λ z. Some (length z)) (ap (λ z. k.octets ++ z) (unmarked_close u.0) ∙ append-nil k.octets)
-  closes_before (values kind.Indefinite) e o = elim is_done [ inl x ↦ (d.stream.rest, marked_by o x) | inr x ↦ absurd (subst (λ z. IsUsedUp z d.owed) (of_kind e) x.1) ]
+  closes_before (values kind.Indefinite) e o = elim is_done [ inl x ↦ (d.stream.rest, marked_by o x) | inr x ↦ absurd (subst (λ z. IsUsedUp z d.owed d.stream.rest) (of_kind e) x.1) ]
   closes_before (values kind.Unbounded) e o =
       let u = used_up (values kind.Unbounded) (of_kind e) (λ z. cc) o e in
-      ap (λ z. z ++ d.stream.rest) (unmarked_close u.0) ∙ nothing_left (of_kind e) u.0
+      ap (λ z. z ++ d.stream.rest) (unmarked_close u.0) ∙ u.1
 
   pub holds_values : CapturesValues c k d
   holds_values = record {
@@ -263,7 +233,6 @@ module _ {C X : Type 0} (view : C → Reading) (post : MutBor C → Result (Unit
     closes = subst (λ z. Closes z c h.holds.close d) same_mode h.holds.closes;
     are_all = λ o. closes_before c.kind refl o;
     are_none = no_values;
-    ends = at_the_end;
     done = is_done;
     mode = same_mode;
     start = h.start;
@@ -317,28 +286,3 @@ loop_refused_one e i j k form w (skipping.RefusesOne.by_depth g m) = memory m
 pub pass_refused : {T X : Type 0} (c d : Reading) (r : Result T (DecodeError X)) (e : DecodeError X) → IsErrAnd r (λ x. x ≡ e) → RefusesWhere (HasOthers c) c e d → d.marked ≡ c.marked → PassesBy PassesToEnd HasOthers c r d
 pass_refused c d (Ok x) e h a g = absurd h
 pass_refused c d (Err x) e h a g = record { passed = tt; no_fault = tt; refused = subst (λ y. RefusesWhere (HasOthers c) c y d) (sym h) a; marked = g }
-
--- content is left at its end where the end was found
-module _ (j k : Reading) (m : Moves j k) (e : EndsAt j k) where
-  none_behind : j.stream.rest ≡ [] → k.stream.rest ≡ []
-  unfolding Moves
-  none_behind z = nothing_behind m.passed k.stream.rest (sym m.rest ∙ z)
-
-  was_unbounded : k.state ≡ Open → k.kind ≡ values kind.Unbounded → j.stream.rest ≡ []
-  unfolding Moves
-  was_unbounded o q = elim e [ inl x ↦ absurd (open_not_ended k.state o ((m.ended x).0)) | inr x ↦ by_form x.1 ]
-    where
-      by_form : IsAtEnd j k.stream.rest → j.stream.rest ≡ []
-      by_form (of_octets z y) = absurd (let x : octets ≡ values kind.Unbounded = sym z ∙ sym m.kind ∙ q in cc)
-      by_form (of_definite z y) = absurd (let x : values kind.Definite ≡ values kind.Unbounded = sym z ∙ sym m.kind ∙ q in cc)
-      by_form (of_indefinite z y) = absurd (let x : values kind.Indefinite ≡ values kind.Unbounded = sym z ∙ sym m.kind ∙ q in cc)
-      by_form (of_unbounded z y) = y
-
-  at_end_here : (g : Form) → k.kind ≡ g → k.state ≡ Open → IsUsedUp g k.owed → IsAtEnd k k.stream.rest
-  at_end_here octets q o u = of_octets q u
-  at_end_here (values kind.Definite) q o u = of_definite q u
-  at_end_here (values kind.Indefinite) q o u = absurd u
-  at_end_here (values kind.Unbounded) q o u = of_unbounded q (none_behind (was_unbounded o q))
-
-  pub to_end : (i : Reading) → IsDone k → PassesToEnd i k
-  to_end i d = record { ends = elim d [ inl x ↦ inl x | inr x ↦ inr (x.0, at_end_here k.kind refl x.0 x.1) ]; done = d }

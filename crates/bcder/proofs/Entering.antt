@@ -67,13 +67,14 @@ unfolding read_front read_identifier
 unread_empty m e = none_is _ e
 
 module _ (c d : Reading) (n : ℕ) (h : Header) (a : Advances c d (take n c.stream.rest)) (o : AreOctets c.stream.rest) (l : n ≤ length c.stream.rest) (r : read_front c.mode c.stream.rest ≡ Some (h, drop n c.stream.rest)) (s : c.state ≡ Open) where
-  pub enters : Accepts c.mode h d.owed → d.marked ≡ c.marked → d.state ≡ Failed → Enters c h d
-  enters k m f =
+  pub enters : Accepts c.mode h d.owed → d.stream.faults ≡ c.stream.faults → d.marked ≡ c.marked → d.state ≡ Failed → Enters c h d
+  enters k g m f =
       let p : Headed c.mode h c.stream.rest (drop n c.stream.rest) = header_of_front c.mode c.stream.rest h (drop n c.stream.rest) o r k.0 k.1 in
       record {
         octets = p.octets;
         is_header = p.is_header;
         advances = subst (λ z. Advances c d z) (sym (drop_rest n c.stream.rest p.octets p.is l)) a;
+        no_fault = g;
         unmarked = m;
         usable = s;
         opened = f;
@@ -163,8 +164,8 @@ module _ (c d : Reading) (s : Resembles c d) (f : c.stream.faults ≤ d.stream.f
       (record { rest = sym s.rest ∙ ap (λ x. x.rest) (sym a); owed = (let x : Falls c.owed 0 c.owed = Falls-refl c.owed in rw (b, s.owed) x); kept = ap (λ x. x.kept) a ∙ s.kept; faults = omega (arith, f, ap (λ x. x.faults) a); kind = k ∙ s.kind; mode = m ∙ s.mode; name = n ∙ s.name })
       (λ x. g ∙ s.marked ∙ x) (open_not_ended c.state o) st
 
-  pub looked_enters : (h : Header) (e : Reading) → Enters d h e → Enters c h e
-  looked_enters h e x = record {
+  pub looked_enters : d.stream.faults ≡ c.stream.faults → (h : Header) (e : Reading) → Enters d h e → Enters c h e
+  looked_enters n h e x = record {
     octets = x.octets;
     is_header = subst (λ m. IsHeader m h.tag h.form h.len x.octets) s.mode x.is_header;
     advances = record {
@@ -176,6 +177,7 @@ module _ (c d : Reading) (s : Resembles c d) (f : c.stream.faults ≤ d.stream.f
       mode = x.advances.mode ∙ s.mode;
       name = x.advances.name ∙ s.name;
     };
+    no_fault = x.no_fault ∙ n;
     unmarked = x.unmarked ∙ s.marked;
     usable = sym s.state ∙ x.usable;
     opened = x.opened;

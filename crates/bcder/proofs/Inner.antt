@@ -119,9 +119,9 @@ pub open_whole : (m : Mode) (i j : Reading) (p : List ℕ) (w : Whole m i p j) �
 open_whole m i j p w o (inl e) = (let x : p ≡ w.values = w.split ∙ ap (λ x. w.values ++ x) e.0 ∙ append-nil w.values in rw x w.encodes)
 open_whole m i j p w o (inr e) = absurd (o e.1)
 
-pub used_up : (K : Form) (j : Reading) → j.kind ≡ K → IsDone j → (j.state ≡ Ended → ⊥) → IsUsedUp K j.owed
+pub used_up : (K : Form) (j : Reading) → j.kind ≡ K → IsDone j → (j.state ≡ Ended → ⊥) → IsUsedUp K j.owed j.stream.rest
 used_up K j e (inl d) n = absurd (n d)
-used_up K j e (inr d) n = subst (λ k. IsUsedUp k j.owed) e d.1
+used_up K j e (inr d) n = subst (λ k. IsUsedUp k j.owed j.stream.rest) e d.1
 
 -- content of another form never ends by a marker
 pub not_ended : (i j : Reading) (m : MovesBy i j) → i.state ≡ Open → (i.kind ≡ IndefiniteValues → ⊥) → j.state ≡ Ended → ⊥
@@ -137,7 +137,7 @@ is_open_or j (inr e) f = open_not_failed j.state e.0 f
 
 pub ended_of : (j : Reading) → j.kind ≡ IndefiniteValues → IsDone j → j.state ≡ Ended
 ended_of j k (inl e) = e
-ended_of j k (inr e) = absurd (subst (λ x. IsUsedUp x j.owed) k e.1)
+ended_of j k (inr e) = absurd (subst (λ x. IsUsedUp x j.owed j.stream.rest) k e.1)
 
 octets_not_indefinite : (k : Form) → k ≡ Octets → k ≡ IndefiniteValues → ⊥
 octets_not_indefinite k e f = (let y : Octets ≡ IndefiniteValues = sym e ∙ f in cc)

@@ -232,15 +232,15 @@ module _ (c d e : Reading) (k : Header) (m : Mode) (s t : Stream) (o p : Option 
   behind_moved y x st = (let r = of_content_mode (Ok y) x in skips_moves c d e k s t o p (past_within c d k i) i.enters ds do' es eo ek em en ea r.whole.0 r.whole.2 st r.faults)
 
   pub behind_passed : {T U Y : Type 0} (why : Y → Cause ContentError) (y : T) (z : U) → RanBy {X = X} step m k s o f (Ok y) g t p → e.state ≡ Open → SkippedBy why step c f (Ok (Some z)) g e
-  behind_passed why y z x st = (let r = of_content_mode (Ok y) x in skipped_value c d e k s t o p (past_within c d k i) i.enters ds do' es eo ek em en ea r.whole.0 r.whole.2 st why step f g z r.no_fault i.no_fault r.whole.1)
+  behind_passed why y z x st = (let r = of_content_mode (Ok y) x in skipped_value c d e k s t o p (past_within c d k i) i.enters ds do' es eo ek em en ea r.whole.0 r.whole.2 st why step f g z r.no_fault i.enters.no_fault r.whole.1)
 
   module _ {Y : Type 0} (why : Y → Cause ContentError) (h : Halt X) (y : Y) (st : e.state ≡ d.state)
       (hc : IsOfContent (halt_cause h) → IsOfContent (why y)) (hs : halt_cause h ≡ of_source → why y ≡ of_source) (hm : halt_cause h ≡ of_memory → why y ≡ of_memory) (hx : (z : ContentError) → h ≡ halt.Refused z → why y ≡ of_content z) where
     pub behind_stopped : {T : Type 0} → RanBy step {T = T} m k s o f (Err h) g t p → Moves c e
-    behind_stopped x = (let r = of_content_mode (Err h) x in breaks_moves c d e k s t o p (past_within c d k i) i.enters ds do' es eo ek em en ea step f g why h y (st ∙ i.enters.opened) i.no_fault (open_not_ended _ i.enters.usable) hc hs hm hx r.faults r.breaks)
+    behind_stopped x = (let r = of_content_mode (Err h) x in breaks_moves c d e k s t o p (past_within c d k i) i.enters ds do' es eo ek em en ea step f g why h y (st ∙ i.enters.opened) i.enters.no_fault (open_not_ended _ i.enters.usable) hc hs hm hx r.faults r.breaks)
 
     pub behind_refused : {T U : Type 0} → RanBy step {T = T} m k s o f (Err h) g t p → SkippedBy {T = U} why step c f (Err y) g e
-    behind_refused x = (let r = of_content_mode (Err h) x in skipped_not c d e k s t o p (past_within c d k i) i.enters ds do' es eo ek em en ea step f g why h y (st ∙ i.enters.opened) i.no_fault (open_not_ended _ i.enters.usable) hc hs hm hx r.breaks)
+    behind_refused x = (let r = of_content_mode (Err h) x in skipped_not c d e k s t o p (past_within c d k i) i.enters ds do' es eo ek em en ea step f g why h y (st ∙ i.enters.opened) i.enters.no_fault (open_not_ended _ i.enters.usable) hc hs hm hx r.breaks)
 
 -- ---- no header was passed
 

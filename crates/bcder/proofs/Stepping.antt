@@ -13,7 +13,7 @@ use Rattle.bcder.specs.declared.decode.stop.Stop.TheVariants as stop
 use Rattle.bcder.specs.Identifier.{Tag, AreOctets}
 use Rattle.bcder.specs.Reading.{Header}
 use Rattle.bcder.specs.Stream.{Stream, IsSound, Grew, past, limited}
-use Rattle.bcder.specs.Content.{Reading, Form, octets, Octets, UnboundedValues, any, Enters, RefusesHeader, Moves, Advances, FitsOwed, IsDone}
+use Rattle.bcder.specs.Content.{Reading, Form, octets, Octets, any, Enters, RefusesHeader, Moves, Advances, FitsOwed, IsDone}
 use Rattle.bcder.specs.Calls.{IsFormOf, Answered, AnswersDone, RefusesContent, by_closure, RanOver, TakesContent, RefusesValue, popped}
 use Rattle.bcder.specs.Walking.{WalksBy, itself, walked}
 use Rattle.bcder.specs.Walking as walking
@@ -35,22 +35,22 @@ module _ {T E : Type 0} (why : E → Cause ContentError) where
   unfolding held
   answered t i j r w = record { handed = held i; left = held j; handed_is = refl; left_is = refl; called = w }
 
-  answers_walked : (t : Tag) (i j : Reading) (r : Result T E) (f : Form) → j.kind ≡ f → (f ≡ UnboundedValues → ⊥) → WalksBy why i r j → IfOk r (λ x. AnswersDone {R = Result T E} itself (walked why) t i (Ok x) j)
-  answers_walked t i j (Ok x) f k u w = record { left = j; answered = answered t i j (Ok x) w; finishes = moves_refl j; marked = refl; ends = done_here j f k u w.done; done = w.done }
-  answers_walked t i j (Err e) f k u w = tt
+  answers_walked : (t : Tag) (i j : Reading) (r : Result T E) (f : Form) → j.kind ≡ f → WalksBy why i r j → IfOk r (λ x. AnswersDone {R = Result T E} itself (walked why) t i (Ok x) j)
+  answers_walked t i j (Ok x) f k w = record { left = j; answered = answered t i j (Ok x) w; finishes = moves_refl j; marked = refl; no_fault = refl; ends = done_here j f k w.done; done = w.done }
+  answers_walked t i j (Err e) f k w = tt
 
   refuses_walked : (t : Tag) (i j : Reading) (r : Result T E) → WalksBy why i r j → IfErr r (λ e. RefusesContent {T = T} why itself (walked why) t i e j)
   refuses_walked t i j (Ok x) w = tt
   refuses_walked t i j (Err e) w = by_closure (answered t i j (Err e) w)
 
   -- content over a source was walked
-  pub ran_walked : (i j : Reading) (r : Result T E) → WalksBy why i r j → (s s' : Stream) (o o' : Option ℕ) (f : Form) (m : Mode) (t : Tag) → i.stream ≡ s → i.owed ≡ o → i.kind ≡ f → i.state ≡ Open → i.mode ≡ m → i.marked ≡ false → j.stream ≡ s' → j.owed ≡ o' → j.kind ≡ f → j.marked ≡ false → (f ≡ UnboundedValues → ⊥) → RanOver why itself (walked why) s o f m t r false s' o'
-  ran_walked i j r w s s' o o' f m t is io ik it im ia js jo jk ja u = record {
+  pub ran_walked : (i j : Reading) (r : Result T E) → WalksBy why i r j → (s s' : Stream) (o o' : Option ℕ) (f : Form) (m : Mode) (t : Tag) → i.stream ≡ s → i.owed ≡ o → i.kind ≡ f → i.state ≡ Open → i.mode ≡ m → i.marked ≡ false → j.stream ≡ s' → j.owed ≡ o' → j.kind ≡ f → j.marked ≡ false → RanOver why itself (walked why) s o f m t r false s' o'
+  ran_walked i j r w s s' o o' f m t is io ik it im ia js jo jk ja = record {
     handed = i;
     left = j;
     runs = record { stream = is; owed = io; kind = ik; state = it; mode = im; marked = ia; left_stream = js; left_owed = jo; moves = w.moves };
     marks = ja;
-    answers = answers_walked t i j r f jk u w;
+    answers = answers_walked t i j r f jk w;
     refuses = refuses_walked t i j r w;
   }
 
@@ -58,8 +58,8 @@ module _ {T E : Type 0} (why : E → Cause ContentError) where
   always P (Ok x) p = p
   always P (Err x) p = tt
 
-  pub ran_values : (i j : Reading) (r : Result T E) → Moves i j → j.marked ≡ i.marked → OnOk r (IsDone j) → IfErr r (λ e. walking.RefusesValues why i e j) → (s s' : Stream) (o o' : Option ℕ) (f : Form) (m : Mode) (t : Tag) → i.stream ≡ s → i.owed ≡ o → i.kind ≡ f → i.state ≡ Open → i.mode ≡ m → i.marked ≡ false → j.stream ≡ s' → j.owed ≡ o' → (f ≡ UnboundedValues → ⊥) → RanOver why itself (walked why) s o f m t r false s' o'
-  ran_values i j r mv mk d h s s' o o' f m t is io ik it im ia js jo u = ran_walked i j r (record { moves = mv; marked = always _ r mk; done = d; refused = h }) s s' o o' f m t is io ik it im ia js jo (moves_kind i j mv ∙ ik) (mk ∙ ia) u
+  pub ran_values : (i j : Reading) (r : Result T E) → Moves i j → j.marked ≡ i.marked → OnOk r (IsDone j) → IfErr r (λ e. walking.RefusesValues why i e j) → (s s' : Stream) (o o' : Option ℕ) (f : Form) (m : Mode) (t : Tag) → i.stream ≡ s → i.owed ≡ o → i.kind ≡ f → i.state ≡ Open → i.mode ≡ m → i.marked ≡ false → j.stream ≡ s' → j.owed ≡ o' → RanOver why itself (walked why) s o f m t r false s' o'
+  ran_values i j r mv mk d h s s' o o' f m t is io ik it im ia js jo = ran_walked i j r (record { moves = mv; marked = always _ r mk; done = d; refused = h }) s s' o o' f m t is io ik it im ia js jo (moves_kind i j mv ∙ ik) (mk ∙ ia)
 
 -- ---- why a step was refused
 
@@ -128,7 +128,7 @@ module _ {T E : Type 0} (why : E → Cause ContentError) (c d : Reading) (h : He
   takes_inside : (r : Result T E) (l : ℕ) → d.stream ≡ limited (popped o n (Some l)) s' → d.owed ≡ popped o n (Some l) → WalksBy why (inside c.mode c.name s (Some n)) r (inside c.mode c.name s' (Some l)) → TakesContent why itself (walked why) c h r d
   unfolding inside
   takes_inside r l ds do' w =
-      let q = ran_walked why (inside c.mode c.name s (Some n)) (inside c.mode c.name s' (Some l)) r w (limited (Some n) s) (limited (Some l) s') (Some n) (Some l) Octets c.mode h.tag refl refl refl refl refl refl refl refl refl refl (λ e. let x : Octets ≡ UnboundedValues = e in cc) in
+      let q = ran_walked why (inside c.mode c.name s (Some n)) (inside c.mode c.name s' (Some l)) r w (limited (Some n) s) (limited (Some l) s') (Some n) (Some l) Octets c.mode h.tag refl refl refl refl refl refl refl refl refl refl in
       takes_definite why itself (walked why) c d h r k md nm st false (or_none c.marked d.marked mk) Octets n s s' o (Some l) hn (subst (λ z. IsFormOf z (Definite n) Octets) (sym g) refl) cs co ds do' fits q
       (λ w e mv v. encodes_primitive c.mode h.tag h.form h.len w q.handed q.left e q.runs.state q.runs.mode mv v n hn g q.runs.kind q.runs.owed (subst (λ z. AreOctets z.rest) (sym q.runs.stream) ((limited_sound (Some n) s so).octets)))
 

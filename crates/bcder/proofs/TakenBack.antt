@@ -94,20 +94,20 @@ module _ {T X : Type 0} (Fails : Reading → DecodeError X → Reading → Type 
         excused c e d (subst (λ y. Refuses y e) same.0 r)
 
     one_answers : (r : Result T (DecodeError X)) (d : Reading) → TakesOneAs tag Means Refuses c r d → Answers Fails x after c r d
-    one_answers (Ok y) d t = let is = taken_is y d t.value in record { value = is.0; rest = is.1; stays = is.2; fails = tt }
-    one_answers (Err e) d t = record { value = tt; rest = tt; stays = tt; fails = elim t.refused [ inl n ↦ absurd (not_none tag c contents w after has_value d n.0) | inr n ↦ refusal_fails e d n.1 ] }
+    one_answers (Ok y) d t = let is = taken_is y d t.value in record { value = is.0; rest = is.1; stays = is.2; no_fault = t.no_fault; fails = tt; mode = t.mode; marked = t.marked }
+    one_answers (Err e) d t = record { value = tt; rest = tt; stays = tt; no_fault = tt; fails = elim t.refused [ inl n ↦ absurd (not_none tag c contents w after has_value d n.0) | inr n ↦ refusal_fails e d n.1 ]; mode = t.mode; marked = t.marked }
 
     next_answers : (r : Result (Option T) (DecodeError X)) (d : Reading) → TakesNextAs tag Means Refuses c r d → Answers Fails (Some x) after c r d
     next_answers (Ok None) d t = absurd (not_none tag c contents w after has_value d t.none)
-    next_answers (Ok (Some y)) d t = let is = taken_is y d t.value in record { value = ap Some is.0; rest = is.1; stays = is.2; fails = tt }
-    next_answers (Err e) d t = record { value = tt; rest = tt; stays = tt; fails = refusal_fails e d t.refused }
+    next_answers (Ok (Some y)) d t = let is = taken_is y d t.value in record { value = ap Some is.0; rest = is.1; stays = is.2; no_fault = t.no_fault; fails = tt; mode = t.mode; marked = t.marked }
+    next_answers (Err e) d t = record { value = tt; rest = tt; stays = tt; no_fault = tt; fails = refusal_fails e d t.refused; mode = t.mode; marked = t.marked }
 
     passed_answers : (r : Result T (DecodeError X)) (d : Reading) → PassesNextAs tag Means Refuses c r d → Answers Fails x after c r d
     passed_answers (Ok y) d t = elim t.value [
-      | inl t ↦ (let is = taken_is y d t in record { value = is.0; rest = is.1; stays = is.2; fails = tt })
+      | inl v ↦ (let is = taken_is y d v in record { value = is.0; rest = is.1; stays = is.2; no_fault = t.no_fault; fails = tt; mode = t.mode; marked = t.marked })
       | inr n ↦ absurd (not_none tag c contents w after has_value d n)
     ]
-    passed_answers (Err e) d t = record { value = tt; rest = tt; stays = tt; fails = refusal_fails e d t.refused }
+    passed_answers (Err e) d t = record { value = tt; rest = tt; stays = tt; no_fault = tt; fails = refusal_fails e d t.refused; mode = t.mode; marked = t.marked }
 
     takes_back : TakesBack Fails tag Means Refuses x after c
     takes_back = record { one = one_answers; next = next_answers; passed = passed_answers }

@@ -67,7 +67,7 @@ module _ (c c1 c2 : Reading) (h : Header) (asked : Asked) (t : IsAsked asked h.t
             tree = e.0;
             encodes = e.1;
             follows = λ z. ap (λ x. x.rest) s ∙ k.follows z;
-            faults_handed = (let f : c.stream.faults ≤ c1.stream.faults = x.advances.faults in omega (arith, f, k.faults_handed));
+            faults_handed = k.faults_handed ∙ x.no_fault;
             faults_left = k.faults_left ∙ ap (λ z. z.faults) (sym s);
             stays = o;
             marked = m ∙ mark_is (Ok v) k;
@@ -95,7 +95,7 @@ module _ (c c1 c2 : Reading) (h : Header) (asked : Asked) (t : IsAsked asked h.t
         left = k.left;
         hands = subst (λ z. Hands z h.form h.len c1.owed c1.stream.rest k.handed) mode_is k.hands;
         moves = k.moves;
-        faults_handed = (let f : c.stream.faults ≤ c1.stream.faults = x.advances.faults in omega (arith, f, k.faults_handed));
+        faults_handed = k.faults_handed ∙ x.no_fault;
         faults_left = k.faults_left;
         marked = mark_is (Err e) k;
         refuses = k.refuses;
@@ -226,11 +226,11 @@ module _ {C T X : Type 0} (view : C → Reading) (post : Tag → MutBor C → Re
       record { handed = m.handed; left = m.left; handed_is = m.handed_is ∙ a.handed_is; left_is = m.left_is ∙ a.left_is; called = m.called }
 
   said_done : (t : Tag) (i : Reading) (r : Result T (DecodeError X)) (j : Reading) → AnswersDone view post t i r j → AnswersDone view post' t i r j
-  said_done t i r j a = record { left = a.left; answered = said_of t i r a.left a.answered; finishes = a.finishes; marked = a.marked; ends = a.ends; done = a.done }
+  said_done t i r j a = record { left = a.left; answered = said_of t i r a.left a.answered; finishes = a.finishes; marked = a.marked; no_fault = a.no_fault; ends = a.ends; done = a.done }
 
   said_refused : (t : Tag) (i : Reading) (e : DecodeError X) (j : Reading) → RefusesContent cause_of view post t i e j → RefusesContent cause_of view post' t i e j
   said_refused t i e j (by_closure a) = by_closure (said_of t i (Err e) j a)
-  said_refused t i e j (unfinished v l a m z) = unfinished v l (said_of t i (Ok v) l a) m z
+  said_refused t i e j (unfinished v l a m k z) = unfinished v l (said_of t i (Ok v) l a) m k z
 
   said_ok : (t : Tag) (i j : Reading) (r : Result T (DecodeError X)) → IfOk r (λ v. AnswersDone {R = Result T (DecodeError X)} view post t i (Ok v) j) → IfOk r (λ v. AnswersDone {R = Result T (DecodeError X)} view post' t i (Ok v) j)
   said_ok t i j (Ok v) a = said_done t i (Ok v) j a

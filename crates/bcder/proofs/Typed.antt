@@ -1,5 +1,5 @@
 -- Values that are taken by readers of contents octets.
-use Rattle.std.proofs.Common.{◌≡◌, ℕ, ◌≤◌, Bool, true, false, List, ◌++◌, length, take, drop, Option, Some, None, refl, ap, sym, ◌∙◌, arith, length-append, append_assoc, take-append-drop, subst, inl, inr}
+use Rattle.std.proofs.Common.{◌≡◌, ℕ, Bool, true, false, List, ◌++◌, length, take, drop, Option, Some, None, refl, ap, sym, ◌∙◌, arith, length-append, append_assoc, take-append-drop, subst, inl, inr}
 use Rattle.std.specs.Prelude.{◌||◌, Result, Ok, Err}
 use Rattle.std.specs.Borrow.{MutBor}
 use Rattle.std.proofs.lemmas.List.{take_at}
@@ -29,7 +29,7 @@ use Rattle.bcder.specs.laws.Sound.{AreOctets-take}
 use Rattle.bcder.specs.laws.Stands.{AreOctets-after}
 use Rattle.bcder.proofs.Moving.{open_not_ended, open_not_failed}
 use Rattle.bcder.proofs.Headers.{Shape, is_primitive, is_definite, is_indefinite, front_of_header, no_header_empty, header_no_marker, no_other_front}
-use Rattle.bcder.proofs.Entering.{Within}
+use Rattle.bcder.proofs.Entering.{Within, no_fewer}
 use Rattle.bcder.proofs.Walking.{owed_after, shape_in, short_front, grew_between}
 
 -- a header of the tag, as one of any
@@ -153,6 +153,9 @@ module _ {C T X : Type 0} (view : C → Reading) (post : Tag → MutBor C → Re
     taken_marked : d.marked ≡ c.marked
     taken_marked = v.marked ∙ or_false c.marked v.left.marked unmarked
 
+    taken_faults : d.stream.faults ≡ c.stream.faults
+    taken_faults = sym v.faults_left ∙ v.answers.no_fault ∙ read_all.no_fault ∙ v.faults_handed
+
   -- ---- refused
 
   module _ (c d : Reading) (w : Within c) (e : DecodeError X) (f : RefusesFront cause_of view post (tagged tag) c e d) where
@@ -163,21 +166,25 @@ module _ {C T X : Type 0} (view : C → Reading) (post : Tag → MutBor C → Re
     few_octets k s contents u rest h = (short_front c f.handed f.after (any_of tag c f.after f.front) f.hands k s).none (primitive tag contents) u rest h.encodes h.rest
 
     refused_octets : f.handed.kind ≡ Octets → RefusesReading (MeansIn c.mode) (RefusesIn c.mode) f.handed e f.left → RefusesAs tag (MeansIn c.mode) (RefusesIn c.mode) c e d
-    refused_octets k (readers.RefusesReading.missing (readers.RefusesAll.source s g)) = typed.RefusesAs.source s (grew_between _ _ _ _ f.faults_handed g f.faults_left)
+    refused_octets k (readers.RefusesReading.missing (readers.RefusesAll.source s g)) = typed.RefusesAs.source s (grew_between _ _ _ _ (no_fewer _ _ f.faults_handed) g f.faults_left)
     refused_octets k (readers.RefusesReading.missing (readers.RefusesAll.few s o n)) = typed.RefusesAs.broken (is_broken (few_octets k s)) o
     refused_octets k (readers.RefusesReading.refused a r n) = typed.RefusesAs.refused f.handed.stream.rest _ _ (handed_value tag c f.handed w f.after f.front f.hands k f.usable a _ (handed_before tag c f.handed w f.after f.front f.hands k a)) r
 
     refused_end : (l : Reading) → l.kind ≡ Octets → l.state ≡ Open → l.owed ≡ Some 0 → l.stream.faults ≡ f.handed.stream.faults → RefusesEnd cause_of l e f.left → RefusesAs tag (MeansIn c.mode) (RefusesIn c.mode) c e d
     refused_end l k o z n (left_failed x a) = absurd (open_not_failed l.state o x)
-    refused_end l k o z n (source_failed s g) = typed.RefusesAs.source s (let y : c.stream.faults ≤ f.handed.stream.faults = f.faults_handed in let b : c.stream.faults ≤ l.stream.faults = omega (arith, y, n) in grew_between _ _ _ _ b g f.faults_left)
+    refused_end l k o z n (source_failed s g) = typed.RefusesAs.source s (grew_between _ _ _ _ (no_fewer _ _ (n ∙ f.faults_handed)) g f.faults_left)
     refused_end l k o z n (left_open x a) = absurd (x.none l.stream.rest (inr (o, of_octets k z)))
 
     refused_content : RefusesContent cause_of view post f.front.tag f.handed e f.left → RefusesAs tag (MeansIn c.mode) (RefusesIn c.mode) c e d
     refused_content (by_closure a) = refused_octets (handed_is_octets f.front.tag f.handed f.left (Err e) a) (answered_reads c.mode f.front.tag f.handed f.left (Err e) a f.hands.mode).refused
-    refused_content (unfinished y l a m z) =
+    refused_content (unfinished y l a m k z) =
         let b = left_is_octets f.front.tag f.handed l (Ok y) a in
         let r = answered_reads c.mode f.front.tag f.handed l (Ok y) a f.hands.mode in
         refused_end l b.0 b.1 r.none_owed r.no_fault z
+
+    refused_unmarked : RefusesContent cause_of view post f.front.tag f.handed e f.left → f.left.marked ≡ false
+    refused_unmarked (by_closure a) = (answered_reads c.mode f.front.tag f.handed f.left (Err e) a f.hands.mode).marked ∙ f.hands.marked
+    refused_unmarked (unfinished y l a m k z) = k ∙ (answered_reads c.mode f.front.tag f.handed l (Ok y) a f.hands.mode).marked ∙ f.hands.marked
 
   refused_as : (c d : Reading) → Within c → (e : DecodeError X) → RefusesTake view post (Some true) (tagged tag) c e d → RefusesAs tag (MeansIn c.mode) (RefusesIn c.mode) c e d
   refused_as c d w e (by_header (content.RefusesHeader.failed s a) m) = typed.RefusesAs.failed s a
@@ -186,23 +193,29 @@ module _ {C T X : Type 0} (view : C → Reading) (post : Tag → MutBor C → Re
   refused_as c d w e (by_form f a m) = typed.RefusesAs.broken (record { usable = f.usable; value = no_other_form tag c f; absent = λ rest. header_not_absent tag c f.after rest f.usable f.front }) a
   refused_as c d w e (by_content f) = refused_content c d w e f f.refuses
 
+  -- no mode was changed
+  refused_marked : (c d : Reading) → Within c → (e : DecodeError X) → RefusesTake view post (Some true) (tagged tag) c e d → d.marked ≡ c.marked
+  refused_marked c d w e (by_header h m) = m
+  refused_marked c d w e (by_form f a m) = m
+  refused_marked c d w e (by_content f) = f.marked ∙ or_false c.marked f.left.marked (refused_unmarked c d w e f f.refuses)
+
   -- ---- what the calls say
 
   pub next_as : (c d : Reading) (r : Result (Option T) (DecodeError X)) → Within c → TakesNext view post (Some true) (tagged tag) c r d → TakesNextAs tag (MeansIn c.mode) (RefusesIn c.mode) c r d
-  next_as c d (Ok (Some x)) w n = record { value = taken_as c d w x n.value; none = tt; refused = tt; failed = tt; mode = n.mode; marked = taken_marked c d w x n.value }
-  next_as c d (Ok None) w n = record { value = tt; none = n.none; refused = tt; failed = tt; mode = n.mode; marked = (let h : HasNone (tagged tag) c d = n.none in h.marked) }
-  next_as c d (Err e) w n = record { value = tt; none = tt; refused = refused_as c d w e n.refused; failed = n.failed; mode = n.mode; marked = tt }
+  next_as c d (Ok (Some x)) w n = record { value = taken_as c d w x n.value; none = tt; no_fault = taken_faults c d w x n.value; refused = tt; failed = tt; mode = n.mode; marked = taken_marked c d w x n.value }
+  next_as c d (Ok None) w n = (let h : HasNone (tagged tag) c d = n.none in record { value = tt; none = h; no_fault = h.no_fault; refused = tt; failed = tt; mode = n.mode; marked = h.marked })
+  next_as c d (Err e) w n = record { value = tt; none = tt; no_fault = tt; refused = refused_as c d w e n.refused; failed = n.failed; mode = n.mode; marked = refused_marked c d w e n.refused }
 
   pub one_as : (c d : Reading) (r : Result T (DecodeError X)) → Within c → Takes view post (Some true) (tagged tag) c r d → TakesOneAs tag (MeansIn c.mode) (RefusesIn c.mode) c r d
-  one_as c d (Ok x) w n = record { value = taken_as c d w x n.value; refused = tt; mode = n.mode; marked = taken_marked c d w x n.value }
-  one_as c d (Err e) w n = record { value = tt; refused = elim n.refused [ inl h ↦ inl h | inr h ↦ inr (h.0, refused_as c d w e h.1) ]; mode = n.mode; marked = tt }
+  one_as c d (Ok x) w n = record { value = taken_as c d w x n.value; no_fault = taken_faults c d w x n.value; refused = tt; mode = n.mode; marked = taken_marked c d w x n.value }
+  one_as c d (Err e) w n = record { value = tt; no_fault = tt; refused = elim n.refused [ inl h ↦ inl h | inr h ↦ inr (h.0, refused_as c d w e h.1) ]; mode = n.mode; marked = elim n.refused [ inl h ↦ h.0.marked | inr h ↦ refused_marked c d w e h.1 ] }
 
   pub passes_as : (x : T) → ((y : T) → y ≡ x) → (c d : Reading) (o : Option T) → Within c → TakesNext view post (Some true) (tagged tag) c (Ok o) d → PassesNextAs tag (MeansIn c.mode) (RefusesIn c.mode) c (Ok x) d
-  passes_as x only c d (Some y) w n = record { value = inl (subst (λ z. TakesAs tag (MeansIn c.mode) (RefusesIn c.mode) c z d) (only y) (taken_as c d w y n.value)); refused = tt; failed = tt; mode = n.mode; marked = taken_marked c d w y n.value }
-  passes_as x only c d None w n = record { value = inr n.none; refused = tt; failed = tt; mode = n.mode; marked = (let h : HasNone (tagged tag) c d = n.none in h.marked) }
+  passes_as x only c d (Some y) w n = record { value = inl (subst (λ z. TakesAs tag (MeansIn c.mode) (RefusesIn c.mode) c z d) (only y) (taken_as c d w y n.value)); no_fault = taken_faults c d w y n.value; refused = tt; failed = tt; mode = n.mode; marked = taken_marked c d w y n.value }
+  passes_as x only c d None w n = (let h : HasNone (tagged tag) c d = n.none in record { value = inr h; no_fault = h.no_fault; refused = tt; failed = tt; mode = n.mode; marked = h.marked })
 
   pub refuses_as : (c d : Reading) (e : DecodeError X) → Within c → TakesNext view post (Some true) (tagged tag) c (Err e) d → PassesNextAs tag (MeansIn c.mode) (RefusesIn c.mode) c (Err e) d
-  refuses_as c d e w n = record { value = tt; refused = refused_as c d w e n.refused; failed = n.failed; mode = n.mode; marked = tt }
+  refuses_as c d e w n = record { value = tt; no_fault = tt; refused = refused_as c d w e n.refused; failed = n.failed; mode = n.mode; marked = refused_marked c d w e n.refused }
 
 -- contents octets, as the calls see them
 pub octets_form : {S : Type 0} (stream : S → Stream) (x : Primitive S) → ((of_primitive stream x).kind ≡ Octets) × ((of_primitive stream x).state ≡ Open)

@@ -19,7 +19,7 @@ use Rattle.bcder.specs.Walking.{HasValue, NoValue, PassesValue, AnswersNext, Wal
 use Rattle.bcder.specs.Walking as walking
 use Rattle.bcder.specs.laws.Complete.{only_at_front}
 use Rattle.bcder.proofs.Moving.{open_not_failed}
-use Rattle.bcder.proofs.Entering.{Within, header_not_at_end}
+use Rattle.bcder.proofs.Entering.{Within, header_not_at_end, no_fewer}
 use Rattle.bcder.proofs.Walking.{no_value_of_nothing, end_of_nothing, refused_inside, refused_end as refused_left, value_not_at_end, value_once}
 
 abbrev pub WalksContent : {C T E : Type 0} → (E → Cause ContentError) → (C → Reading) → (Tag → MutBor C → Result T E → MutBor C → Type 0) → Type 0
@@ -32,10 +32,10 @@ module _ {C T E : Type 0} (why : E → Cause ContentError) (view : C → Reading
   -- ---- refused
 
   front_refused : (c d : Reading) (e : E) (f : RefusesFront why view post any c e d) → RefusesContent why view post f.front.tag f.handed e f.left → ((why e ≡ of_source) × Grew c.stream.faults d.stream.faults) ⊎ (NoValue c × IsOfContent (why e))
-  front_refused c d e f (by_closure x) = refused_inside why e c d f.handed f.left f.after f.front f.hands f.faults_handed f.faults_left (walks_by f.front.tag f.handed f.left (Err e) x).refused
-  front_refused c d e f (unfinished y l x m z) =
+  front_refused c d e f (by_closure x) = refused_inside why e c d f.handed f.left f.after f.front f.hands (no_fewer _ _ f.faults_handed) f.faults_left (walks_by f.front.tag f.handed f.left (Err e) x).refused
+  front_refused c d e f (unfinished y l x m k z) =
       let w = walks_by f.front.tag f.handed l (Ok y) x in
-      inl (refused_left why e c d f.handed f.left f.after f.front f.hands f.faults_handed f.faults_left l w.done w.moves z)
+      inl (refused_left why e c d f.handed f.left f.after f.front f.hands (no_fewer _ _ f.faults_handed) f.faults_left l w.done w.moves z)
 
   walk_refused : (c d : Reading) (e : E) → Within c → RefusesValue why view post any c e d → walking.RefusesWalk why c e d
   walk_refused c d e w (calls.RefusesValue.failed s a) = walking.RefusesWalk.failed s a

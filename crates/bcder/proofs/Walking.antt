@@ -13,7 +13,7 @@ use Rattle.bcder.specs.Encoding.{IsEncoding, AreEncodings}
 use Rattle.bcder.specs.Stream.{Grew}
 use Rattle.bcder.specs.declared.decode.error.ContentError.{ContentError}
 use Rattle.bcder.specs.Cause.{Cause, of_source, IsOfContent}
-use Rattle.bcder.specs.Content.{Reading, Form, octets, values, Octets, DefiniteValues, IndefiniteValues, UnboundedValues, any, HasHeader, HasMarker, Moves, MovesBy, Falls, FitsOwed, IsDone, IsUsedUp, IsAtEnd, of_octets, of_definite, of_indefinite, of_unbounded, EndsBefore, EndsAt, NotAtEnd, NothingThere}
+use Rattle.bcder.specs.Content.{Reading, Form, octets, values, Octets, DefiniteValues, IndefiniteValues, any, HasHeader, HasMarker, Moves, MovesBy, Falls, FitsOwed, IsDone, IsUsedUp, IsAtEnd, of_octets, of_definite, of_indefinite, of_unbounded, EndsBefore, EndsAt, NotAtEnd, NothingThere}
 use Rattle.bcder.specs.Calls.{Hands, IsFormOf, ContentOf, RefusesEnd, left_failed, source_failed, left_open}
 use Rattle.bcder.specs.Walking.{HasValue, NoValue, PassesValue, ClosesBefore, HasValues, IsShort, AllBy, Walks, broken, short}
 use Rattle.bcder.specs.Walking as walking
@@ -217,11 +217,6 @@ form_definite f l n k a b h = subst (λ x. IsFormOf true x k) b (subst (λ x. Is
 form_indefinite : (f : Bool) (l : Length) (k : Form) → l ≡ Indefinite → IsFormOf f l k → k ≡ IndefiniteValues
 form_indefinite f l k b h = subst (λ x. IsFormOf f x k) b h
 
-form_bounded : (f : Bool) (l : Length) (k : Form) → IsFormOf f l k → k ≡ UnboundedValues → ⊥
-form_bounded f Indefinite k h e = (let z : IndefiniteValues ≡ UnboundedValues = sym h ∙ e in cc)
-form_bounded false (Definite n) k h e = (let z : Octets ≡ UnboundedValues = sym h ∙ e in cc)
-form_bounded true (Definite n) k h e = (let z : DefiniteValues ≡ UnboundedValues = sym h ∙ e in cc)
-
 -- the octets that a length counts
 take_front : (n : ℕ) (b x y : List ℕ) → n ≡ length b → y ≡ b ++ x → take n y ≡ b
 take_front n b x y e s = ap (take n) s ∙ take_at b x n (sym e)
@@ -272,16 +267,13 @@ module _ (c i : Reading) (after : List ℕ) (f : HasHeader any c after) (g : Han
   pub short_front : i.kind ≡ Octets → IsShort i → NoValue c
   short_front k n = record { none = λ t v x e r. short_shape x k n (shape_in t v x e r) }
 
-  not_unbounded : i.kind ≡ UnboundedValues → ⊥
-  not_unbounded e = form_bounded f.form f.len i.kind g.form e
-
--- content that is done is at its end, unless it is unbounded
-pub done_here : (j : Reading) (f : Form) → j.kind ≡ f → (f ≡ UnboundedValues → ⊥) → IsDone j → EndsAt j j
-done_here j f e u (inl s) = inl s
-done_here j octets e u (inr s) = inr (s.0, of_octets e (subst (λ x. IsUsedUp x j.owed) e s.1))
-done_here j (values kind.Definite) e u (inr s) = inr (s.0, of_definite e (subst (λ x. IsUsedUp x j.owed) e s.1))
-done_here j (values kind.Indefinite) e u (inr s) = absurd (subst (λ x. IsUsedUp x j.owed) e s.1)
-done_here j (values kind.Unbounded) e u (inr s) = absurd (u refl)
+-- content that is done is at its end
+pub done_here : (j : Reading) (f : Form) → j.kind ≡ f → IsDone j → EndsAt j j
+done_here j f e (inl s) = inl s
+done_here j octets e (inr s) = inr (s.0, of_octets e (subst (λ x. IsUsedUp x j.owed j.stream.rest) e s.1))
+done_here j (values kind.Definite) e (inr s) = inr (s.0, of_definite e (subst (λ x. IsUsedUp x j.owed j.stream.rest) e s.1))
+done_here j (values kind.Indefinite) e (inr s) = absurd (subst (λ x. IsUsedUp x j.owed j.stream.rest) e s.1)
+done_here j (values kind.Unbounded) e (inr s) = inr (s.0, of_unbounded e (subst (λ x. IsUsedUp x j.owed j.stream.rest) e s.1))
 
 not_failed_done : (j : Reading) → IsDone j → j.state ≡ Failed → ⊥
 not_failed_done j (inl s) e = (let x : Ended ≡ Failed = sym s ∙ e in cc)
@@ -300,4 +292,4 @@ module _ {E : Type 0} (why : E → Cause ContentError) (e : E) (c d i j : Readin
   pub refused_end : (l : Reading) → IsDone l → Moves i l → RefusesEnd why l e j → (why e ≡ of_source) × Grew c.stream.faults d.stream.faults
   refused_end l q m (left_failed x a) = absurd (not_failed_done l q x)
   refused_end l q m (source_failed k x) = (k, let y : i.stream.faults ≤ l.stream.faults = moves_faults i l m in let z : c.stream.faults ≤ l.stream.faults = omega arith in grew_between _ _ _ _ z x s)
-  refused_end l q m (left_open x a) = absurd (x.none l.stream.rest (done_here l i.kind (moves_kind i l m) (not_unbounded c i after f g) q))
+  refused_end l q m (left_open x a) = absurd (x.none l.stream.rest (done_here l i.kind (moves_kind i l m) q))

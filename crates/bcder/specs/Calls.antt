@@ -107,6 +107,7 @@ module _ {C R : Type 0} (view : C → Reading) where
     pub answered : Answered post t i r left
     pub finishes : Moves left j
     pub marked : j.marked ≡ left.marked
+    pub no_fault : j.stream.faults ≡ left.stream.faults
     pub ends : EndsAt left j
     pub done : IsDone j
 
@@ -119,7 +120,7 @@ pub data RefusesEnd {E : Type 0} (why : E → Cause ContentError) (c : Reading) 
 -- why the content i of a value was refused with e, whose cause `why` tells, and left as j: the closure refused it, or what the closure left is not at its end
 pub data RefusesContent {C T E : Type 0} (why : E → Cause ContentError) (view : C → Reading) (post : Tag → MutBor C → Result T E → MutBor C → Type 0) (t : Tag) (i : Reading) (e : E) (j : Reading) : Type 0 where
   by_closure : Answered {R = Result T E} view post t i (Err e) j → RefusesContent why view post t i e j
-  unfinished : (x : T) (left : Reading) → Answered {R = Result T E} view post t i (Ok x) left → Moves left j → RefusesEnd why left e j → RefusesContent why view post t i e j
+  unfinished : (x : T) (left : Reading) → Answered {R = Result T E} view post t i (Ok x) left → Moves left j → j.marked ≡ left.marked → RefusesEnd why left e j → RefusesContent why view post t i e j
 
 -- ---- a value that was taken, or not
 
@@ -136,7 +137,7 @@ module _ {C T E : Type 0} (view : C → Reading) (post : Tag → MutBor C → Re
     pub tree : Tree
     pub encodes : IsEncoding (label c.mode left.marked) tree (front.octets ++ passed)
     pub follows : front.len ≡ Indefinite → d.stream.rest ≡ left.stream.rest
-    pub faults_handed : c.stream.faults ≤ handed.stream.faults
+    pub faults_handed : handed.stream.faults ≡ c.stream.faults
     pub faults_left : left.stream.faults ≡ d.stream.faults
     pub stays : d.state ≡ Open
     pub marked : d.marked ≡ (c.marked || left.marked)
@@ -150,7 +151,7 @@ pub record RefusesFront {C T E : Type 0} (why : E → Cause ContentError) (view 
   pub left : Reading
   pub hands : Hands c.mode front.form front.len front.owed after handed
   pub moves : Moves handed left
-  pub faults_handed : c.stream.faults ≤ handed.stream.faults
+  pub faults_handed : handed.stream.faults ≡ c.stream.faults
   pub faults_left : left.stream.faults ≡ d.stream.faults
   pub marked : d.marked ≡ (c.marked || left.marked)
   pub refuses : RefusesContent why view post front.tag handed e left

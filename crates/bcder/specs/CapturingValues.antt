@@ -10,7 +10,7 @@ use Rattle.bcder.specs.Tree.{Tree}
 use Rattle.bcder.specs.Grammar.{IsOnly}
 use Rattle.bcder.specs.Stream.{Stream, Grew}
 use Rattle.bcder.specs.Captured.{Kept, AreWhole}
-use Rattle.bcder.specs.Content.{Reading, Closes, EndsBefore, IsDone}
+use Rattle.bcder.specs.Content.{Reading, Closes, IsDone}
 use Rattle.bcder.specs.Walking.{HasValue, PassesValue, ClosesBefore, HasValues}
 use Rattle.bcder.specs.Views.{before, after}
 
@@ -79,15 +79,13 @@ pub record CapturesValues (c : Reading) (k : Kept) (d : Reading) : Type 0 where
   pub closes : Closes c.mode c close d
   pub are_all : c.state ≡ Open → ClosesBefore c.kind c.mode c.owed k.octets (close ++ d.stream.rest)
   pub are_none : c.state ≡ Ended → k.octets ≡ []
-  pub ends : EndsBefore d d.stream.rest
   pub done : IsDone d
   pub mode : k.mode ≡ c.mode
   pub start : k.start ≡ c.stream.position
 
 -- content was passed to its end, whose marker was taken
-pub record PassesToEnd (c d : Reading) : Type 0 where
-  pub ends : EndsBefore d d.stream.rest
-  pub done : IsDone d
+abbrev pub PassesToEnd : Reading → Reading → Type 0
+PassesToEnd c d = IsDone d
 
 -- ---- the same of a parameter as a whole
 

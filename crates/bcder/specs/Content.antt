@@ -155,16 +155,16 @@ pub record HasOther (t : Tag) (w : List ℕ) : Type 0 where
 
 -- ---- the end
 
--- open content whose octets are used up
-abbrev pub IsUsedUp : Form → Option ℕ → Type 0
-IsUsedUp octets o = o ≡ Some 0
-IsUsedUp (values kind.Definite) o = o ≡ Some 0
-IsUsedUp (values kind.Indefinite) o = ⊥
-IsUsedUp (values kind.Unbounded) o = o ≡ o
+-- the octets of open content are used up: none is owed, or without a limit none is left
+abbrev pub IsUsedUp : Form → Option ℕ → List ℕ → Type 0
+IsUsedUp octets o rest = o ≡ Some 0
+IsUsedUp (values kind.Definite) o rest = o ≡ Some 0
+IsUsedUp (values kind.Indefinite) o rest = ⊥
+IsUsedUp (values kind.Unbounded) o rest = rest ≡ []
 
--- content is at its end, and its marker taken
+-- content is at its end, its marker taken, and has no more octets
 abbrev pub IsDone : Reading → Type 0
-IsDone c = (c.state ≡ Ended) ⊎ (c.state ≡ Open) × IsUsedUp c.kind c.owed
+IsDone c = (c.state ≡ Ended) ⊎ (c.state ≡ Open) × IsUsedUp c.kind c.owed c.stream.rest
 
 -- the end of open content, after which these octets stand
 pub data IsAtEnd (c : Reading) (after : List ℕ) : Type 0 where
@@ -221,11 +221,12 @@ end_header = record { tag = end_of_contents; form = false; len = Definite 0 }
 abbrev pub Accepts : Mode → Header → Option ℕ → Type 0
 Accepts mode h o = (is_value_tag h.tag ≡ true) × (may_have mode h.form h.len ≡ true) × FitsOwed h.len o
 
--- the header of a value was passed, and content is failed until the value is taken
+-- the header of a value was passed without a fault of the source, and content is failed until the value is taken
 pub record Enters (c : Reading) (h : Header) (d : Reading) : Type 0 where
   pub octets : List ℕ
   pub is_header : IsHeader c.mode h.tag h.form h.len octets
   pub advances : Advances c d octets
+  pub no_fault : d.stream.faults ≡ c.stream.faults
   pub unmarked : d.marked ≡ c.marked
   pub usable : c.state ≡ Open
   pub opened : d.state ≡ Failed

@@ -183,10 +183,9 @@ pub record SkippedAllBy {T X : Type 0} (why : X → Cause ContentError) (c : Rea
 abbrev pub FoundMemory : {T X : Type 0} → Result T (DecodeError X) → Type 0
 FoundMemory r = IsErrAnd r (λ e. cause_of e ≡ of_memory) → ⊥
 
--- c is what content b is behind a header, over which it passed without a fault
+-- c is what content b is behind a header, over which it passed
 pub record IsPast (b : Reading) (h : Header) (c : Reading) : Type 0 where
   pub enters : Enters b h c
-  pub no_fault : c.stream.faults ≡ b.stream.faults
   pub octets : AreOctets b.stream.rest
   pub fits : (n : ℕ) → b.owed ≡ Some n → length b.stream.rest ≤ n
 

@@ -26,12 +26,15 @@ abbrev pub SourceFailedOrNoMemory : {X : Type 0} → Reading → DecodeError X �
 SourceFailedOrNoMemory c e d = SourceFailed c e d ⊎ (cause_of e ≡ of_memory)
 
 module _ {X : Type 0} (Fails : Reading → DecodeError X → Reading → Type 0) where
-  -- x was answered, and `after` is left of the content, which stays open; or it failed
+  -- x was answered without a fault of the source, and `after` is left of the content, which stays open; or it failed; the mode stays, and the mark
   pub record Answers {T : Type 0} (x : T) (after : List ℕ) (c : Reading) (r : Result T (DecodeError X)) (d : Reading) : Type 0 where
     pub value : IfOk r (λ y. y ≡ x)
     pub rest : OnOk r (d.stream.rest ≡ after)
     pub stays : OnOk r (d.state ≡ Open)
+    pub no_fault : OnOk r (d.stream.faults ≡ c.stream.faults)
     pub fails : IfErr r (λ e. Fails c e d)
+    pub mode : d.mode ≡ c.mode
+    pub marked : d.marked ≡ c.marked
 
   module _ {T : Type 0} (tag : Tag) (Means : List ℕ → T → Type 0) (Refuses : List ℕ → DecodeError X → Type 0) where
     -- each typed take of c answers x, and leaves `after`

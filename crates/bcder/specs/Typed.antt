@@ -45,25 +45,28 @@ module _ {T X : Type 0} (tag : Tag) (Means : List ℕ → T → Type 0) (Refuses
   pub record TakesNextAs (c : Reading) (r : Result (Option T) (DecodeError X)) (d : Reading) : Type 0 where
     pub value : IfOk r (λ o. IfSome o (λ x. TakesAs c x d))
     pub none : IfOk r (λ o. IfNone o (HasNone (tagged tag) c d))
+    pub no_fault : OnOk r (d.stream.faults ≡ c.stream.faults)
     pub refused : IfErr r (λ e. RefusesAs c e d)
     pub failed : OnErr r (d.state ≡ Failed)
     pub mode : d.mode ≡ c.mode
-    pub marked : OnOk r (d.marked ≡ c.marked)
+    pub marked : d.marked ≡ c.marked
 
   -- one that passes over the value, if there is one
   pub record PassesNextAs (c : Reading) (r : Result T (DecodeError X)) (d : Reading) : Type 0 where
     pub value : IfOk r (λ x. TakesAs c x d ⊎ HasNone (tagged tag) c d)
+    pub no_fault : OnOk r (d.stream.faults ≡ c.stream.faults)
     pub refused : IfErr r (λ e. RefusesAs c e d)
     pub failed : OnErr r (d.state ≡ Failed)
     pub mode : d.mode ≡ c.mode
-    pub marked : OnOk r (d.marked ≡ c.marked)
+    pub marked : d.marked ≡ c.marked
 
   -- one that needs the value: where there is none the content stays usable
   pub record TakesOneAs (c : Reading) (r : Result T (DecodeError X)) (d : Reading) : Type 0 where
     pub value : IfOk r (λ x. TakesAs c x d)
+    pub no_fault : OnOk r (d.stream.faults ≡ c.stream.faults)
     pub refused : IfErr r (λ e. HasNone (tagged tag) c d × NamesTag tag e ⊎ (d.state ≡ Failed) × RefusesAs c e d)
     pub mode : d.mode ≡ c.mode
-    pub marked : OnOk r (d.marked ≡ c.marked)
+    pub marked : d.marked ≡ c.marked
 
 -- ---- the same of a parameter as a whole
 

@@ -6,6 +6,7 @@ ghost use Rattle.bcder.specs.Calls.{RefusesEnd, RanOver, TakesContent};
 ghost use Rattle.bcder.specs.Cause.{cause_of, stop_cause};
 ghost use Rattle.bcder.specs.Content.{Octets, Moves, FitsOwed, values, EndsAt, IsDone};
 ghost use Rattle.bcder.specs.Encoding.{may_have};
+ghost use Rattle.bcder.specs.Entering.{MeetsNoFault};
 ghost use Rattle.bcder.specs.Inside.{kind_behind, limit_inside, limit_outside, IsBehind};
 ghost use Rattle.bcder.specs.Inside.{TakesBehind};
 ghost use Rattle.bcder.specs.Peek.{header as header_of};
@@ -94,6 +95,7 @@ impl<'a, S: Source> Constructed<'a, S> {
         ensures moves { Moves (before S.stream self) (after S.stream self) }
         ensures name { self.new.source.ghost_name ≡ self.old.source.ghost_name }
         ensures marked { self.new.marked ≡ self.old.marked }
+        ensures no_fault { MeetsNoFault (before S.stream self) (after S.stream self) result }
         ensures done { OnOk result (IsDone (after S.stream self)) }
         ensures end { OnOk result (EndsAt (before S.stream self) (after S.stream self)) }
         ensures refused { IfErr result (λ e.
@@ -117,6 +119,7 @@ impl<'a, S: Source> Constructed<'a, S> {
         ensures moves { Moves (before S.stream self) (after S.stream self) }
         ensures name { self.new.source.ghost_name ≡ self.old.source.ghost_name }
         ensures marked { self.new.marked ≡ self.old.marked }
+        ensures no_fault { MeetsNoFault (before S.stream self) (after S.stream self) result }
         ensures done { OnOk result (IsDone (after S.stream self)) }
         ensures end { OnOk result (EndsAt (before S.stream self) (after S.stream self)) }
         ensures refused { IfErr result (λ e.
@@ -137,6 +140,8 @@ impl<'a, S: Source> Content<'a, S> {
     fn finish(&mut self) -> Result<(), DecodeError<S::Error>>
         ensures moves { Moves (content_before S.stream self) (content_after S.stream self) }
         ensures marked { content_mark self.new ≡ content_mark self.old }
+        ensures no_fault { MeetsNoFault
+            (content_before S.stream self) (content_after S.stream self) result }
         ensures done { OnOk result (IsDone (content_after S.stream self)) }
         ensures end { OnOk result
             (EndsAt (content_before S.stream self) (content_after S.stream self)) }

@@ -385,7 +385,6 @@ fn walk_over<S: Source>(
     kind: Kind,
     mode: Mode,
 ) -> Result<(), Stop<S::Error>>
-    requires { kind ≢ Kind.Unbounded }
     ensures ran { (t : TagValue) → RanOver stop_cause itself (walked stop_cause)
         (limited_stream S.stream source.old) source.old.limit (values kind) mode t result false
         (limited_stream S.stream source.new) source.new.limit }

@@ -12,7 +12,7 @@ unfolding of_constructed
 returns-clause-captured g c =
     let old = of_constructed g.S.Source.stream c.args.self.now in
     captures_by (of_captured g.S.Source.stream) _ PassesToEnd HasOthers (λ p r q x. search rules) others_of end_usable CapturesValues _ _
-    (λ k h q m. holds_values _ _ _ _ k h (constructed_form g.S.Source.stream c.args.self.now) (c.capture.ensures.moves old (moves_refl old)) c.capture.ensures.mode q m) c.capture.result c.capture.ensures.captured c.capture.ensures.refused c.capture.ensures.mode
+    (λ k h q m. holds_values _ _ _ _ k h (constructed_form g.S.Source.stream c.args.self.now) (c.capture.ensures.moves old (moves_refl old)) q m) c.capture.result c.capture.ensures.captured c.capture.ensures.refused c.capture.ensures.mode
 
 pub returns-clause-exact : goal.returns-clause-exact
 unfolding of_constructed
@@ -20,4 +20,4 @@ returns-clause-exact g c =
     let old = of_constructed g.S.Source.stream c.args.self.now in
     exactly_all _ _ c.capture.result
     (captures_by (of_captured g.S.Source.stream) _ PassesToEnd HasOthers (λ p r q x. search rules) others_of end_usable CapturesValues _ _
-    (λ k h q m. holds_values _ _ _ _ k h (constructed_form g.S.Source.stream c.args.self.now) (c.capture.ensures.moves old (moves_refl old)) c.capture.ensures.mode q m) c.capture.result c.capture.ensures.captured c.capture.ensures.refused c.capture.ensures.mode)
+    (λ k h q m. holds_values _ _ _ _ k h (constructed_form g.S.Source.stream c.args.self.now) (c.capture.ensures.moves old (moves_refl old)) q m) c.capture.result c.capture.ensures.captured c.capture.ensures.refused c.capture.ensures.mode)

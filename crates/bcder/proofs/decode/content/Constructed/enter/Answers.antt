@@ -16,7 +16,7 @@ unfolding of_constructed
 returns-then-accepts-clause-entered g c = (
   refl,
   enters (of_constructed g.S.Source.stream c.args.self.now) _ c.args.size (header c.args.header) c.pass.ensures.advances c.pass.ensures.octets c.pass.ensures.within c.requires.read.1 c.requires.usable
-      (accepted _ _ _ _ _ c.pass.ensures.mode c.limit-owed.ensures (c.accepts.ensures.yes c.if-accepts.true)) c.pass.ensures.marked c.pass.ensures.state,
+      (accepted _ _ _ _ _ c.pass.ensures.mode c.limit-owed.ensures (c.accepts.ensures.yes c.if-accepts.true)) c.pass.ensures.no_fault c.pass.ensures.marked c.pass.ensures.state,
 )
 
 pub returns-then-is_end-clause-moves : goal.returns-then-is_end-clause-moves

@@ -22,10 +22,9 @@ returns-in-Ok-Some-clause-entered g c =
     let l = (within c.look_at_octets.new.self.source.now.limit (g.S.Source.stream c.look_at_octets.new.self.source.now.source) (limited_stream g.S.Source.stream c.look_at_octets.new.self.source.now).avail (g.met.S.Source.sound c.look_at_octets.new.self.source.now.source) (omega arith)).1 in
     let i = within_constructed g.S.Source.stream g.met.S.Source.sound c.args.self.now in
     let a = whole_accepted (of_constructed g.S.Source.stream c.look_at_octets.new.self) (of_constructed g.S.Source.stream c.pass.new.self) c.in-Ok-Some.header _ w l (within_constructed g.S.Source.stream g.met.S.Source.sound c.look_at_octets.new.self) c.pass.ensures.advances in
-    let e = enters (of_constructed g.S.Source.stream c.look_at_octets.new.self) (of_constructed g.S.Source.stream c.pass.new.self) 2 (header c.in-Ok-Some.header) c.pass.ensures.advances c.pass.ensures.octets c.pass.ensures.within (rw s.mode p.1) (s.state ∙ c.in-Open.is) a c.pass.ensures.marked c.pass.ensures.state in
+    let e = enters (of_constructed g.S.Source.stream c.look_at_octets.new.self) (of_constructed g.S.Source.stream c.pass.new.self) 2 (header c.in-Ok-Some.header) c.pass.ensures.advances c.pass.ensures.octets c.pass.ensures.within (rw s.mode p.1) (s.state ∙ c.in-Open.is) a c.pass.ensures.no_fault c.pass.ensures.marked c.pass.ensures.state in
     record {
-      enters = looked_enters (of_constructed g.S.Source.stream c.args.self.now) (of_constructed g.S.Source.stream c.look_at_octets.new.self) s (no_fewer _ _ c.in-Ok-Some.ensures.no_fault) (header c.in-Ok-Some.header) _ e;
-      no_fault = c.pass.ensures.no_fault ∙ c.in-Ok-Some.ensures.no_fault;
+      enters = looked_enters (of_constructed g.S.Source.stream c.args.self.now) (of_constructed g.S.Source.stream c.look_at_octets.new.self) s (no_fewer _ _ c.in-Ok-Some.ensures.no_fault) c.in-Ok-Some.ensures.no_fault (header c.in-Ok-Some.header) _ e;
       octets = i.octets;
       fits = i.fits;
     }

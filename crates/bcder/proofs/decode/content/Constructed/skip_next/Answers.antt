@@ -27,14 +27,14 @@ unfolding of_constructed
 returns-in-Ok-Some-clause-moves g c =
     let e = rw c.in-Ok-Some.field-0-is at c.in-Ok-Some.ensures.entered in
     let w = within_constructed g.S.Source.stream g.met.S.Source.sound c.args.self.now in
-    c.skip_behind.ensures.moves (of_constructed g.S.Source.stream c.args.self.now) (record { enters = e.1; no_fault = c.in-Ok-Some.ensures.no_fault; octets = w.octets; fits = w.fits })
+    c.skip_behind.ensures.moves (of_constructed g.S.Source.stream c.args.self.now) (record { enters = e.1; octets = w.octets; fits = w.fits })
 
 pub returns-in-Ok-Some-clause-skipped : goal.returns-in-Ok-Some-clause-skipped
 unfolding of_constructed
 returns-in-Ok-Some-clause-skipped g c =
     let e = rw c.in-Ok-Some.field-0-is at c.in-Ok-Some.ensures.entered in
     let w = within_constructed g.S.Source.stream g.met.S.Source.sound c.args.self.now in
-    c.skip_behind.ensures.skipped (of_constructed g.S.Source.stream c.args.self.now) (record { enters = e.1; no_fault = c.in-Ok-Some.ensures.no_fault; octets = w.octets; fits = w.fits })
+    c.skip_behind.ensures.skipped (of_constructed g.S.Source.stream c.args.self.now) (record { enters = e.1; octets = w.octets; fits = w.fits })
 
 pub returns-in-Ok-None-clause-moves : goal.returns-in-Ok-None-clause-moves
 returns-in-Ok-None-clause-moves g c =

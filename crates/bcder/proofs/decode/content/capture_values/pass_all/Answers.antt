@@ -1,5 +1,5 @@
 use Rattle.std.proofs.Common.{◌∙◌, arith, refl}
-use Rattle.bcder.specs.Content.{EndsAt, IsDone}
+use Rattle.bcder.specs.Content.{IsDone}
 use Rattle.bcder.specs.Walking.{PassesValue}
 use Rattle.bcder.specs.Views.{of_constructed}
 use Rattle.bcder.proofs.Moving.{moves_refl, moves_trans}
@@ -7,7 +7,7 @@ use Rattle.bcder.proofs.Names.{within_constructed, constructed_form}
 use Rattle.bcder.proofs.Carrying.{carries}
 use Rattle.bcder.proofs.Walking.{walks_refl, walks_value, value_shorter}
 use Rattle.bcder.proofs.Walked.{some_value, none_value}
-use Rattle.bcder.proofs.CapturingValues.{loop_refused_one, pass_refused, to_end}
+use Rattle.bcder.proofs.CapturingValues.{loop_refused_one, pass_refused}
 use Rattle.bcder.proofs.decode.content.capture_values.pass_all.Goals as goal
 
 pub loop-init : goal.loop-init
@@ -54,7 +54,7 @@ returns-clause-passed g c =
     let k = of_constructed g.S.Source.stream c.skip_one.new.self in
     let p = c.in_ok-skip_one.ensures.skipped in
     record {
-      passed = to_end j k (c.skip_one.ensures.moves j (moves_refl j)) (none_value (EndsAt j k) _ c.if-is_some.ensures p.end) i (none_value (IsDone k) _ c.if-is_some.ensures p.done);
+      passed = none_value (IsDone k) _ c.if-is_some.ensures p.done;
       no_fault = p.no_fault ∙ c.loop.invariant.no_fault;
       refused = tt;
       marked = p.marked ∙ c.loop.invariant.walks.marked;

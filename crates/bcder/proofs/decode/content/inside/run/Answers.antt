@@ -11,7 +11,7 @@ pub returns-in-Err-finish-clause-refused : goal.returns-in-Err-finish-clause-ref
 returns-in-Err-finish-clause-refused g c =
     unfinished c.in-Ok.value (of_content g.S.Source.stream c.op.new.arg3)
     (record { handed = _; left = _; handed_is = refl; left_is = refl; called = c.in-Ok.ensures })
-    c.finish.ensures.moves c.in-Err-finish.ensures.refused
+    c.finish.ensures.moves (mark_of_content g.S.Source.stream c.finish.new.self ∙ c.finish.ensures.marked ∙ sym (mark_of_content g.S.Source.stream c.op.new.arg3)) c.in-Err-finish.ensures.refused
 
 pub returns-in-Ok-finish-clause-ok : goal.returns-in-Ok-finish-clause-ok
 returns-in-Ok-finish-clause-ok g c = record {
@@ -19,6 +19,7 @@ returns-in-Ok-finish-clause-ok g c = record {
   answered = record { handed = _; left = _; handed_is = refl; left_is = refl; called = c.in-Ok.ensures };
   finishes = c.finish.ensures.moves;
   marked = mark_of_content g.S.Source.stream c.finish.new.self ∙ c.finish.ensures.marked ∙ sym (mark_of_content g.S.Source.stream c.op.new.arg3);
+  no_fault = c.in-Ok-finish.ensures.no_fault;
   ends = c.in-Ok-finish.ensures.end;
   done = c.in-Ok-finish.ensures.done;
 }

@@ -12,7 +12,7 @@ pub returns-in-Err-finish-clause-refused : goal.returns-in-Err-finish-clause-ref
 returns-in-Err-finish-clause-refused g c =
     unfinished c.in-Ok.value (of_primitive g.S.Source.stream c.op.new.arg3)
     (record { handed = _; left = _; handed_is = refl; left_is = refl; called = c.in-Ok.ensures })
-    (subst (λ z. Moves (of_primitive g.S.Source.stream c.op.new.arg3) (of_primitive g.S.Source.stream z)) (sym c.finish.ensures.same) (moves_refl _)) c.in-Err-finish.ensures.refused
+    (subst (λ z. Moves (of_primitive g.S.Source.stream c.op.new.arg3) (of_primitive g.S.Source.stream z)) (sym c.finish.ensures.same) (moves_refl _)) (ap (λ z. (of_primitive g.S.Source.stream z).marked) c.finish.ensures.same) c.in-Err-finish.ensures.refused
 
 pub returns-clause-ok : goal.returns-clause-ok
 returns-clause-ok g c = record {
@@ -20,6 +20,7 @@ returns-clause-ok g c = record {
   answered = record { handed = _; left = _; handed_is = refl; left_is = refl; called = c.in-Ok.ensures };
   finishes = (subst (λ z. Moves (of_primitive g.S.Source.stream c.op.new.arg3) (of_primitive g.S.Source.stream z)) (sym c.finish.ensures.same) (moves_refl _));
   marked = ap (λ z. (of_primitive g.S.Source.stream z).marked) c.finish.ensures.same;
+  no_fault = ap (λ z. (of_primitive g.S.Source.stream z).stream.faults) c.finish.ensures.same;
   ends = c.in-Ok-finish.ensures.end;
   done = c.in-Ok-finish.ensures.done;
 }

@@ -9,7 +9,6 @@ use Rattle.bcder.specs.Views.{of_constructed, limited_stream}
 use Rattle.bcder.proofs.Moving.{moves_trans}
 use Rattle.bcder.proofs.Names.{within_constructed, constructed_form, moves_constructed_name}
 use Rattle.bcder.proofs.Refusing.{if_err}
-use Rattle.bcder.proofs.Entering.{kind_of}
 use Rattle.bcder.proofs.Inner.{takes_values, takes_marked}
 use Rattle.bcder.proofs.Taking.{taken_value, taken_moves, refused_front, refused_moves}
 use Rattle.bcder.proofs.Stepping.{step_refused, next_refused, entered_shorter, stop_reason, or_none, ran_values, skips}
@@ -106,7 +105,7 @@ unfolding of_constructed
 walk_over-returns-clause-ran g t c u =
     let same : c.walk_all.new.cons.source.now ≡ c.source-2-1.given.0 = search rules in
     ran_values stop_cause _ (of_constructed g.S.Source.stream c.walk_all.new.cons) c.walk_all.result c.walk_all.ensures.moves c.walk_all.ensures.passed.marked c.walk_all.ensures.passed.done c.walk_all.ensures.passed.refused
-    (limited_stream g.S.Source.stream c.args.source.now) (limited_stream g.S.Source.stream c.source-2-1.given.0) c.args.source.now.limit c.source-2-1.given.0.limit (values c.args.kind) c.args.mode u refl refl refl refl refl refl (ap (limited_stream g.S.Source.stream) same) (ap (λ z. z.limit) same) (λ e. c.requires (kind_of _ _ e))
+    (limited_stream g.S.Source.stream c.args.source.now) (limited_stream g.S.Source.stream c.source-2-1.given.0) c.args.source.now.limit c.source-2-1.given.0.limit (values c.args.kind) c.args.mode u refl refl refl refl refl refl (ap (limited_stream g.S.Source.stream) same) (ap (λ z. z.limit) same)
 
 pub walk_all-loop-init : goal.walk_all-loop-init
 walk_all-loop-init g t c = record { walks = walks_refl _; no_fault = refl }
