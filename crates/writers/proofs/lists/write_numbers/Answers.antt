@@ -1,0 +1,4 @@
+use Rattle.writers.proofs.lists.write_numbers.Goals as goal
+
+pub returns : goal.returns
+returns g c = ?
