@@ -62,7 +62,7 @@ refused_texts a b ts w e n (second_too_large m k _ t l u g) p =
     let q : p.second < 40 = p.may_begin.second (omega arith) in
     omega arith
 refused_texts a b ts w e n (other_is_none m k _ t u l h) p = none_of_others ts p.others h p.other_texts
-refused_texts a b ts w e n (no_memory want) p = n want
+refused_texts a b ts w e n (no_memory m k ns want _ _ _ _) p = n want
 
 -- a refused text has no octets
 pub refused : (parts : List (List ℕ)) (w : List ℕ) (e : OidError) → e ≢ NoMemory → RefusesParts parts e → ReadsParts parts w → ⊥

@@ -1,8 +1,10 @@
--- What is written of a constructed value is an encoding of it.
+-- What is written of a constructed value is an encoding of it; and where want of memory is told.
 use Rattle.std.proofs.Common.{◌≡◌, ℕ, ◌++◌, Bool, true, false, List, Option, ap, sym, ◌∙◌, append-nil, subst, inl, inr}
-use Rattle.std.specs.Prelude.{Result, Ok, Err, length, if◌then◌else◌}
+use Rattle.std.specs.Prelude.{Result, Ok, Err, IfErr, length, if◌then◌else◌}
 use Rattle.std.specs.Borrow.{MutBor}
 use denote.Triple.Both.{Both}
+use Rattle.bcder.specs.declared.encode.error.EncodeError.{EncodeError}
+use Rattle.bcder.specs.declared.encode.error.EncodeError.TheVariants.{NoMemory}
 use Rattle.bcder.specs.declared.encode.error.WriteError.{WriteError}
 use Rattle.bcder.specs.declared.encode.error.WriteError.TheVariants.{Refused, Target}
 use Rattle.bcder.specs.declared.mode.Mode.{Mode}
@@ -42,3 +44,10 @@ pub wrote_constructed : {W : Type 0} {contents : W → Option (List ℕ)} {targe
     → WritesEncodings mode (ValueMeans t (constructed_meaning t mode) P) → WritesValues contents target (ValueMeans t (constructed_meaning t mode) P) lacks r → WroteConstructed contents target u mode r
 wrote_constructed {contents = contents} {target = target} {mode = mode} {r = r} t P lacks same encodes w =
     subst (λ z. WroteConstructed contents target z mode r) same (record { done = appends t mode P lacks (contents target.entry.now) (contents target.exit.now) r encodes w })
+
+-- want of memory is told only where memory may lack
+pub wants_where_it_lacks : {A : Type 0} {octets : A → List ℕ} {M : Result A EncodeError → Type 0} {lacks : Type 0} {old new : Option (List ℕ)} (r : Result (Unit {0}) WriteError) → Writes octets M lacks old new r → IfErr r (λ e. e ≡ Refused NoMemory → lacks)
+wants_where_it_lacks (Ok u) w = tt
+wants_where_it_lacks (Err (Target e)) w = λ is. cc
+wants_where_it_lacks (Err (Refused e)) (inl w) = λ is. w.wrote.done.1
+wants_where_it_lacks (Err (Refused e)) (inr n) = λ is. n.refuses.lacking (let at = n.answered in cc)

@@ -113,10 +113,14 @@ module _ {W : Type 0} (contents : W → Option (List ℕ)) (target : Both (MutBo
 
 -- ---- in memory
 
--- r is what is meant, or its refusal, or want of memory
-abbrev pub GathersContents : (ContentsMeaning → Type 0) → Result (List ℕ) EncodeError → Type 0
-GathersContents M (Ok w) = M (Ok w)
-GathersContents M (Err e) = RefusesBy M ⊤ e
+-- e is the refusal that is meant; or want of memory, for what is meant or where memory may lack to tell it
+abbrev pub RefusesToKeep : {A : Type 0} → (Result A EncodeError → Type 0) → Type 0 → EncodeError → Type 0
+RefusesToKeep M lacks e = RefusesBy M (((a : _) × M (Ok a)) ⊎ lacks) e
+
+-- r is what is meant, or says why it isn't kept
+abbrev pub GathersContents : (ContentsMeaning → Type 0) → Type 0 → Result (List ℕ) EncodeError → Type 0
+GathersContents M lacks (Ok w) = M (Ok w)
+GathersContents M lacks (Err e) = RefusesToKeep M lacks e
 
 -- ---- lengths and headers alone
 

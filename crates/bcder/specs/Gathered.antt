@@ -1,5 +1,5 @@
 -- Kept values as an encoder, and what encoders write, kept.
-use Rattle.std.specs.Prelude.{◌≡◌, ◌≢◌, ℕ, Bool, true, false, List, [], ◌++◌, Result, Ok, Err, ⊤}
+use Rattle.std.specs.Prelude.{◌≡◌, ◌≢◌, ℕ, Bool, true, false, List, [], ◌++◌, Result, Ok, Err}
 use Rattle.std.specs.Borrow.{MutBor}
 use denote.Triple.Both.{Both}
 use Rattle.bcder.specs.declared.encode.error.EncodeError.{EncodeError}
@@ -10,7 +10,7 @@ use Rattle.bcder.specs.Tree.{Trees}
 use Rattle.bcder.specs.Encoding.{AreEncodings}
 use Rattle.bcder.specs.Captured.{Kept}
 use Rattle.bcder.specs.Meaning.{Encoded, Meaning}
-use Rattle.bcder.specs.Encoders.{HasEncoding, RefusesBy}
+use Rattle.bcder.specs.Encoders.{HasEncoding, RefusesToKeep}
 
 -- ---- kept values, written
 
@@ -65,12 +65,12 @@ pub record HoldsMeant (M : Meaning → Type 0) (mode : Mode) (c : Kept) : Type 0
   pub holds : c ≡ kept_from_start mode what.octets
   pub encode : AreTheEncodings mode what.values what.octets
 
--- r is a capture of what is meant, or its refusal, or want of memory
-abbrev pub GathersValues : (Meaning → Type 0) → Mode → Result Kept EncodeError → Type 0
-GathersValues M mode (Ok c) = HoldsMeant M mode c
-GathersValues M mode (Err e) = RefusesBy M ⊤ e
+-- r is a capture of what is meant, or says why it isn't kept
+abbrev pub GathersValues : (Meaning → Type 0) → Type 0 → Mode → Result Kept EncodeError → Type 0
+GathersValues M lacks mode (Ok c) = HoldsMeant M mode c
+GathersValues M lacks mode (Err e) = RefusesToKeep M lacks e
 
--- r says whether what is meant was put behind the kept values, and else is its refusal, or want of memory
-abbrev pub ExtendsBy : (Meaning → Type 0) → Both (MutBor Kept) (MutBor Kept) → Result (Unit {0}) EncodeError → Type 0
-ExtendsBy M c (Ok u) = GrowsBy M c.entry.now c.exit.now
-ExtendsBy M c (Err e) = RefusesBy M ⊤ e
+-- r says whether what is meant was put behind the kept values, and else why it isn't kept
+abbrev pub ExtendsBy : (Meaning → Type 0) → Type 0 → Both (MutBor Kept) (MutBor Kept) → Result (Unit {0}) EncodeError → Type 0
+ExtendsBy M lacks c (Ok u) = GrowsBy M c.entry.now c.exit.now
+ExtendsBy M lacks c (Err e) = RefusesToKeep M lacks e

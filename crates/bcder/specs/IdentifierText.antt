@@ -71,14 +71,14 @@ pub record AreTextsOf (a b : List ℕ) (ts : List (List ℕ)) (w : List ℕ) : T
   pub may_begin : MayBegin first second
   pub octets : AreSubidentifiers ((40 * first + second) ∷ others) w
 
--- why texts are refused, in the order of the checks
+-- why texts are refused, in the order of the checks; want of memory only where they are those of an identifier
 pub data RefusesTexts (a b : List ℕ) (ts : List (List ℕ)) (e : OidError) : Type 0 where
   first_is_none : e ≡ NotInteger → IsNoComponent a → RefusesTexts a b ts e
   first_too_large : (m : ℕ) → e ≡ First → IsComponentText a m → 2 < m → RefusesTexts a b ts e
   second_is_none : (m : ℕ) → e ≡ NotInteger → IsComponentText a m → m ≤ 2 → IsNoComponent b → RefusesTexts a b ts e
   second_too_large : (m n : ℕ) → e ≡ Second → IsComponentText a m → m < 2 → IsComponentText b n → 40 ≤ n → RefusesTexts a b ts e
   other_is_none : (m n : ℕ) → e ≡ NotInteger → IsComponentText a m → IsComponentText b n → MayBegin m n → HasNoComponent ts → RefusesTexts a b ts e
-  no_memory : e ≡ NoMemory → RefusesTexts a b ts e
+  no_memory : (m n : ℕ) (ns : List ℕ) → e ≡ NoMemory → IsComponentText a m → IsComponentText b n → MayBegin m n → AreComponentTexts ts ns → RefusesTexts a b ts e
 
 -- the text has two components or more, and these are the octets of the identifier that it stands for
 abbrev pub ReadsParts : List (List ℕ) → List ℕ → Type 0

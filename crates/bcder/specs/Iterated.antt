@@ -42,6 +42,19 @@ module _ {T I A : Type 0} (is_clone : T → T → Type 0) (gives : T → I → T
   RunsMean M x (Ok z) = (xs : List A) × Lists x xs × EachOf M xs (Ok z)
   RunsMean M x (Err e) = (xs : List A) × Begins x xs × EachOf M xs (Err e)
 
+-- a run over the items of a clone gives one where memory may lack
+pub record GivesLacking {T I A : Type 0} (is_clone : T → T → Type 0) (gives : T → I → Type 0) (steps : I → Option A → I → Type 0) (lacks : A → Type 0) (x : T) : Type 0 where
+  pub before : List A
+  pub begins : Begins is_clone gives steps x before
+  pub item : A
+  pub left : I
+  pub gives_item : steps begins.to (Some item) left
+  pub may : lacks item
+
+-- where memory may lack to go over the items of a clone: the clone may fail, or an item that a run gives may lack
+abbrev pub RunsLack : {T I A : Type 0} → (T → T → Type 0) → (T → Type 0) → (T → I → Type 0) → (I → Option A → I → Type 0) → (A → Type 0) → T → Type 0
+RunsLack is_clone is_infallible gives steps lacks x = (is_infallible x → ⊥) ⊎ GivesLacking is_clone gives steps lacks x
+
 module _ {I A : Type 0} (steps : I → Option A → I → Type 0) (can : A → Type 0) (means : A → Mode → Meaning → Type 0) where
   -- each run from s gives items that may be encoded and mean what those of ys do
   abbrev pub AlwaysGives : I → List A → Type 0

@@ -1,8 +1,10 @@
 -- Octets of identifiers that are put together from text.
-use Rattle.std.specs.Prelude.{◌≡◌, ◌≢◌, ℕ, ◌<◌, ◌≤◌, List, [], ◌∷◌, ◌++◌, length, slice_index, Option, Some, None}
+use Rattle.std.specs.Prelude.{◌≡◌, ◌≢◌, ◌⊎◌, ℕ, ◌<◌, ◌≤◌, List, [], ◌∷◌, ◌++◌, length, slice_index, Option, Some, None}
 use Rattle.std.specs.Borrow.{Bor}
 use Rattle.bcder.specs.ObjectIdentifier.{number, IsSubidentifier, AreSubidentifiers}
-use Rattle.bcder.specs.IdentifierText.{between_dots, AreComponentTexts}
+use Rattle.bcder.specs.declared.oid.text.OidError.{OidError}
+use Rattle.bcder.specs.declared.oid.text.OidError.TheVariants.{NotInteger, NoMemory}
+use Rattle.bcder.specs.IdentifierText.{between_dots, AreComponentTexts, HasNoComponent}
 
 -- the texts between the dots of a text, if there is one
 abbrev pub texts_of : Option (Bor (List ℕ)) → List (List ℕ)
@@ -33,3 +35,7 @@ AreSpelled ts w = (ns : List ℕ) × AreComponentTexts ts ns × AreSubidentifier
 
 abbrev pub AppendsTexts : List ℕ → List ℕ → List (List ℕ) → Type 0
 AppendsTexts old new ts = (w : List ℕ) × AreSpelled ts w × (new ≡ old ++ w)
+
+-- why the texts after the first two aren't appended: one of them is no component, or all are and there was no memory
+abbrev pub RefusesOthers : List (List ℕ) → OidError → Type 0
+RefusesOthers ts e = ((e ≡ NotInteger) × HasNoComponent ts) ⊎ ((e ≡ NoMemory) × (ns : List ℕ) × AreComponentTexts ts ns)

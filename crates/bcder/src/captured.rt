@@ -89,15 +89,15 @@ impl Captured {
     ///
     /// # Errors
     ///
-    /// Those of the encoder's `encoded_len`, and `NoMemory` where there is no memory for the
-    /// octets.
+    /// Those of the encoder's `encoded_len`, and `NoMemory` where there are octets and no memory
+    /// for them.
     pub fn from_values<V: Values + Drop>(
         alloc: Global,
         mode: Mode,
         values: V,
     ) -> Result<Captured, EncodeError>
         requires { V.can_encode values }
-        ensures { GathersValues (V.means values mode) mode result }
+        ensures { GathersValues (V.means values mode) (V.may_lack values mode) mode result }
     {
         let mut builder = Captured::builder(alloc, mode);
         builder.extend(values)?;

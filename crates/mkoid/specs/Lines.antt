@@ -3,7 +3,6 @@ use Rattle.std.specs.Prelude.{◌≡◌, ◌≢◌, ℕ, List, [], ◌∷◌, �
 use Rattle.std.specs.Io.KnownBytes.{Appends}
 use Rattle.mkoid.specs.Front.{AppendsShorter}
 use Rattle.bcder.specs.declared.oid.text.OidError.{OidError}
-use Rattle.bcder.specs.declared.oid.text.OidError.TheVariants.{NoMemory}
 use Rattle.bcder.specs.IdentifierText.{IsTextOf, RefusesText, error_text}
 
 -- an octet in decimal and a comma
@@ -18,11 +17,14 @@ octets_line octets = codes "[" ++ flat_map with_comma octets ++ codes "]\n"
 abbrev pub refusal_line : List ℕ → OidError → List ℕ
 refusal_line arg e = arg ++ (codes ": " ++ (error_text e ++ codes ".\n"))
 
--- the line of an argument: the octets of the identifier that it names, why it names none, or that there was no memory to tell
+-- the line of an argument that names an identifier: its octets
+abbrev pub IsNamed : List ℕ → List ℕ → Type 0
+IsNamed arg line = (octets : List ℕ) × IsTextOf arg octets × (line ≡ octets_line octets)
+
+-- the line of an argument: the octets of the identifier that it names; or why it names none, or that there was no memory for those that it names
 pub data IsLine (arg line : List ℕ) : Type 0 where
-  named : (octets : List ℕ) → IsTextOf arg octets → line ≡ octets_line octets → IsLine arg line
+  named : IsNamed arg line → IsLine arg line
   refused : (e : OidError) → RefusesText arg e → line ≡ refusal_line arg e → IsLine arg line
-  untold : line ≡ refusal_line arg NoMemory → IsLine arg line
 
 -- a line for each argument
 abbrev pub AreLines : List (List ℕ) → List ℕ → Type 0

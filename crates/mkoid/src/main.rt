@@ -5,14 +5,18 @@
 //! other argument it has the argument and why it is none.
 #![tactic(auto)]
 
-ghost use Rattle.std.specs.Prelude.{◌≡◌, OnOk, OnErr, IfOk, map, string_bytes};
-ghost use Rattle.mkoid.specs.Lines.{octets_line, IsLine, WritesAll, WritesSome, WritesLine};
-ghost use Rattle.mkoid.specs.Lines.{WritesPart};
+ghost use Rattle.std.specs.Prelude.{◌≡◌, OnOk, OnErr, IfOk, IfErr, map, string_bytes};
+ghost use Rattle.std.specs.Io.KnownBytes.{Appends};
+ghost use Rattle.bcder.specs.IdentifierText.{RefusesText, error_text};
+ghost use Rattle.mkoid.specs.Front.{AppendsShorter};
+ghost use Rattle.mkoid.specs.Lines.{octets_line, refusal_line, IsNamed, WritesAll, WritesSome};
+ghost use Rattle.mkoid.specs.Lines.{WritesLine, WritesPart};
 
 mod target;
 #[cfg(test)]
 mod tests;
 
+use bcder::oid::OidError;
 use bcder::{NoMemory, Oid};
 use std::alloc::Global;
 use std::process::ExitCode;
@@ -30,17 +34,47 @@ fn octets_line(alloc: Global, octets: &[u8]) -> Result<String, NoMemory>
     Ok(line)
 }
 
-/// The line of an argument.
-fn line_of(alloc: Global, arg: &str) -> Result<String, NoMemory>
-    ensures { IfOk result (λ line. IsLine arg.now (string_bytes line)) }
+/// The line of an argument that names an identifier, or why there is none.
+fn line_of(alloc: Global, arg: &str) -> Result<String, OidError>
+    ensures named { IfOk result (λ line. IsNamed arg.now (string_bytes line)) }
+    ensures refused { IfErr result (λ e. RefusesText arg.now e) }
 {
     match Oid::from_str(alloc, arg) {
-        Ok(oid) => octets_line(alloc, oid.0.as_slice()),
-        Err(error) => Ok(format!(in alloc; "{arg}: {error}.\n")?),
+        Ok(oid) => match octets_line(alloc, oid.0.as_slice()) {
+            Ok(line) => Ok(line),
+            Err(NoMemory) => Err(OidError::NoMemory),
+        },
+        Err(error) => Err(error),
     }
 }
 
-/// Writes the line of an argument. Where there is no memory to put it together, the line says so.
+/// The text of a refusal.
+fn text_of(error: &OidError) -> &'static str
+    ensures { result.now ≡ error_text error.now }
+{
+    match error {
+        OidError::TooFew => "at least two components required",
+        OidError::NotInteger => "only integer components allowed",
+        OidError::First => "first component can only be 0, 1, or 2.",
+        OidError::Second => "second component for 0. and 1. must be less than 40",
+        OidError::NoMemory => "out of memory",
+    }
+}
+
+/// Writes the line of an argument that is refused, which takes no memory.
+fn write_refusal<W: io::Write>(arg: &str, error: &OidError, target: &mut W) -> Result<(), io::Error>
+    ensures ok { OnOk result (Appends
+        (W.contents target.old) (W.contents target.new) (refusal_line arg.now error.now)) }
+    ensures err { OnErr result (AppendsShorter
+        (W.contents target.old) (W.contents target.new) (refusal_line arg.now error.now)) }
+{
+    target::write_octets(target, arg.as_bytes())?;
+    target::write_octets(target, b": ".as_slice())?;
+    target::write_octets(target, text_of(error).as_bytes())?;
+    target::write_octets(target, b".\n".as_slice())
+}
+
+/// Writes the line of an argument. Where there is no memory to tell an identifier, the line says so.
 fn write_line<W: io::Write>(alloc: Global, arg: &str, target: &mut W) -> Result<(), io::Error>
     ensures ok { OnOk result (WritesLine arg.now (W.contents target.old) (W.contents target.new)) }
     ensures err { OnErr result
@@ -48,15 +82,12 @@ fn write_line<W: io::Write>(alloc: Global, arg: &str, target: &mut W) -> Result<
 {
     match line_of(alloc, arg) {
         Ok(line) => target::write_octets(target, line.as_bytes()),
-        Err(NoMemory) => {
-            target::write_octets(target, arg.as_bytes())?;
-            target::write_octets(target, b": out of memory.\n".as_slice())
-        }
+        Err(error) => write_refusal(arg, &error, target),
     }
 }
 
 /// Writes a line for each argument: the octets of the object identifier that it names, or why it
-/// names none.
+/// names none, or that there is no memory to tell those that it names.
 ///
 /// An error is one of the target. Of the line that met it a beginning may have been written.
 pub fn lines<W: io::Write>(alloc: Global, args: &[String], target: &mut W) -> Result<(), io::Error>

@@ -21,8 +21,6 @@ impl PrimitiveContent for Zeros {
 
     ghost means = { λ x _. Exactly (zeros x.0) };
 
-    ghost may_lack = { λ _ _. ⊥ };
-
     fn tag() -> Tag {
         Tag::OCTET_STRING
     }
@@ -67,8 +65,6 @@ fn write_nulls<W: io::Write>(count: usize, mode: Mode, target: &mut W) -> Result
 
 impl Values for Nulls {
     ghost means = { λ x _. Joined (NullsMean x.0) };
-
-    ghost may_lack = { λ _ _. ⊥ };
 
     fn encoded_len(&self, _mode: Mode) -> Result<usize, EncodeError> {
         nulls_len(self.0)

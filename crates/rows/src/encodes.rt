@@ -441,15 +441,15 @@ impl Write for OneByOne {
     ghost contents = { λ w. Some w.taken.items };
 
     fn write(&mut self, buf: &[u8]) -> io::Result<usize> {
-        if buf.is_empty() {
-            return Ok(0);
-        }
         self.calls = self.calls.saturating_add(1);
         if self.calls == self.failing {
             return match self.failure {
                 Failure::Nothing => Ok(0),
                 Failure::Error(kind) => Err(Error::from(kind)),
             };
+        }
+        if buf.is_empty() {
+            return Ok(0);
         }
         self.taken.push(buf[0])?;
         Ok(1)
@@ -460,8 +460,8 @@ impl Write for OneByOne {
     }
 }
 
-/// Writes to a target that fails at a call. The octets up to that call were taken, and no more,
-/// also where it would take more at the next one.
+/// Writes to a target that fails at a call. The octets up to that call were taken, and it isn't
+/// called again, where it would take more.
 fn check_failing<V: Values>(
     rt: &impl Abort,
     alloc: Global,
@@ -492,6 +492,7 @@ fn check_failing<V: Values>(
         Failure::Nothing => same(rt, kind, Some(ErrorKind::WriteZero)),
         Failure::Error(wanted) => same(rt, kind, Some(wanted)),
     }
+    same(rt, target.calls, failing);
     same(rt, target.taken.len() + 1, failing);
     holds(rt, wanted.starts_with(target.taken.as_slice()));
     Ok(())

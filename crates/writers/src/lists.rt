@@ -4,7 +4,9 @@
 //! that the next line names.
 #![tactic(auto, using(bcder::specs::laws::Listed::gives_one_list))]
 
-ghost use Rattle.std.specs.Prelude.{All};
+ghost use Rattle.std.specs.Prelude.{◌≡◌, ◌≢◌, Any, All, IfErr};
+ghost use Rattle.bcder.specs.declared.encode.error.EncodeError.TheVariants.{NoMemory};
+ghost use Rattle.bcder.specs.declared.encode.error.WriteError.TheVariants.{Refused};
 
 use bcder::Mode;
 use bcder::encode::{Primitive, Values, WriteError, iter, sequence};
@@ -14,12 +16,14 @@ use std::io;
 ///
 /// # Errors
 ///
-/// Those of [`Values::write_encoded`].
+/// Those of [`Values::write_encoded`], but never for want of memory.
 pub fn write_numbers<W: io::Write>(
     numbers: &[Primitive<u32>],
     mode: Mode,
     target: &mut W,
-) -> Result<(), WriteError> {
+) -> Result<(), WriteError>
+    ensures { IfErr result (λ e. e ≢ Refused NoMemory) }
+{
     sequence(iter(numbers.iter())).write_encoded(mode, target)
 }
 
@@ -27,13 +31,15 @@ pub fn write_numbers<W: io::Write>(
 ///
 /// # Errors
 ///
-/// Those of [`Values::write_encoded`].
+/// Those of [`Values::write_encoded`]; for want of memory only where it may lack for a value.
 pub fn write_each<V: Values, W: io::Write>(
     values: &Vec<V>,
     mode: Mode,
     target: &mut W,
 ) -> Result<(), WriteError>
     requires { All V.can_encode values.now.items }
+    ensures { IfErr result (λ e. e ≡ Refused NoMemory →
+        Any (λ v. V.may_lack v mode) values.now.items) }
 {
     iter(values).write_encoded(mode, target)
 }

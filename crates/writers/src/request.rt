@@ -22,8 +22,6 @@ impl PrimitiveContent for Text<'_> {
 
     ghost means = { λ x _. ExactlyOctets x.0.now };
 
-    ghost may_lack = { λ _ _. ⊥ };
-
     fn tag() -> Tag
         ensures { result ≡ record { class = universal; number = 12 } }
     {

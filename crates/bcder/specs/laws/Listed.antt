@@ -1,12 +1,12 @@
--- Iterators over a slice give one list. Each lemma has a variable for each fact of the iterator and of its items, so that a tactic applies it to any of them.
-use Rattle.std.specs.Prelude.{◌≡◌, zero, suc, List, [], ◌∷◌, length, All, Option, Vec}
-use Rattle.std.proofs.Common.{Iter, arith, inr, sym, ap, ◌∙◌, subst, refl}
+-- Iterators over a slice give one list, and memory lacks for them only where it does for an item. Each lemma has a variable for each fact of the iterator and of its items, so that a tactic applies it to any of them.
+use Rattle.std.specs.Prelude.{◌≡◌, zero, suc, List, [], ◌∷◌, length, All, Any, Option, Some, Vec}
+use Rattle.std.proofs.Common.{Iter, arith, inl, inr, sym, ap, ◌∙◌, subst, refl}
 use denote.Ref.{Bor}
 use Rattle.std.specs.Slice.Iter.{iter_rest, iter_steps}
-use Rattle.std.specs.Iterator.{Count, IsFinite}
+use Rattle.std.specs.Iterator.{Count, IsFinite, Yields}
 use Rattle.bcder.specs.declared.mode.Mode.{Mode}
 use Rattle.bcder.specs.Meaning.{Meaning}
-use Rattle.bcder.specs.Iterated.{AlwaysGives, GivesOneList}
+use Rattle.bcder.specs.Iterated.{AlwaysGives, GivesOneList, RunsLack}
 
 -- an item behind some reference
 abbrev shown_one : {V : Type 0} → V → Bor V
@@ -72,6 +72,36 @@ module _ {V : Type 0} {steps : Iter V → Option (Bor V) → Iter V → Type 0} 
     pub vec_listed : {A : Type 0} {is_clone : Bor (Vec V A) → Bor (Vec V A) → Type 0} {gives : Bor (Vec V A) → Iter V → Type 0} {x : Bor (Vec V A)} → ((s t : Bor (Vec V A)) → is_clone s t → t ≡ s) → ((s : Bor (Vec V A)) (i : Iter V) → gives s i → iter_rest i ≡ s.now.items) → All (λ v. can (shown_one v)) x.now.items
         → GivesOneList is_clone gives steps can_next left can means x
     vec_listed {x = x} clones made all = listed x x.now.items (λ t i c g. made t i g ∙ ap (λ z. z.now.items) (clones x t c)) all
+
+-- ---- where memory may lack
+
+-- the steps are those of an iterator over a slice, a clone doesn't fail, and memory lacks for what is behind a reference
+module _ {V : Type 0} {steps : Iter V → Option (Bor V) → Iter V → Type 0} {lacks : Bor V → Type 0} {L : V → Type 0}
+    (are_steps : (s : Iter V) (r : Option (Bor V)) (t : Iter V) → steps s r t → iter_steps s r t)
+    (of_item : (y : Bor V) → lacks y → L y.now) where
+  item_given : (s t u : Iter V) (xs : List (Bor V)) (y : Bor V) → Yields steps s xs t → steps t (Some y) u → L y.now → Any L (iter_rest s)
+  item_given s t u [] y run st l = subst (Any L) (sym (ap iter_rest run ∙ are_steps t _ u st)) (0, y.now, omega arith, refl, l)
+  item_given s t u (x ∷ xs) y run st l =
+      let (k, v, below, is, m) = item_given run.0 t u xs y run.2 st l in
+      subst (Any L) (sym (are_steps s _ run.0 run.1)) (suc k, v, omega (arith, below), is, m)
+
+  given_lacks : {T : Type 0} {is_clone : T → T → Type 0} (is_infallible : T → Type 0) {gives : T → Iter V → Type 0} (x : T) (vs : List V) → is_infallible x → ((t : T) (i : Iter V) → is_clone x t → gives t i → iter_rest i ≡ vs) → RunsLack is_clone is_infallible gives steps lacks x → Any L vs
+  given_lacks is_infallible x vs safe made (inl fails) = absurd (fails safe)
+  given_lacks is_infallible x vs safe made (inr g) =
+      let b = g.begins in
+      subst (Any L) (made b.copy b.from b.cloned b.made) (item_given b.from b.to g.left g.before g.item b.ran g.gives_item (of_item g.item g.may))
+
+  -- an iterator over a slice
+  pub slice_iter_lacks : {is_clone gives : Iter V → Iter V → Type 0} (is_infallible : Iter V → Type 0) {x : Iter V} → is_infallible x → ((s t : Iter V) → is_clone s t → iter_rest t ≡ iter_rest s) → ((s t : Iter V) → gives s t → t ≡ s) → RunsLack is_clone is_infallible gives steps lacks x → Any L (iter_rest x)
+  slice_iter_lacks is_infallible {x = x} safe clones made h = given_lacks is_infallible x (iter_rest x) safe (λ t i c g. ap iter_rest (made t i g) ∙ clones x t c) h
+
+  -- a slice
+  pub slice_lacks : {is_clone : Bor (List V) → Bor (List V) → Type 0} (is_infallible : Bor (List V) → Type 0) {gives : Bor (List V) → Iter V → Type 0} {x : Bor (List V)} → is_infallible x → ((s t : Bor (List V)) → is_clone s t → t ≡ s) → ((s : Bor (List V)) (i : Iter V) → gives s i → iter_rest i ≡ s.now) → RunsLack is_clone is_infallible gives steps lacks x → Any L x.now
+  slice_lacks is_infallible {x = x} safe clones made h = given_lacks is_infallible x x.now safe (λ t i c g. made t i g ∙ ap (λ z. z.now) (clones x t c)) h
+
+  -- a vector, by reference
+  pub vec_lacks : {A : Type 0} {is_clone : Bor (Vec V A) → Bor (Vec V A) → Type 0} (is_infallible : Bor (Vec V A) → Type 0) {gives : Bor (Vec V A) → Iter V → Type 0} {x : Bor (Vec V A)} → is_infallible x → ((s t : Bor (Vec V A)) → is_clone s t → t ≡ s) → ((s : Bor (Vec V A)) (i : Iter V) → gives s i → iter_rest i ≡ s.now.items) → RunsLack is_clone is_infallible gives steps lacks x → Any L x.now.items
+  vec_lacks is_infallible {x = x} safe clones made h = given_lacks is_infallible x x.now.items safe (λ t i c g. made t i g ∙ ap (λ z. z.now.items) (clones x t c)) h
 
 -- what a caller of `iter` names once
 pub ruleset gives_one_list = (slice_iter_listed, slice_listed, vec_listed)

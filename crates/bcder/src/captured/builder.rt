@@ -72,11 +72,12 @@ impl CapturedBuilder {
     ///
     /// # Errors
     ///
-    /// Those of the encoder's `encoded_len`, and `NoMemory` where there is no memory for the
-    /// octets. The values are then as they were.
+    /// Those of the encoder's `encoded_len`, and `NoMemory` where there are octets and no memory
+    /// for them. The values are then as they were.
     pub fn extend<V: Values + Drop>(&mut self, values: V) -> Result<(), EncodeError>
         requires { V.can_encode values }
-        ensures extended { ExtendsBy (V.means values self.old.mode) self result }
+        ensures extended { ExtendsBy (V.means values self.old.mode)
+            (V.may_lack values self.old.mode) self result }
         ensures unchanged { OnErr result (self.new ≡ self.old) }
     {
         let len = values.encoded_len(self.mode)?;

@@ -18,8 +18,6 @@ use std::io;
 impl Values for Captured {
     ghost means = { KeptMeans };
 
-    ghost may_lack = { λ c mode. ⊥ };
-
     fn encoded_len(&self, mode: Mode) -> Result<usize, EncodeError> {
         self.check_mode(mode)?;
         Ok(self.octets.len())

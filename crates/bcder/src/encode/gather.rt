@@ -13,7 +13,7 @@ pub(crate) fn gather_contents<P: PrimitiveContent>(
     alloc: Global,
     mode: Mode,
 ) -> Result<Bytes, EncodeError>
-    ensures { GathersContents (P.means contents.now mode) result }
+    ensures { GathersContents (P.means contents.now mode) (P.may_lack contents.now mode) result }
 {
     let len = contents.encoded_len(mode)?;
     let mut target = match Vec::with_capacity(alloc, len) {

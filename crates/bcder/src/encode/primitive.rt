@@ -1,5 +1,5 @@
 //! What has an encoding as the contents octets of a primitive value.
-ghost use Rattle.std.specs.Prelude.{◌≡◌, ⊤, ◌<◌, ◌^◌, false, List, ℕ, [], ◌∷◌};
+ghost use Rattle.std.specs.Prelude.{◌≡◌, ◌<◌, ◌^◌, false, List, ℕ, [], ◌∷◌};
 ghost use Rattle.bcder.specs.declared.mode.Mode.{Mode};
 ghost use Rattle.bcder.specs.Identifier.{Tag as TagValue};
 ghost use Rattle.bcder.specs.Meaning.{ContentsMeaning, IsLawfulContents, ValueMeans};
@@ -37,8 +37,8 @@ pub trait PrimitiveContent: Sized {
     /// What it means in a mode.
     ghost means: { Self → Mode → ContentsMeaning → Type 0 };
 
-    /// Where memory may lack for an answer.
-    ghost may_lack: { Self → Mode → Type 0 } = { λ _ _. ⊤ };
+    /// Where memory may lack for an answer: nowhere, where an implementation doesn't say.
+    ghost may_lack: { Self → Mode → Type 0 } = { λ _ _. ⊥ };
 
     /// The tag that such a value has by itself.
     fn tag() -> Tag
@@ -94,9 +94,9 @@ pub trait PrimitiveContent: Sized {
     ///
     /// # Errors
     ///
-    /// Those of `encoded_len`, and `NoMemory` where there is no memory for the octets.
+    /// Those of `encoded_len`, and `NoMemory` where there are octets and no memory for them.
     final fn to_encoded_bytes(&self, alloc: Global, mode: Mode) -> Result<Bytes, EncodeError>
-        ensures { GathersContents (means self.now mode) result }
+        ensures { GathersContents (means self.now mode) (may_lack self.now mode) result }
     {
         gather_contents(self, alloc, mode)
     }

@@ -33,8 +33,8 @@ pub trait Values {
     /// What the encoder means in a mode.
     ghost means: { Self → Mode → Meaning → Type 0 };
 
-    /// Where memory may lack for an answer.
-    ghost may_lack: { Self → Mode → Type 0 } = { λ _ _. ⊤ };
+    /// Where memory may lack for an answer: nowhere, where an implementation doesn't say.
+    ghost may_lack: { Self → Mode → Type 0 } = { λ _ _. ⊥ };
 
     /// What has to hold of the encoder for it to be asked.
     ghost can_encode: { Self → Type 0 } = { λ _. ⊤ };
@@ -100,12 +100,12 @@ pub trait Values {
     ///
     /// # Errors
     ///
-    /// Those of `encoded_len`, and `NoMemory` where there is no memory for the octets.
+    /// Those of `encoded_len`, and `NoMemory` where there are octets and no memory for them.
     final fn to_captured(&self, alloc: Global, mode: Mode) -> Result<Captured, EncodeError>
     where
         Self: Sized,
         requires { can_encode self.now }
-        ensures { GathersValues (means self.now mode) mode result }
+        ensures { GathersValues (means self.now mode) (may_lack self.now mode) mode result }
     {
         Captured::from_values(alloc, mode, self)
     }

@@ -1,10 +1,11 @@
 //! Object identifiers read from text.
-ghost use Rattle.std.specs.Prelude.{◌≡◌, ◌<◌, ◌⊎◌, ℕ, List, ◌∷◌, ◌++◌, Some};
+ghost use Rattle.std.specs.Prelude.{◌≡◌, ◌<◌, ℕ, List, ◌∷◌, ◌++◌, Some};
 ghost use Rattle.std.specs.Prelude.{MatchOption, IfOk, IfErr, OnOk};
-ghost use Rattle.bcder.specs.declared.oid.text.OidError.TheVariants.{NotInteger, NoMemory as Want};
+ghost use Rattle.bcder.specs.declared.oid.text.OidError.TheVariants.{NoMemory as Want};
 ghost use Rattle.bcder.specs.IdentifierText.{between_dots, IsComponentText, IsNoComponent};
-ghost use Rattle.bcder.specs.IdentifierText.{HasNoComponent, IsTextOf, RefusesText, error_text};
+ghost use Rattle.bcder.specs.IdentifierText.{IsTextOf, RefusesText, error_text};
 ghost use Rattle.bcder.specs.Pushed.{texts_of, AppendsDigits, AppendsSubidentifier, AppendsTexts};
+ghost use Rattle.bcder.specs.Pushed.{RefusesOthers};
 
 use crate::memory::NoMemory;
 use std::alloc::Global;
@@ -26,7 +27,7 @@ pub enum OidError {
     /// The first component is 0 or 1, and the second is 40 or more.
     Second,
 
-    /// There is no memory for the octets.
+    /// The text is that of an identifier, and there is no memory for its octets.
     NoMemory,
 }
 
@@ -97,12 +98,27 @@ fn component(text: &str) -> Option<u32>
     text.parse::<u32>().ok()
 }
 
+/// Why there is no identifier where there was no memory for a component: one of those behind it is
+/// none, or that want.
+fn why_none(others: Option<&str>) -> OidError
+    ensures { RefusesOthers (texts_of others.entry) result }
+{
+    let mut rest = others;
+    while let Some(text) = rest {
+        let (first, after) = split_text(text);
+        let Some(_number) = component(first) else {
+            return OidError::NotInteger;
+        };
+        rest = after;
+    }
+    OidError::NoMemory
+}
+
 /// Appends the subidentifiers of the components after the first two, if there are any.
 fn push_others(octets: &mut Vec<u8>, others: Option<&str>) -> Result<(), OidError>
     ensures ok { OnOk result
         (AppendsTexts octets.old.items octets.new.items (texts_of others.entry)) }
-    ensures err { IfErr result (λ e.
-        ((e ≡ NotInteger) × HasNoComponent (texts_of others.entry)) ⊎ (e ≡ Want)) }
+    ensures err { IfErr result (RefusesOthers (texts_of others.entry)) }
 {
     let mut rest = others;
     while let Some(text) = rest {
@@ -110,8 +126,10 @@ fn push_others(octets: &mut Vec<u8>, others: Option<&str>) -> Result<(), OidErro
         let Some(number) = component(first) else {
             return Err(OidError::NotInteger);
         };
-        push_subidentifier(octets, u64::from(number))?;
-        rest = after;
+        match push_subidentifier(octets, u64::from(number)) {
+            Ok(()) => rest = after,
+            Err(NoMemory) => return Err(why_none(after)),
+        }
     }
     Ok(())
 }
@@ -139,7 +157,11 @@ pub(super) fn octets_of(alloc: Global, text: &str) -> Result<Vec<u8>, OidError>
         return Err(OidError::Second);
     }
     let mut octets = Vec::new(alloc);
-    push_subidentifier(&mut octets, 40 * u64::from(first) + u64::from(second))?;
-    push_others(&mut octets, others)?;
-    Ok(octets)
+    match push_subidentifier(&mut octets, 40 * u64::from(first) + u64::from(second)) {
+        Ok(()) => {
+            push_others(&mut octets, others)?;
+            Ok(octets)
+        }
+        Err(NoMemory) => Err(why_none(others)),
+    }
 }

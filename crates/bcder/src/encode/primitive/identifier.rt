@@ -19,8 +19,6 @@ impl<T: AsSlice<u8>> PrimitiveContent for Oid<T> {
 
     ghost means = { λ x _. ExactlyOctets (T.items x.0) };
 
-    ghost may_lack = { λ _ _. ⊥ };
-
     fn tag() -> Tag {
         Tag::OID
     }

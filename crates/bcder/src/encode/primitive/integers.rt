@@ -82,8 +82,6 @@ impl PrimitiveContent for u8 {
 
     ghost means = { λ x _. Exactly (integer_octets (pos x)) };
 
-    ghost may_lack = { λ _ _. ⊥ };
-
     fn tag() -> Tag {
         Tag::INTEGER
     }
@@ -117,8 +115,6 @@ impl PrimitiveContent for u16 {
     ghost own_tag = { record { class = universal; number = 2 } };
 
     ghost means = { λ x _. Exactly (integer_octets (pos x)) };
-
-    ghost may_lack = { λ _ _. ⊥ };
 
     fn tag() -> Tag {
         Tag::INTEGER
@@ -154,8 +150,6 @@ impl PrimitiveContent for u32 {
 
     ghost means = { λ x _. Exactly (integer_octets (pos x)) };
 
-    ghost may_lack = { λ _ _. ⊥ };
-
     fn tag() -> Tag {
         Tag::INTEGER
     }
@@ -189,8 +183,6 @@ impl PrimitiveContent for u64 {
     ghost own_tag = { record { class = universal; number = 2 } };
 
     ghost means = { λ x _. Exactly (integer_octets (pos x)) };
-
-    ghost may_lack = { λ _ _. ⊥ };
 
     fn tag() -> Tag {
         Tag::INTEGER
@@ -226,8 +218,6 @@ impl PrimitiveContent for u128 {
 
     ghost means = { λ x _. Exactly (integer_octets (pos x)) };
 
-    ghost may_lack = { λ _ _. ⊥ };
-
     fn tag() -> Tag {
         Tag::INTEGER
     }
@@ -261,8 +251,6 @@ impl PrimitiveContent for i8 {
     ghost own_tag = { record { class = universal; number = 2 } };
 
     ghost means = { λ x _. Exactly (integer_octets x) };
-
-    ghost may_lack = { λ _ _. ⊥ };
 
     fn tag() -> Tag {
         Tag::INTEGER
@@ -298,8 +286,6 @@ impl PrimitiveContent for i16 {
 
     ghost means = { λ x _. Exactly (integer_octets x) };
 
-    ghost may_lack = { λ _ _. ⊥ };
-
     fn tag() -> Tag {
         Tag::INTEGER
     }
@@ -333,8 +319,6 @@ impl PrimitiveContent for i32 {
     ghost own_tag = { record { class = universal; number = 2 } };
 
     ghost means = { λ x _. Exactly (integer_octets x) };
-
-    ghost may_lack = { λ _ _. ⊥ };
 
     fn tag() -> Tag {
         Tag::INTEGER
@@ -370,8 +354,6 @@ impl PrimitiveContent for i64 {
 
     ghost means = { λ x _. Exactly (integer_octets x) };
 
-    ghost may_lack = { λ _ _. ⊥ };
-
     fn tag() -> Tag {
         Tag::INTEGER
     }
@@ -405,8 +387,6 @@ impl PrimitiveContent for i128 {
     ghost own_tag = { record { class = universal; number = 2 } };
 
     ghost means = { λ x _. Exactly (integer_octets x) };
-
-    ghost may_lack = { λ _ _. ⊥ };
 
     fn tag() -> Tag {
         Tag::INTEGER

@@ -56,8 +56,6 @@ impl PrimitiveContent for &'_ Integer {
 
     ghost means = { λ x _. Exactly (integer_octets x.now) };
 
-    ghost may_lack = { λ _ _. ⊥ };
-
     fn tag() -> Tag
         ensures { result ≡ record { class = universal; number = 2 } }
     {
@@ -92,8 +90,6 @@ impl PrimitiveContent for &'_ Unsigned {
     ghost own_tag = { record { class = universal; number = 2 } };
 
     ghost means = { λ x _. Exactly (integer_octets (pos x.now)) };
-
-    ghost may_lack = { λ _ _. ⊥ };
 
     fn tag() -> Tag
         ensures { result ≡ record { class = universal; number = 2 } }

@@ -24,8 +24,6 @@ impl PrimitiveContent for () {
 
     ghost means = { λ _ _. Exactly [] };
 
-    ghost may_lack = { λ _ _. ⊥ };
-
     fn tag() -> Tag {
         Tag::NULL
     }
@@ -58,8 +56,6 @@ impl PrimitiveContent for bool {
     ghost own_tag = { record { class = universal; number = 1 } };
 
     ghost means = { λ x _. Exactly (truth_octets x) };
-
-    ghost may_lack = { λ _ _. ⊥ };
 
     fn tag() -> Tag {
         Tag::BOOLEAN
@@ -130,8 +126,6 @@ impl PrimitiveContent for &'_ [u8] {
     ghost own_tag = { record { class = universal; number = 4 } };
 
     ghost means = { λ x _. ExactlyOctets x.now };
-
-    ghost may_lack = { λ _ _. ⊥ };
 
     fn tag() -> Tag
         ensures { result ≡ record { class = universal; number = 4 } }

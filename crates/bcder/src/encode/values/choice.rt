@@ -18,8 +18,6 @@ pub struct Nothing;
 impl Values for Nothing {
     ghost means = { λ x mode. NoValues };
 
-    ghost may_lack = { λ x mode. ⊥ };
-
     fn encoded_len(&self, _mode: Mode) -> Result<usize, EncodeError> {
         Ok(0)
     }

@@ -1,6 +1,6 @@
 //! The items of an iterator, one after the other.
-ghost use Rattle.std.specs.Prelude.{◌≡◌, ⊤, IfOk};
-ghost use Rattle.bcder.specs.Iterated.{RunsMean, GivesOneList, runs_lawful};
+ghost use Rattle.std.specs.Prelude.{◌≡◌, IfOk, OnErr};
+ghost use Rattle.bcder.specs.Iterated.{RunsMean, RunsLack, GivesOneList, runs_lawful};
 ghost use Rattle.bcder.specs.Joined.{Joined};
 ghost use Rattle.bcder.specs.laws.Joined.{Joined_lawful};
 
@@ -33,9 +33,10 @@ impl<T: IntoIterator + Clone> Iter<T> {
     ///
     /// # Errors
     ///
-    /// `NoMemory` where the clone was refused.
+    /// `NoMemory` where the clone was refused: never, where a clone can't fail.
     pub fn items(&self) -> Result<T::IntoIter, NoMemory>
-        ensures { IfOk result (λ i. (t : T) × T.is_clone self.now.value t × T.into_iter_gives t i) }
+        ensures items { IfOk result (λ i. (t : T) × T.is_clone self.now.value t × T.into_iter_gives t i) }
+        ensures refused { OnErr result (T.is_infallible self.now.value → ⊥) }
     {
         match self.value.clone() {
             Ok(copy) => Ok(copy.into_iter()),
@@ -63,7 +64,8 @@ where
     ghost all = { λ x mode. RunsMean T.is_clone T.into_iter_gives T.IntoIter.next_gives
         (λ v. T.Item.means v mode) x.value };
 
-    ghost may_lack = { λ _ _. ⊤ };
+    ghost may_lack = { λ x mode. RunsLack T.is_clone T.is_infallible T.into_iter_gives
+        T.IntoIter.next_gives (λ v. T.Item.may_lack v mode) x.value };
 
     ghost can_encode = { λ x. GivesOneList T.is_clone T.into_iter_gives T.IntoIter.next_gives
         T.IntoIter.can_next T.IntoIter.remaining T.Item.can_encode T.Item.means x.value };
@@ -108,7 +110,8 @@ where
     ghost means = { λ x mode. Joined (RunsMean T.is_clone T.into_iter_gives
         T.IntoIter.next_gives (λ v. T.Item.means v mode) x.value) };
 
-    ghost may_lack = { λ _ _. ⊤ };
+    ghost may_lack = { λ x mode. RunsLack T.is_clone T.is_infallible T.into_iter_gives
+        T.IntoIter.next_gives (λ v. T.Item.may_lack v mode) x.value };
 
     ghost can_encode = { λ x. GivesOneList T.is_clone T.into_iter_gives T.IntoIter.next_gives
         T.IntoIter.can_next T.IntoIter.remaining T.Item.can_encode T.Item.means x.value };

@@ -1,9 +1,9 @@
-use Rattle.std.proofs.Common.{◌∙◌, ap, arith, refl, inl, inr}
+use Rattle.std.proofs.Common.{◌∙◌, ap, arith, refl}
 use Rattle.bcder.specs.IdentifierText.{MayBegin, RefusesText}
-use Rattle.bcder.specs.IdentifierText.RefusesTexts.{first_too_large, second_is_none, second_too_large, other_is_none, no_memory}
+use Rattle.bcder.specs.IdentifierText.RefusesTexts.{first_too_large, second_is_none, second_too_large}
 use Rattle.bcder.specs.Pushed.{texts_of}
 use Rattle.bcder.proofs.Refusing.{residual}
-use Rattle.bcder.proofs.Spelling.{refuses}
+use Rattle.bcder.proofs.Spelling.{refuses, others_refused}
 use Rattle.bcder.proofs.oid.text.octets_of.Goals as goal
 use Rattle.bcder.proofs.oid.text.octets_of.Goals.{else-first-lt2-via-then-first-lt2+else-second-ge40, else-first-lt2-via-else-first-lt2}
 
@@ -19,9 +19,20 @@ pub returns-then-second-ge40-clause-err : goal.returns-then-second-ge40-clause-e
 returns-then-second-ge40-clause-err c =
     refuses c.args.text.now _ _ _ _ c.split_text.ensures (ap texts_of c.in-Some.is ∙ c.split_text-2.ensures) _ (second_too_large _ _ refl c.in-Some-component.ensures c.if-first-lt2.true c.in-Some-component-2.ensures c.if-second-ge40.true)
 
-pub returns-in_err-push_others-clause-err : goal.returns-in_err-push_others-clause-err
-returns-in_err-push_others-clause-err c =
-    let e = c.in_err-push_others.field-0.0 in
+pub returns-in-Err-clause-err : goal.returns-in-Err-clause-err
+returns-in-Err-clause-err c =
+    let begins : MayBegin c.in-Some-component.first c.in-Some-component-2.second =
+    elim c.else-first-lt2.branch [
+      | else-first-lt2-via-then-first-lt2+else-second-ge40 w ↦ record { first = c.if-first-gt2.false; second = λ h. omega arith }
+      | else-first-lt2-via-else-first-lt2 w ↦ record { first = c.if-first-gt2.false; second = λ h. omega arith }
+    ]
+    in
+    refuses c.args.text.now _ _ _ _ c.split_text.ensures (ap texts_of c.in-Some.is ∙ c.split_text-2.ensures) _
+    (others_refused c.in-Some-component.ensures c.in-Some-component-2.ensures begins c.why_none.ensures)
+
+pub returns-in_err-push_others-in-Ok-clause-err : goal.returns-in_err-push_others-in-Ok-clause-err
+returns-in_err-push_others-in-Ok-clause-err c =
+    let e = c.in_err-push_others-in-Ok.field-0.0 in
     let begins : MayBegin c.in-Some-component.first c.in-Some-component-2.second =
     elim c.else-first-lt2.branch [
       | else-first-lt2-via-then-first-lt2+else-second-ge40 w ↦ record { first = c.if-first-gt2.false; second = λ h. omega arith }
@@ -30,9 +41,6 @@ returns-in_err-push_others-clause-err c =
     in
     let refused : RefusesText c.args.text.now e =
     refuses c.args.text.now _ _ _ _ c.split_text.ensures (ap texts_of c.in-Some.is ∙ c.split_text-2.ensures) e
-    (elim c.in_err-push_others.ensures.err [
-      | inl none ↦ other_is_none _ _ none.0 c.in-Some-component.ensures c.in-Some-component-2.ensures begins none.1
-      | inr want ↦ no_memory want
-    ])
+    (others_refused c.in-Some-component.ensures c.in-Some-component-2.ensures begins c.in_err-push_others-in-Ok.ensures.err)
     in
-    residual c.from_residual-in_err-push_others.result e (RefusesText c.args.text.now) c.from_residual-in_err-push_others.ensures.1 refused
+    residual c.from_residual.result e (RefusesText c.args.text.now) c.from_residual.ensures.1 refused

@@ -1,4 +1,4 @@
-use Rattle.std.proofs.Common.{subst, sym, ◌++◌, ◌∷◌, []}
+use Rattle.std.proofs.Common.{subst, sym, refl, inl, inr, ◌++◌, ◌∷◌, []}
 use Rattle.bcder.specs.Iterated.{RunsMean}
 use Rattle.bcder.proofs.Joining.{sum_refused}
 use Rattle.bcder.proofs.Iterating.{seen_none, seen_next, each_refused, yields_next, item_can, sum_told}
@@ -12,16 +12,19 @@ loop-item-preserved g c = seen_next (λ v. g.T.Item.Values.means v c.args.mode) 
 
 pub encoded_len-requires : goal.encoded_len-requires
 encoded_len-requires g c =
-    let (copy, cloned, made) = c.in-Ok.ensures in
+    let (copy, cloned, made) = c.in-Ok.ensures.items in
     let step = subst (λ r. g.T.IntoIter.Iterator.next_gives c.loop-item.item-iterator r c.next.new.self) c.in-Some.is c.next.ensures.steps in
     let given = subst (g.T.IntoIterator.into_iter_gives copy) (sym c.into_iter-item-iterator.ensures.into_iter_gives) made in
     item_can g.T.IntoIter.Iterator.next_gives g.T.Item.Values.can_encode g.T.Item.Values.means _ c.loop-item.item-iterator c.next.new.self c.loop-item.yielded c.requires.items c.in-Some.item
     (c.requires.same copy _ cloned given) c.loop-item.yielded_by step
 
+pub returns-in-Err : goal.returns-in-Err
+returns-in-Err g c = record { meant = λ ne. absurd (ne refl); lacking = λ is. inl c.in-Err.ensures.refused }
+
 pub returns-in_err-len : goal.returns-in_err-len
 returns-in_err-len g c =
     let M = λ (v : g.row.T-Item.Denot). g.T.Item.Values.means v c.args.mode in
-    let (copy, cloned, made) = c.in-Ok.ensures in
+    let (copy, cloned, made) = c.in-Ok.ensures.items in
     let s = c.loop-item.invariant in
     let step = subst (λ r. g.T.IntoIter.Iterator.next_gives c.loop-item.item-iterator r c.next.new.self) c.in-Some.is c.next.ensures.steps in
     let r = c.in_err-len.ensures in
@@ -38,13 +41,27 @@ returns-in_err-len g c =
         },
         each_refused M c.loop-item.yielded c.in-Some.item s.seen _ s.each (r.meant ne),
       );
-      lacking = λ e. tt;
+      lacking = λ e. inr (record {
+        before = c.loop-item.yielded;
+        begins = record {
+          copy = copy;
+          cloned = cloned;
+          from = c.into_iter-item-iterator.result;
+          made = subst (g.T.IntoIterator.into_iter_gives copy) (sym c.into_iter-item-iterator.ensures.into_iter_gives) made;
+          to = c.loop-item.item-iterator;
+          ran = c.loop-item.yielded_by;
+        };
+        item = c.in-Some.item;
+        left = c.next.new.self;
+        gives_item = step;
+        may = r.lacking e;
+      });
     })
 
 pub returns : goal.returns
 returns g c =
     let M = λ (v : g.row.T-Item.Denot). g.T.Item.Values.means v c.args.mode in
-    let (copy, cloned, made) = c.in-Ok.ensures in
+    let (copy, cloned, made) = c.in-Ok.ensures.items in
     let s = c.loop-item.invariant in
     let step = subst (λ r. g.T.IntoIter.Iterator.next_gives c.loop-item.item-iterator r c.next.new.self) c.in-None.is c.next.ensures.steps in
     sum_told (RunsMean g.T.Clone.is_clone g.T.IntoIterator.into_iter_gives g.T.IntoIter.Iterator.next_gives M c.args.self.now.value) c.loop-item.sum s.seen (

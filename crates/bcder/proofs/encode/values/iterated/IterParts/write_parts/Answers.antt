@@ -1,4 +1,4 @@
-use Rattle.std.proofs.Common.{subst, sym, refl, [], Ok}
+use Rattle.std.proofs.Common.{subst, sym, refl, inr, [], Ok}
 use Rattle.std.proofs.KnownBytes.{Appends-nil}
 use Rattle.bcder.specs.Meaning.{Encoded}
 use Rattle.bcder.specs.Joined.{EachOf}
@@ -10,7 +10,7 @@ use Rattle.bcder.proofs.encode.values.iterated.IterParts.write_parts.Goals as go
 
 pub loop-item-init : goal.loop-item-init
 loop-item-init g c =
-    let (copy, cloned, made) = c.in-Ok.ensures in
+    let (copy, cloned, made) = c.in-Ok.ensures.items in
     let given = subst (g.T.IntoIterator.into_iter_gives copy) (sym c.into_iter-item-iterator.ensures.into_iter_gives) made in
     record {
       rest = c.requires.can.items;
@@ -56,7 +56,24 @@ returns-in_err-write_known g c = λ e meant.
     let one = (g.met.T.Item.Values.lawful x c.args.mode next.may).one in
     let wrote = λ (e : Encoded) (m : M next.first (Ok e)). c.write_known.ensures one e (to_second g.T.Item.Values.means next.first x next.same c.args.mode (Ok e) m) in
     let lacks = g.T.Item.Values.may_lack x c.args.mode in
-    halts _ c.from_residual.ensures (lacks_more _ (λ h. tt) (written_failed (M next.first) (EachOf M next.others) lacks so_far wrote (same_told _ c.in_err-write_known.was) e meant))
+    let (copy, cloned, made) = c.in-Ok.ensures.items in
+    let item_lacks = λ (h : lacks). inr (record {
+      before = c.loop-item.yielded;
+      begins = record {
+        copy = copy;
+        cloned = cloned;
+        from = c.into_iter-item-iterator.result;
+        made = subst (g.T.IntoIterator.into_iter_gives copy) (sym c.into_iter-item-iterator.ensures.into_iter_gives) made;
+        to = c.loop-item.item-iterator;
+        ran = c.loop-item.yielded_by;
+      };
+      item = x;
+      left = c.next.new.self;
+      gives_item = step;
+      may = h;
+    })
+    in
+    halts _ c.from_residual.ensures (lacks_more _ item_lacks (written_failed (M next.first) (EachOf M next.others) lacks so_far wrote (same_told _ c.in_err-write_known.was) e meant))
 
 pub returns : goal.returns
 returns g c = λ e meant.
