@@ -1,8 +1,11 @@
 //! Comparisons of the tests. Each is a call, so that a test isn't proved along both ways out of it.
+//! None answers a refusal: a test that went on after one by `?` would be proved once more for each
+//! `?`, with all that it owns there. [`done`] ends the test in its place.
+ghost use Rattle.std.specs.Prelude.{◌≡◌, Ok};
+
 use std::alloc::Global;
 use std::fmt::{Debug, Display};
 use std::process::Abort;
-use std::test::Fail;
 
 /// The value is the wanted one.
 pub fn same<T: PartialEq + Debug + Drop>(rt: &impl Abort, found: T, wanted: T) {
@@ -14,21 +17,15 @@ pub fn holds(rt: &impl Abort, fact: bool) {
     assert!(rt; fact);
 }
 
-/// The value is shown as this text.
-pub fn shows<T: Display>(
-    rt: &impl Abort,
-    alloc: Global,
-    value: &T,
-    text: &str,
-) -> Result<(), Fail> {
-    let shown = format!(in alloc; "{value}")?;
-    assert_eq!(rt; shown.as_str(), text);
-    Ok(())
+/// What a call answers that is not to be refused.
+pub fn done<T, E: Debug>(rt: &impl Abort, outcome: Result<T, E>) -> T
+    ensures { outcome ≡ Ok result }
+{
+    outcome.expect(rt, "refused")
 }
 
-/// The value is debugged as a text in which this word stands.
-pub fn debugs<T: Debug>(rt: &impl Abort, alloc: Global, value: &T, word: &str) -> Result<(), Fail> {
-    let shown = format!(in alloc; "{value:?}")?;
-    assert!(rt; shown.contains(word), "{shown}");
-    Ok(())
+/// The value is shown as this text.
+pub fn shows<T: Display>(rt: &impl Abort, alloc: Global, value: &T, text: &str) {
+    let shown = done(rt, format!(in alloc; "{value}"));
+    assert_eq!(rt; shown.as_str(), text);
 }

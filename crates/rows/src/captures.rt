@@ -3,14 +3,12 @@
 
 ghost use Rattle.bcder.specs.Views.{Moved};
 
-use crate::asserts::{holds, same};
-use crate::sip::Sip;
-use bcder::decode::{BytesSource, Constructed, ContentError, DecodeError, SliceSource, Source};
+use crate::asserts::{done, holds, same};
+use crate::over::{shared, sip};
+use bcder::decode::{Constructed, ContentError, DecodeError, SliceSource, Source};
 use bcder::{Captured, Mode};
-use bytes::Bytes;
 use std::alloc::Global;
 use std::process::Abort;
-use std::test::Fail;
 
 /// Skips a value, and refuses then.
 fn skip_and_refuse<S: Source>(
@@ -40,40 +38,45 @@ fn take_five<S: Source>(
     Ok(())
 }
 
-fn check_refused<S: Source>(rt: &impl Abort, alloc: Global, source: &mut S) -> Result<(), Fail> {
-    Mode::Der.decode_lent(source, |cons| take_five(rt, alloc, cons))?;
-    same(rt, source.take_u8()?, 0x04);
-    same(rt, source.take_u8()?, 0x00);
-    same(rt, source.take_opt_u8()?, None);
-    Ok(())
+fn check_refused<S: Source>(rt: &impl Abort, alloc: Global, source: &mut S) {
+    done(
+        rt,
+        Mode::Der.decode_lent(source, |cons| take_five(rt, alloc, cons)),
+    );
+    same(rt, done(rt, source.take_u8()), 0x04);
+    same(rt, done(rt, source.take_u8()), 0x00);
+    same(rt, done(rt, source.take_opt_u8()), None);
 }
 
 #[test]
-fn a_refused_capture_leaves_the_values(rt: HostRuntime) -> Result<(), Fail> {
+fn a_refused_capture_leaves_the_values(rt: HostRuntime) {
     let alloc = rt.alloc();
     let octets: &[u8] = &[0x02, 0x01, 0x05, 0x04, 0x00];
-    let mut shared = BytesSource::new(Bytes::copy_from_slice(alloc, octets)?);
-    check_refused(&rt, alloc, &mut SliceSource::new(octets))?;
-    check_refused(&rt, alloc, &mut shared)?;
-    check_refused(&rt, alloc, &mut Sip::new(octets.to_vec(alloc)?, 0))
+    check_refused(&rt, alloc, &mut SliceSource::new(octets));
+    check_refused(&rt, alloc, &mut shared(&rt, alloc, octets));
+    check_refused(&rt, alloc, &mut sip(&rt, alloc, octets));
 }
 
 /// All values, captured.
-fn capture_values(alloc: Global, octets: &[u8], mode: Mode) -> Result<Captured, Fail> {
+fn capture_values(rt: &impl Abort, alloc: Global, octets: &[u8], mode: Mode) -> Captured {
     let mut source = SliceSource::new(octets);
-    Ok(mode.decode_lent(&mut source, |cons| cons.capture_all(alloc))?)
+    done(
+        rt,
+        mode.decode_lent(&mut source, |cons| cons.capture_all(alloc)),
+    )
 }
 
 /// What is decoded in part is gone, and a refusal leaves what is there.
 #[test]
-fn captured_values_are_decoded_in_part(rt: HostRuntime) -> Result<(), Fail> {
+fn captured_values_are_decoded_in_part(rt: HostRuntime) {
     let octets = &[0x02, 0x01, 0x01, 0x02, 0x01, 0x02];
-    let mut values = capture_values(rt.alloc(), octets, Mode::Der)?;
-    same(&rt, values.decode_partial(|cons| cons.take_u8())?, 1);
+    let mut values = capture_values(&rt, rt.alloc(), octets, Mode::Der);
+    let taken = values.decode_partial(|cons| cons.take_u8());
+    same(&rt, done(&rt, taken), 1);
     same(&rt, values.as_slice(), &octets[3..]);
     let refused = values.decode_partial(|cons| cons.take_bool());
     holds(&rt, refused.is_err());
     same(&rt, values.as_slice(), &octets[3..]);
-    same(&rt, values.decode(|cons| cons.take_u8())?, 2);
-    Ok(())
+    let taken = values.decode(|cons| cons.take_u8());
+    same(&rt, done(&rt, taken), 2);
 }

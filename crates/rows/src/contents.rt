@@ -3,18 +3,13 @@
 
 ghost use Rattle.bcder.specs.Views.{Moved, MovedContent, MovedOctets};
 
-use crate::asserts::{holds, same};
-use crate::sip::Sip;
+use crate::asserts::{done, holds, same};
+use crate::over::{failing_sip, sip};
 use bcder::Mode;
 use bcder::decode::{Constructed, Content, DecodeError, Primitive, SliceSource, Source, walk};
 use std::alloc::{AllocError, Global};
 use std::fmt::Debug;
 use std::process::Abort;
-use std::test::Fail;
-
-fn sip(alloc: Global, octets: &[u8], failing: usize) -> Result<Sip, Fail> {
-    Ok(Sip::new(octets.to_vec(alloc)?, failing))
-}
 
 /// Passes over what is inside a value.
 fn pass<S: Source>(content: &mut Content<'_, S>) -> Result<(), DecodeError<S::Error>>
@@ -103,18 +98,23 @@ fn check_all<S: Source>(
 
 /// Content knows its rules, its form and how many octets it owes.
 #[test]
-fn content_tells_of_itself(rt: HostRuntime) -> Result<(), Fail> {
+fn content_tells_of_itself(rt: HostRuntime) {
     let octets = &[
         0x04, 0x03, 0x01, 0x02, 0x03, 0x30, 0x04, 0x30, 0x80, 0x00, 0x00, 0x02, 0x01, 0x05, 0x31,
         0x02, 0x05, 0x00,
     ];
     for mode in [Mode::Ber, Mode::Der] {
         let mut slice = SliceSource::new(octets);
-        let mut sip = sip(rt.alloc(), octets, 0)?;
-        mode.decode_lent(&mut slice, |cons| check_all(&rt, cons, mode))?;
-        mode.decode_lent(&mut sip, |cons| check_all(&rt, cons, mode))?;
+        done(
+            &rt,
+            mode.decode_lent(&mut slice, |cons| check_all(&rt, cons, mode)),
+        );
+        let mut sip = sip(&rt, rt.alloc(), octets);
+        done(
+            &rt,
+            mode.decode_lent(&mut sip, |cons| check_all(&rt, cons, mode)),
+        );
     }
-    Ok(())
 }
 
 /// Takes a value, and drops the error of a source that failed: then no other one is taken.
@@ -152,11 +152,11 @@ fn enter_failing<S: Source>(rt: &impl Abort, cons: &mut Constructed<'_, S>)
 
 /// Each request of the source fails once, and the last of these numbers is that of none.
 #[test]
-fn failed_sources_fail_content(rt: HostRuntime) -> Result<(), Fail> {
+fn failed_sources_fail_content(rt: HostRuntime) {
     let octets = &[0x30, 0x03, 0x02, 0x01, 0x05];
     let last = 64usize;
     for failing in 1..=last {
-        let mut source = sip(rt.alloc(), octets, failing)?;
+        let mut source = failing_sip(&rt, rt.alloc(), octets, failing);
         let decoded = Mode::Der.decode_lent(&mut source, |cons| {
             enter_failing(&rt, cons);
             Ok(())
@@ -165,7 +165,6 @@ fn failed_sources_fail_content(rt: HostRuntime) -> Result<(), Fail> {
         holds(&rt, failing > 1 || decoded.is_err());
         holds(&rt, failing < last || decoded.is_ok());
     }
-    Ok(())
 }
 
 /// How values are debugged.
@@ -178,11 +177,11 @@ fn debugged<S: Source + Debug>(
 
 /// Values are debugged by their fields, the rules among them.
 #[test]
-fn values_are_debugged(rt: HostRuntime) -> Result<(), Fail> {
+fn values_are_debugged(rt: HostRuntime) {
     let alloc = rt.alloc();
     let mut source = SliceSource::new(&[0x05, 0x00]);
-    let shown = Mode::Der.decode_lent(&mut source, |cons| Ok(debugged(alloc, cons)))??;
+    let shown = Mode::Der.decode_lent(&mut source, |cons| Ok(debugged(alloc, cons)));
+    let shown = done(&rt, done(&rt, shown));
     holds(&rt, shown.starts_with("Constructed {"));
     holds(&rt, shown.contains("mode: Der"));
-    Ok(())
 }

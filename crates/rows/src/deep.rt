@@ -3,14 +3,13 @@
 
 ghost use Rattle.bcder.specs.Views.{Moved};
 
-use crate::asserts::{holds, same};
-use crate::sip::Sip;
+use crate::asserts::{done, holds, same};
+use crate::over::sip;
 use bcder::decode::{BytesSource, Constructed, ContentError, DecodeError, SliceSource, Source};
 use bcder::{Mode, Tag};
 use bytes::Bytes;
-use std::alloc::{AllocError, Global};
+use std::alloc::Global;
 use std::process::Abort;
-use std::test::Fail;
 
 /// How many sequences are opened.
 const LEVELS: usize = 100_000;
@@ -56,7 +55,7 @@ fn check<S: Source>(
     mode: Mode,
     skipped: bool,
     calls: usize,
-) -> Result<(), Fail> {
+) {
     let mut told = Told {
         calls: 0,
         nested: true,
@@ -64,13 +63,12 @@ fn check<S: Source>(
     match mode.decode_lent(source, |cons| skip_told(cons, alloc, &mut told)) {
         Ok(()) => {
             holds(rt, skipped);
-            same(rt, source.take_opt_u8()?, None);
+            same(rt, done(rt, source.take_opt_u8()), None);
         }
         Err(error) => holds(rt, !skipped && error.content_error().is_some()),
     }
     same(rt, told.calls, calls);
     holds(rt, told.nested);
-    Ok(())
 }
 
 /// Captures the next value whole, or refuses it for its octets.
@@ -98,23 +96,23 @@ fn check_captured<S: Source>(
     mode: Mode,
     octets: &[u8],
     captured: bool,
-) -> Result<(), Fail> {
-    mode.decode_lent(source, |cons| {
+) {
+    let decoded = mode.decode_lent(source, |cons| {
         capture_whole(rt, alloc, cons, octets, captured)
-    })?;
+    });
+    done(rt, decoded);
     let left = if captured { 0 } else { octets.len() };
-    same(rt, source.skip(octets.len())?, left);
-    Ok(())
+    same(rt, done(rt, source.skip(octets.len())), left);
 }
 
 /// Sequences of indefinite length, each in the one before it.
-fn nested(alloc: Global) -> Result<Vec<u8>, AllocError> {
+fn nested(rt: &impl Abort, alloc: Global) -> Vec<u8> {
     let mut octets = Vec::new(alloc);
     for _ in 0..LEVELS {
-        octets.extend_from_slice(&[0x30, 0x80])?;
+        done(rt, octets.extend_from_slice(&[0x30, 0x80]));
     }
-    octets.resize(4 * LEVELS, 0x00)?;
-    Ok(octets)
+    done(rt, octets.resize(4 * LEVELS, 0x00));
+    octets
 }
 
 /// How many octets of the nested sequences are there, the rules, whether they are skipped, and
@@ -128,41 +126,38 @@ const ROWS: [(usize, Mode, bool, usize); 5] = [
 ];
 
 #[test]
-fn over_borrowed_octets(rt: HostRuntime) -> Result<(), Fail> {
-    let octets = nested(rt.alloc())?;
+fn over_borrowed_octets(rt: HostRuntime) {
+    let octets = nested(&rt, rt.alloc());
     for (len, mode, skipped, calls) in ROWS {
         let front = &octets[..len.min(octets.len())];
         let mut source = SliceSource::new(front);
-        check(&rt, rt.alloc(), &mut source, mode, skipped, calls)?;
+        check(&rt, rt.alloc(), &mut source, mode, skipped, calls);
         let mut source = SliceSource::new(front);
-        check_captured(&rt, rt.alloc(), &mut source, mode, front, skipped)?;
+        check_captured(&rt, rt.alloc(), &mut source, mode, front, skipped);
     }
-    Ok(())
 }
 
 #[test]
-fn over_shared_octets(rt: HostRuntime) -> Result<(), Fail> {
-    let octets = nested(rt.alloc())?;
+fn over_shared_octets(rt: HostRuntime) {
+    let octets = nested(&rt, rt.alloc());
     for (len, mode, skipped, calls) in ROWS {
         let front = &octets[..len.min(octets.len())];
-        let shared = Bytes::copy_from_slice(rt.alloc(), front)?;
-        let mut source = BytesSource::new(shared.clone()?);
-        check(&rt, rt.alloc(), &mut source, mode, skipped, calls)?;
+        let shared = done(&rt, Bytes::copy_from_slice(rt.alloc(), front));
+        let mut source = BytesSource::new(done(&rt, shared.clone()));
+        check(&rt, rt.alloc(), &mut source, mode, skipped, calls);
         let mut source = BytesSource::new(shared);
-        check_captured(&rt, rt.alloc(), &mut source, mode, front, skipped)?;
+        check_captured(&rt, rt.alloc(), &mut source, mode, front, skipped);
     }
-    Ok(())
 }
 
 #[test]
-fn over_what_was_asked_for(rt: HostRuntime) -> Result<(), Fail> {
-    let octets = nested(rt.alloc())?;
+fn over_what_was_asked_for(rt: HostRuntime) {
+    let octets = nested(&rt, rt.alloc());
     for (len, mode, skipped, calls) in ROWS {
         let front = &octets[..len.min(octets.len())];
-        let mut source = Sip::new(front.to_vec(rt.alloc())?, 0);
-        check(&rt, rt.alloc(), &mut source, mode, skipped, calls)?;
-        let mut source = Sip::new(front.to_vec(rt.alloc())?, 0);
-        check_captured(&rt, rt.alloc(), &mut source, mode, front, skipped)?;
+        let mut source = sip(&rt, rt.alloc(), front);
+        check(&rt, rt.alloc(), &mut source, mode, skipped, calls);
+        let mut source = sip(&rt, rt.alloc(), front);
+        check_captured(&rt, rt.alloc(), &mut source, mode, front, skipped);
     }
-    Ok(())
 }

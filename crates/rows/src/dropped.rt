@@ -4,13 +4,11 @@
 ghost use Rattle.bcder.specs.Views.{Moved};
 
 use crate::asserts::{holds, same};
-use crate::sip::Sip;
+use crate::over::{shared, sip};
 use bcder::Mode;
-use bcder::decode::{BytesSource, Constructed, DecodeError, SliceSource, Source, walk};
-use bytes::Bytes;
+use bcder::decode::{Constructed, DecodeError, SliceSource, Source, walk};
 use std::alloc::Global;
 use std::process::Abort;
-use std::test::Fail;
 
 /// No take, skip or capture succeeds.
 fn takes_nothing<S: Source>(rt: &impl Abort, alloc: Global, cons: &mut Constructed<'_, S>)
@@ -119,7 +117,7 @@ const ROWS: [&[u8]; 2] = [
 
 /// Wherever a closure drops the refusal, the enclosing takes and `decode` refuse.
 #[test]
-fn dropped_refusals_are_refused(rt: HostRuntime) -> Result<(), Fail> {
+fn dropped_refusals_are_refused(rt: HostRuntime) {
     for octets in ROWS {
         for level in 0..5usize {
             let drops = Drops {
@@ -127,11 +125,9 @@ fn dropped_refusals_are_refused(rt: HostRuntime) -> Result<(), Fail> {
                 alloc: rt.alloc(),
                 level,
             };
-            let mut shared = BytesSource::new(Bytes::copy_from_slice(rt.alloc(), octets)?);
             drops.refuses(&mut SliceSource::new(octets));
-            drops.refuses(&mut shared);
-            drops.refuses(&mut Sip::new(octets.to_vec(rt.alloc())?, 0));
+            drops.refuses(&mut shared(&rt, rt.alloc(), octets));
+            drops.refuses(&mut sip(&rt, rt.alloc(), octets));
         }
     }
-    Ok(())
 }

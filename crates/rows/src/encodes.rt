@@ -1,5 +1,5 @@
 //! What encoders write: octets from worked examples, sizes, and refusals.
-use crate::asserts::{holds, same};
+use crate::asserts::{done, holds, same};
 use crate::encoders::{Nulls, Zeros};
 use bcder::encode::{
     Choice2, Choice3, EncodeError, Nothing, PrimitiveContent, Values, WriteError, iter, sequence,
@@ -10,37 +10,24 @@ use std::alloc::Global;
 use std::io;
 use std::io::{Error, ErrorKind, Write};
 use std::process::Abort;
-use std::test::Fail;
 
 /// The values are written as these octets, and their size is told.
-pub fn writes<V: Values>(
-    rt: &impl Abort,
-    alloc: Global,
-    values: &V,
-    mode: Mode,
-    wanted: &[u8],
-) -> Result<(), Fail>
+pub fn writes<V: Values>(rt: &impl Abort, alloc: Global, values: &V, mode: Mode, wanted: &[u8])
     requires { V.can_encode values.now }
 {
     let mut target = Vec::new(alloc);
     holds(rt, values.write_encoded(mode, &mut target).is_ok());
     holds(rt, target.as_slice() == wanted);
     same(rt, values.encoded_len(mode), Ok(wanted.len()));
-    Ok(())
 }
 
 /// The same octets in each mode.
-fn writes_always<V: Values>(
-    rt: &impl Abort,
-    alloc: Global,
-    values: &V,
-    wanted: &[u8],
-) -> Result<(), Fail>
+fn writes_always<V: Values>(rt: &impl Abort, alloc: Global, values: &V, wanted: &[u8])
     requires { V.can_encode values.now }
 {
-    writes(rt, alloc, values, Mode::Ber, wanted)?;
-    writes(rt, alloc, values, Mode::Cer, wanted)?;
-    writes(rt, alloc, values, Mode::Der, wanted)
+    writes(rt, alloc, values, Mode::Ber, wanted);
+    writes(rt, alloc, values, Mode::Cer, wanted);
+    writes(rt, alloc, values, Mode::Der, wanted);
 }
 
 /// The values are refused for this reason, and nothing is written.
@@ -50,7 +37,7 @@ pub fn refuses<V: Values>(
     values: &V,
     mode: Mode,
     wanted: EncodeError,
-) -> Result<(), Fail>
+)
     requires { V.can_encode values.now }
 {
     let mut target = Vec::new(alloc);
@@ -60,30 +47,29 @@ pub fn refuses<V: Values>(
     }
     holds(rt, target.is_empty());
     same(rt, values.encoded_len(mode), Err(wanted));
-    Ok(())
 }
 
 #[test]
-fn four_numbers(rt: HostRuntime) -> Result<(), Fail> {
+fn four_numbers(rt: HostRuntime) {
     let values = (0u8.encode(), 1u8.encode(), 2u8.encode(), 3u8.encode());
     let wanted = [
         0x02, 0x01, 0x00, 0x02, 0x01, 0x01, 0x02, 0x01, 0x02, 0x02, 0x01, 0x03,
     ];
-    writes_always(&rt, rt.alloc(), &values, &wanted)
+    writes_always(&rt, rt.alloc(), &values, &wanted);
 }
 
 #[test]
-fn a_sequence(rt: HostRuntime) -> Result<(), Fail> {
+fn a_sequence(rt: HostRuntime) {
     let values = sequence((true.encode(), 5u8.encode()));
     let definite = [0x30, 0x06, 0x01, 0x01, 0xFF, 0x02, 0x01, 0x05];
     let indefinite = [0x30, 0x80, 0x01, 0x01, 0xFF, 0x02, 0x01, 0x05, 0x00, 0x00];
-    writes(&rt, rt.alloc(), &values, Mode::Der, &definite)?;
-    writes(&rt, rt.alloc(), &values, Mode::Ber, &definite)?;
-    writes(&rt, rt.alloc(), &values, Mode::Cer, &indefinite)
+    writes(&rt, rt.alloc(), &values, Mode::Der, &definite);
+    writes(&rt, rt.alloc(), &values, Mode::Ber, &definite);
+    writes(&rt, rt.alloc(), &values, Mode::Cer, &indefinite);
 }
 
 #[test]
-fn what_is_not_there(rt: HostRuntime) -> Result<(), Fail> {
+fn what_is_not_there(rt: HostRuntime) {
     let values = sequence((None::<Nothing>, Nothing, 7u16.encode_as(Tag::CTX_0)));
     let indefinite = [0x30, 0x80, 0x80, 0x01, 0x07, 0x00, 0x00];
     writes(
@@ -92,12 +78,12 @@ fn what_is_not_there(rt: HostRuntime) -> Result<(), Fail> {
         &values,
         Mode::Der,
         &[0x30, 0x03, 0x80, 0x01, 0x07],
-    )?;
-    writes(&rt, rt.alloc(), &values, Mode::Cer, &indefinite)
+    );
+    writes(&rt, rt.alloc(), &values, Mode::Cer, &indefinite);
 }
 
 #[test]
-fn explicit_tags(rt: HostRuntime) -> Result<(), Fail> {
+fn explicit_tags(rt: HostRuntime) {
     let values = 5u8.encode().explicit(Tag::CTX_1);
     let indefinite = [0xA1, 0x80, 0x02, 0x01, 0x05, 0x00, 0x00];
     writes(
@@ -106,12 +92,12 @@ fn explicit_tags(rt: HostRuntime) -> Result<(), Fail> {
         &values,
         Mode::Der,
         &[0xA1, 0x03, 0x02, 0x01, 0x05],
-    )?;
-    writes(&rt, rt.alloc(), &values, Mode::Cer, &indefinite)
+    );
+    writes(&rt, rt.alloc(), &values, Mode::Cer, &indefinite);
 }
 
 #[test]
-fn sets_and_other_tags(rt: HostRuntime) -> Result<(), Fail> {
+fn sets_and_other_tags(rt: HostRuntime) {
     let values = (
         set(().encode()),
         set_as(Tag::CTX_0, false.encode()),
@@ -120,155 +106,147 @@ fn sets_and_other_tags(rt: HostRuntime) -> Result<(), Fail> {
     let wanted = [
         0x31, 0x02, 0x05, 0x00, 0xA0, 0x03, 0x01, 0x01, 0x00, 0xA2, 0x00,
     ];
-    writes(&rt, rt.alloc(), &values, Mode::Der, &wanted)
+    writes(&rt, rt.alloc(), &values, Mode::Der, &wanted);
 }
 
 #[test]
-fn items_through_a_closure(rt: HostRuntime) -> Result<(), Fail> {
+fn items_through_a_closure(rt: HostRuntime) {
     let values = slice([1u8, 2, 3], |x: &u8| (*x).encode());
     let wanted = [0x02, 0x01, 0x01, 0x02, 0x01, 0x02, 0x02, 0x01, 0x03];
-    writes_always(&rt, rt.alloc(), &values, &wanted)
+    writes_always(&rt, rt.alloc(), &values, &wanted);
 }
 
 #[test]
-fn items_of_an_iterator(rt: HostRuntime) -> Result<(), Fail> {
+fn items_of_an_iterator(rt: HostRuntime) {
     let numbers = [5u8, 1, 3];
     let mut items = Vec::new(rt.alloc());
     for number in iter(numbers.iter()) {
-        items.push(*number)?;
+        done(&rt, items.push(*number));
     }
     holds(&rt, items.as_slice() == numbers.as_slice());
-    Ok(())
 }
 
 #[test]
-fn lists_and_choices(rt: HostRuntime) -> Result<(), Fail> {
+fn lists_and_choices(rt: HostRuntime) {
     type Either = Choice2<bcder::encode::Primitive<u8>, Nothing>;
     let mut list: Vec<Either> = Vec::new(rt.alloc());
-    list.push(Choice2::One(5u8.encode()))?;
-    list.push(Choice2::Two(Nothing))?;
-    list.push(Choice2::One(6u8.encode()))?;
+    done(&rt, list.push(Choice2::One(5u8.encode())));
+    done(&rt, list.push(Choice2::Two(Nothing)));
+    done(&rt, list.push(Choice2::One(6u8.encode())));
     let wanted = [0x02, 0x01, 0x05, 0x02, 0x01, 0x06];
-    writes_always(&rt, rt.alloc(), &list.as_slice(), &wanted)?;
+    writes_always(&rt, rt.alloc(), &list.as_slice(), &wanted);
     let third: Choice3<Nothing, Nothing, Vec<Either>> = Choice3::Three(list);
-    writes_always(&rt, rt.alloc(), &&third, &wanted)
+    writes_always(&rt, rt.alloc(), &&third, &wanted);
 }
 
 #[test]
-fn octets_and_references(rt: HostRuntime) -> Result<(), Fail> {
+fn octets_and_references(rt: HostRuntime) {
     let octets: &[u8] = &[0x61, 0x62];
-    writes_always(&rt, rt.alloc(), &octets.encode(), &[0x04, 0x02, 0x61, 0x62])?;
+    writes_always(&rt, rt.alloc(), &octets.encode(), &[0x04, 0x02, 0x61, 0x62]);
     writes_always(
         &rt,
         rt.alloc(),
         &octets.encode_ref(),
         &[0x04, 0x02, 0x61, 0x62],
-    )?;
+    );
     let number = 300u16;
     writes_always(
         &rt,
         rt.alloc(),
         &number.encode_ref_as(Tag::CTX_3),
         &[0x83, 0x02, 0x01, 0x2C],
-    )?;
+    );
     let bytes = number.to_encoded_bytes(rt.alloc(), Mode::Der);
     match bytes {
         Ok(bytes) => holds(&rt, bytes.as_slice() == [0x01, 0x2C].as_slice()),
         Err(_) => holds(&rt, false),
     }
-    Ok(())
 }
 
 /// A primitive value has these contents octets.
-fn contents<P: PrimitiveContent + Drop>(
-    rt: &impl Abort,
-    alloc: Global,
-    number: P,
-    wanted: &[u8],
-) -> Result<(), Fail> {
+fn contents<P: PrimitiveContent + Drop>(rt: &impl Abort, alloc: Global, number: P, wanted: &[u8]) {
     match number.to_encoded_bytes(alloc, Mode::Der) {
         Ok(bytes) => holds(rt, bytes.as_slice() == wanted),
         Err(_) => holds(rt, false),
     }
-    Ok(())
 }
 
 #[test]
-fn unsigned_integers(rt: HostRuntime) -> Result<(), Fail> {
-    contents(&rt, rt.alloc(), 0u32, &[0x00])?;
-    contents(&rt, rt.alloc(), 0x12u32, &[0x12])?;
-    contents(&rt, rt.alloc(), 0x1234u32, &[0x12, 0x34])?;
-    contents(&rt, rt.alloc(), 0x123400u32, &[0x12, 0x34, 0x00])?;
-    contents(&rt, rt.alloc(), 0x12345678u32, &[0x12, 0x34, 0x56, 0x78])?;
+fn unsigned_integers(rt: HostRuntime) {
+    contents(&rt, rt.alloc(), 0u32, &[0x00]);
+    contents(&rt, rt.alloc(), 0x12u32, &[0x12]);
+    contents(&rt, rt.alloc(), 0x1234u32, &[0x12, 0x34]);
+    contents(&rt, rt.alloc(), 0x123400u32, &[0x12, 0x34, 0x00]);
+    contents(&rt, rt.alloc(), 0x12345678u32, &[0x12, 0x34, 0x56, 0x78]);
     contents(
         &rt,
         rt.alloc(),
         0xA2345678u32,
         &[0x00, 0xA2, 0x34, 0x56, 0x78],
-    )
+    );
 }
 
 #[test]
-fn signed_integers(rt: HostRuntime) -> Result<(), Fail> {
-    contents(&rt, rt.alloc(), 0xF2i32, &[0x00, 0xF2])?;
-    contents(&rt, rt.alloc(), 0xF234i32, &[0x00, 0xF2, 0x34])?;
-    contents(&rt, rt.alloc(), 0xF23400i32, &[0x00, 0xF2, 0x34, 0x00])?;
-    contents(&rt, rt.alloc(), -1i32, &[0xFF])?;
-    contents(&rt, rt.alloc(), -0xF0i32, &[0xFF, 0x10])?;
-    contents(&rt, rt.alloc(), -0xF000i32, &[0xFF, 0x10, 0x00])?;
-    contents(&rt, rt.alloc(), -1200000i32, &[0xED, 0xB0, 0x80])
+fn signed_integers(rt: HostRuntime) {
+    contents(&rt, rt.alloc(), 0xF2i32, &[0x00, 0xF2]);
+    contents(&rt, rt.alloc(), 0xF234i32, &[0x00, 0xF2, 0x34]);
+    contents(&rt, rt.alloc(), 0xF23400i32, &[0x00, 0xF2, 0x34, 0x00]);
+    contents(&rt, rt.alloc(), -1i32, &[0xFF]);
+    contents(&rt, rt.alloc(), -0xF0i32, &[0xFF, 0x10]);
+    contents(&rt, rt.alloc(), -0xF000i32, &[0xFF, 0x10, 0x00]);
+    contents(&rt, rt.alloc(), -1200000i32, &[0xED, 0xB0, 0x80]);
 }
 
 #[test]
-fn small_and_large_integers(rt: HostRuntime) -> Result<(), Fail> {
-    contents(&rt, rt.alloc(), -32769i64, &[0xFF, 0x7F, 0xFF])?;
-    contents(&rt, rt.alloc(), -32768i16, &[0x80, 0x00])?;
-    contents(&rt, rt.alloc(), -129i16, &[0xFF, 0x7F])?;
-    contents(&rt, rt.alloc(), -128i8, &[0x80])?;
-    contents(&rt, rt.alloc(), 128u8, &[0x00, 0x80])?;
-    contents(&rt, rt.alloc(), -12000i32, &[0xD1, 0x20])
+fn small_and_large_integers(rt: HostRuntime) {
+    contents(&rt, rt.alloc(), -32769i64, &[0xFF, 0x7F, 0xFF]);
+    contents(&rt, rt.alloc(), -32768i16, &[0x80, 0x00]);
+    contents(&rt, rt.alloc(), -129i16, &[0xFF, 0x7F]);
+    contents(&rt, rt.alloc(), -128i8, &[0x80]);
+    contents(&rt, rt.alloc(), 128u8, &[0x00, 0x80]);
+    contents(&rt, rt.alloc(), -12000i32, &[0xD1, 0x20]);
 }
 
 #[test]
-fn the_largest_integers(rt: HostRuntime) -> Result<(), Fail> {
+fn the_largest_integers(rt: HostRuntime) {
     let mut least = [0u8; 16];
     least[0] = 0x80;
-    contents(&rt, rt.alloc(), i128::MIN, &least)?;
+    contents(&rt, rt.alloc(), i128::MIN, &least);
     let mut most = [0xFFu8; 17];
     most[0] = 0;
-    contents(&rt, rt.alloc(), u128::MAX, &most)?;
+    contents(&rt, rt.alloc(), u128::MAX, &most);
     contents(
         &rt,
         rt.alloc(),
         u64::MAX,
         &[0, 0xFF, 0xFF, 0xFF, 0xFF, 0xFF, 0xFF, 0xFF, 0xFF],
-    )
+    );
 }
 
 #[test]
-fn integers_of_any_size(rt: HostRuntime) -> Result<(), Fail> {
+fn integers_of_any_size(rt: HostRuntime) {
     let alloc = rt.alloc();
     let octets = [0x00, 0x00, 0xDE, 0xAD, 0xBE, 0xEF];
-    let number = Unsigned::from_slice(alloc, &octets)?;
+    let number = done(&rt, Unsigned::from_slice(alloc, &octets));
     let wanted = [0x02, 0x05, 0x00, 0xDE, 0xAD, 0xBE, 0xEF];
-    writes_always(&rt, alloc, &(&number).encode(), &wanted)?;
-    contents(&rt, alloc, &number, &wanted[2..])?;
-    let number = Integer::from_i128(alloc, -32769)?;
+    writes_always(&rt, alloc, &(&number).encode(), &wanted);
+    contents(&rt, alloc, &number, &wanted[2..]);
+    let number = done(&rt, Integer::from_i128(alloc, -32769));
     let wanted = [0x02, 0x03, 0xFF, 0x7F, 0xFF];
-    writes_always(&rt, alloc, &(&number).encode(), &wanted)?;
-    contents(&rt, alloc, &number, &wanted[2..])
+    writes_always(&rt, alloc, &(&number).encode(), &wanted);
+    contents(&rt, alloc, &number, &wanted[2..]);
 }
 
 #[test]
-fn object_identifiers(rt: HostRuntime) -> Result<(), Fail> {
+fn object_identifiers(rt: HostRuntime) {
     let octets: &[u8] = &[85, 29, 19];
     let wanted = [0x06, 0x03, 0x55, 0x1D, 0x13];
-    writes_always(&rt, rt.alloc(), &Oid(octets).encode(), &wanted)?;
-    contents(&rt, rt.alloc(), Oid(octets), octets)
+    writes_always(&rt, rt.alloc(), &Oid(octets).encode(), &wanted);
+    contents(&rt, rt.alloc(), Oid(octets), octets);
 }
 
 #[test]
-fn headers(rt: HostRuntime) -> Result<(), Fail> {
+fn headers(rt: HostRuntime) {
     same(
         &rt,
         total_encoded_len(Tag::OCTET_STRING, 4294967295),
@@ -297,7 +275,6 @@ fn headers(rt: HostRuntime) -> Result<(), Fail> {
         0x30, 0x82, 0x01, 0x00, 0x1F, 0x1F, 0x84, 0xFF, 0xFF, 0xFF, 0xFF,
     ];
     holds(&rt, target.as_slice() == wanted.as_slice());
-    Ok(())
 }
 
 /// The tag is written as these identifier octets.
@@ -330,9 +307,9 @@ fn tags(rt: HostRuntime) {
 }
 
 #[test]
-fn refusals(rt: HostRuntime) -> Result<(), Fail> {
+fn refusals(rt: HostRuntime) {
     let end = true.encode_as(Tag::END_OF_VALUE);
-    refuses(&rt, rt.alloc(), &end, Mode::Ber, EncodeError::EndOfValueTag)?;
+    refuses(&rt, rt.alloc(), &end, Mode::Ber, EncodeError::EndOfValueTag);
     let inside = sequence((5u8.encode(), end));
     refuses(
         &rt,
@@ -340,7 +317,7 @@ fn refusals(rt: HostRuntime) -> Result<(), Fail> {
         &inside,
         Mode::Der,
         EncodeError::EndOfValueTag,
-    )?;
+    );
     let outside = sequence_as(Tag::END_OF_VALUE, Nothing);
     refuses(
         &rt,
@@ -348,7 +325,7 @@ fn refusals(rt: HostRuntime) -> Result<(), Fail> {
         &outside,
         Mode::Cer,
         EncodeError::EndOfValueTag,
-    )
+    );
 }
 
 /// The values have so many octets in each mode, or are refused for this reason and not written.
@@ -357,51 +334,50 @@ fn sizes<V: Values>(
     alloc: Global,
     values: &V,
     wanted: [Result<usize, EncodeError>; 3],
-) -> Result<(), Fail>
+)
     requires { V.can_encode values.now }
 {
     let [ber, cer, der] = wanted;
     for (mode, wanted) in [(Mode::Ber, ber), (Mode::Cer, cer), (Mode::Der, der)] {
         match wanted {
             Ok(_) => same(rt, values.encoded_len(mode), wanted),
-            Err(error) => refuses(rt, alloc, values, mode, error)?,
+            Err(error) => refuses(rt, alloc, values, mode, error),
         }
     }
-    Ok(())
 }
 
 #[test]
-fn encoders_of_any_size(rt: HostRuntime) -> Result<(), Fail> {
+fn encoders_of_any_size(rt: HostRuntime) {
     let zeros = [0x04, 0x03, 0x00, 0x00, 0x00];
-    writes_always(&rt, rt.alloc(), &Zeros(3).encode(), &zeros)?;
+    writes_always(&rt, rt.alloc(), &Zeros(3).encode(), &zeros);
     writes_always(
         &rt,
         rt.alloc(),
         &Zeros(0).encode_as(Tag::CTX_0),
         &[0x80, 0x00],
-    )?;
-    writes_always(&rt, rt.alloc(), &Nulls(2), &[0x05, 0x00, 0x05, 0x00])?;
-    writes_always(&rt, rt.alloc(), &Nulls(0), &[])
+    );
+    writes_always(&rt, rt.alloc(), &Nulls(2), &[0x05, 0x00, 0x05, 0x00]);
+    writes_always(&rt, rt.alloc(), &Nulls(0), &[]);
 }
 
 /// Four octets tell lengths below 2^32, and the indefinite form any.
 #[test]
-fn the_longest_lengths(rt: HostRuntime) -> Result<(), Fail> {
+fn the_longest_lengths(rt: HostRuntime) {
     let long = Err(EncodeError::LengthTooLarge);
     sizes(
         &rt,
         rt.alloc(),
         &Zeros(4294967295).encode(),
         [Ok(4294967301); 3],
-    )?;
-    sizes(&rt, rt.alloc(), &Zeros(4294967296).encode(), [long; 3])?;
+    );
+    sizes(&rt, rt.alloc(), &Zeros(4294967296).encode(), [long; 3]);
     let inside = sequence(Zeros(4294967295).encode());
-    sizes(&rt, rt.alloc(), &inside, [long, Ok(4294967305), long])
+    sizes(&rt, rt.alloc(), &inside, [long, Ok(4294967305), long]);
 }
 
 /// Sizes that a `usize` doesn't count. A length is looked at before a sum.
 #[test]
-fn the_largest_sizes(rt: HostRuntime) -> Result<(), Fail> {
+fn the_largest_sizes(rt: HostRuntime) {
     let many = Nulls(9223372036854775807);
     let long = Err(EncodeError::LengthTooLarge);
     let over = Err(EncodeError::SizeOverflow);
@@ -410,10 +386,10 @@ fn the_largest_sizes(rt: HostRuntime) -> Result<(), Fail> {
         rt.alloc(),
         &(many, Nothing),
         [Ok(18446744073709551614); 3],
-    )?;
-    sizes(&rt, rt.alloc(), &(many, true.encode()), [over; 3])?;
-    sizes(&rt, rt.alloc(), &Nulls(9223372036854775808), [over; 3])?;
-    sizes(&rt, rt.alloc(), &sequence(many), [long, over, long])
+    );
+    sizes(&rt, rt.alloc(), &(many, true.encode()), [over; 3]);
+    sizes(&rt, rt.alloc(), &Nulls(9223372036854775808), [over; 3]);
+    sizes(&rt, rt.alloc(), &sequence(many), [long, over, long]);
 }
 
 /// How a target fails.
@@ -469,7 +445,7 @@ fn check_failing<V: Values>(
     wanted: &[u8],
     failing: usize,
     failure: Failure,
-) -> Result<(), Fail>
+)
     requires { V.can_encode values.now }
 {
     let mut target = OneByOne {
@@ -486,7 +462,7 @@ fn check_failing<V: Values>(
     if failing > wanted.len() {
         same(rt, kind, None);
         holds(rt, target.taken.as_slice() == wanted);
-        return Ok(());
+        return;
     }
     match failure {
         Failure::Nothing => same(rt, kind, Some(ErrorKind::WriteZero)),
@@ -495,11 +471,10 @@ fn check_failing<V: Values>(
     same(rt, target.calls, failing);
     same(rt, target.taken.len() + 1, failing);
     holds(rt, wanted.starts_with(target.taken.as_slice()));
-    Ok(())
 }
 
 #[test]
-fn up_to_the_failure(rt: HostRuntime) -> Result<(), Fail> {
+fn up_to_the_failure(rt: HostRuntime) {
     let whole = [0x30, 0x06, 0x01, 0x01, 0xFF, 0x02, 0x01, 0x05];
     let failures = [
         Failure::Nothing,
@@ -509,10 +484,9 @@ fn up_to_the_failure(rt: HostRuntime) -> Result<(), Fail> {
     let values = sequence((true.encode(), 5u8.encode()));
     for failure in failures {
         for failing in 1..10usize {
-            check_failing(&rt, rt.alloc(), &values, &whole, failing, failure)?;
+            check_failing(&rt, rt.alloc(), &values, &whole, failing, failure);
         }
     }
-    Ok(())
 }
 
 /// Takes nothing.

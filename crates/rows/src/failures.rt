@@ -3,13 +3,12 @@
 
 ghost use Rattle.bcder.specs.Views.{Moved};
 
-use crate::asserts::{holds, same};
-use crate::sip::Sip;
+use crate::asserts::{done, holds, same};
+use crate::over::failing_sip;
 use bcder::Mode;
 use bcder::decode::{Constructed, DecodeError, Source, walk};
 use std::alloc::Global;
 use std::process::Abort;
-use std::test::Fail;
 
 /// A call on content.
 #[derive(Clone, Copy, Debug, PartialEq, Eq)]
@@ -191,9 +190,9 @@ fn check(
     octets: &[u8],
     row: Row,
     failing: usize,
-) -> Result<bool, Fail> {
+) -> bool {
     let (call, wanted, left) = row;
-    let mut source = Sip::new(octets.to_vec(alloc)?, failing);
+    let mut source = failing_sip(rt, alloc, octets, failing);
     let mut failed = false;
     let decoded = mode.decode_lent(&mut source, |cons| {
         failed = check_call(rt, alloc, cons, call, wanted);
@@ -203,9 +202,9 @@ fn check(
     let usable = call.captures() || !failed && wanted != Answer::Refused;
     same(rt, decoded.is_ok(), usable);
     if usable && (failed || failing == 0) {
-        same(rt, source.skip(octets.len())?, left);
+        same(rt, done(rt, source.skip(octets.len())), left);
     }
-    Ok(failed)
+    failed
 }
 
 /// Rules, octets, and calls on them.
@@ -305,12 +304,12 @@ const REQUESTS: usize = 64;
 
 /// Each request fails in turn, until a call makes no more.
 #[test]
-fn each_request_fails(rt: HostRuntime) -> Result<(), Fail> {
+fn each_request_fails(rt: HostRuntime) {
     for (mode, octets, rows) in INPUTS {
         for row in rows {
             let mut ended = false;
             for failing in 0..REQUESTS {
-                let failed = check(&rt, rt.alloc(), mode, octets, *row, failing)?;
+                let failed = check(&rt, rt.alloc(), mode, octets, *row, failing);
                 holds(&rt, failing != 1 || failed);
                 if failing > 1 && !failed {
                     ended = true;
@@ -320,5 +319,4 @@ fn each_request_fails(rt: HostRuntime) -> Result<(), Fail> {
             holds(&rt, ended);
         }
     }
-    Ok(())
 }

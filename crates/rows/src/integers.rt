@@ -3,11 +3,9 @@
 
 ghost use Rattle.bcder.specs.Views.{Moved, MovedOctets};
 
-use crate::asserts::{holds, same, shows};
-use crate::sip::Sip;
-use bcder::decode::{
-    BytesSource, Constructed, ContentError, DecodeError, Primitive, SliceSource, Source,
-};
+use crate::asserts::{done, holds, same, shows};
+use crate::over::{shared, sip};
+use bcder::decode::{Constructed, ContentError, DecodeError, Primitive, SliceSource, Source};
 use bcder::int::{IntegerError, InvalidInteger, OverflowError};
 use bcder::{Integer, Mode, Tag, Unsigned};
 use bytes::Bytes;
@@ -15,7 +13,6 @@ use std::alloc::Global;
 use std::convert::TryFrom;
 use std::hash::{DefaultHasher, Hash, Hasher};
 use std::process::Abort;
-use std::test::Fail;
 
 // ---- reading octets
 
@@ -45,12 +42,11 @@ fn read_twice<S: Source>(
 }
 
 #[test]
-fn a_refused_reader_takes_nothing(rt: HostRuntime) -> Result<(), Fail> {
-    let read = Primitive::decode_slice(&[0x01, 0x00], Mode::Der, |p| read_twice(&rt, p))?;
-    same(&rt, read, 256);
+fn a_refused_reader_takes_nothing(rt: HostRuntime) {
+    let read = Primitive::decode_slice(&[0x01, 0x00], Mode::Der, |p| read_twice(&rt, p));
+    same(&rt, done(&rt, read), 256);
     let left = Primitive::decode_slice(&[0x01, 0x00], Mode::Der, |p| Ok(p.remaining()));
     same(&rt, kind(left), 3);
-    Ok(())
 }
 
 /// The truth value that octets are.
@@ -76,16 +72,15 @@ fn booleans(rt: HostRuntime) {
 
 /// All octets, and lent ones.
 #[test]
-fn octets_as_they_are(rt: HostRuntime) -> Result<(), Fail> {
+fn octets_as_they_are(rt: HostRuntime) {
     let alloc = rt.alloc();
     let octets = [0x01, 0x02, 0x03];
-    let all = Primitive::decode_slice(&octets, Mode::Der, |p| p.take_all(alloc))?;
-    same(&rt, all.as_slice(), &octets);
+    let all = Primitive::decode_slice(&octets, Mode::Der, |p| p.take_all(alloc));
+    same(&rt, done(&rt, all).as_slice(), &octets);
     let count = Primitive::decode_slice(&octets, Mode::Der, |p| {
         p.with_slice_all(|octets| Ok(octets.len()))
-    })?;
-    same(&rt, count, 3);
-    Ok(())
+    });
+    same(&rt, done(&rt, count), 3);
 }
 
 /// Looks at octets that a reader refused. They stay until they are taken.
@@ -118,16 +113,14 @@ fn look_and_take_value<S: Source>(
 }
 
 #[test]
-fn octets_that_are_looked_at(rt: HostRuntime) -> Result<(), Fail> {
+fn octets_that_are_looked_at(rt: HostRuntime) {
     let alloc = rt.alloc();
     let octets = [0x01, 0x02, 0x03];
-    let all = Primitive::decode_slice(&octets, Mode::Der, |p| look_and_take(&rt, alloc, p))?;
-    same(&rt, all.as_slice(), &octets);
-    let value = [0x02, 0x03, 0x01, 0x02, 0x03];
-    let mut sip = Sip::new(value.to_vec(alloc)?, 0);
-    let taken = Mode::Der.decode_lent(&mut sip, |cons| look_and_take_value(&rt, alloc, cons))?;
-    same(&rt, taken.as_slice(), &octets);
-    Ok(())
+    let all = Primitive::decode_slice(&octets, Mode::Der, |p| look_and_take(&rt, alloc, p));
+    same(&rt, done(&rt, all).as_slice(), &octets);
+    let mut sip = sip(&rt, alloc, &[0x02, 0x03, 0x01, 0x02, 0x03]);
+    let taken = Mode::Der.decode_lent(&mut sip, |cons| look_and_take_value(&rt, alloc, cons));
+    same(&rt, done(&rt, taken).as_slice(), &octets);
 }
 
 // ---- taking values
@@ -168,14 +161,23 @@ fn take_null<S: Source>(cons: &mut Constructed<'_, S>) -> u8
 }
 
 #[test]
-fn takes(rt: HostRuntime) -> Result<(), Fail> {
+fn takes(rt: HostRuntime) {
     let five: &[u8] = &[0x02, 0x01, 0x05];
-    Mode::Der.decode_lent(&mut SliceSource::new(five), |cons| take_five(&rt, cons))?;
-    let mut shared = BytesSource::new(Bytes::copy_from_slice(rt.alloc(), five)?);
-    Mode::Der.decode_lent(&mut shared, |cons| take_five(&rt, cons))?;
-    let mut sip = Sip::new(five.to_vec(rt.alloc())?, 0);
-    Mode::Der.decode_lent(&mut sip, |cons| take_five(&rt, cons))?;
-    Ok(())
+    let mut slice = SliceSource::new(five);
+    done(
+        &rt,
+        Mode::Der.decode_lent(&mut slice, |cons| take_five(&rt, cons)),
+    );
+    let mut shared = shared(&rt, rt.alloc(), five);
+    done(
+        &rt,
+        Mode::Der.decode_lent(&mut shared, |cons| take_five(&rt, cons)),
+    );
+    let mut sip = sip(&rt, rt.alloc(), five);
+    done(
+        &rt,
+        Mode::Der.decode_lent(&mut sip, |cons| take_five(&rt, cons)),
+    );
 }
 
 /// The kind of refusal of `skip_u8_if(200)`, from a slice.
@@ -206,17 +208,16 @@ fn skips_of_a_number(rt: HostRuntime) {
 
 /// The refusal of another number names the one that was expected.
 #[test]
-fn another_number_is_named(rt: HostRuntime) -> Result<(), Fail> {
+fn another_number_is_named(rt: HostRuntime) {
     let mut source = SliceSource::new(&[0x02, 0x01, 0x05]);
     let outcome = Mode::Der.decode_lent(&mut source, |cons| cons.skip_u8_if(200));
     holds(&rt, outcome.is_err());
     if let Err(error) = outcome {
         holds(&rt, error.content_error().is_some());
         if let Some(error) = error.content_error() {
-            shows(&rt, rt.alloc(), error, "expected integer value 200")?;
+            shows(&rt, rt.alloc(), error, "expected integer value 200");
         }
     }
-    Ok(())
 }
 
 fn nulled(octets: &[u8]) -> u8 {
@@ -258,85 +259,71 @@ fn hash_of(integer: &Integer) -> u64 {
 }
 
 /// Two of them are compared as their numbers.
-fn check_pair(
-    rt: &impl Abort,
-    alloc: Global,
-    one: (i128, &[u8]),
-    other: (i128, &[u8]),
-) -> Result<(), Fail> {
-    let x = Integer::from_i128(alloc, one.0)?;
-    let y = Integer::from_i128(alloc, other.0)?;
+fn check_pair(rt: &impl Abort, alloc: Global, one: (i128, &[u8]), other: (i128, &[u8])) {
+    let x = done(rt, Integer::from_i128(alloc, one.0));
+    let y = done(rt, Integer::from_i128(alloc, other.0));
     same(rt, x.as_slice(), one.1);
     same(rt, x.cmp(&y), one.0.cmp(&other.0));
     same(rt, x == y, one.0 == other.0);
     holds(rt, x != y || hash_of(&x) == hash_of(&y));
-    Ok(())
 }
 
 #[test]
-fn integers_in_their_order(rt: HostRuntime) -> Result<(), Fail> {
+fn integers_in_their_order(rt: HostRuntime) {
     for one in ORDERED {
         for other in ORDERED {
-            check_pair(&rt, rt.alloc(), one, other)?;
+            check_pair(&rt, rt.alloc(), one, other);
         }
     }
-    Ok(())
 }
 
-fn check_signs(rt: &impl Abort, alloc: Global, number: i128) -> Result<(), Fail> {
-    let integer = Integer::from_i128(alloc, number)?;
+fn check_signs(rt: &impl Abort, alloc: Global, number: i128) {
+    let integer = done(rt, Integer::from_i128(alloc, number));
     same(rt, integer.is_zero(), number == 0);
     same(rt, integer.is_positive(), number > 0);
     same(rt, integer.is_negative(), number < 0);
-    same(rt, integer.clone()?, integer);
-    Ok(())
+    same(rt, done(rt, integer.clone()), integer);
 }
 
 #[test]
-fn signs(rt: HostRuntime) -> Result<(), Fail> {
+fn signs(rt: HostRuntime) {
     for (number, _) in ORDERED {
-        check_signs(&rt, rt.alloc(), number)?;
+        check_signs(&rt, rt.alloc(), number);
     }
-    check_signs(&rt, rt.alloc(), i128::MIN)?;
-    check_signs(&rt, rt.alloc(), i128::MAX)
+    check_signs(&rt, rt.alloc(), i128::MIN);
+    check_signs(&rt, rt.alloc(), i128::MAX);
 }
 
 #[test]
-fn the_ends_of_the_largest_types(rt: HostRuntime) -> Result<(), Fail> {
+fn the_ends_of_the_largest_types(rt: HostRuntime) {
     let alloc = rt.alloc();
-    let least = Integer::from_i128(alloc, i128::MIN)?;
+    let least = done(&rt, Integer::from_i128(alloc, i128::MIN));
     same(&rt, least.as_slice().len(), 16);
     same(&rt, i128::try_from(&least), Ok(i128::MIN));
-    let most = Integer::from_u128(alloc, u128::MAX)?;
+    let most = done(&rt, Integer::from_u128(alloc, u128::MAX));
     same(&rt, most.as_slice().len(), 17);
     same(&rt, u128::try_from(&most), Ok(u128::MAX));
     same(&rt, i128::try_from(most), Err(OverflowError));
-    Ok(())
 }
 
 /// The octets of the unsigned number that octets are.
-fn check_unsigned(
-    rt: &impl Abort,
-    alloc: Global,
-    octets: &[u8],
-    wanted: &[u8],
-) -> Result<(), Fail> {
-    let copied = Unsigned::from_slice(alloc, octets)?;
+fn check_unsigned(rt: &impl Abort, alloc: Global, octets: &[u8], wanted: &[u8]) {
+    let copied = done(rt, Unsigned::from_slice(alloc, octets));
     same(rt, copied.as_slice(), wanted);
-    let shared = Unsigned::from_bytes(alloc, Bytes::copy_from_slice(alloc, octets)?)?;
+    let octets = done(rt, Bytes::copy_from_slice(alloc, octets));
+    let shared = done(rt, Unsigned::from_bytes(alloc, octets));
     same(rt, shared.as_slice(), wanted);
     holds(rt, copied == shared);
-    Ok(())
 }
 
 #[test]
-fn unsigned_integers(rt: HostRuntime) -> Result<(), Fail> {
+fn unsigned_integers(rt: HostRuntime) {
     let alloc = rt.alloc();
-    check_unsigned(&rt, alloc, &[0xFF], &[0x00, 0xFF])?;
-    check_unsigned(&rt, alloc, &[0x00, 0xFF], &[0x00, 0xFF])?;
-    check_unsigned(&rt, alloc, &[0x00, 0x00, 0xFF], &[0x00, 0xFF])?;
-    check_unsigned(&rt, alloc, &[0x00, 0x00, 0x7F, 0x00], &[0x7F, 0x00])?;
-    check_unsigned(&rt, alloc, &[0x00, 0x00], &[0x00])
+    check_unsigned(&rt, alloc, &[0xFF], &[0x00, 0xFF]);
+    check_unsigned(&rt, alloc, &[0x00, 0xFF], &[0x00, 0xFF]);
+    check_unsigned(&rt, alloc, &[0x00, 0x00, 0xFF], &[0x00, 0xFF]);
+    check_unsigned(&rt, alloc, &[0x00, 0x00, 0x7F, 0x00], &[0x7F, 0x00]);
+    check_unsigned(&rt, alloc, &[0x00, 0x00], &[0x00]);
 }
 
 #[test]
@@ -351,22 +338,17 @@ fn unsigned_integers_of_nothing(rt: HostRuntime) {
 }
 
 #[test]
-fn an_integer_beside_an_unsigned_one(rt: HostRuntime) -> Result<(), Fail> {
-    let unsigned = Unsigned::from_slice(rt.alloc(), &[0x80])?;
-    holds(
-        &rt,
-        Integer::from_u8(rt.alloc(), 128)?.eq_unsigned(&unsigned),
-    );
-    holds(
-        &rt,
-        !Integer::from_i8(rt.alloc(), -128)?.eq_unsigned(&unsigned),
-    );
-    Ok(())
+fn an_integer_beside_an_unsigned_one(rt: HostRuntime) {
+    let unsigned = done(&rt, Unsigned::from_slice(rt.alloc(), &[0x80]));
+    let positive = done(&rt, Integer::from_u8(rt.alloc(), 128));
+    holds(&rt, positive.eq_unsigned(&unsigned));
+    let negative = done(&rt, Integer::from_i8(rt.alloc(), -128));
+    holds(&rt, !negative.eq_unsigned(&unsigned));
 }
 
 #[test]
-fn errors_are_shown(rt: HostRuntime) -> Result<(), Fail> {
-    shows(&rt, rt.alloc(), &InvalidInteger, "invalid integer")?;
-    shows(&rt, rt.alloc(), &OverflowError, "integer out of range")?;
-    shows(&rt, rt.alloc(), &IntegerError::NoMemory, "out of memory")
+fn errors_are_shown(rt: HostRuntime) {
+    shows(&rt, rt.alloc(), &InvalidInteger, "invalid integer");
+    shows(&rt, rt.alloc(), &OverflowError, "integer out of range");
+    shows(&rt, rt.alloc(), &IntegerError::NoMemory, "out of memory");
 }

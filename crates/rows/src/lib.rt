@@ -28,6 +28,8 @@ mod encodes;
 mod failures;
 #[cfg(test)]
 mod integers;
+#[cfg(test)]
+mod over;
 pub mod sip;
 #[cfg(test)]
 mod skips;

@@ -3,13 +3,12 @@
 
 ghost use Rattle.bcder.specs.Views.{Moved};
 
-use crate::asserts::same;
-use crate::sip::Sip;
+use crate::asserts::{done, same};
+use crate::over::sip;
 use bcder::decode::{Constructed, ContentError, DecodeError, SliceSource, Source};
 use bcder::{Mode, Tag};
 use std::alloc::Global;
 use std::process::Abort;
-use std::test::Fail;
 
 /// Skips the next value and writes down the headings that the closure is told, which refuses a tag.
 fn told<S: Source>(
@@ -37,16 +36,15 @@ fn check<S: Source>(
     mode: Mode,
     refused: Tag,
     wanted: &str,
-) -> Result<(), Fail> {
+) {
     let mut text = String::new(alloc);
     let end = match mode.decode_lent(source, |cons| told(cons, alloc, refused, &mut text)) {
         Ok(Some(())) => "some",
         Ok(None) => "none",
         Err(_) => "refused",
     };
-    write!(text, "{end}")?;
+    done(rt, write!(text, "{end}"));
     same(rt, text.as_str() == wanted, true);
-    Ok(())
 }
 
 /// Rules, octets, the tag that the closure refuses, and what it is told.
@@ -83,18 +81,11 @@ const ROWS: [(Mode, &[u8], Tag, &str); 7] = [
 ];
 
 #[test]
-fn closures_are_told_the_headings(rt: HostRuntime) -> Result<(), Fail> {
+fn closures_are_told_the_headings(rt: HostRuntime) {
     for (mode, octets, refused, wanted) in ROWS {
-        check(
-            &rt,
-            rt.alloc(),
-            &mut SliceSource::new(octets),
-            mode,
-            refused,
-            wanted,
-        )?;
-        let mut sip = Sip::new(octets.to_vec(rt.alloc())?, 0);
-        check(&rt, rt.alloc(), &mut sip, mode, refused, wanted)?;
+        let mut slice = SliceSource::new(octets);
+        check(&rt, rt.alloc(), &mut slice, mode, refused, wanted);
+        let mut sip = sip(&rt, rt.alloc(), octets);
+        check(&rt, rt.alloc(), &mut sip, mode, refused, wanted);
     }
-    Ok(())
 }

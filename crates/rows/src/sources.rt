@@ -1,10 +1,11 @@
 //! Sources and errors, with values from outside. The digits are ASCII octets.
-use crate::asserts::{debugs, holds, same, shows};
+use crate::asserts::{done, holds, same, shows};
 use crate::borrows::{
     TakeError, capture_passed, capture_two, has_two, pass_two, pass_two_within, skip_two,
     take_exactly, without_two,
 };
-use crate::sip::{Sip, SipError};
+use crate::over::{failing_sip, shared, sip};
+use crate::sip::SipError;
 use bcder::decode::{
     BytesSource, CaptureSource, ContentError, DecodeError, IntoSource, LimitedSource, Message, Pos,
     SliceSource, Source,
@@ -14,89 +15,79 @@ use bytes::Bytes;
 use std::alloc::Global;
 use std::convert::Infallible;
 use std::process::Abort;
-use std::test::Fail;
-
-fn shared(alloc: Global, octets: &[u8]) -> Result<BytesSource, Fail> {
-    Ok(BytesSource::new(Bytes::copy_from_slice(alloc, octets)?))
-}
-
-fn sip(alloc: Global, octets: &[u8]) -> Result<Sip, Fail> {
-    failing_sip(alloc, octets, 0)
-}
-
-fn failing_sip(alloc: Global, octets: &[u8], failing: usize) -> Result<Sip, Fail> {
-    Ok(Sip::new(octets.to_vec(alloc)?, failing))
-}
 
 // What is left of a source.
-fn assert_rest<S: Source>(rt: &impl Abort, source: &mut S, rest: &[u8]) -> Result<(), Fail> {
-    same(rt, source.request(rest.len())?, rest.len());
+fn assert_rest<S: Source>(rt: &impl Abort, source: &mut S, rest: &[u8]) {
+    same(rt, done(rt, source.request(rest.len())), rest.len());
     same(rt, source.slice(), rest);
-    holds(rt, source.take_opt_u8()?.is_some() || rest.is_empty());
-    Ok(())
+    holds(
+        rt,
+        done(rt, source.take_opt_u8()).is_some() || rest.is_empty(),
+    );
 }
 
 // A limit over a capturing source over a limit.
-fn check_nested<S: Source + Drop>(rt: &impl Abort, alloc: Global, source: S) -> Result<(), Fail> {
+fn check_nested<S: Source + Drop>(rt: &impl Abort, alloc: Global, source: S) {
     let mut inner = LimitedSource::new(source);
     inner.set_limit(Some(4));
     let mut view = LimitedSource::new(CaptureSource::new(&mut inner));
     view.set_limit(Some(5));
-    same(rt, view.request(9)?, 4);
+    same(rt, done(rt, view.request(9)), 4);
     holds(rt, view.take_all(alloc).is_err());
     same(rt, view.limit(), Some(5));
-    same(rt, view.request(9)?, 4);
+    same(rt, done(rt, view.request(9)), 4);
     view.set_limit(Some(4));
-    same(rt, view.take_all(alloc)?.as_slice(), b"1234".as_slice());
-    same(rt, view.limit(), Some(0));
-    let mut capture = view.unwrap();
-    capture.request(0)?;
     same(
         rt,
-        capture.into_bytes(alloc)?.as_slice(),
+        done(rt, view.take_all(alloc)).as_slice(),
+        b"1234".as_slice(),
+    );
+    same(rt, view.limit(), Some(0));
+    let mut capture = view.unwrap();
+    done(rt, capture.request(0));
+    same(
+        rt,
+        done(rt, capture.into_bytes(alloc)).as_slice(),
         b"1234".as_slice(),
     );
     same(rt, inner.limit(), Some(0));
     let mut source = inner.unwrap();
-    same(rt, source.request(4)?, 4);
+    same(rt, done(rt, source.request(4)), 4);
     same(rt, source.slice(), b"5678".as_slice());
-    Ok(())
 }
 
 #[test]
-fn nested(rt: HostRuntime) -> Result<(), Fail> {
+fn nested(rt: HostRuntime) {
     let octets = b"12345678";
-    check_nested(&rt, rt.alloc(), SliceSource::new(octets))?;
-    check_nested(&rt, rt.alloc(), shared(rt.alloc(), octets)?)?;
-    check_nested(&rt, rt.alloc(), sip(rt.alloc(), octets)?)
+    check_nested(&rt, rt.alloc(), SliceSource::new(octets));
+    check_nested(&rt, rt.alloc(), shared(&rt, rt.alloc(), octets));
+    check_nested(&rt, rt.alloc(), sip(&rt, rt.alloc(), octets));
 }
 
 #[test]
-fn sips(rt: HostRuntime) -> Result<(), Fail> {
-    let mut source = sip(rt.alloc(), b"12345678")?;
-    same(&rt, source.request(3)?, 3);
+fn sips(rt: HostRuntime) {
+    let mut source = sip(&rt, rt.alloc(), b"12345678");
+    same(&rt, done(&rt, source.request(3)), 3);
     same(&rt, source.slice(), b"123".as_slice());
-    same(&rt, source.request(1)?, 1);
+    same(&rt, done(&rt, source.request(1)), 1);
     same(&rt, source.slice(), b"1".as_slice());
-    same(&rt, source.request(9)?, 8);
+    same(&rt, done(&rt, source.request(9)), 8);
     same(&rt, source.faults(), 0);
-    Ok(())
 }
 
 // A failed request, in the middle of a source.
 #[test]
-fn failed_skip(rt: HostRuntime) -> Result<(), Fail> {
-    let mut source = failing_sip(rt.alloc(), b"1234", 2)?;
-    same(&rt, source.skip(1)?, 1);
+fn failed_skip(rt: HostRuntime) {
+    let mut source = failing_sip(&rt, rt.alloc(), b"1234", 2);
+    same(&rt, done(&rt, source.skip(1)), 1);
     same(&rt, source.skip(2), Err(SipError));
     same(&rt, source.faults(), 1);
-    same(&rt, source.take_u8()?, b'2');
-    Ok(())
+    same(&rt, done(&rt, source.take_u8()), b'2');
 }
 
 #[test]
-fn failed_limited(rt: HostRuntime) -> Result<(), Fail> {
-    let mut limited = LimitedSource::new(failing_sip(rt.alloc(), b"1234", 1)?);
+fn failed_limited(rt: HostRuntime) {
+    let mut limited = LimitedSource::new(failing_sip(&rt, rt.alloc(), b"1234", 1));
     limited.set_limit(Some(2));
     holds(
         &rt,
@@ -105,23 +96,21 @@ fn failed_limited(rt: HostRuntime) -> Result<(), Fail> {
     same(&rt, limited.limit(), Some(2));
     same(
         &rt,
-        limited.take_all(rt.alloc())?.as_slice(),
+        done(&rt, limited.take_all(rt.alloc())).as_slice(),
         b"12".as_slice(),
     );
-    Ok(())
 }
 
 #[test]
-fn failed_octet(rt: HostRuntime) -> Result<(), Fail> {
-    let mut source = failing_sip(rt.alloc(), b"1234", 1)?;
+fn failed_octet(rt: HostRuntime) {
+    let mut source = failing_sip(&rt, rt.alloc(), b"1234", 1);
     holds(&rt, source.take_u8().is_err_and(|error| error.is_source()));
-    same(&rt, source.take_opt_u8()?, Some(b'1'));
-    Ok(())
+    same(&rt, done(&rt, source.take_opt_u8()), Some(b'1'));
 }
 
 #[test]
-fn failed_capture(rt: HostRuntime) -> Result<(), Fail> {
-    let mut source = failing_sip(rt.alloc(), b"1234", 1)?;
+fn failed_capture(rt: HostRuntime) {
+    let mut source = failing_sip(&rt, rt.alloc(), b"1234", 1);
     holds(
         &rt,
         matches!(
@@ -131,13 +120,12 @@ fn failed_capture(rt: HostRuntime) -> Result<(), Fail> {
     );
     same(
         &rt,
-        capture_two(&mut source, rt.alloc())?.as_slice(),
+        done(&rt, capture_two(&mut source, rt.alloc())).as_slice(),
         b"12".as_slice(),
     );
-    Ok(())
 }
 
-fn check_limit<S: Source + Drop>(rt: &impl Abort, source: S) -> Result<(), Fail> {
+fn check_limit<S: Source + Drop>(rt: &impl Abort, source: S) {
     let mut source = LimitedSource::new(source);
     same(rt, source.limit_further(Some(4)), None);
     holds(
@@ -146,27 +134,26 @@ fn check_limit<S: Source + Drop>(rt: &impl Abort, source: S) -> Result<(), Fail>
             .exhausted()
             .is_err_and(|error| error.content_error().is_some()),
     );
-    assert_eq!(rt; source.request(6)?, 4);
+    assert_eq!(rt; done(rt, source.request(6)), 4);
     source.advance(2);
     holds(rt, source.exhausted().is_err());
-    assert_eq!(rt; source.request(6)?, 2);
+    assert_eq!(rt; done(rt, source.request(6)), 2);
     source.advance(2);
     holds(rt, source.exhausted().is_ok());
-    same(rt, source.request(6)?, 0);
+    same(rt, done(rt, source.request(6)), 0);
     same(rt, source.limit(), Some(0));
     source.set_limit(Some(4));
-    source.skip_all()?;
+    done(rt, source.skip_all());
     source.set_limit(None);
     holds(rt, source.exhausted().is_ok());
-    Ok(())
 }
 
 #[test]
-fn limits(rt: HostRuntime) -> Result<(), Fail> {
+fn limits(rt: HostRuntime) {
     let octets = b"12345678";
-    check_limit(&rt, SliceSource::new(octets))?;
-    check_limit(&rt, shared(rt.alloc(), octets)?)?;
-    check_limit(&rt, sip(rt.alloc(), octets)?)
+    check_limit(&rt, SliceSource::new(octets));
+    check_limit(&rt, shared(&rt, rt.alloc(), octets));
+    check_limit(&rt, sip(&rt, rt.alloc(), octets));
 }
 
 /// Whether a call refused by a fixed text.
@@ -178,7 +165,7 @@ fn is_static<T: Drop, E: Drop>(outcome: Result<T, DecodeError<E>>) -> bool {
 }
 
 // Refusals of a source's own calls, over two octets.
-fn check_static<S: Source + Drop>(rt: &impl Abort, alloc: Global, source: S) -> Result<(), Fail> {
+fn check_static<S: Source + Drop>(rt: &impl Abort, alloc: Global, source: S) {
     let mut source = LimitedSource::new(source);
     source.set_limit(Some(3));
     holds(rt, is_static(source.skip_all()));
@@ -187,238 +174,234 @@ fn check_static<S: Source + Drop>(rt: &impl Abort, alloc: Global, source: S) -> 
     source.set_limit(None);
     holds(rt, is_static(source.exhausted()));
     let mut source = source.unwrap();
-    source.skip(2)?;
+    done(rt, source.skip(2));
     holds(rt, is_static(source.take_u8()));
-    Ok(())
 }
 
 #[test]
-fn refusals_have_fixed_texts(rt: HostRuntime) -> Result<(), Fail> {
+fn refusals_have_fixed_texts(rt: HostRuntime) {
     let octets = b"12";
-    check_static(&rt, rt.alloc(), SliceSource::new(octets))?;
-    check_static(&rt, rt.alloc(), shared(rt.alloc(), octets)?)?;
-    check_static(&rt, rt.alloc(), sip(rt.alloc(), octets)?)
+    check_static(&rt, rt.alloc(), SliceSource::new(octets));
+    check_static(&rt, rt.alloc(), shared(&rt, rt.alloc(), octets));
+    check_static(&rt, rt.alloc(), sip(&rt, rt.alloc(), octets));
 }
 
-fn check_take_all<S: Source + Drop>(rt: &impl Abort, alloc: Global, source: S) -> Result<(), Fail> {
+fn check_take_all<S: Source + Drop>(rt: &impl Abort, alloc: Global, source: S) {
     let mut source = LimitedSource::new(source);
     source.set_limit(Some(4));
-    same(rt, source.take_all(alloc)?.as_slice(), b"1234".as_slice());
-    assert_rest(rt, &mut source.unwrap(), b"5678")
+    same(
+        rt,
+        done(rt, source.take_all(alloc)).as_slice(),
+        b"1234".as_slice(),
+    );
+    assert_rest(rt, &mut source.unwrap(), b"5678");
 }
 
 #[test]
-fn takes_all(rt: HostRuntime) -> Result<(), Fail> {
+fn takes_all(rt: HostRuntime) {
     let octets = b"12345678";
-    check_take_all(&rt, rt.alloc(), SliceSource::new(octets))?;
-    check_take_all(&rt, rt.alloc(), shared(rt.alloc(), octets)?)?;
-    check_take_all(&rt, rt.alloc(), sip(rt.alloc(), octets)?)
+    check_take_all(&rt, rt.alloc(), SliceSource::new(octets));
+    check_take_all(&rt, rt.alloc(), shared(&rt, rt.alloc(), octets));
+    check_take_all(&rt, rt.alloc(), sip(&rt, rt.alloc(), octets));
 }
 
-fn check_octets<S: Source + Drop>(
-    rt: &impl Abort,
-    mut source: S,
-    mut again: S,
-) -> Result<(), Fail> {
-    same(rt, source.take_u8()?, b'1');
-    same(rt, source.take_u8()?, b'2');
-    same(rt, source.take_u8()?, b'3');
+fn check_octets<S: Source + Drop>(rt: &impl Abort, mut source: S, mut again: S) {
+    same(rt, done(rt, source.take_u8()), b'1');
+    same(rt, done(rt, source.take_u8()), b'2');
+    same(rt, done(rt, source.take_u8()), b'3');
     holds(
         rt,
         source
             .take_u8()
             .is_err_and(|error| error.content_error().is_some()),
     );
-    same(rt, again.take_opt_u8()?, Some(b'1'));
-    same(rt, again.take_opt_u8()?, Some(b'2'));
-    same(rt, again.take_opt_u8()?, Some(b'3'));
-    same(rt, again.take_opt_u8()?, None);
-    Ok(())
+    same(rt, done(rt, again.take_opt_u8()), Some(b'1'));
+    same(rt, done(rt, again.take_opt_u8()), Some(b'2'));
+    same(rt, done(rt, again.take_opt_u8()), Some(b'3'));
+    same(rt, done(rt, again.take_opt_u8()), None);
 }
 
 #[test]
-fn octets(rt: HostRuntime) -> Result<(), Fail> {
+fn octets(rt: HostRuntime) {
     let octets = b"123";
-    check_octets(&rt, SliceSource::new(octets), SliceSource::new(octets))?;
+    check_octets(&rt, SliceSource::new(octets), SliceSource::new(octets));
     check_octets(
         &rt,
-        shared(rt.alloc(), octets)?,
-        shared(rt.alloc(), octets)?,
-    )?;
-    check_octets(&rt, sip(rt.alloc(), octets)?, sip(rt.alloc(), octets)?)
+        shared(&rt, rt.alloc(), octets),
+        shared(&rt, rt.alloc(), octets),
+    );
+    check_octets(
+        &rt,
+        sip(&rt, rt.alloc(), octets),
+        sip(&rt, rt.alloc(), octets),
+    );
 }
 
-fn check_capture<S: Source + Drop>(
-    rt: &impl Abort,
-    alloc: Global,
-    mut source: S,
-) -> Result<(), Fail> {
+fn check_capture<S: Source + Drop>(rt: &impl Abort, alloc: Global, mut source: S) {
     let mut capture = CaptureSource::new(&mut source);
-    let found = capture.request(4)?;
+    let found = done(rt, capture.request(4));
     assert!(rt; found >= 4);
     capture.advance(4);
     same(
         rt,
-        capture.into_bytes(alloc)?.as_slice(),
+        done(rt, capture.into_bytes(alloc)).as_slice(),
         b"1234".as_slice(),
     );
     let mut capture = CaptureSource::new(&mut source);
-    assert!(rt; capture.request(5)? >= 5);
+    assert!(rt; done(rt, capture.request(5)) >= 5);
     capture.advance(5);
-    assert_eq!(rt; capture.request(usize::MAX)?, 1);
-    same(rt, capture.bytes(alloc, 0, 1)?.as_slice(), b"0".as_slice());
-    assert_rest(rt, &mut source, b"567890")
+    assert_eq!(rt; done(rt, capture.request(usize::MAX)), 1);
+    same(
+        rt,
+        done(rt, capture.bytes(alloc, 0, 1)).as_slice(),
+        b"0".as_slice(),
+    );
+    assert_rest(rt, &mut source, b"567890");
 }
 
 #[test]
-fn captures(rt: HostRuntime) -> Result<(), Fail> {
+fn captures(rt: HostRuntime) {
     let octets = b"1234567890";
-    check_capture(&rt, rt.alloc(), SliceSource::new(octets))?;
-    check_capture(&rt, rt.alloc(), shared(rt.alloc(), octets)?)?;
-    check_capture(&rt, rt.alloc(), sip(rt.alloc(), octets)?)
+    check_capture(&rt, rt.alloc(), SliceSource::new(octets));
+    check_capture(&rt, rt.alloc(), shared(&rt, rt.alloc(), octets));
+    check_capture(&rt, rt.alloc(), sip(&rt, rt.alloc(), octets));
 }
 
-fn check_taken<S: Source + Drop>(
-    rt: &impl Abort,
-    alloc: Global,
-    source: &mut S,
-) -> Result<(), Fail> {
+fn check_taken<S: Source + Drop>(rt: &impl Abort, alloc: Global, source: &mut S) {
     same(
         rt,
-        take_exactly(source, alloc, 3)?.as_slice(),
+        done(rt, take_exactly(source, alloc, 3)).as_slice(),
         b"123".as_slice(),
     );
     holds(
         rt,
         matches!(take_exactly(source, alloc, 12), Err(TakeError::Short)),
     );
-    same(rt, capture_two(source, alloc)?.as_slice(), b"45".as_slice());
     same(
         rt,
-        capture_passed(source, alloc)?.as_slice(),
+        done(rt, capture_two(source, alloc)).as_slice(),
+        b"45".as_slice(),
+    );
+    same(
+        rt,
+        done(rt, capture_passed(source, alloc)).as_slice(),
         b"67".as_slice(),
     );
-    Ok(())
 }
 
-fn check_passed<S: Source + Drop>(rt: &impl Abort, mut source: S) -> Result<(), Fail> {
-    holds(rt, pass_two(&mut source)?);
-    holds(rt, !pass_two_within(&mut source, 1)?);
-    holds(rt, pass_two_within(&mut source, 3)?);
-    holds(rt, has_two(&mut source)?);
-    holds(rt, skip_two(&mut source)?);
-    let mut left = without_two(source)?.ok_or("two octets")?;
-    same(rt, left.take_opt_u8()?, None);
-    Ok(())
+fn check_passed<S: Source + Drop>(rt: &impl Abort, mut source: S) {
+    holds(rt, done(rt, pass_two(&mut source)));
+    holds(rt, !done(rt, pass_two_within(&mut source, 1)));
+    holds(rt, done(rt, pass_two_within(&mut source, 3)));
+    holds(rt, done(rt, has_two(&mut source)));
+    holds(rt, done(rt, skip_two(&mut source)));
+    let mut left = done(rt, without_two(source)).expect(rt, "two octets");
+    same(rt, done(rt, left.take_opt_u8()), None);
 }
 
 #[test]
-fn borrowed(rt: HostRuntime) -> Result<(), Fail> {
+fn borrowed(rt: HostRuntime) {
     let octets = b"12345678";
-    check_taken(&rt, rt.alloc(), &mut SliceSource::new(octets))?;
-    check_taken(&rt, rt.alloc(), &mut shared(rt.alloc(), octets)?)?;
-    check_taken(&rt, rt.alloc(), &mut sip(rt.alloc(), octets)?)
+    check_taken(&rt, rt.alloc(), &mut SliceSource::new(octets));
+    check_taken(&rt, rt.alloc(), &mut shared(&rt, rt.alloc(), octets));
+    check_taken(&rt, rt.alloc(), &mut sip(&rt, rt.alloc(), octets));
 }
 
 #[test]
-fn passed(rt: HostRuntime) -> Result<(), Fail> {
+fn passed(rt: HostRuntime) {
     let octets = b"12345678";
-    check_passed(&rt, SliceSource::new(octets))?;
-    check_passed(&rt, shared(rt.alloc(), octets)?)?;
-    check_passed(&rt, sip(rt.alloc(), octets)?)
+    check_passed(&rt, SliceSource::new(octets));
+    check_passed(&rt, shared(&rt, rt.alloc(), octets));
+    check_passed(&rt, sip(&rt, rt.alloc(), octets));
 }
 
-fn assert_at<S: Source>(
-    rt: &impl Abort,
-    alloc: Global,
-    source: &S,
-    text: &str,
-) -> Result<(), Fail> {
-    shows(rt, alloc, &source.pos(), text)
+fn assert_at<S: Source>(rt: &impl Abort, alloc: Global, source: &S, text: &str) {
+    shows(rt, alloc, &source.pos(), text);
 }
 
 #[test]
-fn positions(rt: HostRuntime) -> Result<(), Fail> {
+fn positions(rt: HostRuntime) {
     let last = Pos::from(usize::MAX) + Pos::from(1);
-    shows(&rt, rt.alloc(), &last, "18446744073709551615")?;
-    shows(&rt, rt.alloc(), &(Pos::default() + Pos::from(7)), "7")
+    shows(&rt, rt.alloc(), &last, "18446744073709551615");
+    shows(&rt, rt.alloc(), &(Pos::default() + Pos::from(7)), "7");
 }
 
 #[test]
-fn slices(rt: HostRuntime) -> Result<(), Fail> {
+fn slices(rt: HostRuntime) {
     let mut slice = SliceSource::new(b"12345678");
-    assert_at(&rt, rt.alloc(), &slice, "0")?;
+    assert_at(&rt, rt.alloc(), &slice, "0");
     slice.advance(3);
-    assert_at(&rt, rt.alloc(), &slice, "3")?;
+    assert_at(&rt, rt.alloc(), &slice, "3");
     same(&rt, slice.split_to(2), b"45".as_slice());
-    assert_at(&rt, rt.alloc(), &slice, "5")?;
+    assert_at(&rt, rt.alloc(), &slice, "5");
     same(&rt, slice.len(), 3);
     holds(&rt, !slice.is_empty());
-    Ok(())
 }
 
 #[test]
-fn shared_octets(rt: HostRuntime) -> Result<(), Fail> {
-    let octets = Bytes::copy_from_slice(rt.alloc(), b"12345678")?;
+fn shared_octets(rt: HostRuntime) {
+    let octets = done(&rt, Bytes::copy_from_slice(rt.alloc(), b"12345678"));
     same(&rt, octets.len(), 8);
     let mut bytes = BytesSource::with_offset(octets, Pos::from(100));
-    assert_at(&rt, rt.alloc(), &bytes, "100")?;
+    assert_at(&rt, rt.alloc(), &bytes, "100");
     bytes.advance(1);
-    assert_at(&rt, rt.alloc(), &bytes, "101")?;
-    same(&rt, bytes.split_to(2)?.as_slice(), b"23".as_slice());
-    assert_at(&rt, rt.alloc(), &bytes, "103")?;
+    assert_at(&rt, rt.alloc(), &bytes, "101");
+    same(
+        &rt,
+        done(&rt, bytes.split_to(2)).as_slice(),
+        b"23".as_slice(),
+    );
+    assert_at(&rt, rt.alloc(), &bytes, "103");
     same(&rt, bytes.len(), 5);
     holds(&rt, !bytes.is_empty());
     same(&rt, bytes.into_bytes().as_slice(), b"45678".as_slice());
-    Ok(())
 }
 
 #[test]
-fn wrappers(rt: HostRuntime) -> Result<(), Fail> {
-    let octets = Bytes::copy_from_slice(rt.alloc(), b"12345678")?;
+fn wrappers(rt: HostRuntime) {
+    let octets = done(&rt, Bytes::copy_from_slice(rt.alloc(), b"12345678"));
     let mut bytes = BytesSource::with_offset(octets, Pos::from(100));
     let mut limited = LimitedSource::new(CaptureSource::new(&mut bytes));
-    same(&rt, limited.skip(2)?, 2);
-    assert_at(&rt, rt.alloc(), &limited, "102")?;
-    assert_at(&rt, rt.alloc(), &bytes, "100")?;
-    same(&rt, bytes.take_u8()?, b'1');
+    same(&rt, done(&rt, limited.skip(2)), 2);
+    assert_at(&rt, rt.alloc(), &limited, "102");
+    assert_at(&rt, rt.alloc(), &bytes, "100");
+    same(&rt, done(&rt, bytes.take_u8()), b'1');
     let error = bytes.content_err(ContentError::from_static("no"));
-    shows(&rt, rt.alloc(), &error, "no (at position 101)")
+    shows(&rt, rt.alloc(), &error, "no (at position 101)");
 }
 
 #[test]
-fn made_of(rt: HostRuntime) -> Result<(), Fail> {
+fn made_of(rt: HostRuntime) {
     let octets = b"123".as_slice();
-    assert_rest(&rt, &mut octets.into_source(), b"123")?;
+    assert_rest(&rt, &mut octets.into_source(), b"123");
     assert_rest(
         &rt,
-        &mut Bytes::copy_from_slice(rt.alloc(), octets)?.into_source(),
+        &mut done(&rt, Bytes::copy_from_slice(rt.alloc(), octets)).into_source(),
         b"123",
-    )?;
-    assert_rest(&rt, &mut sip(rt.alloc(), octets)?.into_source(), b"123")
+    );
+    assert_rest(&rt, &mut sip(&rt, rt.alloc(), octets).into_source(), b"123");
 }
 
 #[test]
-fn clones(rt: HostRuntime) -> Result<(), Fail> {
-    let mut source = shared(rt.alloc(), b"12345678")?;
-    same(&rt, source.skip(2)?, 2);
+fn clones(rt: HostRuntime) {
+    let mut source = shared(&rt, rt.alloc(), b"12345678");
+    same(&rt, done(&rt, source.skip(2)), 2);
     let mut limited = LimitedSource::new(source);
     limited.set_limit(Some(4));
-    let mut twin = limited.clone()?;
+    let mut twin = done(&rt, limited.clone());
     same(&rt, twin.limit(), Some(4));
-    assert_rest(&rt, &mut twin, b"3456")?;
-    assert_at(&rt, rt.alloc(), &twin, "3")?;
-    assert_rest(&rt, &mut limited, b"3456")
+    assert_rest(&rt, &mut twin, b"3456");
+    assert_at(&rt, rt.alloc(), &twin, "3");
+    assert_rest(&rt, &mut limited, b"3456");
 }
 
 #[test]
-fn copies(rt: HostRuntime) -> Result<(), Fail> {
+fn copies(rt: HostRuntime) {
     let slice = SliceSource::new(b"12");
     let copied = slice;
     same(&rt, copied.len(), 2);
-    let shown = format!(in rt.alloc(); "{copied:?}")?;
+    let shown = done(&rt, format!(in rt.alloc(); "{copied:?}"));
     holds(&rt, shown.contains("SliceSource"));
-    Ok(())
 }
 
 #[derive(Drop)]
@@ -435,52 +418,48 @@ impl Message for Note {
 }
 
 #[test]
-fn texts_of_content_errors(rt: HostRuntime) -> Result<(), Fail> {
+fn texts_of_content_errors(rt: HostRuntime) {
     let alloc = rt.alloc();
     shows(
         &rt,
         alloc,
         &ContentError::from_static("out of place"),
         "out of place",
-    )?;
-    shows(&rt, alloc, &ContentError::from("in the way"), "in the way")?;
-    let owned = format!(in alloc; "{} of {}", 2, 3)?;
-    shows(&rt, alloc, &ContentError::from(owned), "2 of 3")?;
+    );
+    shows(&rt, alloc, &ContentError::from("in the way"), "in the way");
+    let owned = done(&rt, format!(in alloc; "{} of {}", 2, 3));
+    shows(&rt, alloc, &ContentError::from(owned), "2 of 3");
     shows(
         &rt,
         alloc,
         &ContentError::ExpectedTag(Tag::CTX_1),
         "expected tag [1]",
-    )?;
+    );
     shows(
         &rt,
         alloc,
         &ContentError::ExpectedInteger(200),
         "expected integer value 200",
-    )?;
-    shows(
-        &rt,
-        alloc,
-        &ContentError::from_boxed(alloc, Box::new(alloc, Note)?)?,
-        "a note",
-    )
+    );
+    let note = done(&rt, Box::new(alloc, Note));
+    let boxed = done(&rt, ContentError::from_boxed(alloc, note));
+    shows(&rt, alloc, &boxed, "a note");
 }
 
 #[test]
-fn texts_of_errors(rt: HostRuntime) -> Result<(), Fail> {
+fn texts_of_errors(rt: HostRuntime) {
     let alloc = rt.alloc();
     let error = DecodeError::<SipError>::content(ContentError::from("bad"), Pos::from(12));
-    shows(&rt, alloc, &error, "bad (at position 12)")?;
-    shows(&rt, alloc, &DecodeError::from(SipError), "the sip failed")?;
+    shows(&rt, alloc, &error, "bad (at position 12)");
+    shows(&rt, alloc, &DecodeError::from(SipError), "the sip failed");
     shows(
         &rt,
         alloc,
         &DecodeError::<SipError>::no_memory(),
         "out of memory",
-    )?;
-    let shown = format!(in alloc; "{error:?}")?;
+    );
+    let shown = done(&rt, format!(in alloc; "{error:?}"));
     holds(&rt, shown.contains("bad"));
-    Ok(())
 }
 
 #[test]
@@ -496,22 +475,21 @@ fn want_of_memory_stays(rt: HostRuntime) {
 }
 
 #[test]
-fn content_stays(rt: HostRuntime) -> Result<(), Fail> {
+fn content_stays(rt: HostRuntime) {
     let error = DecodeError::<Infallible>::content(ContentError::from("bad"), Pos::from(3));
     let converted = error.convert::<SipError>();
     holds(&rt, !converted.is_memory());
     holds(&rt, !converted.is_source());
-    shows(&rt, rt.alloc(), &converted, "bad (at position 3)")
+    shows(&rt, rt.alloc(), &converted, "bad (at position 3)");
 }
 
 #[test]
-fn content_is_handed_out(rt: HostRuntime) -> Result<(), Fail> {
+fn content_is_handed_out(rt: HostRuntime) {
     let error = DecodeError::<Infallible>::content(ContentError::from("bad"), Pos::from(3));
     match error.into_content() {
         Ok(ContentError::Static(text)) => same(&rt, text.as_str(), "bad"),
         _ => panic!(rt; "another error"),
     }
-    Ok(())
 }
 
 #[test]

@@ -1,8 +1,7 @@
 //! The constants of tags and of the sets of rules. How tags are shown and read is in `vectors`.
-use crate::asserts::{holds, same};
+use crate::asserts::{done, holds, same};
 use bcder::{Mode, Tag};
 use std::process::Abort;
-use std::test::Fail;
 
 /// The universal tags of X.680, 8.4, table 1.
 const UNIVERSAL: [(u32, Tag); 36] = [
@@ -85,10 +84,9 @@ fn tags_are_a_class_and_a_number(rt: HostRuntime) {
 }
 
 #[test]
-fn tags_are_debugged_by_their_fields(rt: HostRuntime) -> Result<(), Fail> {
-    let text = format!(in rt.alloc(); "{:?}", Tag::CTX_1)?;
+fn tags_are_debugged_by_their_fields(rt: HostRuntime) {
+    let text = done(&rt, format!(in rt.alloc(); "{:?}", Tag::CTX_1));
     assert_eq!(rt; text.as_str(), "Tag { class: ContextSpecific, number: 1 }");
-    Ok(())
 }
 
 /// The tests of a set of rules answer so: for the basic, canonical and distinguished ones.
@@ -102,18 +100,17 @@ fn check_mode(rt: &impl Abort, mode: Mode, answers: [bool; 3]) {
 }
 
 #[test]
-fn modes_are_told_apart(rt: HostRuntime) -> Result<(), Fail> {
+fn modes_are_told_apart(rt: HostRuntime) {
     same(&rt, Mode::default(), Mode::Ber);
     check_mode(&rt, Mode::Ber, [true, false, false]);
     check_mode(&rt, Mode::Cer, [false, true, false]);
     check_mode(&rt, Mode::Der, [false, false, true]);
-    Ok(())
 }
 
 #[test]
-fn modes_are_debugged_by_their_names(rt: HostRuntime) -> Result<(), Fail> {
+fn modes_are_debugged_by_their_names(rt: HostRuntime) {
     for (mode, name) in [(Mode::Ber, "Ber"), (Mode::Cer, "Cer"), (Mode::Der, "Der")] {
-        assert_eq!(rt; format!(in rt.alloc(); "{mode:?}")?.as_str(), name);
+        let text = done(&rt, format!(in rt.alloc(); "{mode:?}"));
+        assert_eq!(rt; text.as_str(), name);
     }
-    Ok(())
 }
