@@ -2,6 +2,7 @@
 import os
 
 from functions import functions_of
+from report import FILES, Part, folder_of
 
 ROOT = os.path.dirname(os.path.dirname(os.path.abspath(__file__)))
 
@@ -33,8 +34,7 @@ class Crate:
 
     def symbol(self, path, name, states):
         """The checker's name of a function, among those that its report has."""
-        module = [self.name] + [it for it in path[4:-3].split("/") if it not in ("lib", "main", "mod")]
-        start = "::".join(module) + "::"
+        start = "::".join([self.name, *module_of(path), ""])
         if start + name in states:
             return start + name
         # Of `impl Oid<Vec<u8>>` the report has `Oid+Vec+u8`.
@@ -44,11 +44,36 @@ class Crate:
         return found[0] if len(found) == 1 else None
 
 
+    def parts(self, path, name, states):
+        """What a report tells of a function apart: itself and the closures in it."""
+        symbol = self.symbol(path, name, states)
+        if not symbol:
+            return []
+        function, words = self.functions[path][name][0], symbol.split("::")
+        folders, clauses = [folder_of(symbol)], function.clauses or self.clauses_of_trait(last(name))
+        if function.cycle:
+            folders.append("/".join(["proofs", *module_of(path), f"+{function.cycle}"]))
+        own = Part(symbol, last(name), clauses[0] if len(clauses) == 1 else "", bool(function.cycle), folders)
+        at = len(words) - len(name.split("::"))
+        inner = "::".join([*words[:at], "fn", *words[at:], ""])
+        return [own, *[Part(it, last(it), "", False, [folder_of(it)]) for it in states if it.startswith(inner)]]
+
+    def clauses_of_trait(self, name):
+        """The clauses of a trait's function of this name."""
+        every = [it for of_file in self.functions.values() for some in of_file.values() for it in some]
+        return next((it.clauses for it in every if last(it.name) == name and it.is_of_trait and it.clauses), [])
+
+    def has_files(self, part):
+        """Whether a function has answers, invariants or measures of its own."""
+        return any(os.path.isfile(f"{self.folder}/{it}/{file}") for it in part.folders for file in FILES)
+
+
 class Edit:
     def __init__(self, crate, file):
         self.label = os.path.relpath(file, ROOT)
         with open(file, encoding="utf-8") as it:
-            self.pairs = list(pairs_of(it.read()))
+            text = it.read()
+        self.pairs, self.goal = list(pairs_of(text)), goal_of(text)
         if not self.pairs:
             raise BadEdit("it has no 'old:' and 'new:' pair")
         texts = self.applied({}, crate)
@@ -82,6 +107,10 @@ class Edit:
             return True
         mine, its = ({last(name) for _, name in it.turns} for it in (self, other))
         return bool(self.shuns & its or other.shuns & mine)
+
+
+def module_of(path):
+    return [it for it in path[4:-3].split("/") if it not in ("lib", "main", "mod")]
 
 
 def last(name):
@@ -124,8 +153,16 @@ def pairs_of(text):
                 raise BadEdit("a 'new:' line stands before any 'file:' or 'old:' line")
             yield path, before, old, line[5:] if line.startswith("new: ") else line[4:]
             old, before = None, []
-        elif line.strip():
-            raise BadEdit(f"a line is no 'file:', 'after:', 'old:' or 'new:' line: {line[:60]}")
+        elif line.strip() and not line.startswith("goal: "):
+            raise BadEdit(f"a line is no 'goal:', 'file:', 'after:', 'old:' or 'new:' line: {line[:60]}")
+
+
+def goal_of(text):
+    """What has to fail, or "" where the edit doesn't say."""
+    goals = [it[6:].strip() for it in text.split("\n") if it.startswith("goal: ")]
+    if len(goals) > 1:
+        raise BadEdit("it has more than one 'goal:' line")
+    return goals[0] if goals else ""
 
 
 def place(edit, batches, crate):

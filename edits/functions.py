@@ -9,10 +9,10 @@ TOKEN = re.compile(
     re.S | re.X,
 )
 # name: without the module, as `f`, `Type::f`, or `TypeTrait::f` for a trait's method.
-# is_bare: it has no clause of its own or of a trait, so its callers rest on its body.
+# is_bare: it has no clause of its own or of a trait, so its callers rest on its body. is_of_trait: it is a trait's.
 # cycle: the cycle of calls that it is in, which has one proof, or "". lines: the first and the last.
-# words: all its text, from `fn` on.
-Function = collections.namedtuple("Function", "name is_bare cycle is_test lines words")
+# clauses: the names of what it ensures, "" for a clause without one. words: all its text, from `fn` on.
+Function = collections.namedtuple("Function", "name is_bare is_of_trait cycle is_test lines clauses words")
 
 
 def functions_of(text):
@@ -62,6 +62,11 @@ class File:
                 at += 1
         return at, has_clause
 
+    def clauses(self, at, body):
+        """The names of the clauses in a function's head, which say what it ensures."""
+        behind = [it + 1 for it in range(at, body) if self.words[it] == "ensures"]
+        return [self.words[it].replace("{", "") for it in behind]
+
     def items(self, at, end, inside, is_of_trait, in_test):
         """Goes over the items from one place to another, below a module, a type or a trait."""
         is_test, cycle = in_test, ""
@@ -76,8 +81,9 @@ class File:
                 body, has_clause = self.body(at + 2)
                 behind = self.behind(body) if self.words[body] == "{" else body + 1
                 name, is_bare = inside + self.words[at + 1], not has_clause and not is_of_trait
-                lines = self.lines[at], self.lines[behind - 1]
-                self.functions.append(Function(name, is_bare, cycle, is_test, lines, self.words[at:behind]))
+                lines, clauses = (self.lines[at], self.lines[behind - 1]), self.clauses(at, body)
+                words = self.words[at:behind]
+                self.functions.append(Function(name, is_bare, is_of_trait, cycle, is_test, lines, clauses, words))
                 at, is_test, cycle = behind, in_test, ""
             elif word in ("impl", "trait", "mod"):
                 first = at + 1

@@ -1,0 +1,112 @@
+"""Tests how goals and reports are read: `python3 edits/tests.py`."""
+import unittest
+
+from functions import functions_of
+from goals import is_meant, is_step
+from report import ANSWERS, GOAL, REFUSED, STEPS, UNJUDGED, WRONG, Part, Report
+
+
+class Goals(unittest.TestCase):
+    def meant(self, line, goal, function="f", lone=""):
+        return is_meant(line, function, goal, lone)
+
+    def test_clauses(self):
+        self.assertTrue(self.meant("took", "returns-in-Ok-clause-took"))
+        self.assertTrue(self.meant("err", "returns-then-second-ge40-clause-err"))
+        self.assertFalse(self.meant("took", "returns-in-Ok-clause-moves"))
+        self.assertTrue(self.meant("ensures", "returns-in_default-3"))
+        self.assertFalse(self.meant("ensures", "returns-clause-took"))
+
+    def test_only_clause(self):
+        self.assertTrue(self.meant("took", "returns-in-Ok", lone="took"))
+        self.assertFalse(self.meant("took", "returns-in-Ok"))
+
+    def test_conditions(self):
+        self.assertTrue(self.meant("requires of op", "op-requires"))
+        self.assertTrue(self.meant("fits of go_into", "go_into-requires-in-Ok-Some-clause-fits"))
+        self.assertTrue(self.meant("requires of go_into", "go_into-requires-in-Ok-Some-clause-fits"))
+        self.assertFalse(self.meant("few of go_into", "go_into-requires-in-Ok-Some-clause-fits"))
+        self.assertTrue(self.meant("sized of write_parts", "write_parts-outcome-requires-clause-sized"))
+
+    def test_functions(self):
+        self.assertTrue(self.meant("step: passed", "returns-in-Err-clause-passed", function="step"))
+        self.assertFalse(self.meant("step: passed", "returns-in-Err-clause-passed", function="walk"))
+
+    def test_names_of_the_checker(self):
+        self.assertTrue(self.meant("loop-opened-preserved", "loop-opened-preserved"))
+        self.assertFalse(self.meant("loop-opened-preserved", "loop-opened-init"))
+
+    def test_steps(self):
+        for it in ("overflow_add-x", "slice_bounds-p-end", "loop-preserved", "loop-opened-smaller-in_default-2", "decreases-loop"):
+            self.assertTrue(is_step(it), it)
+        for it in ("returns", "returns-clause-preserved", "op-requires", "invariant_of-self"):
+            self.assertFalse(is_step(it), it)
+
+
+class AnEdit:
+    def __init__(self, goal="", name="half"):
+        self.goal, self.turns = goal, [("src/lib.rt", name)]
+
+
+class ACrate:
+    """One whose functions each have one part, with or without files."""
+
+    def __init__(self, files):
+        self.files = files
+
+    def parts(self, _path, name, states):
+        symbol = f"toy::{name}"
+        return [Part(symbol, name, "", False, [f"proofs/{name}"])] if symbol in states else []
+
+    def has_files(self, _part):
+        return self.files
+
+
+END = "logic=not-proved"
+OPEN = """note: src/lib.rt:7:1: it is not proved that what the function ensures holds when it returns (`returns-clause-ok`); `search` gave up
+fn toy::half: no proof: expected answers in ./proofs/half/Answers.antt; `search` did not prove `overflow_add-result`, `returns-clause-ok`
+fn toy::two: proved"""
+UNFIT = """./proofs/half/Answers.antt:5:25: error: `returns-clause-ok`: as printed, the two types differ
+note: src/lib.rt:8:1: it is not proved that what the function ensures holds when it returns (`returns-clause-err`); `search` gave up
+fn toy::half: not proved"""
+GONE = """./proofs/half/Answers.antt:4:27: error: `returns-clause-ok`: `goal.returns-clause-ok`: module `Goals` has no `returns-clause-ok` that can be named
+note: src/lib.rt:33:5: it is not proved that the invariant of the loop holds (`loop-x-preserved`); `search` gave up
+fn toy::half: not proved"""
+PROVED = "fn toy::half: proved"
+ABOVE = "fn toy::half: depends on `toy::two`, which is not proved"
+
+
+class Verdicts(unittest.TestCase):
+    def fared(self, text, goal="", files=True):
+        return Report(f"{text}\n{END}").verdict(ACrate(files), AnEdit(goal))[0]
+
+    def test_without_files(self):
+        self.assertEqual(self.fared(OPEN, files=False), REFUSED)
+        self.assertEqual(self.fared(OPEN.replace("returns-clause-ok", "overflow_sub-x"), files=False), STEPS)
+        self.assertEqual(self.fared(OPEN, "err", files=False), WRONG)
+
+    def test_goals(self):
+        self.assertEqual(self.fared(OPEN), GOAL)
+        self.assertEqual(self.fared(OPEN, "ok"), REFUSED)
+        self.assertEqual(self.fared(OPEN, "err"), WRONG)
+        self.assertEqual(self.fared(OPEN, "overflow_add-result"), REFUSED)
+        self.assertEqual(self.fared(UNFIT, "ok"), REFUSED)
+        self.assertEqual(self.fared(UNFIT, "err"), REFUSED)
+
+    def test_what_is_gone_says_nothing(self):
+        self.assertEqual(self.fared(GONE), ANSWERS)
+        self.assertEqual(self.fared(GONE, "ok"), ANSWERS)
+
+    def test_no_failure_of_its_own(self):
+        self.assertEqual(self.fared(PROVED, "ok"), WRONG)
+        self.assertEqual(self.fared(ABOVE, "ok"), UNJUDGED)
+        self.assertEqual(self.fared("fn toy::two: proved", "ok"), UNJUDGED)
+
+
+class Functions(unittest.TestCase):
+    def test_clauses(self):
+        text = "fn f(x: u8) -> u8 requires few { x < 3 } ensures same { result ≡ x } ensures { result < 3 } { x }"
+        self.assertEqual(functions_of(text)["f"][0].clauses, ["same", ""])
+
+
+unittest.main()
