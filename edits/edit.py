@@ -37,6 +37,8 @@ class Crate:
         start = "::".join([self.name, *module_of(path), ""])
         if start + name in states:
             return start + name
+        if "::" not in name:
+            return None
         # Of `impl Oid<Vec<u8>>` the report has `Oid+Vec+u8`.
         plain = lambda it: it.replace("+", "").replace("Any", "").lower()
         found = [it for it in states if plain(it).endswith(f"::{name}".lower()) and "::fn::" not in it]

@@ -21,8 +21,8 @@ from edit import ROOT, BadEdit, Crate, Edit, place
 from report import BAD, REFUSED, UNJUDGED, Report
 
 PROCESSORS = len(os.sched_getaffinity(0))
-# In GB: what the checks that run side by side hold at most, and what one holds.
-ROOM, CHECK = 12, 4
+# In GB: what the checks that run side by side hold at most, and what one holds, with each of its jobs.
+ROOM, A_PROCESS, A_JOB = 12, 2.5, 1.2
 # In seconds of one processor, as measured in `bcder`: a check of what is kept, and each edit in it.
 A_CHECK, AN_EDIT = 60, 7
 
@@ -31,6 +31,27 @@ class Judge:
     def __init__(self, scratch):
         self.scratch, self.began, self.lock = scratch, time.monotonic(), threading.Lock()
         self.fared, self.controls, self.is_well = collections.Counter(), collections.Counter(), True
+        self.room, self.running, self.ending = min(ROOM, free_memory()), [], threading.Condition()
+
+    def fits(self, running):
+        """Whether checks with these jobs find processors and memory."""
+        return sum(running) <= PROCESSORS and sum(A_PROCESS + A_JOB * it for it in running) <= self.room
+
+    def check(self, folder, jobs):
+        """Checks a crate once there is room for it."""
+        while jobs > 1 and not self.fits([jobs]):
+            jobs -= 1
+        with self.ending:
+            self.ending.wait_for(lambda: not self.running or self.fits([*self.running, jobs]))
+            self.running.append(jobs)
+        words = ["rt", "check", "--jobs", str(jobs)]
+        how = {"stdin": subprocess.DEVNULL, "stdout": subprocess.PIPE, "stderr": subprocess.STDOUT}
+        try:
+            return Report(subprocess.run(words, cwd=folder, **how).stdout.decode(errors="replace"))
+        finally:
+            with self.ending:
+                self.running.remove(jobs)
+                self.ending.notify_all()
 
     def say(self, label, fared, why):
         """A line of an edit, or of a control: a right body, which fares well where it isn't refused."""
@@ -63,7 +84,7 @@ class Judge:
         """Checks a crate without an edit, over which those with edits are made, and answers the checks that are left to do."""
         share(ROOT, f"{self.scratch}/{name}", name)
         self.note(f"{name}: a check without an edit, then {len(batches)} with edits")
-        report = check(f"{self.scratch}/{name}/crates/{name}", PROCESSORS)
+        report = self.check(f"{self.scratch}/{name}/crates/{name}", PROCESSORS)
         if report.is_proved:
             return batches
         print("\n".join(report.text.split("\n")[-30:]))
@@ -80,7 +101,7 @@ class Judge:
         for path, text in texts.items():
             with open(f"{folder}/crates/{crate.name}/{path}", "w", encoding="utf-8") as it:
                 it.write(text)
-        report = check(f"{folder}/crates/{crate.name}", jobs)
+        report = self.check(f"{folder}/crates/{crate.name}", jobs)
         shutil.rmtree(folder)
         self.note(f"{crate.name}: a check of {len(batch)} edits")
         bad = report.uncompiled(texts, batch)
@@ -149,17 +170,10 @@ def share(root, to, name):
         shutil.copytree(f"{root}/crates/{it}", f"{to}/crates/{it}", True, leave, shared)
 
 
-def check(folder, jobs):
-    words = ["rt", "check", "--jobs", str(jobs)]
-    how = {"stdin": subprocess.DEVNULL, "stdout": subprocess.PIPE, "stderr": subprocess.STDOUT}
-    return Report(subprocess.run(words, cwd=folder, **how).stdout.decode(errors="replace"))
-
-
-def side_by_side():
-    """How many checks hold no more memory than may be held and is free."""
+def free_memory():
+    """In GB."""
     with open("/proc/meminfo", encoding="utf-8") as it:
-        free = int(re.search(r"MemAvailable:\s+(\d+)", it.read())[1]) / (1 << 20)
-    return max(1, min(PROCESSORS, int(min(ROOM, free)) // CHECK))
+        return int(re.search(r"MemAvailable:\s+(\d+)", it.read())[1]) / 1e6
 
 
 def edits_in(folder):
@@ -191,10 +205,11 @@ def main(words):
         judge = Judge(scratch)
         planned = {name: judge.batches(name, edits) for name, edits in chosen.items() if edits}
         checks = [it for some in planned.values() for it in some]
-        every, lanes = sum(len(edits) for _, edits in checks), side_by_side()
-        seconds = A_CHECK * (len(checks) + len(planned)) + AN_EDIT * every
-        print(f"{every} edits in {len(checks)} checks, up to {lanes} side by side, and {len(planned)} without an edit:")
-        print(f"some {seconds / 60 / PROCESSORS + 1:.0f} minutes on {PROCESSORS} processors that have nothing else to do, over what `rt check` kept", flush=True)
+        every = sum(len(edits) for _, edits in checks)
+        minutes = (A_CHECK * (len(checks) + len(planned)) + AN_EDIT * every) / 60 / PROCESSORS + 1
+        print(f"{every} edits in {len(checks)} checks, and a check without an edit for each of {len(planned)} crates:")
+        print(f"some {minutes:.0f} minutes on {PROCESSORS} processors with nothing else to do, over what `rt check` kept,")
+        print(f"and {judge.room:.0f} GB of memory at most", flush=True)
         for name in planned:
             if not os.path.isdir(f"{ROOT}/crates/{name}/out/incremental"):
                 judge.note(f"{name}: nothing is kept, so its check without an edit takes longer")
@@ -202,8 +217,9 @@ def main(words):
         # The largest first: the end of a check often waits for one long proof. Each has the processors that
         # its part of the edits comes to.
         left.sort(key=lambda it: -len(it[1]))
-        jobs = lambda edits: max(1, min(PROCESSORS - 1, round(PROCESSORS * len(edits) / every)))
-        with ThreadPoolExecutor(lanes) as pool:
+        most = max(1, PROCESSORS - (len(left) > 1))
+        jobs = lambda edits: max(1, min(most, round(PROCESSORS * len(edits) / every)))
+        with ThreadPoolExecutor(PROCESSORS) as pool:
             list(pool.map(lambda it: judge.batch(*it, jobs(it[1])), left))
         used = resource.getrusage(resource.RUSAGE_CHILDREN)
         minutes, work = (time.monotonic() - judge.began) / 60, (used.ru_utime + used.ru_stime) / 60

@@ -9,8 +9,10 @@ from goals import is_meant, is_step
 FUNCTION = re.compile(r"fn (\S+): (.*)")
 ERROR = re.compile(r"(?:\./)?((?:src|specs|proofs)/\S+?):(\d+):\d+: error(?:\[[\w-]+\])?: (.*)")
 NOTE = re.compile(r"note: src/\S+?:\d+:\d+: it is not proved .*?\(`([^`]+)`\)")
-# Where an answer fails so, it names a step of the body that is gone, and nothing is said of any contract.
-GONE = re.compile(r"has no field|is not in scope|has no `|was not admitted|is no name|cannot continue")
+# Where an answer or an invariant fails so, it names a step of the body that is gone, and says nothing of any clause.
+GONE = re.compile(r"has no field|is not in scope|has no `|is no name|cannot continue")
+# What rests on a declaration that failed.
+RESTS = re.compile(r"depends? on .*, which (?:was|were) not admitted")
 FILES = ("Answers.antt", "Invariants.antt", "Proof.antt")
 
 # How an edit fared.
@@ -34,11 +36,15 @@ class Report:
     def __init__(self, text):
         lines = [it for it in text.split("\n") if not it.startswith("so far: ")]
         self.text, self.states, self.errors, self.open = text, {}, [], collections.defaultdict(list)
-        above = []
+        above, at_error = [], False
         for line in lines:
             error, note, function = ERROR.match(line), NOTE.match(line), FUNCTION.match(line)
+            if at_error and line.startswith("  "):
+                self.errors[-1][2] += line[1:]
+                continue
+            at_error = bool(error)
             if error:
-                self.errors.append(error.groups())
+                self.errors.append([*error.groups()])
             elif note:
                 above.append(note[1])
             elif function:
@@ -52,13 +58,12 @@ class Report:
 
     def goals(self, part):
         """The goals of a function that aren't proved, and whether each was tried: an answer may name what is gone."""
-        found = {}
+        found = dict.fromkeys(self.open.get(part.symbol, []), True)
         for file, _, error in self.errors:
-            if os.path.dirname(file) in part.folders and os.path.basename(file) in FILES:
+            if os.path.dirname(file) in part.folders and os.path.basename(file) in FILES and not RESTS.search(error):
                 named = re.match(r"`([^`]*)`: (.*)", error)
                 goal, why = named.groups() if named else ("", error)
-                found[goal] = found.get(goal, False) or not GONE.search(why)
-        found.update((it, True) for it in self.open.get(part.symbol, []))
+                found[goal] = found.get(goal, True) and bool(named) and not GONE.search(why)
         if not part.is_in_cycle:
             return found
         own = f"{part.name}-"
@@ -76,20 +81,20 @@ class Report:
         parts = parts or [Part(it, it.split("::")[-1], "", False, [folder_of(it)]) for it in self.states]
         has_files = any(crate.has_files(it) for it in parts if edit.turns or self.states[it.symbol] != "proved")
         failed = [(it, goal, how) for it in parts if self.states[it.symbol] != "proved" for goal, how in self.goals(it).items()]
-        tried = [(it, goal) for it, goal, is_tried in failed if is_tried]
-        clauses = [(it, goal) for it, goal in tried if not is_step(goal)]
-        if edit.goal:
-            meant = [(it, goal) for it, goal in tried if is_meant(edit.goal, it.name, goal, it.lone)]
-            if meant:
-                return REFUSED, told(meant)
-            if clauses:
-                return WRONG, f"not at its goal, but {told(clauses)}"
-        elif clauses and has_files:
-            return GOAL, told(clauses + [it for it in tried if it not in clauses])
-        elif clauses:
-            return REFUSED, told(clauses)
-        if failed:
-            return (ANSWERS if has_files else STEPS), told([it[:2] for it in failed])
+        gone = [(it, goal) for it, goal, is_tried in failed if not is_tried]
+        clauses = [(it, goal) for it, goal, _ in failed if not is_step(goal)]
+        steps = [(it, goal) for it, goal, _ in failed if is_step(goal)]
+        meant = [(it, goal) for it, goal, _ in failed if edit.goal and is_meant(edit.goal, it.name, goal, it.lone)]
+        if gone:
+            return ANSWERS, f"what they name is gone: {told(gone)}"
+        if meant:
+            return REFUSED, told(meant)
+        if clauses and edit.goal:
+            return WRONG, f"not at its goal: {told(clauses)}"
+        if clauses:
+            return (GOAL, told(clauses + steps)) if has_files else (REFUSED, told(clauses))
+        if steps:
+            return (ANSWERS if has_files else STEPS), told(steps)
         names = ", ".join(name for _, name in edit.turns) or "each function"
         other = "; ".join(f"{it.symbol}: {self.states[it.symbol][:200]}" for it in parts if self.states[it.symbol] != "proved")
         return (UNJUDGED, other) if other else (WRONG, f"{names} is still proved")
