@@ -36,13 +36,13 @@ class Report:
     def __init__(self, text):
         lines = [it for it in text.split("\n") if not it.startswith("so far: ")]
         self.text, self.states, self.errors, self.open = text, {}, [], collections.defaultdict(list)
-        above, at_error = [], False
+        above, is_behind_error = [], False
         for line in lines:
             error, note, function = ERROR.match(line), NOTE.match(line), FUNCTION.match(line)
-            if at_error and line.startswith("  "):
+            if is_behind_error and line.startswith("  "):
+                # The line behind an error may say what it is.
                 self.errors[-1][2] += line[1:]
-                continue
-            at_error = bool(error)
+            is_behind_error = bool(error)
             if error:
                 self.errors.append([*error.groups()])
             elif note:
@@ -61,7 +61,7 @@ class Report:
         found = dict.fromkeys(self.open.get(part.symbol, []), True)
         for file, _, error in self.errors:
             if os.path.dirname(file) in part.folders and os.path.basename(file) in FILES and not RESTS.search(error):
-                named = re.match(r"`([^`]*)`: (.*)", error)
+                named = re.match(r"(?:unsolved \S+ in )?`([^`]*)`(?:: | is not admitted)(.*)", error)
                 goal, why = named.groups() if named else ("", error)
                 found[goal] = found.get(goal, True) and bool(named) and not GONE.search(why)
         if not part.is_in_cycle:
