@@ -6,7 +6,7 @@ use crate::fields::{find, mode_of, next, number, octets_of};
 use crate::malformed::Malformed;
 use crate::row::{Row, Step, row_of};
 use crate::takes::{OWN, error_kind};
-use crate::tally::Tally;
+use crate::tally::{Differing, Tally, differ_in};
 use anyhow::Error;
 use bcder::decode::{
     BytesSource, Constructed, ContentError, DecodeError, IntoSource, SliceSource, Source, walk,
@@ -279,13 +279,9 @@ pub struct Tallies {
     pub left: Tally,
 }
 
-impl Tallies {
-    /// How many answers differ in all.
-    pub fn differ(&self) -> u64 {
-        let mut all = self.captures;
-        all.join(self.others);
-        all.join(self.left);
-        all.differ
+impl Differing for Tallies {
+    fn differ(&self) -> u64 {
+        differ_in(&[self.captures, self.others, self.left])
     }
 }
 

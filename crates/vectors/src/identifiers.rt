@@ -1,7 +1,7 @@
 //! Object identifiers: their components and texts, reading them, and values that are read.
 use crate::fields::{next, octets_of};
 use crate::malformed::Malformed;
-use crate::tally::Tally;
+use crate::tally::{Differing, Tally, differ_in};
 use anyhow::Error;
 use bcder::decode::{BytesSource, Primitive, SliceSource, Source};
 use bcder::oid::OidError;
@@ -27,6 +27,18 @@ pub struct Tallies {
 
     /// Values read from sources.
     pub values: Tally,
+}
+
+impl Differing for Tallies {
+    fn differ(&self) -> u64 {
+        differ_in(&[
+            self.read,
+            self.shown,
+            self.texts,
+            self.components,
+            self.values,
+        ])
+    }
 }
 
 /// Compares whether contents octets are read as an identifier, with what text it is shown, and as

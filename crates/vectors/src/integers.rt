@@ -1,7 +1,7 @@
 //! Integers: the numbers that contents octets are, in each type, and values that are read.
 use crate::fields::{find, next, octets_of};
 use crate::numbers::{self, Numbers, Readers, count, found};
-use crate::tally::Tally;
+use crate::tally::{Differing, Tally, differ_in};
 use crate::written;
 use anyhow::Error;
 use bcder::decode::{BytesSource, DecodeError, Primitive, SliceSource, Source};
@@ -36,6 +36,20 @@ pub struct Tallies {
 
     /// Integers compared, and their signs.
     pub ordered: Tally,
+}
+
+impl Differing for Tallies {
+    fn differ(&self) -> u64 {
+        let others = [
+            self.converted,
+            self.made,
+            self.values,
+            self.written,
+            self.unsigned,
+            self.ordered,
+        ];
+        self.readers.differ().saturating_add(differ_in(&others))
+    }
 }
 
 /// Compares the conversions to types of 16 and 32 bits.

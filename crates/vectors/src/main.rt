@@ -32,12 +32,35 @@ mod written;
 
 use anyhow::Error;
 use calls::CALLS;
+use std::alloc::Global;
 use std::fs;
-use tally::Tally;
+use tally::{Differing, Tally};
 
 /// Whether a line of data says nothing.
 fn is_comment(line: &str) -> bool {
     line.is_empty() || line.starts_with('#')
+}
+
+/// Compares the lines of a file of data one by one, and prints those that differ.
+fn replay<T: Differing, F: Fn(Global, &str, &mut T) -> Result<(), Error>>(
+    rt: &HostRuntime,
+    file: &str,
+    tallies: &mut T,
+    compare_line: F,
+) -> Result<(), Error>
+    requires { F.IsAlwaysCallable compare_line }
+{
+    let text = fs::read_to_string(rt, file)?;
+    for line in text.lines() {
+        if !is_comment(line) {
+            let before = tallies.differ();
+            compare_line(rt.alloc(), line, tallies)?;
+            if tallies.differ() != before {
+                println!(rt; "differs: {line}")?;
+            }
+        }
+    }
+    Ok(())
 }
 
 /// Prints what was compared of each reader.
@@ -58,56 +81,31 @@ fn print_readers(rt: &HostRuntime, what: &str, tallies: walks::Tallies) -> Resul
 
 /// Replays `skips.tsv`.
 fn replay_skips(rt: &HostRuntime) -> Result<(), Error> {
-    let text = fs::read_to_string(rt, "skips.tsv")?;
-    let mut told = Tally::default();
-    let mut tallies = walks::Tallies::default();
-    for line in text.lines() {
-        if !is_comment(line) {
-            let before = told.differ;
-            skips::compare_line(rt.alloc(), line, &mut told, &mut tallies)?;
-            if told.differ != before {
-                println!(rt; "differs: {line}")?;
-            }
-        }
-    }
-    print(rt, "headings told", told)?;
-    print_readers(rt, "values that are told", tallies)?;
-    print(rt, "values that are told, skip_all", tallies.skip_all)
+    let mut tallies = skips::Tallies::default();
+    replay(rt, "skips.tsv", &mut tallies, skips::compare_line)?;
+    print(rt, "headings told", tallies.told)?;
+    print_readers(rt, "values that are told", tallies.others)?;
+    print(
+        rt,
+        "values that are told, skip_all",
+        tallies.others.skip_all,
+    )
 }
 
 /// Replays `labels.tsv`.
 fn replay_labels(rt: &HostRuntime) -> Result<(), Error> {
-    let text = fs::read_to_string(rt, "labels.tsv")?;
     let mut tally = Tally::default();
-    for line in text.lines() {
-        if !is_comment(line) {
-            let before = tally.differ;
-            labels::compare_line(rt.alloc(), line, &mut tally)?;
-            if tally.differ != before {
-                println!(rt; "differs: {line}")?;
-            }
-        }
-    }
+    replay(rt, "labels.tsv", &mut tally, labels::compare_line)?;
     print(rt, "rules of captures", tally)
 }
 
 /// Replays `walk.tsv` and `fronts.tsv`, and compares the readers on short lists.
 fn replay_walks(rt: &HostRuntime) -> Result<(), Error> {
-    let text = fs::read_to_string(rt, "walk.tsv")?;
     let mut tallies = walks::Tallies::default();
-    for line in text.lines() {
-        if !is_comment(line) {
-            walks::compare_line(rt.alloc(), line, &mut tallies)?;
-        }
-    }
+    replay(rt, "walk.tsv", &mut tallies, walks::compare_line)?;
     print_readers(rt, "values", tallies)?;
-    let text = fs::read_to_string(rt, "fronts.tsv")?;
     let mut tallies = walks::Tallies::default();
-    for line in text.lines() {
-        if !is_comment(line) {
-            walks::compare_fronts(rt.alloc(), line, &mut tallies)?;
-        }
-    }
+    replay(rt, "fronts.tsv", &mut tallies, walks::compare_fronts)?;
     print_readers(rt, "values that are cut", tallies)?;
     print(rt, "values that are cut, skip_all", tallies.skip_all)?;
     let tallies = walks::compare_lists(rt.alloc());
@@ -122,18 +120,8 @@ fn replay_walks(rt: &HostRuntime) -> Result<(), Error> {
 /// Replays `takes.tsv` and `typed.tsv`.
 fn replay_takes(rt: &HostRuntime) -> Result<(), Error> {
     let mut counts = takes::Counts::new(rt.alloc())?;
-    for file in ["takes.tsv", "typed.tsv"] {
-        let text = fs::read_to_string(rt, file)?;
-        for line in text.lines() {
-            if !is_comment(line) {
-                let before = counts.differ();
-                takes::compare_line(rt.alloc(), line, &mut counts)?;
-                if counts.differ() != before {
-                    println!(rt; "differs: {line}")?;
-                }
-            }
-        }
-    }
+    replay(rt, "takes.tsv", &mut counts, takes::compare_line)?;
+    replay(rt, "typed.tsv", &mut counts, takes::compare_line)?;
     for (name, call) in CALLS {
         print(rt, name, counts.of(call))?;
     }
@@ -143,17 +131,8 @@ fn replay_takes(rt: &HostRuntime) -> Result<(), Error> {
 
 /// Replays `captures.tsv`.
 fn replay_captures(rt: &HostRuntime) -> Result<(), Error> {
-    let text = fs::read_to_string(rt, "captures.tsv")?;
     let mut tallies = captures::Tallies::default();
-    for line in text.lines() {
-        if !is_comment(line) {
-            let before = tallies.differ();
-            captures::compare_line(rt.alloc(), line, &mut tallies)?;
-            if tallies.differ() != before {
-                println!(rt; "differs: {line}")?;
-            }
-        }
-    }
+    replay(rt, "captures.tsv", &mut tallies, captures::compare_line)?;
     print(rt, "captures", tallies.captures)?;
     print(rt, "steps beside captures", tallies.others)?;
     print(rt, "octets left of captures", tallies.left)
@@ -161,60 +140,28 @@ fn replay_captures(rt: &HostRuntime) -> Result<(), Error> {
 
 /// Replays `partial.tsv`.
 fn replay_partial(rt: &HostRuntime) -> Result<(), Error> {
-    let text = fs::read_to_string(rt, "partial.tsv")?;
     let mut tally = Tally::default();
-    for line in text.lines() {
-        if !is_comment(line) {
-            let before = tally.differ;
-            partial::compare_line(rt.alloc(), line, &mut tally)?;
-            if tally.differ != before {
-                println!(rt; "differs: {line}")?;
-            }
-        }
-    }
+    replay(rt, "partial.tsv", &mut tally, partial::compare_line)?;
     print(rt, "captured values decoded in part", tally)
 }
 
 /// Replays `positions.tsv`.
 fn replay_positions(rt: &HostRuntime) -> Result<(), Error> {
-    let text = fs::read_to_string(rt, "positions.tsv")?;
     let mut tally = Tally::default();
-    for line in text.lines() {
-        if !is_comment(line) {
-            let before = tally.differ;
-            positions::compare_line(rt.alloc(), line, &mut tally)?;
-            if tally.differ != before {
-                println!(rt; "differs: {line}")?;
-            }
-        }
-    }
+    replay(rt, "positions.tsv", &mut tally, positions::compare_line)?;
     print(rt, "positions of refusals", tally)
 }
 
 /// Replays `tags.tsv` and `headers.tsv`.
 fn replay_tags(rt: &HostRuntime) -> Result<(), Error> {
-    let text = fs::read_to_string(rt, "tags.tsv")?;
     let mut tallies = tags::Tallies::default();
-    for line in text.lines() {
-        if !is_comment(line) {
-            let before = tallies.differ();
-            tags::compare_line(rt.alloc(), line, &mut tallies)?;
-            if tallies.differ() != before {
-                println!(rt; "differs: {line}")?;
-            }
-        }
-    }
+    replay(rt, "tags.tsv", &mut tallies, tags::compare_line)?;
     print(rt, "tags taken", tallies.taken)?;
     print(rt, "tags refused", tallies.refused)?;
     print(rt, "tags shown", tallies.shown)?;
     print(rt, "tags written", tallies.written)?;
-    let text = fs::read_to_string(rt, "headers.tsv")?;
     let mut tally = Tally::default();
-    for line in text.lines() {
-        if !is_comment(line) {
-            written::compare_header(rt.alloc(), line, &mut tally)?;
-        }
-    }
+    replay(rt, "headers.tsv", &mut tally, written::compare_header)?;
     print(rt, "headers written", tally)
 }
 
@@ -245,30 +192,20 @@ fn print_numbers(rt: &HostRuntime, what: &str, readers: numbers::Readers) -> Res
 /// makes of them.
 fn replay_integers(rt: &HostRuntime) -> Result<(), Error> {
     let mut tallies = integers::Tallies::default();
-    let text = fs::read_to_string(rt, "integers.tsv")?;
-    for line in text.lines() {
-        if !is_comment(line) {
-            integers::compare_line(rt.alloc(), line, &mut tallies)?;
-        }
-    }
-    let text = fs::read_to_string(rt, "integer_values.tsv")?;
-    for line in text.lines() {
-        if !is_comment(line) {
-            integers::compare_value(rt.alloc(), line, &mut tallies)?;
-        }
-    }
-    let text = fs::read_to_string(rt, "unsigned.tsv")?;
-    for line in text.lines() {
-        if !is_comment(line) {
-            integers::compare_made_unsigned(rt.alloc(), line, &mut tallies)?;
-        }
-    }
-    let text = fs::read_to_string(rt, "orders.tsv")?;
-    for line in text.lines() {
-        if !is_comment(line) {
-            integers::compare_order(rt.alloc(), line, &mut tallies)?;
-        }
-    }
+    replay(rt, "integers.tsv", &mut tallies, integers::compare_line)?;
+    replay(
+        rt,
+        "integer_values.tsv",
+        &mut tallies,
+        integers::compare_value,
+    )?;
+    replay(
+        rt,
+        "unsigned.tsv",
+        &mut tallies,
+        integers::compare_made_unsigned,
+    )?;
+    replay(rt, "orders.tsv", &mut tallies, integers::compare_order)?;
     print_numbers(rt, "numbers", tallies.readers)?;
     let short = numbers::compare_short(rt.alloc())?;
     print_numbers(rt, "all contents of one and two octets", short)?;
@@ -288,30 +225,25 @@ fn replay_integers(rt: &HostRuntime) -> Result<(), Error> {
 /// Replays the files of object identifiers.
 fn replay_identifiers(rt: &HostRuntime) -> Result<(), Error> {
     let mut tallies = identifiers::Tallies::default();
-    let text = fs::read_to_string(rt, "identifiers.tsv")?;
-    for line in text.lines() {
-        if !is_comment(line) {
-            identifiers::compare_line(rt.alloc(), line, &mut tallies)?;
-        }
-    }
-    let text = fs::read_to_string(rt, "texts.tsv")?;
-    for line in text.lines() {
-        if !is_comment(line) {
-            identifiers::compare_text(rt.alloc(), line, &mut tallies)?;
-        }
-    }
-    let text = fs::read_to_string(rt, "components.tsv")?;
-    for line in text.lines() {
-        if !is_comment(line) {
-            identifiers::compare_components(rt.alloc(), line, &mut tallies)?;
-        }
-    }
-    let text = fs::read_to_string(rt, "identifier_values.tsv")?;
-    for line in text.lines() {
-        if !is_comment(line) {
-            identifiers::compare_value(rt.alloc(), line, &mut tallies)?;
-        }
-    }
+    replay(
+        rt,
+        "identifiers.tsv",
+        &mut tallies,
+        identifiers::compare_line,
+    )?;
+    replay(rt, "texts.tsv", &mut tallies, identifiers::compare_text)?;
+    replay(
+        rt,
+        "components.tsv",
+        &mut tallies,
+        identifiers::compare_components,
+    )?;
+    replay(
+        rt,
+        "identifier_values.tsv",
+        &mut tallies,
+        identifiers::compare_value,
+    )?;
     for (what, tally) in [
         ("identifiers read", tallies.read),
         ("identifiers shown", tallies.shown),

@@ -1,5 +1,5 @@
 //! The number that contents octets are, through every reader of integers.
-use crate::tally::Tally;
+use crate::tally::{Differing, Tally, differ_in};
 use anyhow::Error;
 use bcder::decode::{Primitive, SliceSource};
 use bcder::{Integer, Mode, Unsigned};
@@ -36,6 +36,22 @@ pub struct Readers {
 
     /// `Primitive::to_bool`, `Constructed::take_bool`, `take_opt_bool`.
     pub truths: Tally,
+}
+
+impl Differing for Readers {
+    fn differ(&self) -> u64 {
+        differ_in(&[
+            self.octets,
+            self.from_octets,
+            self.content,
+            self.taken,
+            self.optional,
+            self.skipped,
+            self.kept,
+            self.made,
+            self.truths,
+        ])
+    }
 }
 
 /// What contents octets are to be read as in each of Rust's types: none where the type doesn't hold

@@ -4,14 +4,27 @@ ghost use Rattle.bcder.specs.Views.{Moved};
 use crate::calls::{Answer, answer_of, tag_of};
 use crate::fields::{modes_of, next, number, octets_of};
 use crate::takes::{OWN, error_kind};
-use crate::tally::Tally;
-use crate::walks::{Tallies, compare_ways, compare_whole};
+use crate::tally::{Differing, Tally};
+use crate::walks::{self, compare_ways, compare_whole};
 use anyhow::Error;
 use bcder::decode::{BytesSource, Constructed, ContentError, DecodeError, SliceSource, Source};
 use bcder::{Mode, Tag};
 use bytes::Bytes;
 use rows::sip::Sip;
 use std::alloc::Global;
+
+/// What was compared: headings that a closure is told, and what the other readers pass over.
+#[derive(Clone, Copy, Debug, Default)]
+pub struct Tallies {
+    pub told: Tally,
+    pub others: walks::Tallies,
+}
+
+impl Differing for Tallies {
+    fn differ(&self) -> u64 {
+        self.told.differ.saturating_add(self.others.differ())
+    }
+}
 
 /// A line of the data.
 #[derive(Drop)]
@@ -103,7 +116,7 @@ fn compare_others(
     alloc: Global,
     row: &Row<'_>,
     mode: Mode,
-    tallies: &mut Tallies,
+    tallies: &mut walks::Tallies,
 ) -> Result<(), Error> {
     let count = row.octets.len();
     match row.answer {
@@ -143,16 +156,11 @@ fn row_of<'a>(alloc: Global, line: &'a str) -> Result<Row<'a>, Error> {
 }
 
 /// Compares a line in its modes.
-pub fn compare_line(
-    alloc: Global,
-    line: &str,
-    told: &mut Tally,
-    tallies: &mut Tallies,
-) -> Result<(), Error> {
+pub fn compare_line(alloc: Global, line: &str, tallies: &mut Tallies) -> Result<(), Error> {
     let row = row_of(alloc, line)?;
     for mode in &row.modes {
-        compare_told(alloc, &row, *mode, told)?;
-        compare_others(alloc, &row, *mode, tallies)?;
+        compare_told(alloc, &row, *mode, &mut tallies.told)?;
+        compare_others(alloc, &row, *mode, &mut tallies.others)?;
     }
     Ok(())
 }

@@ -3,7 +3,7 @@ use crate::calls::Answer;
 use crate::fields::{find, next, number, octets_of};
 use crate::malformed::Malformed;
 use crate::takes::error_kind;
-use crate::tally::Tally;
+use crate::tally::{Differing, Tally, differ_in};
 use crate::written::compare_tag;
 use anyhow::Error;
 use bcder::Tag;
@@ -45,14 +45,9 @@ pub struct Tallies {
     pub written: Tally,
 }
 
-impl Tallies {
-    /// How many answers differ in all.
-    pub fn differ(&self) -> u64 {
-        let mut all = self.taken;
-        all.join(self.refused);
-        all.join(self.shown);
-        all.join(self.written);
-        all.differ
+impl Differing for Tallies {
+    fn differ(&self) -> u64 {
+        differ_in(&[self.taken, self.refused, self.shown, self.written])
     }
 }
 

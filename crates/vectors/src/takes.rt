@@ -3,7 +3,7 @@ ghost use Rattle.bcder.specs.Views.{Moved, MovedOctets, MovedContent};
 
 use crate::calls::{Answer, CALLS, Call, TakeStep, Use};
 use crate::row::{Row, row_of};
-use crate::tally::Tally;
+use crate::tally::{Differing, Tally};
 use anyhow::Error;
 use bcder::decode::{
     BytesSource, Constructed, Content, ContentError, DecodeError, Primitive, SliceSource, Source,
@@ -374,9 +374,10 @@ impl Counts {
         }
         Tally::default()
     }
+}
 
-    /// How many answers differ in all.
-    pub fn differ(&self) -> u64 {
+impl Differing for Counts {
+    fn differ(&self) -> u64 {
         let mut all = self.modes;
         all.join(self.left);
         for entry in &self.calls {

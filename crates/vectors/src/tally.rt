@@ -1,5 +1,11 @@
 //! Answers that were compared.
 
+/// What was compared of a kind of data.
+pub trait Differing {
+    /// How many answers differ in all.
+    fn differ(&self) -> u64;
+}
+
 /// How many answers were compared, and how many of them differ.
 #[derive(Clone, Copy, Debug, Default)]
 pub struct Tally {
@@ -21,4 +27,19 @@ impl Tally {
         self.compared = self.compared.saturating_add(other.compared);
         self.differ = self.differ.saturating_add(other.differ);
     }
+}
+
+impl Differing for Tally {
+    fn differ(&self) -> u64 {
+        self.differ
+    }
+}
+
+/// What was compared of one kind after the other.
+pub fn differ_in(tallies: &[Tally]) -> u64 {
+    let mut all = Tally::default();
+    for tally in tallies {
+        all.join(*tally);
+    }
+    all.differ
 }

@@ -2,7 +2,7 @@
 ghost use Rattle.bcder.specs.Views.{Moved};
 
 use crate::fields::{modes_of, next, number, octets_of};
-use crate::tally::Tally;
+use crate::tally::{Differing, Tally, differ_in};
 use anyhow::Error;
 use bcder::Mode;
 use bcder::decode::{BytesSource, Constructed, DecodeError, SliceSource, Source, walk};
@@ -29,6 +29,19 @@ pub struct Tallies {
     pub skip_one: Tally,
     pub capture_one: Tally,
     pub skip_all: Tally,
+}
+
+impl Differing for Tallies {
+    fn differ(&self) -> u64 {
+        let ways = [
+            self.plain,
+            self.walk,
+            self.skip_one,
+            self.capture_one,
+            self.skip_all,
+        ];
+        differ_in(&ways)
+    }
 }
 
 /// How many octets the value at the front takes, by the plain reader.
