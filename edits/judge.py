@@ -111,24 +111,24 @@ class Judge:
             self.say(edit.label, BAD, why)
         rest = [it for it in batch if it not in bad]
         if report.is_whole:
-            alone = []
+            left = []
             for edit in rest:
                 fared, why = report.verdict(crate, edit)
-                if fared != UNJUDGED:
-                    self.say(edit.label, fared, why)
-                elif len(batch) == 1:
-                    self.say(edit.label, BAD, why)
+                if fared == UNJUDGED and len(batch) > 1:
+                    left.append(edit)
                 else:
-                    alone.append(edit)
-            for edit in alone:
-                self.note(f"{crate.name}: {edit.label} wasn't judged beside others; checking it alone")
-                self.batch(crate, [edit], jobs)
-        elif rest:
-            # What doesn't compile keeps the others from being judged: go on without it, or look for it.
-            half = len(rest) if bad else len(rest) // 2
-            for part in filter(None, (rest[:half], rest[half:])):
-                self.note(f"{crate.name}: some edit doesn't compile; checking {len(part)} others")
-                self.batch(crate, part, jobs)
+                    self.say(edit.label, BAD if fared == UNJUDGED else fared, why)
+            self.apart(crate, left, jobs, len(left) < len(batch), "what calls a body that isn't covered wasn't judged")
+        else:
+            # What doesn't compile keeps the others from being judged.
+            self.apart(crate, rest, jobs, bool(bad), "some edit doesn't compile")
+
+    def apart(self, crate, edits, jobs, is_fewer, why):
+        """Judges edits again: by halves, until each stands alone, unless some of those beside them are gone."""
+        half = len(edits) if is_fewer else len(edits) // 2
+        for part in filter(None, (edits[:half], edits[half:])):
+            self.note(f"{crate.name}: {why}; checking {len(part)} again")
+            self.batch(crate, part, jobs)
 
 
 def lines_under(root, name):

@@ -72,6 +72,10 @@ fn toy::half: not proved"""
 GONE = """./proofs/half/Answers.antt:4:27: error: `returns-clause-ok`: `goal.returns-clause-ok`: module `Goals` has no `returns-clause-ok` that can be named
 note: src/lib.rt:33:5: it is not proved that the invariant of the loop holds (`loop-x-preserved`); `search` gave up
 fn toy::half: not proved"""
+GONE_BELOW = """./proofs/half/Answers.antt:4:27: error: `returns-clause-ok`: record `toy.proofs.half.Lts.After-two`
+  has no field `three`
+./proofs/half/Answers.antt:9:5: error: 1 declaration that depends on `returns-clause-ok`, which was not admitted, was not checked: more
+fn toy::half: no proof: expected answers in ./proofs/half/Answers.antt; `search` did not prove `returns-clause-err`"""
 PROVED = "fn toy::half: proved"
 ABOVE = "fn toy::half: depends on `toy::two`, which is not proved"
 
@@ -96,6 +100,7 @@ class Verdicts(unittest.TestCase):
     def test_what_is_gone_says_nothing(self):
         self.assertEqual(self.fared(GONE), ANSWERS)
         self.assertEqual(self.fared(GONE, "ok"), ANSWERS)
+        self.assertEqual(self.fared(GONE_BELOW, "err"), ANSWERS)
 
     def test_no_failure_of_its_own(self):
         self.assertEqual(self.fared(PROVED, "ok"), WRONG)
