@@ -51,11 +51,12 @@ class Crate:
         symbol = self.symbol(path, name, states)
         if not symbol:
             return []
-        function, words = self.functions[path][name][0], symbol.split("::")
-        folders, clauses = [folder_of(symbol)], function.clauses or self.clauses_of_trait(last(name))
-        if function.cycle:
-            folders.append("/".join(["proofs", *module_of(path), f"+{function.cycle}"]))
-        own = Part(symbol, last(name), clauses[0] if len(clauses) == 1 else "", bool(function.cycle), folders)
+        # Of one that the edit adds nothing stands here: no clause that an edit could name, and no cycle.
+        functions, words = self.functions[path].get(name, []), symbol.split("::")
+        clauses = [it for function in functions[:1] for it in function.clauses or self.clauses_of_trait(last(name))]
+        cycle = functions[0].cycle if functions else ""
+        folders = [folder_of(symbol), *(["/".join(["proofs", *module_of(path), f"+{cycle}"])] if cycle else [])]
+        own = Part(symbol, last(name), clauses[0] if len(clauses) == 1 else "", bool(cycle), folders)
         at = len(words) - len(name.split("::"))
         inner = "::".join([*words[:at], "fn", *words[at:], ""])
         return [own, *[Part(it, last(it), "", False, [folder_of(it)]) for it in states if it.startswith(inner)]]
