@@ -7,6 +7,7 @@ pub mod Preorder
 pub mod Integer
 pub mod Number
 pub mod ObjectIdentifier
+pub mod OctetString
 pub mod IdentifierText
 pub mod Components
 pub mod Pushed
