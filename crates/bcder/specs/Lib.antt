@@ -8,6 +8,7 @@ pub mod Integer
 pub mod Number
 pub mod ObjectIdentifier
 pub mod OctetString
+pub mod Segments
 pub mod IdentifierText
 pub mod Components
 pub mod Pushed

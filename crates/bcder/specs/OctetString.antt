@@ -84,6 +84,10 @@ pub record AreSegmented (mode : Mode) (w : List ℕ) (parts : List (List ℕ)) :
   pub shape : AreSegmentsIn mode values
   pub hold : segments_of values ≡ parts
 
+-- octets are what a constructed octet string is cut into
+abbrev pub AreCut : Mode → List ℕ → Type 0
+AreCut mode w = (parts : List (List ℕ)) × AreSegmented mode w parts
+
 -- as it came: in one piece, or cut into parts, with the encodings that these stand in
 pub data StringOctets : Type 0 where
   whole : List ℕ → StringOctets

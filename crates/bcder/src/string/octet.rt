@@ -2,6 +2,8 @@
 ghost use Rattle.std.specs.Prelude.{◌≡◌};
 ghost use Rattle.bcder.specs.OctetString.{whole, cut, segments_at, IsTable};
 
+mod segments;
+
 use crate::captured::Captured;
 use bytes::Bytes;
 use std::marker::Model;
