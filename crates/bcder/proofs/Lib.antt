@@ -40,6 +40,7 @@ pub mod Capturing
 pub mod CapturingValues
 pub mod Markers
 pub mod Typed
+pub mod Valued
 pub mod Subidentifiers
 pub mod Digits
 pub mod Shown
@@ -61,3 +62,4 @@ pub mod Skipped
 pub mod Iterating
 pub mod Gathering
 pub mod Segments
+pub mod Strings

@@ -32,6 +32,7 @@ pub mod Inside
 pub mod Walking
 pub mod Readers
 pub mod Typed
+pub mod Valued
 pub mod ReadIdentifiers
 pub mod Decoding
 pub mod Begins

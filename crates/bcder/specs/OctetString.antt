@@ -108,6 +108,15 @@ abbrev pub octets_of : StringOctets → List ℕ
 octets_of (whole w) = w
 octets_of (cut kept ps) = concat ps
 
+-- the string that a value means in a mode: in one piece, or cut into its segments, with encodings of the values that it is cut into
+abbrev pub IsStringOf : Mode → Tree → StringOctets → Type 0
+IsStringOf mode (primitive t contents) s = s ≡ whole contents
+IsStringOf mode (constructed t ts) s = (kept : Kept) × (kept.mode ≡ mode) × AreEncodings mode ts kept.octets × (s ≡ cut kept (segments_of ts))
+
+-- an octet string, and what it means
+abbrev pub MeansString : Mode → Tree → StringOctets → Type 0
+MeansString mode t s = IsOctetString mode t × IsStringOf mode t s
+
 -- ---- the table of segments
 
 -- the octets where a segment's contents octets stand

@@ -2,6 +2,7 @@
 ghost use Rattle.std.specs.Prelude.{◌≡◌};
 ghost use Rattle.bcder.specs.OctetString.{whole, cut, segments_at, IsTable};
 
+mod read;
 mod segments;
 
 use crate::captured::Captured;

@@ -15,7 +15,7 @@ use crate::tag::Tag;
 use std::alloc::Global;
 
 /// How many octets each segment but the last has in CER (9.2).
-const FULL: usize = 1000;
+pub(super) const FULL: usize = 1000;
 
 /// The identifier octet of a primitive OCTET STRING (8.1.2).
 const OCTET_STRING: u8 = 0x04;
