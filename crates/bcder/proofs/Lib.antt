@@ -62,4 +62,5 @@ pub mod Skipped
 pub mod Iterating
 pub mod Gathering
 pub mod Segments
+pub mod OneString
 pub mod Strings

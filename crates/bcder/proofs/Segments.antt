@@ -374,7 +374,7 @@ pieces_follow no_trees h some = absurd (omega arith)
 pieces_follow (t ∷ₜ no_trees) h some = h.0
 pieces_follow (t ∷ₜ (u ∷ₜ us)) h some = by_size t u us h.0 (nat_eq (size_of t) 1000) refl h.1 (λ p. pieces_follow (u ∷ₜ us) p (omega arith))
 
-in_cer : (ts : Trees) → AreSegmentsIn Cer ts → ArePieces true ts × (2 ≤ count_of ts)
+pub in_cer : (ts : Trees) → AreSegmentsIn Cer ts → ArePieces true ts × (2 ≤ count_of ts)
 in_cer no_trees h = absurd h
 in_cer (t ∷ₜ ts) h =
     let p = full_piece t h.0 in

@@ -33,6 +33,7 @@ pub mod Walking
 pub mod Readers
 pub mod Typed
 pub mod Valued
+pub mod OctetStrings
 pub mod ReadIdentifiers
 pub mod Decoding
 pub mod Begins
