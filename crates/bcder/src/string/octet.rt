@@ -2,8 +2,11 @@
 ghost use Rattle.std.specs.Prelude.{◌≡◌};
 ghost use Rattle.bcder.specs.OctetString.{whole, cut, segments_at, IsTable};
 
+mod iter;
+
 use crate::captured::Captured;
 use bytes::Bytes;
+pub use iter::OctetStringIter;
 use std::marker::Model;
 
 /// Where the contents octets of a segment stand among octets that are captured.
