@@ -61,3 +61,4 @@ pub mod Skipped
 pub mod Iterating
 pub mod Gathering
 pub mod Parts
+pub mod Comparing

@@ -2,6 +2,7 @@
 ghost use Rattle.std.specs.Prelude.{◌≡◌, ◌↔◌, IsTrue, MatchOption, [], length};
 ghost use Rattle.bcder.specs.OctetString.{whole, cut, segments_at, IsTable, IsCut, octets_of};
 
+mod compare;
 mod iter;
 
 use crate::captured::Captured;

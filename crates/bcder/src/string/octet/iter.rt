@@ -1,6 +1,6 @@
 //! The parts of an octet string, and its octets.
 ghost use Rattle.std.specs.Prelude.{◌≡◌, ◌+◌, ◌≤◌, length};
-ghost use Rattle.bcder.specs.OctetString.{parts, octets_of, segment_at};
+ghost use Rattle.bcder.specs.OctetString.{piece, parts, octets_of, segment_at};
 
 use super::{OctetString, Octets, Segment};
 use std::alloc::AllocError;
@@ -41,6 +41,19 @@ fn octets_at<'a>(octets: &'a [u8], segment: Segment) -> &'a [u8]
     &octets[segment.start..segment.start + segment.len]
 }
 
+impl<'a> OctetStringIter<'a> {
+    /// The parts of octets in one piece.
+    pub(super) fn of_piece(octets: &'a [u8]) -> OctetStringIter<'a>
+        ensures { result ≡ piece octets.now }
+    {
+        OctetStringIter {
+            front: octets,
+            octets: &[],
+            segments: &[],
+        }
+    }
+}
+
 impl OctetString {
     /// The parts, in their order: the octets of a string in one piece, unless it is empty, and each
     /// segment of one that was cut (X.690, 8.7.3), empty ones too.
@@ -48,11 +61,7 @@ impl OctetString {
         ensures { result ≡ parts self.now }
     {
         match &self.octets {
-            Octets::Whole(octets) => OctetStringIter {
-                front: octets.as_slice(),
-                octets: &[],
-                segments: &[],
-            },
+            Octets::Whole(octets) => OctetStringIter::of_piece(octets.as_slice()),
             Octets::Cut(captured, segments) => OctetStringIter {
                 front: &[],
                 octets: captured.as_slice(),
