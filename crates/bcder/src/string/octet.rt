@@ -4,6 +4,7 @@ ghost use Rattle.bcder.specs.OctetString.{whole, cut, segments_at, IsTable, IsCu
 
 mod compare;
 mod iter;
+mod joined;
 
 use crate::captured::Captured;
 use crate::decode::source::see_octets;
