@@ -62,3 +62,4 @@ pub mod Iterating
 pub mod Gathering
 pub mod Parts
 pub mod Comparing
+pub mod Hashing
