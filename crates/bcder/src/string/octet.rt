@@ -90,7 +90,6 @@ impl OctetString {
     }
 
     /// How many octets there are, in all parts.
-    #[tactic(auto, using(crate::proofs::Parts::parts_shorter))]
     pub fn len(&self) -> usize
         ensures { result ≡ length (octets_of self.now) }
     {

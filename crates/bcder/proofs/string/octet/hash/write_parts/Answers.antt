@@ -1,4 +1,4 @@
-use Rattle.std.proofs.Common.{◌≡◌, ap, ◌∙◌}
+use Rattle.std.proofs.Common.{ap, ◌∙◌}
 use Rattle.bcder.proofs.Hashing.{block_passed, together_passed}
 use Rattle.bcder.proofs.string.octet.hash.write_parts.Goals as goal
 

@@ -1,4 +1,4 @@
-use Rattle.std.proofs.Common.{length, refl, arith}
+use Rattle.std.proofs.Common.{refl, arith}
 use Rattle.std.proofs.lemmas.Grind.{common_steps}
 use Rattle.bcder.proofs.Hashing.{block_written, last_written}
 use Rattle.bcder.proofs.string.octet.hash.write_whole.Goals as goal
