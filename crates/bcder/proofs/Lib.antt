@@ -64,3 +64,6 @@ pub mod Gathering
 pub mod Segments
 pub mod OneString
 pub mod Strings
+pub mod Parts
+pub mod Comparing
+pub mod Hashing

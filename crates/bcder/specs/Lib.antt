@@ -63,3 +63,4 @@ pub mod TakenBack
 pub mod Front
 pub mod Iterated
 pub mod Gathered
+pub mod Blocks

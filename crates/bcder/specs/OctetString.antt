@@ -117,6 +117,11 @@ IsStringOf mode (constructed t ts) s = (kept : Kept) × (kept.mode ≡ mode) × 
 abbrev pub MeansString : Mode → Tree → StringOctets → Type 0
 MeansString mode t s = IsOctetString mode t × IsStringOf mode t s
 
+-- whether it was cut
+abbrev pub IsCut : StringOctets → Type 0
+IsCut (whole w) = ⊥
+IsCut (cut kept ps) = ⊤
+
 -- ---- the table of segments
 
 -- the octets where a segment's contents octets stand

@@ -1,0 +1,187 @@
+//! The parts of an octet string, and its octets.
+ghost use Rattle.std.specs.Prelude.{◌≡◌, ◌+◌, ◌≤◌, length};
+ghost use Rattle.bcder.specs.OctetString.{piece, parts, octets_of, segment_at};
+
+use super::{OctetString, Octets, Segment};
+use std::alloc::AllocError;
+use std::marker::Model;
+
+/// The parts of an octet string, in their order.
+///
+/// A string in one piece is one part, or none where it is empty. Of one that came in segments each
+/// is a part, empty ones too.
+#[derive(Debug, Drop)]
+pub struct OctetStringIter<'a> {
+    /// The octets of a string in one piece, until they are given out.
+    front: &'a [u8],
+
+    /// The octets that segments stand in, and where those stand that are still to come.
+    octets: &'a [u8],
+    segments: &'a [Segment],
+}
+
+/// The clauses see the parts that are still to come.
+impl<'a> Model for OctetStringIter<'a> {
+    ghost use Rattle.std.specs.Prelude.{ℕ, List, ◌++◌};
+    ghost use Rattle.bcder.specs.OctetString.{piece, segments_at, AreWithin};
+
+    ghost Value = { List (List ℕ) };
+
+    ghost view = { λ i. piece i.front.now ++ segments_at i.octets.now i.segments.now };
+
+    ghost invariant = { λ i. AreWithin i.octets.now i.segments.now };
+}
+
+/// The octets of a segment.
+#[inline(always)]
+fn octets_at<'a>(octets: &'a [u8], segment: Segment) -> &'a [u8]
+    requires { segment.start + segment.len ≤ length octets.now }
+    ensures { result.now ≡ segment_at octets.now segment }
+{
+    &octets[segment.start..segment.start + segment.len]
+}
+
+impl<'a> OctetStringIter<'a> {
+    /// The parts of octets in one piece.
+    pub(super) fn of_piece(octets: &'a [u8]) -> OctetStringIter<'a>
+        ensures { result ≡ piece octets.now }
+    {
+        OctetStringIter {
+            front: octets,
+            octets: &[],
+            segments: &[],
+        }
+    }
+}
+
+impl OctetString {
+    /// The parts, in their order: the octets of a string in one piece, unless it is empty, and each
+    /// segment of one that was cut (X.690, 8.7.3), empty ones too.
+    pub fn iter(&self) -> OctetStringIter<'_>
+        ensures { result ≡ parts self.now }
+    {
+        match &self.octets {
+            Octets::Whole(octets) => OctetStringIter::of_piece(octets.as_slice()),
+            Octets::Cut(captured, segments) => OctetStringIter {
+                front: &[],
+                octets: captured.as_slice(),
+                segments: segments.as_slice(),
+            },
+        }
+    }
+
+    /// The octets, in their order, those of one part behind those of another.
+    pub fn octets(&self) -> OctetStringOctets<'_>
+        ensures { result ≡ octets_of self.now }
+    {
+        OctetStringOctets {
+            part: &[],
+            parts: self.iter(),
+        }
+    }
+}
+
+impl<'a> IntoIterator for &'a OctetString {
+    type Item = &'a [u8];
+
+    type IntoIter = OctetStringIter<'a>;
+
+    ghost into_iter_gives = { λ s i. i ≡ parts s.now };
+
+    fn into_iter(self) -> OctetStringIter<'a> {
+        self.iter()
+    }
+}
+
+/// The clone has the same parts to come.
+impl Clone for OctetStringIter<'_> {
+    ghost is_clone = { λ i copy. copy ≡ i };
+
+    fn clone(&self) -> Result<Self, AllocError> {
+        Ok(OctetStringIter {
+            front: self.front,
+            octets: self.octets,
+            segments: self.segments,
+        })
+    }
+}
+
+impl<'a> Iterator for OctetStringIter<'a> {
+    ghost use Rattle.std.specs.Iterator.{YieldsFirstRef, item_count};
+
+    type Item = &'a [u8];
+
+    ghost next_gives = { YieldsFirstRef (λ parts. parts) };
+
+    ghost remaining = { item_count (λ parts. parts) };
+
+    fn next(&mut self) -> Option<&'a [u8]> {
+        let front = self.front;
+        if !front.is_empty() {
+            self.front = &[];
+            return Some(front);
+        }
+        match self.segments {
+            [] => None,
+            [segment, rest @ ..] => {
+                self.segments = rest;
+                Some(octets_at(self.octets, *segment))
+            }
+        }
+    }
+}
+
+/// The octets of an octet string, in their order.
+#[derive(Debug, Drop)]
+pub struct OctetStringOctets<'a> {
+    /// What is left of a part.
+    part: &'a [u8],
+
+    /// The parts behind it.
+    parts: OctetStringIter<'a>,
+}
+
+/// The clauses see the octets that are still to come.
+impl<'a> Model for OctetStringOctets<'a> {
+    ghost use Rattle.std.specs.Prelude.{ℕ, List, ◌++◌};
+    ghost use Rattle.std.specs.List.{concat};
+
+    ghost Value = { List ℕ };
+
+    ghost view = { λ o. o.part.now ++ concat o.parts };
+}
+
+/// The clone has the same octets to come.
+impl Clone for OctetStringOctets<'_> {
+    ghost is_clone = { λ o copy. copy ≡ o };
+
+    fn clone(&self) -> Result<Self, AllocError> {
+        Ok(OctetStringOctets {
+            part: self.part,
+            parts: self.parts.clone()?,
+        })
+    }
+}
+
+impl Iterator for OctetStringOctets<'_> {
+    ghost use Rattle.std.specs.Iterator.{YieldsFirst, item_count};
+
+    type Item = u8;
+
+    ghost next_gives = { YieldsFirst (λ octets. octets) };
+
+    ghost remaining = { item_count (λ octets. octets) };
+
+    #[inline(always)]
+    fn next(&mut self) -> Option<u8> {
+        loop {
+            match self.part {
+                [octet, rest @ ..] => {
+                    self.part = rest;
+                    return Some(*octet);
+                }
+                [] => self.part = self.parts.next()?,
+            }
+        }
+    }
+}
