@@ -1,15 +1,14 @@
 -- In CER and DER the octets of an octet string tell the value.
-use Rattle.std.proofs.Common.{◌≡◌, ◌≢◌, ℕ, zero, suc, ◌+◌, ◌<◌, ◌≤◌, Bool, true, false, List, [], ◌∷◌, ◌++◌, length, take, drop, refl, ap, sym, ◌∙◌, arith, append-nil, subst, inl, inr}
-use Rattle.std.specs.Prelude.{◌⊎◌, nat_eq}
+use Rattle.std.proofs.Common.{◌≡◌, ℕ, ◌<◌, ◌≤◌, Bool, true, false, List, [], ◌∷◌, ◌++◌, length, take, drop, refl, ap, sym, ◌∙◌, arith, append-nil, subst, inl, inr}
+use Rattle.std.specs.Prelude.{nat_eq}
 use Rattle.std.specs.List.{concat}
 use Rattle.std.proofs.lemmas.Bool.Decides.{nat_tests}
 use Rattle.std.proofs.lemmas.List.{length-append, take_at, drop_at}
-use Rattle.bcder.specs.declared.mode.Mode.{Mode}
 use Rattle.bcder.specs.declared.mode.Mode.TheVariants.{Ber, Cer, Der}
 use Rattle.bcder.specs.Identifier.{Tag}
 use Rattle.bcder.specs.Tree.{Tree, primitive, constructed, Trees, no_trees, ◌∷ₜ◌}
 use Rattle.bcder.specs.Encoding.{IsEncoding}
-use Rattle.bcder.specs.OctetString.{StringOctets, whole, cut, octets_of, parts, octet_string_tag, segments_of, flat, IsPiece, IsFull, IsLast, FollowFull, AreSegmentsIn, IsOctetString, IsStringOf}
+use Rattle.bcder.specs.OctetString.{whole, cut, octets_of, parts, octet_string_tag, segments_of, flat, IsPiece, IsFull, IsLast, FollowFull, AreSegmentsIn, IsOctetString}
 use Rattle.bcder.specs.OctetStrings.{PrimitiveInDer, PrimitiveInCer, OneString, OneStringEncoding, PartsJoin, MeansFlat, MeansSegments}
 use Rattle.bcder.specs.Valued.{tag_of}
 use Rattle.bcder.specs.laws.Canonical.{one_spelling}

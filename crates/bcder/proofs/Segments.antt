@@ -1,5 +1,5 @@
 -- Values whose headers are passed one by one: what is left of them, and of the segments that they are.
-use Rattle.std.proofs.Common.{◌≡◌, ℕ, zero, suc, ◌+◌, ◌-◌, ◌<◌, ◌≤◌, Bool, true, false, List, [], ◌∷◌, ◌++◌, length, get_or, take, drop, map, Option, Some, None, refl, sym, ap, subst, ◌∙◌, append_assoc, append-nil, arith, inl, inr}
+use Rattle.std.proofs.Common.{◌≡◌, ℕ, suc, ◌+◌, ◌-◌, ◌<◌, ◌≤◌, Bool, true, false, List, [], ◌∷◌, ◌++◌, length, get_or, take, drop, Option, Some, None, refl, sym, ap, subst, ◌∙◌, append_assoc, append-nil, arith, inl, inr}
 use Rattle.std.specs.Prelude.{nat_eq}
 use Rattle.std.proofs.lemmas.Bool.{lt-ltb, le-ltb}
 use Rattle.std.proofs.lemmas.Bool.Decides.{nat_tests}
@@ -7,14 +7,14 @@ use Rattle.std.proofs.lemmas.List.{length-append, map-append, take_at, drop_at}
 use Rattle.bcder.specs.declared.mode.Mode.{Mode}
 use Rattle.bcder.specs.declared.mode.Mode.TheVariants.{Ber, Cer, Der}
 use Rattle.bcder.specs.declared.length.Length.{Length}
-use Rattle.bcder.specs.declared.length.Length.TheVariants.{Definite, Indefinite}
+use Rattle.bcder.specs.declared.length.Length.TheVariants.{Definite}
 use Rattle.bcder.specs.Identifier.{Class, universal, application, context_specific, private, Tag}
 use Rattle.bcder.specs.Length.{IsEndOfContents}
 use Rattle.bcder.specs.Tree.{Tree, primitive, constructed, Trees, no_trees, ◌∷ₜ◌}
 use Rattle.bcder.specs.Encoding.{IsHeader, IsDefinite, IsFramed, IsEncoding, AreEncodings}
-use Rattle.bcder.specs.Reading.{class_of, is_marked, read_identifier, read_header, read_end, read_length}
+use Rattle.bcder.specs.Reading.{class_of, is_marked, read_identifier, read_header, read_length}
 use Rattle.bcder.specs.Captured.{AreWhole}
-use Rattle.bcder.specs.OctetString.{octet_string_tag, segments, segments_of, IsSegment, AreSegments, IsPiece, IsFull, IsLast, FollowFull, AreSegmentsIn, AreSegmented, AreCut, segment_at, segments_at, AreWithin, IsTable}
+use Rattle.bcder.specs.OctetString.{octet_string_tag, segments, segments_of, IsSegment, AreSegments, IsPiece, IsFull, IsLast, FollowFull, AreSegmentsIn, AreCut, segment_at, segments_at, AreWithin, IsTable}
 use Rattle.bcder.specs.declared.string.octet.Segment.{Segment}
 use Rattle.bcder.specs.Segments.{is_octet_string, behind_header, read_segment}
 use Rattle.bcder.specs.laws.Complete.{header_complete, header_size, two_octets, one_list}

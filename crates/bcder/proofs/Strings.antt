@@ -1,6 +1,6 @@
 -- Octet strings that are read from content.
-use Rattle.std.proofs.Common.{◌≡◌, ◌≢◌, ℕ, ◌<◌, ◌≤◌, Bool, true, false, IsTrue, ◌↔◌, List, [], ◌++◌, length, Option, Some, None, refl, ap, sym, ◌∙◌, arith, subst, inl, inr}
-use Rattle.std.specs.Prelude.{◌⊎◌, Result, Ok, Err}
+use Rattle.std.proofs.Common.{◌≡◌, ◌≢◌, ℕ, ◌<◌, ◌≤◌, List, ◌++◌, length, Option, Some, None, refl, ap, sym, ◌∙◌, arith, subst, inl, inr}
+use Rattle.std.specs.Prelude.{◌⊎◌, Ok, Err}
 use Rattle.std.proofs.lemmas.Bool.{cases_lt}
 use Rattle.bcder.specs.declared.mode.Mode.{Mode}
 use Rattle.bcder.specs.declared.mode.Mode.TheVariants.{Ber, Cer, Der}
@@ -9,7 +9,7 @@ use Rattle.bcder.specs.declared.decode.content.State.TheVariants.{Open, Ended, F
 use Rattle.bcder.specs.declared.decode.error.DecodeError.{DecodeError}
 use Rattle.bcder.specs.declared.string.octet.Segment.{Segment}
 use Rattle.bcder.specs.Identifier.{Tag}
-use Rattle.bcder.specs.Tree.{Tree, primitive, constructed, Trees, no_trees}
+use Rattle.bcder.specs.Tree.{Tree, primitive, constructed, Trees}
 use Rattle.bcder.specs.Encoding.{AreEncodings}
 use Rattle.bcder.specs.Cause.{cause_of, of_memory, IsRefusal}
 use Rattle.bcder.specs.Stream.{limit_or}
@@ -20,10 +20,9 @@ use Rattle.bcder.specs.Readers.{HasAll, Reads, RefusesReading, RefusesAll, FindN
 use Rattle.bcder.specs.Readers as readers
 use Rattle.bcder.specs.CapturingValues.{CapturesBy, CapturesValues, HasOthers, RefusesWhere}
 use Rattle.bcder.specs.CapturingValues as capturing
-use Rattle.bcder.specs.OctetString.{StringOctets, whole, cut, octet_string_tag, segments_of, AreSegmentsIn, MayBeWhole, IsOctetString, AreSegmented, AreCut, segments_at, IsTable, IsStringOf, MeansString}
+use Rattle.bcder.specs.OctetString.{StringOctets, whole, cut, segments_of, AreSegmentsIn, MayBeWhole, AreSegmented, AreCut, segments_at, IsTable, MeansString}
 use Rattle.bcder.specs.Valued.{HoldsOctets, HoldsThese, HoldsValues, HoldsTree, HoldsNone, ReadsTree, RefusesToRead, ReadsContent}
 use Rattle.bcder.specs.Valued as valued
-use Rattle.bcder.specs.laws.Complete.{one_list}
 use Rattle.bcder.specs.laws.Lists.{empty_list}
 use Rattle.bcder.proofs.Moving.{open_not_ended, open_not_failed}
 use Rattle.bcder.proofs.Valued.{one_values, no_values_of_octets}

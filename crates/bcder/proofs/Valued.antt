@@ -1,6 +1,6 @@
 -- Values of either form that are taken by readers of their content.
 use Rattle.std.proofs.Common.{◌≡◌, ℕ, Bool, true, false, List, [], ◌++◌, length, take, Option, Some, None, refl, ap, sym, ◌∙◌, arith, length-append, append_assoc, append-nil, subst, inl, inr}
-use Rattle.std.specs.Prelude.{◌⊎◌, ◌||◌, ◌≤◌, Result, Ok, Err}
+use Rattle.std.specs.Prelude.{◌≤◌, Result, Ok, Err}
 use Rattle.std.specs.Borrow.{MutBor}
 use Rattle.std.proofs.lemmas.List.{take_at}
 use Rattle.bcder.specs.declared.mode.Mode.{Mode}
@@ -8,18 +8,18 @@ use Rattle.bcder.specs.declared.length.Length.{Length}
 use Rattle.bcder.specs.declared.length.Length.TheVariants.{Definite, Indefinite}
 use Rattle.bcder.specs.declared.decode.content.Kind.TheVariants as kind
 use Rattle.bcder.specs.declared.decode.content.State.{State}
-use Rattle.bcder.specs.declared.decode.content.State.TheVariants.{Open, Ended, Failed}
+use Rattle.bcder.specs.declared.decode.content.State.TheVariants.{Ended, Failed}
 use Rattle.bcder.specs.declared.decode.error.DecodeError.{DecodeError}
 use Rattle.bcder.specs.Identifier.{Tag}
 use Rattle.bcder.specs.Length.{IsEndOfContents}
-use Rattle.bcder.specs.Tree.{Tree, primitive, constructed, Trees, no_trees}
+use Rattle.bcder.specs.Tree.{Tree, primitive, constructed, Trees}
 use Rattle.bcder.specs.Encoding.{IsHeader, IsDefinite, IsFramed, IsEncoding, AreEncodings}
-use Rattle.bcder.specs.Cause.{cause_of, IsRefusal}
+use Rattle.bcder.specs.Cause.{cause_of}
 use Rattle.bcder.specs.Content.{Reading, Form, octets, values, Octets, DefiniteValues, IndefiniteValues, any, tagged, label, HasHeader, HasMarker, IsDone}
 use Rattle.bcder.specs.Content as content
 use Rattle.bcder.specs.Calls.{Hands, IsFormOf, ContentOf, Answered, TakesValue, RefusesFront, RefusesContent, by_closure, unfinished, RefusesEnd, left_failed, source_failed, left_open}
 use Rattle.bcder.specs.Takes.{HasNone, TakesNext, Takes, RefusesTake, by_header, by_form, by_content}
-use Rattle.bcder.specs.Walking.{HasValue, HasValues, ClosesBefore}
+use Rattle.bcder.specs.Walking.{HasValues, ClosesBefore}
 use Rattle.bcder.specs.Valued.{HoldsOctets, HoldsThese, HoldsValues, HoldsTree, ReadsTree, RefusesToRead, ReadsContent, ReadsAny, tag_of, HasTagged, TakesTree, HasNoTree, RefusesTree, TakesNextTree, TakesOneTree}
 use Rattle.bcder.specs.Valued as valued
 use Rattle.bcder.specs.laws.Complete.{one_header, one_list, one_end_of_list}

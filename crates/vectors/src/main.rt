@@ -1,9 +1,9 @@
 //! Compares answers from outside with ours, and two of our readers with one another.
 //!
 //! Each file of `data/` says in its head what its columns mean and where its answers come from:
-//! `walk.tsv` and `integer_values.tsv` have answers of the Rust crate bcder 0.7.7, `integers.tsv`
-//! numbers that another language wrote, and the others are written by the rules of X.690 and of the
-//! calls.
+//! `walk.tsv`, `integer_values.tsv`, `identifier_values.tsv` and most of `octet_strings.tsv` have
+//! answers of the Rust crate bcder 0.7.7, `integers.tsv` numbers that another language wrote, and
+//! the others are written by the rules of X.690 and of the calls.
 //!
 //! Then `walk` and the plain reader are compared with each other on all short lists of some octets,
 //! and the readers of integers with conversions of std on all contents of one and two octets.
@@ -24,6 +24,7 @@ mod partial;
 mod positions;
 mod row;
 mod skips;
+mod strings;
 mod tags;
 mod takes;
 mod tally;
@@ -256,6 +257,18 @@ fn replay_identifiers(rt: &HostRuntime) -> Result<(), Error> {
     Ok(())
 }
 
+/// Replays `octet_strings.tsv`.
+fn replay_strings(rt: &HostRuntime) -> Result<(), Error> {
+    let mut tally = Tally::default();
+    replay(
+        rt,
+        "octet_strings.tsv",
+        &mut tally,
+        strings::compare_line,
+    )?;
+    print(rt, "octet strings taken", tally)
+}
+
 /// Prints what was compared.
 fn print(rt: &HostRuntime, what: &str, tally: Tally) -> Result<(), Error> {
     println!(rt;
@@ -275,5 +288,6 @@ fn main(rt: HostRuntime) -> Result<(), Error> {
     replay_positions(&rt)?;
     replay_tags(&rt)?;
     replay_integers(&rt)?;
-    replay_identifiers(&rt)
+    replay_identifiers(&rt)?;
+    replay_strings(&rt)
 }

@@ -1,10 +1,8 @@
-use Rattle.std.proofs.Common.{◌≡◌, ◌≢◌, rules, arith, true, sym, refl, subst, ap, ◌∙◌}
-use Rattle.bcder.specs.declared.mode.Mode.TheVariants.{Der}
-use Rattle.bcder.specs.Content.{Octets}
+use Rattle.std.proofs.Common.{rules, sym, subst, ◌∙◌}
 use Rattle.bcder.specs.OctetString.{AreCut, IsTable}
 use Rattle.bcder.specs.Views.{of_constructed}
 use Rattle.bcder.proofs.Names.{constructed_form}
-use Rattle.bcder.proofs.Strings.{read_segments, refuse_segments, want_table, refuse_values, refuse_constructed}
+use Rattle.bcder.proofs.Strings.{read_segments, refuse_segments, refuse_values, refuse_constructed}
 use Rattle.bcder.proofs.string.octet.read.from_constructed.Goals as goal
 
 pub returns-then-eq-clause-read : goal.returns-then-eq-clause-read

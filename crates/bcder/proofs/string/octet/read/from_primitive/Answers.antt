@@ -1,6 +1,4 @@
-use Rattle.std.proofs.Common.{◌≡◌, ◌≤◌, IsTrue, false, refl, subst, sym, ◌∙◌}
-use Rattle.bcder.specs.declared.mode.Mode.TheVariants.{Cer}
-use Rattle.bcder.specs.Stream.{limit_or}
+use Rattle.std.proofs.Common.{◌≤◌, IsTrue, false, refl, subst, sym, ◌∙◌}
 use Rattle.bcder.specs.Views.{of_primitive}
 use Rattle.bcder.proofs.Typed.{octets_form}
 use Rattle.bcder.proofs.Strings.{read_whole, refuse_long, refuse_octets}

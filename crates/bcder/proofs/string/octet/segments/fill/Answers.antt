@@ -1,4 +1,4 @@
-use Rattle.std.proofs.Common.{◌≡◌, ◌≤◌, ◌+◌, length, [], arith, rules, subst, sym, refl}
+use Rattle.std.proofs.Common.{◌≡◌, ◌≤◌, length, arith, rules, subst, sym, refl}
 use Rattle.bcder.proofs.Segments.{Fills, fills_all, fills_shorter, fills_room, fills_none, fills_goes, fills_piece, fills_table}
 use Rattle.bcder.proofs.string.octet.segments.fill.Goals as goal
 

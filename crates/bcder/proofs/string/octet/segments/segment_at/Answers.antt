@@ -1,4 +1,4 @@
-use Rattle.std.proofs.Common.{refl, arith}
+use Rattle.std.proofs.Common.{refl}
 use Rattle.bcder.proofs.Segments.{short_segment}
 use Rattle.bcder.proofs.string.octet.segments.segment_at.Goals as goal
 
