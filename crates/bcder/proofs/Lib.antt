@@ -33,6 +33,10 @@ pub mod Keeping
 pub mod Numbers
 pub mod Reading
 pub mod Contents
+pub mod Bits
+pub mod Clearing
+pub mod Strings
+pub mod WrittenBits
 pub mod Writing
 pub mod Enclosing
 pub mod Joining

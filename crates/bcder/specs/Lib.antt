@@ -5,12 +5,15 @@ pub mod Tree
 pub mod Encoding
 pub mod Preorder
 pub mod Integer
+pub mod BitString
 pub mod Number
 pub mod ObjectIdentifier
 pub mod IdentifierText
 pub mod Components
+pub mod BitOctets
 pub mod Pushed
 pub mod Identifiers
+pub mod BitStrings
 pub mod Unsigned
 pub mod Grammar
 pub mod Reading
@@ -31,6 +34,7 @@ pub mod Walking
 pub mod Readers
 pub mod Typed
 pub mod ReadIdentifiers
+pub mod ReadBits
 pub mod Decoding
 pub mod Begins
 pub mod PeekTag

@@ -16,6 +16,7 @@ mod mode;
 pub mod oid;
 #[doc(hidden)]
 pub mod plain;
+pub mod string;
 mod tag;
 
 pub use captured::Captured;
@@ -23,4 +24,5 @@ pub use int::{Integer, Unsigned};
 pub use memory::NoMemory;
 pub use mode::Mode;
 pub use oid::{ConstOid, Oid};
+pub use string::BitString;
 pub use tag::Tag;

@@ -1,7 +1,7 @@
 //! Compares answers from outside with ours, and two of our readers with one another.
 //!
 //! Each file of `data/` says in its head what its columns mean and where its answers come from:
-//! `walk.tsv` and `integer_values.tsv` have answers of the Rust crate bcder 0.7.7, `integers.tsv`
+//! `walk.tsv` and those that end in `_values.tsv` have answers of the Rust crate bcder 0.7.7, `integers.tsv`
 //! numbers that another language wrote, and the others are written by the rules of X.690 and of the
 //! calls.
 //!
@@ -12,6 +12,7 @@
 //! out is seen.
 #![tactic(auto, using(bcder::proofs::Moving::moves_refl))]
 
+mod bits;
 mod calls;
 mod captures;
 mod fields;
@@ -256,6 +257,13 @@ fn replay_identifiers(rt: &HostRuntime) -> Result<(), Error> {
     Ok(())
 }
 
+/// Replays `bit_values.tsv`.
+fn replay_bits(rt: &HostRuntime) -> Result<(), Error> {
+    let mut tally = Tally::default();
+    replay(rt, "bit_values.tsv", &mut tally, bits::compare_value)?;
+    print(rt, "bit strings taken", tally)
+}
+
 /// Prints what was compared.
 fn print(rt: &HostRuntime, what: &str, tally: Tally) -> Result<(), Error> {
     println!(rt;
@@ -275,5 +283,6 @@ fn main(rt: HostRuntime) -> Result<(), Error> {
     replay_positions(&rt)?;
     replay_tags(&rt)?;
     replay_integers(&rt)?;
-    replay_identifiers(&rt)
+    replay_identifiers(&rt)?;
+    replay_bits(&rt)
 }
