@@ -33,6 +33,10 @@ pub mod Keeping
 pub mod Numbers
 pub mod Reading
 pub mod Contents
+pub mod Bits
+pub mod Clearing
+pub mod Strings
+pub mod WrittenBits
 pub mod Writing
 pub mod Enclosing
 pub mod Joining
@@ -63,7 +67,6 @@ pub mod Iterating
 pub mod Gathering
 pub mod Segments
 pub mod OneString
-pub mod Strings
 pub mod Parts
 pub mod Comparing
 pub mod Hashing

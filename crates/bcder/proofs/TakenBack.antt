@@ -1,5 +1,5 @@
 -- A value that was written is taken back.
-use Rattle.std.proofs.Common.{◌≡◌, ℕ, zero, suc, ◌*◌, ◌/◌, ◌%◌, ◌^◌, ◌<◌, ◌≤◌, Bool, true, false, List, [], ◌∷◌, ◌++◌, length, Option, Some, None, refl, ap, sym, ◌∙◌, arith, length-append, append_assoc, append-nil, subst, ◌⊎◌, inl, inr}
+use Rattle.std.proofs.Common.{◌≡◌, ℕ, zero, suc, ◌+◌, ◌*◌, ◌/◌, ◌%◌, ◌^◌, ◌<◌, ◌≤◌, Bool, true, false, List, [], ◌∷◌, ◌++◌, length, Option, Some, None, refl, ap, sym, ◌∙◌, arith, length-append, append_assoc, append-nil, subst, ◌⊎◌, inl, inr}
 use Rattle.std.specs.Prelude.{ℤ, pos, negsuc, Result, Ok, Err}
 use Rattle.std.proofs.lemmas.Bool.{cases_lt, lt-ltb, le-ltb}
 use Rattle.std.proofs.lemmas.List.{append_cancel_left}
@@ -20,10 +20,13 @@ use Rattle.bcder.specs.Number.{HasMagnitude}
 use Rattle.bcder.specs.Tree.{Tree, primitive}
 use Rattle.bcder.specs.Encoding.{IsEncoding}
 use Rattle.bcder.specs.Octets.{definite}
-use Rattle.bcder.specs.Meaning.{Encoded, Meaning, octets_of, ContentsMeaning, IsLawfulContents, Exactly, ExactlyOctets, truth_octets, ValueMeans, primitive_encoded, primitive_meaning}
+use Rattle.bcder.specs.Meaning.{Encoded, Meaning, octets_of, ContentsMeaning, IsLawfulContents, Exactly, ExactlyOctets, truth_octets, fits_primitive, BitsMean, ValueMeans, primitive_encoded, primitive_meaning}
 use Rattle.bcder.specs.declared.oid.Oid.{Oid}
 use Rattle.bcder.specs.ObjectIdentifier.{IsComplete, identifier_tag}
 use Rattle.bcder.specs.ReadIdentifiers.{NoIdentifier}
+use Rattle.bcder.specs.declared.encode.error.EncodeError.{EncodeError}
+use Rattle.bcder.specs.BitString.{Bits, IsBits, bit_string_tag, as_written, IsBitString}
+use Rattle.bcder.specs.ReadBits.{HoldBits, NoBits}
 use Rattle.bcder.specs.ReadBack.{IsReadBack}
 use Rattle.bcder.specs.Content.{Reading, tagged, IsAbsent, IsElsewhere, none_left, other, marker}
 use Rattle.bcder.specs.Takes.{HasNone}
@@ -33,9 +36,11 @@ use Rattle.bcder.specs.Typed as typed
 use Rattle.bcder.specs.TakenBack.{StandsIn, SourceFailed, SourceFailedOrNoMemory, Answers, TakesBack, IsTakenBackBy, IsTakenBack}
 use Rattle.bcder.specs.laws.Complete.{only_at_front, definite_size}
 use Rattle.bcder.specs.laws.Integers.{integer_octets_are}
-use Rattle.bcder.specs.laws.Meanings.{primitive_lawful, Exactly_lawful, ExactlyOctets_lawful, truth_octets_are}
+use Rattle.bcder.specs.laws.Meanings.{primitive_lawful, Exactly_lawful, ExactlyOctets_lawful, BitsMean_lawful, truth_octets_are}
 use Rattle.bcder.specs.laws.Octets.{AreOctets-nil}
 use Rattle.bcder.specs.laws.Written.{primitive_written}
+use Rattle.bcder.proofs.Bits.{as_many_octets}
+use Rattle.bcder.proofs.WrittenBits.{bits_are, bit_string_read, bit_string_held}
 use Rattle.bcder.proofs.Contents.{unsigned_read, truth_read, integer_read, natural_read, octets_read}
 use Rattle.bcder.proofs.Headers.{front_of_header, no_other_front}
 use Rattle.bcder.proofs.Moving.{open_not_ended, open_not_failed}
@@ -215,6 +220,25 @@ identifier_taken {X} y mode complete short octets =
       | inl none ↦ absurd (none.0 (back.read.1))
       | inr memory ↦ inr memory
     ])
+
+-- ---- bit strings
+
+few_written : (refusal : EncodeError) (mode : Mode) (x : Bits) (c : List ℕ) → BitsMean refusal mode x (Ok c) → length x.octets + 1 < 2 ^ 32 → length c < 2 ^ 32
+few_written refusal mode x c m short = omega (arith, ap length (bits_are refusal mode x c m), as_many_octets mode x)
+
+module _ {X : Type 0} (refusal : EncodeError) (mode : Mode) (x : Bits) (is : IsBits x) (octets : AreOctets x.octets) (fits : fits_primitive mode (length x.octets + 1) ≡ true) (short : length x.octets + 1 < 2 ^ 32) where
+  pub bits_taken : IsTakenBackBy {X = X} SourceFailedOrNoMemory bit_string_tag (IsBitString mode) (NoBits mode) mode (ValueMeans bit_string_tag (primitive_meaning bit_string_tag) (BitsMean refusal mode x)) (as_written mode x)
+  bits_taken =
+      let back = bit_string_read refusal mode x is octets fits in
+      taken_back_by {T = Bits} {X = X} SourceFailedOrNoMemory bit_string_tag (IsBitString mode) (NoBits mode) mode (as_written mode x) (λ c e d f. inl f) (BitsMean refusal mode x) (universal_value 3 (omega arith) (omega arith)) (BitsMean_lawful refusal mode x) back (few_written refusal mode x back.contents back.written short) (λ c e d r. elim r [
+        | inl none ↦ absurd (none.0 back.read.1)
+        | inr memory ↦ inr memory
+      ])
+
+  pub bits_skipped : IsTakenBack {T = Unit {0}} X bit_string_tag (HoldBits mode) mode (ValueMeans bit_string_tag (primitive_meaning bit_string_tag) (BitsMean refusal mode x)) tt
+  bits_skipped =
+      let back = bit_string_held refusal mode x is octets fits in
+      taken_back {T = Unit {0}} {X = X} bit_string_tag (HoldBits mode) mode tt (BitsMean refusal mode x) (universal_value 3 (omega arith) (omega arith)) (BitsMean_lawful refusal mode x) back (few_written refusal mode x back.contents back.written short)
 
 -- ---- decoded by a closure that takes one value, from a source that can't fail
 

@@ -3,7 +3,7 @@ use Rattle.std.proofs.Common.{false, ◌≡◌, ◌≢◌, ℕ, List, [], ◌∷
 use Rattle.std.specs.Io.KnownBytes.{Appends, Keeps}
 use Rattle.std.proofs.KnownBytes.{Appends-trans, Appends-nil}
 use Rattle.bcder.specs.declared.encode.error.EncodeError.{EncodeError}
-use Rattle.bcder.specs.declared.encode.error.EncodeError.TheVariants.{NoMemory, EndOfValueTag, LengthTooLarge, SizeOverflow, CapturedMode, LongCerBitString}
+use Rattle.bcder.specs.declared.encode.error.EncodeError.TheVariants.{NoMemory, EndOfValueTag, LengthTooLarge, SizeOverflow, CapturedMode, LongCerBitString, LongCerPrimitive}
 use Rattle.bcder.specs.declared.encode.error.WriteError.{WriteError}
 use Rattle.bcder.specs.declared.encode.error.WriteError.TheVariants.{Refused, Target}
 use Rattle.bcder.specs.declared.encode.slot.Failed.{Failed}
@@ -49,6 +49,7 @@ is_no_memory LengthTooLarge = inr (λ e. cc)
 is_no_memory SizeOverflow = inr (λ e. cc)
 is_no_memory CapturedMode = inr (λ e. cc)
 is_no_memory LongCerBitString = inr (λ e. cc)
+is_no_memory LongCerPrimitive = inr (λ e. cc)
 
 abbrev pub Keeps-Appends : (a b : Option (List ℕ)) → Keeps a b → Appends a b []
 Keeps-Appends None b h = tt

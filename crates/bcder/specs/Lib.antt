@@ -5,14 +5,17 @@ pub mod Tree
 pub mod Encoding
 pub mod Preorder
 pub mod Integer
+pub mod BitString
 pub mod Number
 pub mod ObjectIdentifier
 pub mod OctetString
 pub mod Segments
 pub mod IdentifierText
 pub mod Components
+pub mod BitOctets
 pub mod Pushed
 pub mod Identifiers
+pub mod BitStrings
 pub mod Unsigned
 pub mod Grammar
 pub mod Reading
@@ -35,6 +38,7 @@ pub mod Typed
 pub mod Valued
 pub mod OctetStrings
 pub mod ReadIdentifiers
+pub mod ReadBits
 pub mod Decoding
 pub mod Begins
 pub mod PeekTag

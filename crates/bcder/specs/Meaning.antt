@@ -1,10 +1,11 @@
 -- What an encoder means in a mode: a list of values with the octets that are written for them, or a refusal.
-use Rattle.std.specs.Prelude.{◌≡◌, ℕ, ◌^◌, Bool, true, false, List, [], ◌∷◌, length, nat_lt, Result, Ok, Err, ◌⊎◌, if◌then◌else◌}
+use Rattle.std.specs.Prelude.{◌≡◌, ℕ, ◌^◌, Bool, true, false, List, [], ◌∷◌, length, nat_lt, nat_le, Result, Ok, Err, ◌⊎◌, if◌then◌else◌}
 use Rattle.bcder.specs.declared.encode.error.EncodeError.{EncodeError}
 use Rattle.bcder.specs.declared.encode.error.EncodeError.TheVariants.{EndOfValueTag, LengthTooLarge, SizeOverflow}
 use Rattle.bcder.specs.declared.mode.Mode.{Mode}
 use Rattle.bcder.specs.declared.mode.Mode.TheVariants.{Cer}
 use Rattle.bcder.specs.Identifier.{AreOctets, Tag, IsValueTag, end_of_contents}
+use Rattle.bcder.specs.BitString.{Bits, contents_octets, as_written}
 use Rattle.bcder.specs.Tree.{Trees, primitive, constructed, no_trees, ◌∷ₜ◌}
 use Rattle.bcder.specs.Encoding.{AreEncodings}
 use Rattle.bcder.specs.Octets.{definite, enclosed, enclosed_size}
@@ -48,6 +49,19 @@ Exactly w m = m ≡ Ok w
 -- these, which are octets
 abbrev pub ExactlyOctets : List ℕ → ContentsMeaning → Type 0
 ExactlyOctets w m = (m ≡ Ok w) × AreOctets w
+
+-- 9.2: a primitive string has at most 1000 contents octets in CER
+abbrev pub fits_primitive : Mode → ℕ → Bool
+fits_primitive Cer n = nat_le n 1000
+fits_primitive mode n = true
+
+-- those of a string, which are octets; or this refusal, where the mode has no primitive string of so many
+abbrev pub StringMeans : EncodeError → Mode → List ℕ → ContentsMeaning → Type 0
+StringMeans refusal mode w m = (m ≡ (if fits_primitive mode (length w) then Ok w else Err refusal)) × AreOctets w
+
+-- those of a bit string
+abbrev pub BitsMean : EncodeError → Mode → Bits → ContentsMeaning → Type 0
+BitsMean refusal mode x = StringMeans refusal mode (contents_octets (as_written mode x))
 
 -- 8.2, 11.1: of a BOOLEAN
 abbrev pub truth_octets : Bool → List ℕ

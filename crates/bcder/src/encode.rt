@@ -2,8 +2,8 @@
 mod error;
 pub(crate) mod front;
 mod gather;
-mod header;
-mod primitive;
+pub(crate) mod header;
+pub(crate) mod primitive;
 pub(crate) mod short;
 pub(crate) mod slot;
 pub(crate) mod target;

@@ -7,6 +7,7 @@ ghost use Rattle.bcder.specs.Grammar.{OneIdentifier, OneLength, OneEnd, OneFront
 ghost use Rattle.bcder.specs.Grammar.{OneEncoding, ValueInBer, ListInBer};
 ghost use Rattle.bcder.specs.Grammar.{ValueHasTwo, ListHasTwo, ValueIsOctets, ListIsOctets};
 
+pub mod bit_strings;
 pub mod encoders;
 pub mod identifiers;
 pub mod integers;

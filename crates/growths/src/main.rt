@@ -5,6 +5,7 @@
 //! each allocation refused in turn.
 #![tactic(auto, using(bcder::proofs::Moving::moves_refl, bcder::proofs::Carrying::carries))]
 
+mod bits;
 mod captured;
 mod encoded;
 mod end;
@@ -18,6 +19,7 @@ fn main(rt: HostRuntime) -> Result<(), Error> {
     numbers::run(&rt)?;
     sources::run(&rt)?;
     taken::run(&rt)?;
+    bits::run(&rt)?;
     captured::run(&rt)?;
     encoded::run(&rt)?;
     encoded::run_beyond_memory(&rt)

@@ -163,6 +163,35 @@ fn octets_and_references(rt: HostRuntime) {
     }
 }
 
+/// CER has a primitive string of at most 1000 contents octets (X.690, 9.2).
+#[test]
+fn long_octets_in_cer(rt: HostRuntime) {
+    let alloc = rt.alloc();
+    let zeros = [0u8; 1001];
+    let long: &[u8] = &zeros;
+    let mut wanted = done(&rt, [0x04, 0x82, 0x03, 0xE8].to_vec(alloc));
+    done(&rt, wanted.extend_from_slice(&zeros[..1000]));
+    writes(&rt, alloc, &(&zeros[..1000]).encode(), Mode::Cer, &wanted);
+    refuses(
+        &rt,
+        alloc,
+        &long.encode(),
+        Mode::Cer,
+        EncodeError::LongCerPrimitive,
+    );
+    refuses(
+        &rt,
+        alloc,
+        &long.encode_as(Tag::END_OF_VALUE),
+        Mode::Cer,
+        EncodeError::EndOfValueTag,
+    );
+    let mut wanted = done(&rt, [0x04, 0x82, 0x03, 0xE9].to_vec(alloc));
+    done(&rt, wanted.extend_from_slice(&zeros));
+    writes(&rt, alloc, &long.encode(), Mode::Ber, &wanted);
+    writes(&rt, alloc, &long.encode(), Mode::Der, &wanted);
+}
+
 /// A primitive value has these contents octets.
 fn contents<P: PrimitiveContent + Drop>(rt: &impl Abort, alloc: Global, number: P, wanted: &[u8]) {
     match number.to_encoded_bytes(alloc, Mode::Der) {

@@ -5,7 +5,7 @@ ghost use Rattle.bcder.specs.Views.{Moved};
 
 use crate::asserts::{done, holds, same};
 use crate::over::failing_sip;
-use bcder::Mode;
+use bcder::{BitString, Mode};
 use bcder::decode::{Constructed, DecodeError, Source, walk};
 use std::alloc::Global;
 use std::process::Abort;
@@ -24,6 +24,8 @@ enum Call {
     TakeBool,
     TakeOctets,
     TakeInside,
+    TakeBits,
+    SkipBits,
 }
 
 impl Call {
@@ -145,6 +147,11 @@ fn ask<S: Source>(
             let octets = cons.take_primitive(|_tag, octets| octets.take_all(alloc))?;
             Ok(Answer::Number(octets.len()))
         }
+        Call::TakeBits => Ok(Answer::Number(BitString::take_from(alloc, cons)?.bit_len())),
+        Call::SkipBits => {
+            BitString::skip_in(cons)?;
+            Ok(Answer::Passed)
+        }
     }
 }
 
@@ -208,7 +215,7 @@ fn check(
 }
 
 /// Rules, octets, and calls on them.
-const INPUTS: [(Mode, &[u8], &[Row]); 10] = [
+const INPUTS: [(Mode, &[u8], &[Row]); 12] = [
     (
         Mode::Der,
         &[0x30, 0x06, 0x02, 0x01, 0x05, 0x04, 0x01, 0x41, 0x05, 0x00],
@@ -296,6 +303,22 @@ const INPUTS: [(Mode, &[u8], &[Row]); 10] = [
         Mode::Der,
         &[0x02, 0x02, 0x01],
         &[(Call::TakeU8, Answer::Refused, 0)],
+    ),
+    (
+        Mode::Der,
+        &[0x03, 0x03, 0x04, 0x0A, 0xF0, 0x05, 0x00],
+        &[
+            (Call::TakeBits, Answer::Number(12), 2),
+            (Call::SkipBits, Answer::Passed, 2),
+        ],
+    ),
+    (
+        Mode::Cer,
+        &[0x03, 0x03, 0x04, 0x0A, 0xFF],
+        &[
+            (Call::TakeBits, Answer::Refused, 0),
+            (Call::SkipBits, Answer::Refused, 0),
+        ],
     ),
 ];
 

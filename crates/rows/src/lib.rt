@@ -7,6 +7,8 @@
 
 #[cfg(test)]
 mod asserts;
+#[cfg(test)]
+mod bits;
 pub mod borrows;
 #[cfg(test)]
 mod captured;

@@ -4,7 +4,7 @@ use Rattle.std.specs.Prelude.{pos, Result, Ok, Err, IfErr}
 use Rattle.std.specs.Io.KnownBytes.{Appends}
 use Rattle.std.specs.declared.string.ParseError.{Infallible}
 use Rattle.bcder.specs.declared.encode.error.EncodeError.{EncodeError}
-use Rattle.bcder.specs.declared.encode.error.EncodeError.TheVariants.{NoMemory, EndOfValueTag, LengthTooLarge, SizeOverflow, CapturedMode, LongCerBitString}
+use Rattle.bcder.specs.declared.encode.error.EncodeError.TheVariants.{NoMemory, EndOfValueTag, LengthTooLarge, SizeOverflow, CapturedMode, LongCerBitString, LongCerPrimitive}
 use Rattle.bcder.specs.declared.encode.error.WriteError.{WriteError}
 use Rattle.bcder.specs.declared.encode.error.WriteError.TheVariants.{Refused, Target}
 use Rattle.bcder.specs.declared.decode.error.DecodeError.{DecodeError}
@@ -26,6 +26,7 @@ never_refused M a only LengthTooLarge r = (let h = only (Err LengthTooLarge) (r.
 never_refused M a only SizeOverflow r = (let h = only (Err SizeOverflow) (r.meant (λ e. cc)) in cc)
 never_refused M a only CapturedMode r = (let h = only (Err CapturedMode) (r.meant (λ e. cc)) in cc)
 never_refused M a only LongCerBitString r = (let h = only (Err LongCerBitString) (r.meant (λ e. cc)) in cc)
+never_refused M a only LongCerPrimitive r = (let h = only (Err LongCerPrimitive) (r.meant (λ e. cc)) in cc)
 
 -- what the encoder of a number means
 abbrev pub number_means : Mode → Primitive ℕ → Meaning → Type 0

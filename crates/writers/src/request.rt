@@ -1,9 +1,10 @@
 //! Requests for certificates (RFC 2986, section 4), as they are written.
 ghost use Rattle.std.specs.Prelude.{◌≡◌};
 ghost use Rattle.bcder.specs.Identifier.{universal, sequence_tag};
-ghost use Rattle.bcder.specs.Meaning.{ExactlyOctets};
+ghost use Rattle.bcder.specs.Meaning.{StringMeans};
 ghost use Rattle.bcder.specs.Written.{WroteConstructed};
-ghost use Rattle.bcder.specs.laws.Meanings.{ExactlyOctets_lawful};
+ghost use Rattle.bcder.specs.declared.encode.error.EncodeError.TheVariants.{LongCerPrimitive};
+ghost use Rattle.bcder.specs.laws.Meanings.{StringMeans_lawful};
 
 use bcder::encode::{
     EncodeError, PrimitiveContent, Values, WriteError, sequence, sequence_as, set, slice,
@@ -16,11 +17,11 @@ use std::io;
 #[derive(Clone, Copy)]
 pub struct Text<'a>(pub &'a str);
 
-/// It means the octets of the text, in each mode.
+/// It means the octets of the text, of which there are at most 1000 in CER (X.690, 9.2).
 impl PrimitiveContent for Text<'_> {
     ghost own_tag = { record { class = universal; number = 12 } };
 
-    ghost means = { λ x _. ExactlyOctets x.0.now };
+    ghost means = { λ x mode. StringMeans LongCerPrimitive mode x.0.now };
 
     fn tag() -> Tag
         ensures { result ≡ record { class = universal; number = 12 } }
@@ -36,7 +37,7 @@ impl PrimitiveContent for Text<'_> {
         self.0.as_bytes().write_encoded(mode, target)
     }
 
-    ghost lawful = { λ x _. ExactlyOctets_lawful x.0.now };
+    ghost lawful = { λ x mode. StringMeans_lawful LongCerPrimitive mode x.0.now };
 }
 
 /// A part of a name: its kind and its text.

@@ -1,13 +1,15 @@
 -- Each encoder has one meaning at most, and its octets are an encoding.
 use Rattle.std.specs.Prelude.{◌≡◌, ℕ, ◌^◌, ◌<◌, Bool, true, false, List, [], length, nat_lt, Ok, Err, refl, if◌then◌else◌}
 use Rattle.std.proofs.Common.{inl, inr, sym, ap, ◌∙◌, subst, ltb-true, arith}
+use Rattle.bcder.specs.declared.encode.error.EncodeError.{EncodeError}
 use Rattle.bcder.specs.declared.encode.error.EncodeError.TheVariants.{LengthTooLarge}
 use Rattle.bcder.specs.declared.mode.Mode.{Mode}
 use Rattle.bcder.specs.Identifier.{Tag, AreOctets, IsValueTag}
+use Rattle.bcder.specs.BitString.{Bits, contents_octets, as_written}
 use Rattle.bcder.specs.Octets.{definite, enclosed}
 use Rattle.bcder.specs.Tree.{primitive, constructed}
 use Rattle.bcder.specs.Encoding.{AreEncodings}
-use Rattle.bcder.specs.Meaning.{Encoded, Meaning, ContentsMeaning, IsOne, IsLawful, IsLawfulContents, Exactly, ExactlyOctets, truth_octets, ValueMeans, primitive_encoded, primitive_meaning, constructed_encoded, constructed_meaning, fits_enclosed, enclosed_refusal}
+use Rattle.bcder.specs.Meaning.{Encoded, Meaning, ContentsMeaning, IsOne, IsLawful, IsLawfulContents, Exactly, ExactlyOctets, fits_primitive, StringMeans, BitsMean, truth_octets, ValueMeans, primitive_encoded, primitive_meaning, constructed_encoded, constructed_meaning, fits_enclosed, enclosed_refusal}
 use Rattle.bcder.specs.laws.Octets.{AreOctets-nil, AreOctets-cons}
 use Rattle.bcder.specs.laws.Lists.{AreEncodings-one}
 use Rattle.bcder.specs.laws.Written.{primitive_written, constructed_written}
@@ -54,6 +56,16 @@ Exactly_lawful w o = record { one = record { same = λ m n p q. p ∙ sym q }; o
 
 pub ExactlyOctets_lawful : (w : List ℕ) → IsLawfulContents (ExactlyOctets w)
 ExactlyOctets_lawful w = record { one = record { same = λ m n p q. p.0 ∙ sym q.0 }; octets = λ c p. let same : c ≡ w = cc in subst AreOctets (sym same) p.1 }
+
+string_octets : (refusal : EncodeError) (w c : List ℕ) (b : Bool) → AreOctets w → Ok c ≡ (if b then Ok w else Err refusal) → AreOctets c
+string_octets refusal w c true o e = (let same : c ≡ w = cc in subst AreOctets (sym same) o)
+string_octets refusal w c false o e = cc
+
+pub StringMeans_lawful : (refusal : EncodeError) (mode : Mode) (w : List ℕ) → IsLawfulContents (StringMeans refusal mode w)
+StringMeans_lawful refusal mode w = record { one = record { same = λ m n p q. p.0 ∙ sym q.0 }; octets = λ c p. string_octets refusal w c (fits_primitive mode (length w)) p.1 p.0 }
+
+pub BitsMean_lawful : (refusal : EncodeError) (mode : Mode) (x : Bits) → IsLawfulContents (BitsMean refusal mode x)
+BitsMean_lawful refusal mode x = StringMeans_lawful refusal mode (contents_octets (as_written mode x))
 
 pub truth_octets_are : (b : Bool) → AreOctets (truth_octets b)
 truth_octets_are true = AreOctets-cons 0xFF [] (omega arith) AreOctets-nil

@@ -22,6 +22,9 @@ pub enum EncodeError {
 
     /// A bit string would have over 1000 contents octets in CER (X.690, 9.2).
     LongCerBitString,
+
+    /// A primitive string would have over 1000 contents octets in CER (X.690, 9.2).
+    LongCerPrimitive,
 }
 
 impl fmt::Display for EncodeError {
@@ -32,6 +35,7 @@ impl fmt::Display for EncodeError {
     ghost use Rattle.bcder.specs.declared.encode.error.EncodeError.TheVariants.{SizeOverflow};
     ghost use Rattle.bcder.specs.declared.encode.error.EncodeError.TheVariants.{CapturedMode};
     ghost use Rattle.bcder.specs.declared.encode.error.EncodeError.TheVariants.{LongCerBitString};
+    ghost use Rattle.bcder.specs.declared.encode.error.EncodeError.TheVariants.{LongCerPrimitive};
 
     ghost output = { elim [
       | NoMemory ↦ Some (codes "out of memory")
@@ -40,6 +44,7 @@ impl fmt::Display for EncodeError {
       | SizeOverflow ↦ Some (codes "size out of range")
       | CapturedMode ↦ Some (codes "values captured in another mode")
       | LongCerBitString ↦ Some (codes "long bit string in CER")
+      | LongCerPrimitive ↦ Some (codes "long primitive string in CER")
     ] };
 
     fn fmt<W: fmt::Write>(&self, f: &mut fmt::Formatter<W>) -> fmt::Result {
@@ -50,6 +55,7 @@ impl fmt::Display for EncodeError {
             EncodeError::SizeOverflow => write!(f, "size out of range"),
             EncodeError::CapturedMode => write!(f, "values captured in another mode"),
             EncodeError::LongCerBitString => write!(f, "long bit string in CER"),
+            EncodeError::LongCerPrimitive => write!(f, "long primitive string in CER"),
         }
     }
 }

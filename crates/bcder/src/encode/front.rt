@@ -1,12 +1,13 @@
-//! The octets of a header, put together so that they are written at once.
+//! The octets of a header, put together so that they are written at once, with one contents octet
+//! behind them where that is known.
 ghost use Rattle.std.specs.Prelude.{◌≡◌, ◌+◌, ◌≤◌, ◌<◌, [], ◌++◌, length};
 
-/// The first octets of a header, which has at most nine.
+/// The first octets of a header, which has at most nine, and one more.
 #[derive(Clone, Copy)]
 pub(crate) struct Front {
-    octets: [u8; 9],
+    octets: [u8; 10],
     len: usize,
-    ghost within: { len ≤ 9 },
+    ghost within: { len ≤ 10 },
 }
 
 impl Front {
@@ -19,7 +20,7 @@ impl Front {
         ensures len { result.len ≡ 0 }
     {
         Front {
-            octets: [0; 9],
+            octets: [0; 10],
             len: 0,
         }
     }
@@ -27,7 +28,7 @@ impl Front {
     /// Adds octets behind those that there are.
     #[inline(always)]
     pub(crate) fn add(&mut self, octets: &[u8])
-        requires { self.old.len + length octets.now ≤ 9 }
+        requires { self.old.len + length octets.now ≤ 10 }
         ensures octets { front_of self.new ≡ front_of self.old ++ octets.now }
         ensures len { self.new.len ≡ self.old.len + length octets.now }
     {

@@ -1,5 +1,6 @@
 //! Headers: identifier octets and length octets (X.690, 8.1.2, 8.1.3).
-ghost use Rattle.std.specs.Prelude.{◌≡◌, ◌+◌, length, true, false, IfOk, IfErr};
+ghost use Rattle.std.specs.Prelude.{◌≡◌, ◌+◌, ◌<◌, ◌^◌, [], ◌∷◌, ◌++◌, length, true, false};
+ghost use Rattle.std.specs.Prelude.{IfOk, IfErr};
 ghost use Rattle.bcder.specs.declared.length.Length.TheVariants.{Definite};
 ghost use Rattle.bcder.specs.Identifier.{IsValueTag, end_of_contents};
 ghost use Rattle.bcder.specs.Octets.{header, fits_length};
@@ -75,5 +76,25 @@ pub(crate) fn put_header<W: io::Write>(
     let mut front = Front::new();
     tag.spell(constructed, &mut front);
     len.spell(&mut front);
+    put_all(target, front.as_slice(), why)
+}
+
+/// Writes the header of a primitive value and the first of its contents octets, by one call of the
+/// target's `write` where that takes all of it.
+pub(crate) fn put_header_and<W: io::Write>(
+    target: &mut W,
+    tag: Tag,
+    len: usize,
+    first: u8,
+    why: &mut WriteError,
+) -> Result<(), Failed>
+    requires { len < 2 ^ 32 }
+    ensures { WroteOctets W.contents target (header tag false (Definite len) ++ first ∷ [])
+        (told result why.new) }
+{
+    let mut front = Front::new();
+    tag.spell(false, &mut front);
+    Length::Definite(len).spell(&mut front);
+    front.add(&[first]);
     put_all(target, front.as_slice(), why)
 }

@@ -12,7 +12,7 @@ ghost use Rattle.bcder.specs.laws.Meanings.{primitive_lawful};
 mod identifier;
 mod integers;
 mod numbers;
-mod plain;
+pub(crate) mod plain;
 
 use crate::encode::gather::gather_contents;
 use crate::encode::header::put_header;

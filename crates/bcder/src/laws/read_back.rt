@@ -1,9 +1,11 @@
 //! What is written is read back as the same value: the contents octets that an encoder means are
 //! what the reader of that type reads as this value, and as no other.
-ghost use Rattle.std.specs.Prelude.{◌≡◌, ⊤};
+ghost use Rattle.std.specs.Prelude.{◌≡◌, ◌+◌, ⊤, true, length};
 ghost use Rattle.std.specs.Int.{w8, w16, w32, w64, w128, FitsUnsignedBits};
 ghost use Rattle.std.specs.Prelude.{pos, FitsSigned};
+ghost use Rattle.bcder.specs.BitString.{as_written, IsBitString};
 ghost use Rattle.bcder.specs.Integer.{AreInteger};
+ghost use Rattle.bcder.specs.Meaning.{fits_primitive};
 ghost use Rattle.bcder.specs.ObjectIdentifier.{IsComplete};
 ghost use Rattle.bcder.specs.ReadBack.{IsReadBack, AreReadBack};
 ghost use Rattle.bcder.specs.Readers.{IsSigned, IsUnsigned, IsTruth, IsNull};
@@ -13,6 +15,7 @@ use crate::encode::PrimitiveContent;
 use crate::int::{Integer, Unsigned};
 use crate::mode::Mode;
 use crate::oid::Oid;
+use crate::string::BitString;
 use std::convert::AsSlice;
 
 /// The unsigned integers of Rust are read back by `Primitive::to_u8` to `to_u128`, and by all that
@@ -78,5 +81,17 @@ pub fn an_identifier_is_read_back<T: AsSlice<u8>>(x: &Oid<T>, mode: Mode)
         (λ w v. (v ≡ w) × IsComplete w) (T.items x.now.0) }
 {
     see_octets(x.0.as_slice());
+    let _mode = mode;
+}
+
+/// A bit string is read back by `BitString::from_content` and `take_from` with unused bits as they
+/// are written: in BER as they stand, in CER and DER zero (X.690, 11.2.1). In CER it has at most
+/// 999 octets (9.2).
+pub fn a_bit_string_is_read_back(x: &BitString, mode: Mode)
+    requires { fits_primitive mode (length x.now.octets + 1) ≡ true }
+    ensures { IsReadBack (⟦<BitString as PrimitiveContent>⟧.means x.now mode)
+        (IsBitString mode) (as_written mode x.now) }
+{
+    x.see();
     let _mode = mode;
 }

@@ -1,15 +1,18 @@
 //! What is written is taken back as the same value: wherever the encoding that an encoder means
 //! stands in front of content in its mode, the typed takes answer this value, and leave what
 //! follows.
-ghost use Rattle.std.specs.Prelude.{◌≡◌, ⊤, pos, length, ◌<◌, ◌^◌};
+ghost use Rattle.std.specs.Prelude.{◌≡◌, ⊤, true, pos, length, ◌+◌, ◌<◌, ◌^◌};
 ghost use Rattle.std.specs.Int.{FitsUnsignedBits};
 ghost use Rattle.bcder.specs.Identifier.{boolean_tag, integer_tag, null_tag};
+ghost use Rattle.bcder.specs.BitString.{as_written, bit_string_tag, IsBits, IsBitString};
 ghost use Rattle.bcder.specs.Integer.{AreInteger, integer_octets};
+ghost use Rattle.bcder.specs.Meaning.{fits_primitive};
+ghost use Rattle.bcder.specs.ReadBits.{HoldBits, NoBits};
 ghost use Rattle.bcder.specs.Readers.{IsUnsigned, IsTruth, IsNull, IsThis, MeanAnother, NoInteger};
 ghost use Rattle.bcder.specs.ObjectIdentifier.{IsComplete, identifier_tag};
 ghost use Rattle.bcder.specs.ReadIdentifiers.{NoIdentifier};
 ghost use Rattle.bcder.specs.Readers.{NoUnsigned};
-ghost use Rattle.bcder.specs.TakenBack.{AreTakenBack, IsTakenBackBy, SourceFailed};
+ghost use Rattle.bcder.specs.TakenBack.{AreTakenBack, IsTakenBack, IsTakenBackBy, SourceFailed};
 ghost use Rattle.bcder.specs.TakenBack.{SourceFailedOrNoMemory};
 
 use crate::decode::source::see_octets;
@@ -17,7 +20,9 @@ use crate::encode::{Primitive, Values};
 use crate::int::{Integer, Unsigned};
 use crate::mode::Mode;
 use crate::oid::Oid;
+use crate::string::{BitSliceEncoder, BitString};
 use bytes::Bytes;
+use std::convert::AsSlice;
 
 /// The unsigned integers of Rust are taken back by `Constructed::take_u8` to `take_u64`, unless the
 /// source fails, whose errors are of type `E`.
@@ -88,5 +93,39 @@ pub fn an_identifier_is_taken_back<E>(x: &Oid<Bytes>, mode: Mode)
         (record { tag = identifier_tag; prim = x.now }) mode) x.now }
 {
     see_octets(x.0.as_slice());
+    let _mode = mode;
+}
+
+/// A bit string is taken back by `BitString::take_from`, and passed over by `BitString::skip_in`,
+/// with unused bits as they are written: in BER as they stand, in CER and DER zero (X.690, 11.2.1).
+/// In CER it has at most 999 octets (9.2).
+pub fn a_bit_string_is_taken_back<E>(x: &BitString, mode: Mode)
+    requires fits { fits_primitive mode (length x.now.octets + 1) ≡ true }
+    requires short { length x.now.octets + 1 < 2 ^ 32 }
+    ensures taken { IsTakenBackBy {X = E} SourceFailedOrNoMemory bit_string_tag
+        (IsBitString mode) (NoBits mode) mode
+        (⟦<Primitive<BitString> as Values>⟧.means
+        (record { tag = bit_string_tag; prim = x.now }) mode) (as_written mode x.now) }
+    ensures skipped { IsTakenBack {T = Unit {0}} E bit_string_tag (HoldBits mode) mode
+        (⟦<Primitive<BitString> as Values>⟧.means
+        (record { tag = bit_string_tag; prim = x.now }) mode) tt }
+{
+    x.see();
+    let _mode = mode;
+}
+
+/// Octets that `BitString::encode_slice` writes are taken back so too.
+pub fn a_slice_of_bits_is_taken_back<T: AsSlice<u8>, E>(value: &T, unused: u8, mode: Mode)
+    requires bits { IsBits (record { unused = unused; octets = T.items value.now }) }
+    requires fits { fits_primitive mode (length (T.items value.now) + 1) ≡ true }
+    requires short { length (T.items value.now) + 1 < 2 ^ 32 }
+    ensures { IsTakenBackBy {X = E} SourceFailedOrNoMemory bit_string_tag
+        (IsBitString mode) (NoBits mode) mode
+        (⟦<BitSliceEncoder<T> as Values>⟧.means
+        (record { slice = value.now; unused = unused; tag = bit_string_tag }) mode)
+        (as_written mode (record { unused = unused; octets = T.items value.now })) }
+{
+    see_octets(value.as_slice());
+    let _unused = unused;
     let _mode = mode;
 }

@@ -1,5 +1,5 @@
 //! Writing length octets (X.690, 8.1.3, 10.1).
-ghost use Rattle.std.specs.Prelude.{◌≡◌, ◌<◌, ◌++◌, length, true, IfOk};
+ghost use Rattle.std.specs.Prelude.{◌≡◌, ◌<◌, ◌++◌, length, true, IfOk, ◌+◌};
 ghost use Rattle.bcder.specs.Encoders.{LengthMeans, SizeOfContents};
 ghost use Rattle.bcder.specs.Front.{front_of};
 ghost use Rattle.bcder.specs.Octets.{length_octets, fits_length};
@@ -68,7 +68,8 @@ impl Length {
     pub(crate) fn spell(self, front: &mut Front)
         requires fits { fits_length self ≡ true }
         requires room { front.old.len < 5 }
-        ensures { front_of front.new ≡ front_of front.old ++ length_octets self }
+        ensures octets { front_of front.new ≡ front_of front.old ++ length_octets self }
+        ensures limit { front.new.len < front.old.len + 6 }
     {
         let len = match self {
             Length::Definite(len) => len,

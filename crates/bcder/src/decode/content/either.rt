@@ -1,13 +1,18 @@
-//! Reading primitive content as a number or null, by a closure that takes content of either form.
+//! Reading primitive content as a number, null or a bit string, by a closure that takes content of
+//! either form.
+ghost use Rattle.bcder.specs.BitString.{IsBitString};
 ghost use Rattle.bcder.specs.Number.{IsNumber};
+ghost use Rattle.bcder.specs.ReadBits.{HoldBits, NoBits};
 ghost use Rattle.bcder.specs.Readers.{ReadContent, ReadContentBy, RefusedValues, IsUnsigned};
 ghost use Rattle.bcder.specs.Readers.{IsNull, IsThis, MeanAnother};
-ghost use Rattle.bcder.specs.Views.{MovedContent};
+ghost use Rattle.bcder.specs.Views.{content_before, MovedContent};
 
 use super::Content;
 use crate::decode::error::DecodeError;
 use crate::decode::source::Source;
 use crate::int::number::Number;
+use crate::string::BitString;
+use std::alloc::Global;
 
 #[tactic(auto, using(crate::proofs::moves_refl))]
 impl<'a, S: Source> Content<'a, S> {
@@ -55,6 +60,33 @@ impl<'a, S: Source> Content<'a, S> {
     {
         match self {
             Content::Primitive(octets) => octets.to_null(),
+            Content::Constructed(values) => Err(values.refusal("expected a primitive value")),
+        }
+    }
+
+    /// Takes all octets where they are a bit string's.
+    pub(crate) fn take_bits(&mut self, alloc: Global) -> Result<BitString, DecodeError<S::Error>>
+        ensures moves { MovedContent S.stream self }
+        ensures read { ReadContentBy S.stream self
+            (IsBitString (content_before S.stream self).mode)
+            (NoBits (content_before S.stream self).mode) result }
+        ensures form { RefusedValues S.stream self result }
+    {
+        match self {
+            Content::Primitive(octets) => octets.take_bits(alloc),
+            Content::Constructed(values) => Err(values.refusal("expected a primitive value")),
+        }
+    }
+
+    /// Passes over all octets where they are a bit string's.
+    pub(crate) fn skip_bits(&mut self) -> Result<(), DecodeError<S::Error>>
+        ensures moves { MovedContent S.stream self }
+        ensures read { ReadContent S.stream self
+            (HoldBits (content_before S.stream self).mode) result }
+        ensures form { RefusedValues S.stream self result }
+    {
+        match self {
+            Content::Primitive(octets) => octets.skip_bits(),
             Content::Constructed(values) => Err(values.refusal("expected a primitive value")),
         }
     }

@@ -12,6 +12,7 @@ ghost use Rattle.bcder.specs.Stream.{borrowed, limited};
 ghost use Rattle.bcder.specs.laws.Limits.{borrowed_sound, limited_sound};
 ghost use Rattle.bcder.specs.Views.{of_primitive, octets_before, octets_after, MovedOctets};
 
+mod bits;
 mod identifier;
 
 use super::Primitive;

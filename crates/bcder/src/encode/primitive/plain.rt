@@ -4,8 +4,10 @@ ghost use Rattle.bcder.specs.Identifier.{universal};
 ghost use Rattle.bcder.specs.Encoders.{SizeOfContents, WritesContents};
 ghost use Rattle.bcder.specs.Encoders.{HasContents, WritesPrimitive, told};
 ghost use Rattle.bcder.specs.Meaning.{Exactly, ExactlyOctets, truth_octets};
+ghost use Rattle.bcder.specs.Meaning.{fits_primitive, StringMeans};
+ghost use Rattle.bcder.specs.declared.encode.error.EncodeError.TheVariants.{LongCerPrimitive};
 ghost use Rattle.bcder.specs.laws.Octets.{AreOctets-nil};
-ghost use Rattle.bcder.specs.laws.Meanings.{Exactly_lawful, ExactlyOctets_lawful};
+ghost use Rattle.bcder.specs.laws.Meanings.{Exactly_lawful, StringMeans_lawful};
 ghost use Rattle.bcder.specs.laws.Meanings.{truth_octets_are};
 
 use super::PrimitiveContent;
@@ -121,11 +123,63 @@ pub(crate) fn put_octets<W: io::Write>(
     put_apart(tag, octets, target, why)
 }
 
-/// These octets (8.7).
+/// Whether a primitive string may have so many contents octets (9.2).
+#[inline(always)]
+pub(crate) fn fits_primitive(mode: Mode, len: usize) -> bool
+    ensures { result ≡ fits_primitive mode len }
+{
+    match mode {
+        Mode::Cer => len <= 1000,
+        Mode::Ber | Mode::Der => true,
+    }
+}
+
+/// How many octets a string has, if the mode has a primitive one of so many.
+fn string_len(octets: &[u8], mode: Mode) -> Result<usize, EncodeError>
+    ensures { SizeOfContents (StringMeans LongCerPrimitive mode octets.now) ⊥ result }
+{
+    if fits_primitive(mode, octets.len()) {
+        Ok(octets.len())
+    } else {
+        Err(EncodeError::LongCerPrimitive)
+    }
+}
+
+/// Writes the octets of a string, if the mode has a primitive one of so many.
+fn write_string<W: io::Write>(octets: &[u8], mode: Mode, target: &mut W) -> Result<(), WriteError>
+    ensures { WritesContents W.contents target
+        (StringMeans LongCerPrimitive mode octets.now) ⊥ result }
+{
+    if fits_primitive(mode, octets.len()) {
+        write_all(target, octets)
+    } else {
+        Err(WriteError::Refused(EncodeError::LongCerPrimitive))
+    }
+}
+
+/// Writes the octets of a string as a value.
+#[inline(always)]
+fn put_string<W: io::Write>(
+    octets: &[u8],
+    tag: Tag,
+    _len: usize,
+    _mode: Mode,
+    target: &mut W,
+    why: &mut WriteError,
+) -> Result<(), Failed>
+    requires contents { HasContents (StringMeans LongCerPrimitive _mode octets.now) _len }
+    requires fits { _len < 2 ^ 32 }
+    ensures { WritesPrimitive W.contents target tag
+        (StringMeans LongCerPrimitive _mode octets.now) ⊥ (told result why.new) }
+{
+    put_apart(tag, octets, target, why)
+}
+
+/// These octets (8.7), in CER at most 1000 (9.2).
 impl PrimitiveContent for &'_ [u8] {
     ghost own_tag = { record { class = universal; number = 4 } };
 
-    ghost means = { λ x _. ExactlyOctets x.now };
+    ghost means = { λ x mode. StringMeans LongCerPrimitive mode x.now };
 
     fn tag() -> Tag
         ensures { result ≡ record { class = universal; number = 4 } }
@@ -133,12 +187,12 @@ impl PrimitiveContent for &'_ [u8] {
         Tag::OCTET_STRING
     }
 
-    fn encoded_len(&self, _mode: Mode) -> Result<usize, EncodeError> {
-        octets_len(*self)
+    fn encoded_len(&self, mode: Mode) -> Result<usize, EncodeError> {
+        string_len(*self, mode)
     }
 
-    fn write_encoded<W: io::Write>(&self, _mode: Mode, target: &mut W) -> Result<(), WriteError> {
-        write_octets(*self, target)
+    fn write_encoded<W: io::Write>(&self, mode: Mode, target: &mut W) -> Result<(), WriteError> {
+        write_string(*self, mode, target)
     }
 
     #[inline(always)]
@@ -146,12 +200,12 @@ impl PrimitiveContent for &'_ [u8] {
         &self,
         tag: Tag,
         len: usize,
-        _mode: Mode,
+        mode: Mode,
         target: &mut W,
         why: &mut WriteError,
     ) -> Result<(), Failed> {
-        put_octets(*self, tag, len, target, why)
+        put_string(*self, tag, len, mode, target, why)
     }
 
-    ghost lawful = { λ x _. ExactlyOctets_lawful x.now };
+    ghost lawful = { λ x mode. StringMeans_lawful LongCerPrimitive mode x.now };
 }

@@ -1,0 +1,15 @@
+use Rattle.std.proofs.Common.{refl, arith, sym, ◌∙◌}
+use Rattle.bcder.specs.Identifier.{AreOctets}
+use Rattle.bcder.specs.declared.encode.error.EncodeError.TheVariants.{LongCerPrimitive}
+use Rattle.bcder.proofs.Strings.{string_fits, refuses_string}
+use Rattle.bcder.proofs.encode.primitive.plain.string_len.Goals as goal
+
+pub returns-then-fits_primitive : goal.returns-then-fits_primitive
+returns-then-fits_primitive c =
+    let o : AreOctets c.args.octets.now = λ i. omega (arith, c.type_inv.octets i) in
+    (c.args.octets.now, string_fits LongCerPrimitive c.args.mode c.args.octets.now o (sym c.fits_primitive.ensures ∙ c.if-fits_primitive.true), refl)
+
+pub returns-else-fits_primitive : goal.returns-else-fits_primitive
+returns-else-fits_primitive c =
+    let o : AreOctets c.args.octets.now = λ i. omega (arith, c.type_inv.octets i) in
+    refuses_string LongCerPrimitive c.args.mode c.args.octets.now (λ e. cc) o (sym c.fits_primitive.ensures ∙ c.if-fits_primitive.false)

@@ -1,0 +1,18 @@
+use Rattle.std.proofs.Common.{rules, arith, ap, sym, ◌∙◌, inl, inr}
+use Rattle.std.specs.Prelude.{Err}
+use Rattle.bcder.specs.BitString.{Bits, contents_octets, as_written}
+use Rattle.bcder.specs.Identifier.{AreOctets}
+use Rattle.bcder.proofs.WrittenBits.{bits_fit, bits_refused}
+use Rattle.bcder.proofs.string.bit.write.put_bits.Goals as goal
+
+pub returns-then-not-fits_primitive : goal.returns-then-not-fits_primitive
+returns-then-not-fits_primitive g c =
+    let x : Bits = record { unused = c.args.unused; octets = c.args.octets.now } in
+    let o : AreOctets c.args.octets.now = λ i. omega (arith, c.type_inv.octets i) in
+    inr (record { error = c.args.refusal; answered = ap Err c.refused.ensures; refuses = bits_refused c.args.refusal c.args.mode x (omega arith) o c.requires (sym c.fits_primitive.ensures ∙ c.if-not-fits_primitive.true); kept = search rules })
+
+pub returns : goal.returns
+returns g c =
+    let x : Bits = record { unused = c.args.unused; octets = c.args.octets.now } in
+    let o : AreOctets c.args.octets.now = λ i. omega (arith, c.type_inv.octets i) in
+    inl (record { what = contents_octets (as_written c.args.mode x); meant = bits_fit c.args.refusal c.args.mode x (omega arith) o (sym c.fits_primitive.ensures ∙ c.if-not-fits_primitive.false); wrote = c.put_contents.ensures })

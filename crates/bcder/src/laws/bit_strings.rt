@@ -1,0 +1,18 @@
+//! What follows from the definitions of bit strings (X.690, 8.6, 11.2.1).
+ghost use Rattle.bcder.specs.BitStrings.{WrittenBitsAreTheSame, SameBitsAreWrittenAlike};
+ghost use Rattle.bcder.specs.BitStrings.{ReadIsWrittenBack};
+
+/// What is written of a bit string has its bits: unused bits that are set to zero are none of them.
+pub fn written_bits_are_the_same()
+    ensures { WrittenBitsAreTheSame }
+{}
+
+/// In CER and DER bit strings of the same bits are written alike (11.2.1).
+pub fn same_bits_are_written_alike()
+    ensures { SameBitsAreWrittenAlike }
+{}
+
+/// Contents octets that are read as a bit string in a mode are those that are written of it.
+pub fn what_is_read_is_written_back()
+    ensures { ReadIsWrittenBack }
+{}

@@ -1,0 +1,276 @@
+//! Bit strings (X.690, 8.6).
+ghost use Rattle.std.specs.Prelude.{◌≡◌, ◌≤◌, ◌<◌, ◌^◌, ◌&&◌, [], false, length, get_or};
+ghost use Rattle.std.specs.Prelude.{slice_index, nat_eq, IfOk, IsSomeAnd};
+ghost use Rattle.std.specs.Cmp.Lexicographic.{pointwise};
+ghost use Rattle.std.specs.Cmp.Rules.{comparing};
+ghost use Rattle.std.proofs.Common.{rules};
+ghost use Rattle.bcder.specs.BitString.{bits, bit_string_tag, IsBits, IsBitString};
+ghost use Rattle.bcder.specs.BitOctets.{octets_left};
+ghost use Rattle.bcder.specs.Identifier.{AreOctets};
+ghost use Rattle.bcder.specs.ReadBits.{HoldBits, NoBits};
+ghost use Rattle.bcder.specs.Readers.{MeanNothing, ReadContentBy, ReadContent, RefusedValues};
+ghost use Rattle.bcder.specs.Typed.{TookOneAs, TookOneBy};
+ghost use Rattle.bcder.specs.Views.{before, content_before, Moved, MovedContent};
+
+pub(crate) mod contents;
+mod encode;
+mod write;
+
+use crate::NoMemory;
+use crate::decode::source::see_octets;
+use crate::decode::{Constructed, Content, DecodeError, Source};
+use crate::tag::Tag;
+use bytes::Bytes;
+pub use encode::BitSliceEncoder;
+use std::alloc::{AllocError, Global};
+use std::convert::AsSlice;
+use std::marker::Model;
+
+/// A bit string: octets, bit 8 of each first, of whose last some bits may be unused (8.6.2).
+///
+/// The octets are shared: a clone copies none. Unused bits are kept as they stand.
+#[derive(Debug, Drop)]
+pub struct BitString {
+    unused: u8,
+    octets: Bytes,
+}
+
+impl Model for BitString {
+    ghost use Rattle.bcder.specs.BitString.{Bits, IsBits};
+
+    ghost Value = { Bits };
+
+    ghost view = { λ x. record { unused = x.unused; octets = x.octets } };
+
+    ghost invariant = { λ x. IsBits (record { unused = x.unused; octets = x.octets }) };
+}
+
+impl BitString {
+    /// The bits of these octets but the last `unused`, of which there are at most 7, and none where
+    /// there are no octets. There are fewer than 2^61 octets.
+    pub fn new(unused: u8, bits: Bytes) -> Self
+        requires few { unused ≤ 7 }
+        requires none { bits ≡ [] → unused ≡ 0 }
+        requires size { length bits < 2 ^ 61 }
+        ensures { result ≡ record { unused = unused; octets = bits } }
+    {
+        BitString {
+            unused,
+            octets: bits,
+        }
+    }
+
+    /// The bit at a place, counted from 0, the leading one; `false` behind the last.
+    pub fn bit(&self, bit: usize) -> bool
+        ensures { result ≡ get_or (bits self.now) bit false }
+    {
+        if bit >= self.bit_len() {
+            return false;
+        }
+        self.octets[bit / 8] >> (7 - bit % 8) & 1 == 1
+    }
+
+    /// The octet at a place, counted from 0; 0 behind the last.
+    pub fn octet(&self, idx: usize) -> u8
+        ensures { result ≡ slice_index self.now.octets idx }
+    {
+        match self.octets.get(idx) {
+            Some(octet) => *octet,
+            None => 0,
+        }
+    }
+
+    /// How many bits there are.
+    pub fn bit_len(&self) -> usize
+        ensures { result ≡ length (bits self.now) }
+    {
+        8 * self.octets.len() - usize::from(self.unused)
+    }
+
+    /// How many bits of the last octet are unused.
+    pub fn unused(&self) -> u8
+        ensures { result ≡ self.now.unused }
+    {
+        self.unused
+    }
+
+    /// How many octets there are.
+    pub fn octet_len(&self) -> usize
+        ensures { result ≡ length self.now.octets }
+    {
+        self.octets.len()
+    }
+
+    /// The octets, one after the other.
+    pub fn octets(&self) -> BitStringIter<'_>
+        ensures { octets_left result ≡ self.now.octets }
+    {
+        BitStringIter(self.octets.iter())
+    }
+
+    /// The octets, lent. They are always at hand.
+    pub fn octet_slice(&self) -> Option<&[u8]>
+        ensures { IsSomeAnd result (λ octets. octets.now ≡ self.now.octets) }
+    {
+        Some(self.octets.as_slice())
+    }
+
+    /// The octets, shared.
+    ///
+    /// # Errors
+    ///
+    /// Where there is no memory to share them.
+    pub fn octet_bytes(&self) -> Result<Bytes, NoMemory>
+        ensures { IfOk result (λ octets. octets ≡ self.now.octets) }
+    {
+        Ok(self.octets.clone()?)
+    }
+
+    // What the type says of it, for the proof alone.
+    pub(crate) fn see(&self)
+        ensures bits { IsBits self.now }
+        ensures octets { AreOctets self.now.octets }
+    {
+        let _unused = self.unused;
+        see_octets(self.octets.as_slice());
+    }
+
+    /// An encoder of the bits of these octets but the last `unused`, as a BIT STRING. The condition
+    /// is that of [`new`](Self::new).
+    pub fn encode_slice<T: AsSlice<u8>>(value: T, unused: u8) -> BitSliceEncoder<T>
+        requires { IsBits (record { unused = unused; octets = T.items value }) }
+        ensures { result ≡ record { slice = value; unused = unused; tag = bit_string_tag } }
+    {
+        BitSliceEncoder::new(value, unused, Tag::BIT_STRING)
+    }
+
+    /// The same under another tag.
+    pub fn encode_slice_as<T: AsSlice<u8>>(value: T, unused: u8, tag: Tag) -> BitSliceEncoder<T>
+        requires { IsBits (record { unused = unused; octets = T.items value }) }
+        ensures { result ≡ record { slice = value; unused = unused; tag = tag } }
+    {
+        BitSliceEncoder::new(value, unused, tag)
+    }
+}
+
+#[tactic(auto, using(crate::proofs::moves_refl))]
+impl BitString {
+    /// Takes the next value, which has to be a BIT STRING, primitive (8.6.2). Its octets are shared
+    /// with the source where that shares them.
+    ///
+    /// # Errors
+    ///
+    /// Those of [`skip_in`](Self::skip_in), and where there is no memory for the octets.
+    pub fn take_from<S: Source>(
+        alloc: Global,
+        constructed: &mut Constructed<'_, S>,
+    ) -> Result<Self, DecodeError<S::Error>>
+        ensures moves { Moved S.stream constructed }
+        ensures took { TookOneBy S.stream constructed bit_string_tag
+            (IsBitString (before S.stream constructed).mode)
+            (NoBits (before S.stream constructed).mode) result }
+    {
+        constructed.take_primitive_if(Tag::BIT_STRING, |octets| octets.take_bits(alloc))
+    }
+
+    /// Passes over the next value, which has to be a BIT STRING, primitive (8.6.2).
+    ///
+    /// # Errors
+    ///
+    /// `ContentError::ExpectedTag` at the end and at a value of another tag: the content then stays
+    /// usable. Where the contents octets are no bit string in the mode, as in CER over 1000 octets
+    /// (9.2) or in CER and DER unused bits that aren't zero (11.2.1); where the value is constructed
+    /// or octets are no value; where an earlier value was refused; and where the source fails: the
+    /// content has then failed.
+    pub fn skip_in<S: Source>(cons: &mut Constructed<'_, S>) -> Result<(), DecodeError<S::Error>>
+        ensures moves { Moved S.stream cons }
+        ensures took { TookOneAs S.stream cons bit_string_tag
+            (HoldBits (before S.stream cons).mode) result }
+    {
+        cons.take_primitive_if(Tag::BIT_STRING, |octets| octets.skip_bits())
+    }
+
+    /// Takes all contents octets as a bit string. They are shared with the source where that shares
+    /// them.
+    ///
+    /// # Errors
+    ///
+    /// Those of [`skip_content`](Self::skip_content), and where there is no memory for the octets.
+    /// Then none is taken.
+    pub fn from_content<S: Source>(
+        alloc: Global,
+        content: &mut Content<'_, S>,
+    ) -> Result<Self, DecodeError<S::Error>>
+        ensures moves { MovedContent S.stream content }
+        ensures read { ReadContentBy S.stream content
+            (IsBitString (content_before S.stream content).mode)
+            (NoBits (content_before S.stream content).mode) result }
+        ensures form { RefusedValues S.stream content result }
+    {
+        content.take_bits(alloc)
+    }
+
+    /// Passes over all contents octets, which have to be those of a bit string.
+    ///
+    /// # Errors
+    ///
+    /// Where they are no bit string in the mode, where fewer come than are owed, where the source
+    /// fails, and where the content is that of a constructed value. Then none is taken.
+    pub fn skip_content<S: Source>(
+        content: &mut Content<'_, S>,
+    ) -> Result<(), DecodeError<S::Error>>
+        ensures moves { MovedContent S.stream content }
+        ensures read { ReadContent S.stream content
+            (HoldBits (content_before S.stream content).mode) result }
+        ensures form { RefusedValues S.stream content result }
+    {
+        content.skip_bits()
+    }
+}
+
+/// The clone has the same octets, and as many unused bits.
+impl Clone for BitString {
+    ghost is_clone = { λ x y. y ≡ x };
+
+    fn clone(&self) -> Result<BitString, AllocError> {
+        Ok(BitString {
+            unused: self.unused,
+            octets: self.octets.clone()?,
+        })
+    }
+}
+
+/// Bit strings are equal where their octets are, and as many bits are unused. Unused bits are
+/// compared too.
+impl PartialEq for BitString {
+    ghost eq = { λ x y. nat_eq x.unused y.unused && pointwise nat_eq x.octets y.octets };
+
+    ghost laws = { Prim.search (comparing, rules) };
+
+    fn eq(&self, other: &BitString) -> bool {
+        self.unused == other.unused && self.octets.as_slice() == other.octets.as_slice()
+    }
+}
+
+impl Eq for BitString {
+    ghost laws = { Prim.search (comparing, rules) };
+}
+
+/// The octets of a bit string, in order.
+#[derive(Clone, Debug, Drop)]
+pub struct BitStringIter<'a>(std::slice::Iter<'a, u8>);
+
+impl Iterator for BitStringIter<'_> {
+    ghost use Rattle.std.specs.Iterator.{YieldsFirstBy, item_count};
+    ghost use Rattle.bcder.specs.BitOctets.{octets_left};
+
+    type Item = u8;
+
+    ghost next_gives = { YieldsFirstBy (λ x. x) octets_left };
+
+    ghost remaining = { item_count octets_left };
+
+    fn next(&mut self) -> Option<u8> {
+        self.0.next().copied()
+    }
+}

@@ -1,0 +1,128 @@
+//! Octets of a slice, written as a bit string.
+ghost use Rattle.std.specs.Prelude.{◌≡◌};
+ghost use Rattle.bcder.specs.declared.encode.error.EncodeError.TheVariants.{LongCerBitString};
+ghost use Rattle.bcder.specs.BitString.{bit_string_tag};
+ghost use Rattle.bcder.specs.Meaning.{BitsMean, ValueMeans, primitive_meaning};
+ghost use Rattle.bcder.specs.laws.Meanings.{BitsMean_lawful, primitive_lawful};
+
+use super::write::{bits_len, put_meant, write_bits};
+use crate::encode::slot::Failed;
+use crate::encode::{EncodeError, PrimitiveContent, Values, WriteError};
+use crate::mode::Mode;
+use crate::tag::Tag;
+use std::convert::AsSlice;
+use std::io;
+
+/// An encoder of one primitive value: the bits of octets, of whose last some may be unused.
+#[derive(Clone, Debug, Drop)]
+pub struct BitSliceEncoder<T> {
+    slice: T,
+    unused: u8,
+    tag: Tag,
+}
+
+impl<T> BitSliceEncoder<T> {
+    /// The encoder with these parts.
+    pub(super) fn new(slice: T, unused: u8, tag: Tag) -> Self
+        ensures { result ≡ record { slice = slice; unused = unused; tag = tag } }
+    {
+        BitSliceEncoder { slice, unused, tag }
+    }
+}
+
+/// The contents octets of such a value.
+#[derive(Clone, Copy)]
+struct BitSlice<'a> {
+    unused: u8,
+    octets: &'a [u8],
+}
+
+impl PrimitiveContent for BitSlice<'_> {
+    ghost own_tag = { bit_string_tag };
+
+    ghost means = { λ x mode. BitsMean LongCerBitString mode
+        (record { unused = x.unused; octets = x.octets.now }) };
+
+    fn tag() -> Tag
+        ensures { result ≡ bit_string_tag }
+    {
+        Tag::BIT_STRING
+    }
+
+    fn encoded_len(&self, mode: Mode) -> Result<usize, EncodeError> {
+        bits_len(
+            self.unused,
+            self.octets,
+            mode,
+            EncodeError::LongCerBitString,
+        )
+    }
+
+    fn write_encoded<W: io::Write>(&self, mode: Mode, target: &mut W) -> Result<(), WriteError> {
+        write_bits(
+            self.unused,
+            self.octets,
+            mode,
+            EncodeError::LongCerBitString,
+            target,
+        )
+    }
+
+    fn write_value<W: io::Write>(
+        &self,
+        tag: Tag,
+        len: usize,
+        mode: Mode,
+        target: &mut W,
+        why: &mut WriteError,
+    ) -> Result<(), Failed> {
+        put_meant(
+            self.unused,
+            self.octets,
+            tag,
+            len,
+            mode,
+            EncodeError::LongCerBitString,
+            target,
+            why,
+        )
+    }
+
+    ghost lawful = { λ x mode. BitsMean_lawful LongCerBitString mode
+        (record { unused = x.unused; octets = x.octets.now }) };
+}
+
+impl<T: AsSlice<u8>> BitSliceEncoder<T> {
+    /// The contents octets.
+    fn contents(&self) -> BitSlice<'_>
+        ensures unused { result.unused ≡ self.now.unused }
+        ensures octets { result.octets.now ≡ T.items self.now.slice }
+    {
+        BitSlice {
+            unused: self.unused,
+            octets: self.slice.as_slice(),
+        }
+    }
+}
+
+/// One primitive value (8.6.2): in BER with unused bits as they stand, in CER and DER with these
+/// zero (11.2.1). In CER it has at most 1000 contents octets (9.2).
+impl<T: AsSlice<u8>> Values for BitSliceEncoder<T> {
+    ghost means = { λ x mode. ValueMeans x.tag (primitive_meaning x.tag)
+        (BitsMean LongCerBitString mode
+        (record { unused = x.unused; octets = T.items x.slice })) };
+
+    fn encoded_len(&self, mode: Mode) -> Result<usize, EncodeError> {
+        self.contents().encode_as(self.tag).encoded_len(mode)
+    }
+
+    fn write_encoded<W: io::Write>(&self, mode: Mode, target: &mut W) -> Result<(), WriteError> {
+        self.contents()
+            .encode_as(self.tag)
+            .write_encoded(mode, target)
+    }
+
+    ghost lawful = { λ x mode can. primitive_lawful x.tag mode
+        (BitsMean_lawful LongCerBitString mode
+        (record { unused = x.unused; octets = T.items x.slice })) };
+}

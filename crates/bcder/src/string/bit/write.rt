@@ -1,0 +1,225 @@
+//! Writing bit strings (X.690, 8.6.2, 9.2, 11.2.1).
+ghost use Rattle.std.specs.Prelude.{◌≡◌, ◌≢◌, ◌+◌, ◌<◌, ◌^◌, ◌++◌, ◌∷◌, [], List, ℕ};
+ghost use Rattle.std.specs.Prelude.{length, false};
+ghost use Rattle.bcder.specs.declared.encode.error.EncodeError.TheVariants.{LongCerPrimitive};
+ghost use Rattle.bcder.specs.declared.encode.error.EncodeError.TheVariants.{NoMemory};
+ghost use Rattle.bcder.specs.BitString.{as_written, contents_octets};
+ghost use Rattle.bcder.specs.Encoders.{HasContents, SizeOfContents, WritesContents};
+ghost use Rattle.bcder.specs.Encoders.{WritesPrimitive, WroteOctets, told};
+ghost use Rattle.bcder.specs.Identifier.{universal};
+ghost use Rattle.bcder.specs.Meaning.{BitsMean};
+ghost use Rattle.bcder.specs.Octets.{definite};
+ghost use Rattle.bcder.specs.laws.Meanings.{BitsMean_lawful};
+
+use super::BitString;
+use super::contents::cleared_octet;
+use crate::encode::header::put_header_and;
+use crate::encode::primitive::plain::fits_primitive;
+use crate::encode::slot::{Failed, refused, slot, told};
+use crate::encode::target::put_all;
+use crate::encode::{EncodeError, PrimitiveContent, WriteError};
+use crate::mode::Mode;
+use crate::tag::Tag;
+use std::io;
+
+/// The last octet as the mode has it written, where so many of its bits are unused (11.2.1).
+fn written_octet(mode: Mode, unused: u8, last: u8) -> u8
+    ensures { (front : List ℕ) →
+        (as_written mode (record { unused = unused; octets = front ++ last ∷ [] })).octets
+        ≡ front ++ result ∷ [] }
+{
+    match mode {
+        Mode::Ber => last,
+        Mode::Cer | Mode::Der => cleared_octet(unused, last),
+    }
+}
+
+/// Writes the octets with the bits. They are written at once where the unused bits stand as the
+/// mode wants them, and else the last one apart.
+fn put_octets<W: io::Write>(
+    unused: u8,
+    octets: &[u8],
+    mode: Mode,
+    target: &mut W,
+    why: &mut WriteError,
+) -> Result<(), Failed>
+    ensures { WroteOctets W.contents target
+        (as_written mode (record { unused = unused; octets = octets.now })).octets
+        (told result why.new) }
+{
+    match octets {
+        [] => put_all(target, octets, why),
+        [front @ .., last] => {
+            let written = written_octet(mode, unused, *last);
+            if written == *last {
+                return put_all(target, octets, why);
+            }
+            put_all(target, front, why)?;
+            put_all(target, &[written], why)
+        }
+    }
+}
+
+/// How many contents octets a bit string has, if the mode has a primitive one of so many (9.2).
+pub(super) fn bits_len(
+    _unused: u8,
+    octets: &[u8],
+    mode: Mode,
+    refusal: EncodeError,
+) -> Result<usize, EncodeError>
+    requires { refusal ≢ NoMemory }
+    ensures { SizeOfContents (BitsMean refusal mode
+        (record { unused = _unused; octets = octets.now })) ⊥ result }
+{
+    let len = 1 + octets.len();
+    if fits_primitive(mode, len) {
+        Ok(len)
+    } else {
+        Err(refusal)
+    }
+}
+
+/// Writes the contents octets of a bit string, if the mode has a primitive one of so many.
+pub(super) fn write_bits<W: io::Write>(
+    unused: u8,
+    octets: &[u8],
+    mode: Mode,
+    refusal: EncodeError,
+    target: &mut W,
+) -> Result<(), WriteError>
+    requires { refusal ≢ NoMemory }
+    ensures { WritesContents W.contents target (BitsMean refusal mode
+        (record { unused = unused; octets = octets.now })) ⊥ result }
+{
+    let mut why = slot();
+    let outcome = put_bits(unused, octets, mode, refusal, target, &mut why);
+    told(outcome, why)
+}
+
+/// The same with a slot for the error.
+fn put_bits<W: io::Write>(
+    unused: u8,
+    octets: &[u8],
+    mode: Mode,
+    refusal: EncodeError,
+    target: &mut W,
+    why: &mut WriteError,
+) -> Result<(), Failed>
+    requires { refusal ≢ NoMemory }
+    ensures { WritesContents W.contents target (BitsMean refusal mode
+        (record { unused = unused; octets = octets.now })) ⊥ (told result why.new) }
+{
+    if !fits_primitive(mode, 1 + octets.len()) {
+        return Err(refused(why, refusal));
+    }
+    put_contents(unused, octets, mode, target, why)
+}
+
+/// Writes the contents octets.
+fn put_contents<W: io::Write>(
+    unused: u8,
+    octets: &[u8],
+    mode: Mode,
+    target: &mut W,
+    why: &mut WriteError,
+) -> Result<(), Failed>
+    ensures { WroteOctets W.contents target
+        (contents_octets (as_written mode (record { unused = unused; octets = octets.now })))
+        (told result why.new) }
+{
+    put_all(target, &[unused], why)?;
+    put_octets(unused, octets, mode, target, why)
+}
+
+/// Writes a bit string as a primitive value.
+pub(super) fn put_value<W: io::Write>(
+    unused: u8,
+    octets: &[u8],
+    tag: Tag,
+    len: usize,
+    mode: Mode,
+    target: &mut W,
+    why: &mut WriteError,
+) -> Result<(), Failed>
+    requires contents { len ≡ length octets.now + 1 }
+    requires fits { len < 2 ^ 32 }
+    ensures { WroteOctets W.contents target (definite tag false
+        (contents_octets (as_written mode (record { unused = unused; octets = octets.now }))))
+        (told result why.new) }
+{
+    put_header_and(target, tag, len, unused, why)?;
+    put_octets(unused, octets, mode, target, why)
+}
+
+/// The same of what is meant.
+pub(super) fn put_meant<W: io::Write>(
+    unused: u8,
+    octets: &[u8],
+    tag: Tag,
+    len: usize,
+    mode: Mode,
+    refusal: EncodeError,
+    target: &mut W,
+    why: &mut WriteError,
+) -> Result<(), Failed>
+    requires contents { HasContents (BitsMean refusal mode
+        (record { unused = unused; octets = octets.now })) len }
+    requires fits { len < 2 ^ 32 }
+    ensures { WritesPrimitive W.contents target tag (BitsMean refusal mode
+        (record { unused = unused; octets = octets.now })) ⊥ (told result why.new) }
+{
+    put_value(unused, octets, tag, len, mode, target, why)
+}
+
+/// The unused count, and the octets: in BER with unused bits as they stand, in CER and DER with
+/// these zero (11.2.1). In CER there are at most 1000 contents octets (9.2).
+impl PrimitiveContent for BitString {
+    ghost own_tag = { record { class = universal; number = 3 } };
+
+    ghost means = { λ x mode. BitsMean LongCerPrimitive mode x };
+
+    fn tag() -> Tag {
+        Tag::BIT_STRING
+    }
+
+    fn encoded_len(&self, mode: Mode) -> Result<usize, EncodeError> {
+        bits_len(
+            self.unused,
+            self.octets.as_slice(),
+            mode,
+            EncodeError::LongCerPrimitive,
+        )
+    }
+
+    fn write_encoded<W: io::Write>(&self, mode: Mode, target: &mut W) -> Result<(), WriteError> {
+        write_bits(
+            self.unused,
+            self.octets.as_slice(),
+            mode,
+            EncodeError::LongCerPrimitive,
+            target,
+        )
+    }
+
+    fn write_value<W: io::Write>(
+        &self,
+        tag: Tag,
+        len: usize,
+        mode: Mode,
+        target: &mut W,
+        why: &mut WriteError,
+    ) -> Result<(), Failed> {
+        put_meant(
+            self.unused,
+            self.octets.as_slice(),
+            tag,
+            len,
+            mode,
+            EncodeError::LongCerPrimitive,
+            target,
+            why,
+        )
+    }
+
+    ghost lawful = { λ x mode. BitsMean_lawful LongCerPrimitive mode x };
+}
