@@ -36,6 +36,7 @@ pub mod Contents
 pub mod Bits
 pub mod Clearing
 pub mod Strings
+pub mod WholeStrings
 pub mod WrittenBits
 pub mod Writing
 pub mod Enclosing

@@ -1,4 +1,3 @@
-<<<<<<< HEAD
 -- Octet strings that are read from content.
 use Rattle.std.proofs.Common.{◌≡◌, ◌≢◌, ℕ, ◌<◌, ◌≤◌, List, ◌++◌, length, Option, Some, None, refl, ap, sym, ◌∙◌, arith, subst, inl, inr}
 use Rattle.std.specs.Prelude.{◌⊎◌, Ok, Err}
@@ -191,32 +190,3 @@ refuse_constructed tag c e m o a = record { value = tt; done = tt; no_fault = tt
     none : HoldsNone tag (MeansString c.mode) c
     none (primitive t contents) x held means = o held.1.form
     none (constructed t ts) x held means = (let z : AreSegmentsIn Der ts = subst (λ y. AreSegmentsIn y ts) m means.0 in z)
-=======
--- Contents octets of strings, which CER has in a primitive value up to 1000.
-use Rattle.std.proofs.Common.{◌≡◌, ◌≢◌, ℕ, Bool, true, false, List, length, refl, if◌then◌else◌}
-use Rattle.std.specs.Prelude.{Ok, Err}
-use Rattle.bcder.specs.declared.encode.error.EncodeError.{EncodeError}
-use Rattle.bcder.specs.declared.encode.error.EncodeError.TheVariants.{NoMemory}
-use Rattle.bcder.specs.declared.mode.Mode.{Mode}
-use Rattle.bcder.specs.Identifier.{AreOctets}
-use Rattle.bcder.specs.Meaning.{fits_primitive, StringMeans}
-use Rattle.bcder.specs.Encoders.{RefusesBy}
-
-module _ (refusal : EncodeError) (mode : Mode) (w : List ℕ) where
-  pub string_fits : AreOctets w → fits_primitive mode (length w) ≡ true → StringMeans refusal mode w (Ok w)
-  string_fits octets fits = (rw fits refl, octets)
-
-  string_refused : AreOctets w → fits_primitive mode (length w) ≡ false → StringMeans refusal mode w (Err refusal)
-  string_refused octets long = (rw long refl, octets)
-
-  pub refuses_string : refusal ≢ NoMemory → AreOctets w → fits_primitive mode (length w) ≡ false → RefusesBy (StringMeans refusal mode w) ⊥ refusal
-  refuses_string memory octets long = record { meant = λ _. string_refused octets long; lacking = memory }
-
-  same_string : (c : List ℕ) (fits : Bool) → Ok c ≡ (if fits then Ok w else Err refusal) → c ≡ w
-  same_string c true e = cc
-  same_string c false e = cc
-
-  -- a string that is meant is this one
-  pub string_is : (c : List ℕ) → StringMeans refusal mode w (Ok c) → c ≡ w
-  string_is c m = same_string c (fits_primitive mode (length w)) m.0
->>>>>>> 4ed009335a8d8d5a69bf38a97673e543dcd7a949

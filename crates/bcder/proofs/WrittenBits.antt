@@ -17,7 +17,7 @@ use Rattle.std.proofs.lemmas.Nat.{shr_high, pow_pos}
 use Rattle.std.proofs.lemmas.Bool.{leb-true}
 use Rattle.bcder.proofs.Bits.{cleared_length, cleared_push, as_many_octets, written_octets}
 use Rattle.bcder.proofs.Clearing.{same_bits, same_cleared}
-use Rattle.bcder.proofs.Strings.{string_fits, refuses_string, string_is}
+use Rattle.bcder.proofs.WholeStrings.{string_fits, refuses_string, string_is}
 
 -- ---- the bits
 

@@ -24,9 +24,5 @@ pub use int::{Integer, Unsigned};
 pub use memory::NoMemory;
 pub use mode::Mode;
 pub use oid::{ConstOid, Oid};
-<<<<<<< HEAD
-pub use string::OctetString;
-=======
-pub use string::BitString;
->>>>>>> 4ed009335a8d8d5a69bf38a97673e543dcd7a949
+pub use string::{BitString, OctetString};
 pub use tag::Tag;

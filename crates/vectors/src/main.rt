@@ -1,15 +1,9 @@
 //! Compares answers from outside with ours, and two of our readers with one another.
 //!
 //! Each file of `data/` says in its head what its columns mean and where its answers come from:
-<<<<<<< HEAD
-//! `walk.tsv`, `integer_values.tsv`, `identifier_values.tsv` and most of `octet_strings.tsv` have
-//! answers of the Rust crate bcder 0.7.7, `integers.tsv` numbers that another language wrote, and
-//! the others are written by the rules of X.690 and of the calls.
-=======
-//! `walk.tsv` and those that end in `_values.tsv` have answers of the Rust crate bcder 0.7.7, `integers.tsv`
-//! numbers that another language wrote, and the others are written by the rules of X.690 and of the
-//! calls.
->>>>>>> 4ed009335a8d8d5a69bf38a97673e543dcd7a949
+//! `walk.tsv`, those that end in `_values.tsv` and most of `octet_strings.tsv` have answers of the Rust
+//! crate bcder 0.7.7, `integers.tsv` numbers that another language wrote, and the others are written by
+//! the rules of X.690 and of the calls.
 //!
 //! Then `walk` and the plain reader are compared with each other on all short lists of some octets,
 //! and the readers of integers with conversions of std on all contents of one and two octets.
@@ -264,7 +258,6 @@ fn replay_identifiers(rt: &HostRuntime) -> Result<(), Error> {
     Ok(())
 }
 
-<<<<<<< HEAD
 /// Replays `octet_strings.tsv`.
 fn replay_strings(rt: &HostRuntime) -> Result<(), Error> {
     let mut tally = Tally::default();
@@ -275,13 +268,13 @@ fn replay_strings(rt: &HostRuntime) -> Result<(), Error> {
         strings::compare_line,
     )?;
     print(rt, "octet strings taken", tally)
-=======
+}
+
 /// Replays `bit_values.tsv`.
 fn replay_bits(rt: &HostRuntime) -> Result<(), Error> {
     let mut tally = Tally::default();
     replay(rt, "bit_values.tsv", &mut tally, bits::compare_value)?;
     print(rt, "bit strings taken", tally)
->>>>>>> 4ed009335a8d8d5a69bf38a97673e543dcd7a949
 }
 
 /// Prints what was compared.
@@ -304,9 +297,6 @@ fn main(rt: HostRuntime) -> Result<(), Error> {
     replay_tags(&rt)?;
     replay_integers(&rt)?;
     replay_identifiers(&rt)?;
-<<<<<<< HEAD
-    replay_strings(&rt)
-=======
+    replay_strings(&rt)?;
     replay_bits(&rt)
->>>>>>> 4ed009335a8d8d5a69bf38a97673e543dcd7a949
 }

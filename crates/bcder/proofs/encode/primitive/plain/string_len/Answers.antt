@@ -1,7 +1,7 @@
 use Rattle.std.proofs.Common.{refl, arith, sym, ◌∙◌}
 use Rattle.bcder.specs.Identifier.{AreOctets}
 use Rattle.bcder.specs.declared.encode.error.EncodeError.TheVariants.{LongCerPrimitive}
-use Rattle.bcder.proofs.Strings.{string_fits, refuses_string}
+use Rattle.bcder.proofs.WholeStrings.{string_fits, refuses_string}
 use Rattle.bcder.proofs.encode.primitive.plain.string_len.Goals as goal
 
 pub returns-then-fits_primitive : goal.returns-then-fits_primitive
