@@ -10,7 +10,7 @@ mod written;
 use bcder::Mode;
 use bcder::decode::{Constructed, DecodeError, SliceSource, Source};
 use std::test::Fail;
-use user::{Time, decode_certificate, decode_signed};
+use user::{Time, decode_addresses, decode_certificate, decode_signed};
 
 /// A self-signed certificate in DER, made with openssl.
 const CERTIFICATE: &str = "\
@@ -63,6 +63,21 @@ const SIGNED_BY_KEY: &str = "\
 016503040201300a06082a8648ce3d04030204483046022100bcb76fd83c45054c4bf895e6a8d41bada1458e695b5854\
 5c7f867032a3f1b87b022100f7b9833480244ab1c5365ab1ff00fc1c4ec7f5d4c7a8964ba996fcdd58da1f2d";
 
+/// A signed message in BER, made with openssl cms in a stream: `hello`. Its segment was cut into two by hand;
+/// openssl takes the signature of it still.
+const SIGNED_IN_SEGMENTS: &str = "\
+308006092a864886f70d010702a0803080020101310d300b0609608648016503040201308006092a864886f70d010701\
+a08024800402686504036c6c6f0000000000003181b53081b2020101304a3032310b3009060355040613024e4c310d30\
+0b060355040a0c04546573743114301206035504030c0b7369676e65722e74657374021435f973df3c71e8cb1a78d944\
+5fa621c646aba1bc300b0609608648016503040201300a06082a8648ce3d04030204483046022100c51e50d1ebae7d60\
+8a3424e44ba7f2c91bc1fc81412bf575b36194a2cbcb8140022100aa2f6ae4f696b533350483802baef3c46d009b7b5d\
+9deb6e0ff18133a2b989b0000000000000";
+
+/// The blocks of addresses of RFC 3779, appendix B: five of IPv4, and all of the issuer's of IPv6.
+const ADDRESSES: &str = "\
+3035302b040300010130240304040a00200304000a00400303000a01300c0304040a02300304000a02400303000a0330\
+06040200020500";
+
 #[test]
 fn reads_a_certificate(rt: HostRuntime) -> Result<(), Fail> {
     let octets = hex::decode(rt.alloc(), CERTIFICATE)?;
@@ -81,7 +96,7 @@ fn reads_a_certificate(rt: HostRuntime) -> Result<(), Fail> {
 #[test]
 fn reads_a_signed_message(rt: HostRuntime) -> Result<(), Fail> {
     let octets = hex::decode(rt.alloc(), SIGNED)?;
-    let found = decode_signed(SliceSource::new(&octets))?;
+    let found = decode_signed(rt.alloc(), SliceSource::new(&octets))?;
     assert_eq!(rt; (found.digests, found.certificates, found.lists), (1, 1, 0));
     assert_eq!(rt; found.message, Some(5));
     assert_eq!(rt; (found.signers, found.attributes), (1, 4));
@@ -91,10 +106,30 @@ fn reads_a_signed_message(rt: HostRuntime) -> Result<(), Fail> {
 #[test]
 fn reads_a_signer_by_its_key(rt: HostRuntime) -> Result<(), Fail> {
     let octets = hex::decode(rt.alloc(), SIGNED_BY_KEY)?;
-    let found = decode_signed(SliceSource::new(&octets))?;
+    let found = decode_signed(rt.alloc(), SliceSource::new(&octets))?;
     assert_eq!(rt; (found.digests, found.certificates, found.lists), (1, 0, 0));
     assert_eq!(rt; found.message, Some(5));
     assert_eq!(rt; (found.signers, found.attributes), (1, 0));
+    Ok(())
+}
+
+#[test]
+fn reads_a_message_in_segments(rt: HostRuntime) -> Result<(), Fail> {
+    let octets = hex::decode(rt.alloc(), SIGNED_IN_SEGMENTS)?;
+    let found = decode_signed(rt.alloc(), SliceSource::new(&octets))?;
+    assert_eq!(rt; (found.digests, found.certificates, found.lists), (1, 0, 0));
+    assert_eq!(rt; found.message, Some(5));
+    assert_eq!(rt; (found.signers, found.attributes), (1, 0));
+    Ok(())
+}
+
+#[test]
+fn reads_blocks_of_addresses(rt: HostRuntime) -> Result<(), Fail> {
+    let octets = hex::decode(rt.alloc(), ADDRESSES)?;
+    let found = decode_addresses(rt.alloc(), SliceSource::new(&octets))?;
+    assert_eq!(rt; (found.families, found.inherited), (2, 1));
+    assert_eq!(rt; (found.prefixes, found.ranges), (4, 1));
+    assert_eq!(rt; found.longest, 24);
     Ok(())
 }
 

@@ -1,4 +1,5 @@
-//! Readers as users of the library write them: a certificate, a signed message, and small ones.
+//! Readers as users of the library write them: a certificate, a signed message, blocks of addresses,
+//! and small ones.
 //!
 //! A function that takes from content has one clause, that it moves it: `Moved S.stream cons`. A
 //! closure has none, or that same one where it has more than two steps, a loop, or a choice by the
@@ -9,11 +10,13 @@
 
 ghost use Rattle.bcder.specs.Views.{Moved, MovedContent, MovedOctets};
 
+mod addresses;
 mod certificate;
 mod extensions;
 mod lists;
 mod signed;
 
+pub use addresses::{Addresses, decode_addresses};
 use bcder::Tag;
 use bcder::decode::{Constructed, Content, DecodeError, Primitive, Source};
 pub use certificate::{Certificate, Time, Validity, decode_certificate, decode_two};

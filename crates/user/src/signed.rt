@@ -3,9 +3,10 @@ ghost use Rattle.bcder.specs.Views.{Moved};
 
 use crate::certificate::{Certificate, skip_algorithm, skip_algorithm_parts, take_name};
 use crate::lists::{List, take_list, take_opt_list};
-use crate::{skip_octets, take_len_of};
+use crate::skip_octets;
 use bcder::decode::{Constructed, DecodeError, Source, walk};
-use bcder::{Mode, Tag};
+use bcder::{Mode, OctetString, Tag};
+use std::alloc::Global;
 
 /// What a signed message holds, as far as it is read here.
 #[derive(Clone, Copy)]
@@ -32,6 +33,7 @@ pub struct Signed {
 impl Signed {
     /// A SEQUENCE of an OBJECT IDENTIFIER and, tagged by `[0]`, what is signed and by whom.
     pub fn take_from<S: Source>(
+        alloc: Global,
         cons: &mut Constructed<'_, S>,
     ) -> Result<Signed, DecodeError<S::Error>>
         ensures { Moved S.stream cons }
@@ -39,18 +41,21 @@ impl Signed {
         cons.take_sequence(|cons| {
             skip_octets(Tag::OID, cons)?;
             cons.take_constructed_if(Tag::CTX_0, |cons| {
-                cons.take_sequence(|cons| Signed::take_parts(cons))
+                cons.take_sequence(|cons| Signed::take_parts(alloc, cons))
             })
         })
     }
 
     /// The parts of it.
-    fn take_parts<S: Source>(cons: &mut Constructed<'_, S>) -> Result<Signed, DecodeError<S::Error>>
+    fn take_parts<S: Source>(
+        alloc: Global,
+        cons: &mut Constructed<'_, S>,
+    ) -> Result<Signed, DecodeError<S::Error>>
         ensures { Moved S.stream cons }
     {
         cons.take_u8()?;
         let digests = take_list(Tag::SET, Algorithms(0), cons)?;
-        let message = take_message(cons)?;
+        let message = take_message(alloc, cons)?;
         let certificates = take_opt_list(Tag::CTX_0, Certificates(0), cons)?;
         let lists = cons.take_opt_constructed_if(Tag::CTX_1, |cons| count_values(cons))?;
         let none = Signers {
@@ -70,16 +75,18 @@ impl Signed {
 }
 
 /// What is signed: a SEQUENCE of an OBJECT IDENTIFIER and, if it is inside, the message, tagged by
-/// `[0]`. It answers the number of the message's octets.
+/// `[0]`, which may be cut into segments. It answers the number of the message's octets.
 fn take_message<S: Source>(
+    alloc: Global,
     cons: &mut Constructed<'_, S>,
 ) -> Result<Option<usize>, DecodeError<S::Error>>
     ensures { Moved S.stream cons }
 {
-    cons.take_sequence(|cons| {
+    let message = cons.take_sequence(|cons| {
         skip_octets(Tag::OID, cons)?;
-        cons.take_opt_constructed_if(Tag::CTX_0, |cons| take_len_of(Tag::OCTET_STRING, cons))
-    })
+        cons.take_opt_constructed_if(Tag::CTX_0, |cons| OctetString::take_from(alloc, cons))
+    })?;
+    Ok(message.map(|message| message.len()))
 }
 
 /// The number of algorithms.
@@ -200,6 +207,9 @@ impl List for Attributes {
 }
 
 /// A signed message at the front of a source that is handed in.
-pub fn decode_signed<S: Source + Drop>(source: S) -> Result<Signed, DecodeError<S::Error>> {
-    Constructed::decode(source, Mode::Der, |cons| Signed::take_from(cons))
+pub fn decode_signed<S: Source + Drop>(
+    alloc: Global,
+    source: S,
+) -> Result<Signed, DecodeError<S::Error>> {
+    Constructed::decode(source, Mode::Ber, |cons| Signed::take_from(alloc, cons))
 }
