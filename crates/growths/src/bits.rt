@@ -44,7 +44,12 @@ fn take_content<S: Source>(
 }
 
 /// Runs both over a source.
-fn run_over<S: Source>(rt: &HostRuntime, over: &str, one: &mut S, other: &mut S) -> Result<(), Error> {
+fn run_over<S: Source>(
+    rt: &HostRuntime,
+    over: &str,
+    one: &mut S,
+    other: &mut S,
+) -> Result<(), Error> {
     let alloc = rt.alloc();
     let end = read(Mode::Der.decode_lent(one, |cons| take(cons, alloc)));
     tell_over(rt, "BitString::take_from", over, end)?;

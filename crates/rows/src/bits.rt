@@ -167,9 +167,33 @@ fn check<S: Source>(
 fn check_row(rt: &impl Abort, alloc: Global, mode: Mode, row: &Row, taken: bool) {
     for reader in READERS {
         let octets = row.0;
-        check(rt, alloc, &mut SliceSource::new(octets), mode, reader, row, taken);
-        check(rt, alloc, &mut shared(rt, alloc, octets), mode, reader, row, taken);
-        check(rt, alloc, &mut sip(rt, alloc, octets), mode, reader, row, taken);
+        check(
+            rt,
+            alloc,
+            &mut SliceSource::new(octets),
+            mode,
+            reader,
+            row,
+            taken,
+        );
+        check(
+            rt,
+            alloc,
+            &mut shared(rt, alloc, octets),
+            mode,
+            reader,
+            row,
+            taken,
+        );
+        check(
+            rt,
+            alloc,
+            &mut sip(rt, alloc, octets),
+            mode,
+            reader,
+            row,
+            taken,
+        );
     }
 }
 

@@ -5,8 +5,8 @@ ghost use Rattle.bcder.specs.Views.{Moved};
 
 use crate::asserts::{done, holds, same};
 use crate::over::failing_sip;
-use bcder::{BitString, Mode};
 use bcder::decode::{Constructed, DecodeError, Source, walk};
+use bcder::{BitString, Mode};
 use std::alloc::Global;
 use std::process::Abort;
 

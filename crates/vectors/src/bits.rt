@@ -52,9 +52,11 @@ fn is_answer(
     let unused = next(&mut words)?.parse::<u8>()?;
     let wanted = octets_of(alloc, next(&mut words)?)?;
     let octets = bits.octet_bytes()?;
-    Ok(size.parse::<usize>()?.checked_add(left) == Some(count)
-        && bits.unused() == unused
-        && octets.as_slice() == wanted.as_slice())
+    Ok(
+        size.parse::<usize>()?.checked_add(left) == Some(count)
+            && bits.unused() == unused
+            && octets.as_slice() == wanted.as_slice(),
+    )
 }
 
 /// Compares the answers of one line of values.
