@@ -60,3 +60,4 @@ pub mod Running
 pub mod Skipped
 pub mod Iterating
 pub mod Gathering
+pub mod Segmenting

@@ -60,3 +60,5 @@ pub mod TakenBack
 pub mod Front
 pub mod Iterated
 pub mod Gathered
+pub mod StringMeaning
+pub mod Segmenting

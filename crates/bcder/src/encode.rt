@@ -2,12 +2,12 @@
 mod error;
 pub(crate) mod front;
 mod gather;
-mod header;
+pub(crate) mod header;
 mod primitive;
 pub(crate) mod short;
 pub(crate) mod slot;
 pub(crate) mod target;
-mod values;
+pub(crate) mod values;
 
 pub use error::{EncodeError, WriteError};
 pub use header::{total_encoded_len, write_header};

@@ -13,13 +13,13 @@ use Rattle.bcder.specs.laws.Lists.{AreEncodings-one}
 use Rattle.bcder.specs.laws.Written.{primitive_written, constructed_written}
 
 module _ {A : Type 0} (t : Tag) (f : A → Meaning) {P : A → Type 0} (one : IsOne P) where
-  value_same : (m n : Meaning) → ValueMeans t f P m → ValueMeans t f P n → m ≡ n
+  pub value_same : (m n : Meaning) → ValueMeans t f P m → ValueMeans t f P n → m ≡ n
   value_same m n (inl p) (inl q) = p.1 ∙ sym q.1
   value_same m n (inl p) (inr q) = absurd (q.0.no_end p.0)
   value_same m n (inr p) (inl q) = absurd (p.0.no_end q.0)
   value_same m n (inr p) (inr q) = p.1.2 ∙ ap f (one.same p.1.0 q.1.0 p.1.1 q.1.1) ∙ sym q.1.2
 
-primitive_at : (t : Tag) (mode : Mode) (c : List ℕ) (e : Encoded) (b : Bool) → (b ≡ true → length c < 2 ^ 32) → IsValueTag t → AreOctets c
+pub primitive_at : (t : Tag) (mode : Mode) (c : List ℕ) (e : Encoded) (b : Bool) → (b ≡ true → length c < 2 ^ 32) → IsValueTag t → AreOctets c
     → Ok e ≡ (if b then Ok (primitive_encoded t c) else Err LengthTooLarge) → AreEncodings mode e.values e.octets
 primitive_at t mode c e false fits v o eq = cc
 primitive_at t mode c e true fits v o eq =
@@ -31,7 +31,7 @@ primitive_encodes t mode M octets e (inl p) = cc
 primitive_encodes t mode M octets e (inr (v, (Err d, _, eq))) = cc
 primitive_encodes t mode M octets e (inr (v, (Ok c, m, eq))) = primitive_at t mode c e (nat_lt (length c) (2 ^ 32)) (ltb-true _ _) v (octets c m) eq
 
-constructed_at : (t : Tag) (mode : Mode) (x e : Encoded) (b : Bool) → AreEncodings mode x.values x.octets → fits_enclosed mode t (length x.octets) ≡ b → IsValueTag t
+pub constructed_at : (t : Tag) (mode : Mode) (x e : Encoded) (b : Bool) → AreEncodings mode x.values x.octets → fits_enclosed mode t (length x.octets) ≡ b → IsValueTag t
     → Ok e ≡ (if b then Ok (constructed_encoded mode t x) else Err (enclosed_refusal mode)) → AreEncodings mode e.values e.octets
 constructed_at t mode x e false inside fits v eq = cc
 constructed_at t mode x e true inside fits v eq =

@@ -3,10 +3,13 @@ ghost use Rattle.std.specs.Prelude.{◌≡◌};
 ghost use Rattle.bcder.specs.OctetString.{whole, cut, segments_at, IsTable};
 
 mod iter;
+mod slice;
+mod write;
 
 use crate::captured::Captured;
 use bytes::Bytes;
 pub use iter::OctetStringIter;
+pub use slice::OctetSliceEncoder;
 use std::marker::Model;
 
 /// Where the contents octets of a segment stand among octets that are captured.

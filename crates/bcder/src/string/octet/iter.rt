@@ -1,6 +1,6 @@
 //! The parts of an octet string, and its octets.
 ghost use Rattle.std.specs.Prelude.{◌≡◌, ◌+◌, ◌≤◌, length};
-ghost use Rattle.bcder.specs.OctetString.{parts, segment_at};
+ghost use Rattle.bcder.specs.OctetString.{parts, piece, segment_at};
 
 use super::{OctetString, Octets, Segment};
 use std::alloc::AllocError;
@@ -39,6 +39,20 @@ fn octets_at<'a>(octets: &'a [u8], segment: Segment) -> &'a [u8]
     ensures { result.now ≡ segment_at octets.now segment }
 {
     &octets[segment.start..segment.start + segment.len]
+}
+
+impl<'a> OctetStringIter<'a> {
+    /// Octets in one piece.
+    #[inline(always)]
+    pub(super) fn over(octets: &'a [u8]) -> OctetStringIter<'a>
+        ensures { result ≡ piece octets.now }
+    {
+        OctetStringIter {
+            front: octets,
+            octets: &[],
+            segments: &[],
+        }
+    }
 }
 
 impl OctetString {
