@@ -60,4 +60,6 @@ pub mod Running
 pub mod Skipped
 pub mod Iterating
 pub mod Gathering
+pub mod Parts
+pub mod Comparing
 pub mod Segmenting

@@ -104,6 +104,11 @@ abbrev pub octets_of : StringOctets → List ℕ
 octets_of (whole w) = w
 octets_of (cut kept ps) = concat ps
 
+-- whether it was cut
+abbrev pub IsCut : StringOctets → Type 0
+IsCut (whole w) = ⊥
+IsCut (cut kept ps) = ⊤
+
 -- ---- the table of segments
 
 -- the octets where a segment's contents octets stand

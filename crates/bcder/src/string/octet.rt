@@ -1,15 +1,20 @@
 //! Octet strings (X.690, 8.7).
-ghost use Rattle.std.specs.Prelude.{◌≡◌};
-ghost use Rattle.bcder.specs.OctetString.{whole, cut, segments_at, IsTable};
+ghost use Rattle.std.specs.Prelude.{◌≡◌, ◌↔◌, IsTrue, MatchOption, [], length};
+ghost use Rattle.bcder.specs.OctetString.{whole, cut, segments_at, IsTable, IsCut, octets_of};
 
+mod compare;
 mod iter;
+mod joined;
 mod slice;
 mod write;
 
 use crate::captured::Captured;
+use crate::decode::source::see_octets;
 use bytes::Bytes;
-pub use iter::OctetStringIter;
+pub use iter::{OctetStringIter, OctetStringOctets};
 pub use slice::OctetSliceEncoder;
+use std::alloc::AllocError;
+use std::convert::AsRef;
 use std::marker::Model;
 
 /// Where the contents octets of a segment stand among octets that are captured.
@@ -20,7 +25,7 @@ struct Segment {
 }
 
 /// How the octets of a string came.
-#[derive(Drop)]
+#[derive(Debug, Drop)]
 enum Octets {
     /// In one piece.
     Whole(Bytes),
@@ -33,7 +38,7 @@ enum Octets {
 ///
 /// It is kept as it came: in one piece, or cut into segments (8.7.3). Two strings with the same
 /// octets are equal, whether they were cut or not.
-#[derive(Drop)]
+#[derive(Debug, Drop)]
 pub struct OctetString {
     octets: Octets,
 }
@@ -77,10 +82,66 @@ impl OctetString {
     }
 
     /// The octets, if they came in one piece.
-    pub fn as_slice(&self) -> Option<&[u8]> {
+    pub fn as_slice(&self) -> Option<&[u8]>
+        ensures { MatchOption result (IsCut self.now) (λ octets. self.now ≡ whole octets.now) }
+    {
         match &self.octets {
             Octets::Whole(octets) => Some(octets.as_slice()),
             Octets::Cut(..) => None,
         }
+    }
+
+    /// How many octets there are, in all parts.
+    #[tactic(auto, using(crate::proofs::Parts::parts_shorter))]
+    pub fn len(&self) -> usize
+        ensures { result ≡ length (octets_of self.now) }
+    {
+        match &self.octets {
+            Octets::Whole(octets) => octets.len(),
+            Octets::Cut(captured, _) => {
+                see_octets(captured.as_slice());
+                let mut len = 0;
+                for part in self {
+                    len += part.len();
+                }
+                len
+            }
+        }
+    }
+
+    /// Whether there is no octet, in any part.
+    pub fn is_empty(&self) -> bool
+        ensures { IsTrue result ↔ (octets_of self.now ≡ []) }
+    {
+        for part in self {
+            if !part.is_empty() {
+                return false;
+            }
+        }
+        true
+    }
+}
+
+/// The clone has the same octets, cut in the same way.
+impl Clone for OctetString {
+    ghost is_clone = { λ s copy. copy ≡ s };
+
+    fn clone(&self) -> Result<OctetString, AllocError> {
+        match &self.octets {
+            Octets::Whole(octets) => Ok(OctetString::new(octets.clone()?)),
+            Octets::Cut(captured, segments) => Ok(OctetString::of_segments(
+                captured.clone()?,
+                segments.clone()?,
+            )),
+        }
+    }
+}
+
+/// It lends itself.
+impl AsRef<OctetString> for OctetString {
+    fn as_ref(&self) -> &OctetString
+        ensures { result.now ≡ self.now }
+    {
+        self
     }
 }

@@ -1,6 +1,6 @@
 //! The parts of an octet string, and its octets.
 ghost use Rattle.std.specs.Prelude.{◌≡◌, ◌+◌, ◌≤◌, length};
-ghost use Rattle.bcder.specs.OctetString.{parts, piece, segment_at};
+ghost use Rattle.bcder.specs.OctetString.{piece, parts, octets_of, segment_at};
 
 use super::{OctetString, Octets, Segment};
 use std::alloc::AllocError;
@@ -42,9 +42,8 @@ fn octets_at<'a>(octets: &'a [u8], segment: Segment) -> &'a [u8]
 }
 
 impl<'a> OctetStringIter<'a> {
-    /// Octets in one piece.
-    #[inline(always)]
-    pub(super) fn over(octets: &'a [u8]) -> OctetStringIter<'a>
+    /// The parts of octets in one piece.
+    pub(super) fn of_piece(octets: &'a [u8]) -> OctetStringIter<'a>
         ensures { result ≡ piece octets.now }
     {
         OctetStringIter {
@@ -62,16 +61,22 @@ impl OctetString {
         ensures { result ≡ parts self.now }
     {
         match &self.octets {
-            Octets::Whole(octets) => OctetStringIter {
-                front: octets.as_slice(),
-                octets: &[],
-                segments: &[],
-            },
+            Octets::Whole(octets) => OctetStringIter::of_piece(octets.as_slice()),
             Octets::Cut(captured, segments) => OctetStringIter {
                 front: &[],
                 octets: captured.as_slice(),
                 segments: segments.as_slice(),
             },
+        }
+    }
+
+    /// The octets, in their order, those of one part behind those of another.
+    pub fn octets(&self) -> OctetStringOctets<'_>
+        ensures { result ≡ octets_of self.now }
+    {
+        OctetStringOctets {
+            part: &[],
+            parts: self.iter(),
         }
     }
 }
@@ -121,6 +126,61 @@ impl<'a> Iterator for OctetStringIter<'a> {
             [segment, rest @ ..] => {
                 self.segments = rest;
                 Some(octets_at(self.octets, *segment))
+            }
+        }
+    }
+}
+
+/// The octets of an octet string, in their order.
+#[derive(Debug, Drop)]
+pub struct OctetStringOctets<'a> {
+    /// What is left of a part.
+    part: &'a [u8],
+
+    /// The parts behind it.
+    parts: OctetStringIter<'a>,
+}
+
+/// The clauses see the octets that are still to come.
+impl<'a> Model for OctetStringOctets<'a> {
+    ghost use Rattle.std.specs.Prelude.{ℕ, List, ◌++◌};
+    ghost use Rattle.std.specs.List.{concat};
+
+    ghost Value = { List ℕ };
+
+    ghost view = { λ o. o.part.now ++ concat o.parts };
+}
+
+/// The clone has the same octets to come.
+impl Clone for OctetStringOctets<'_> {
+    ghost is_clone = { λ o copy. copy ≡ o };
+
+    fn clone(&self) -> Result<Self, AllocError> {
+        Ok(OctetStringOctets {
+            part: self.part,
+            parts: self.parts.clone()?,
+        })
+    }
+}
+
+impl Iterator for OctetStringOctets<'_> {
+    ghost use Rattle.std.specs.Iterator.{YieldsFirst, item_count};
+
+    type Item = u8;
+
+    ghost next_gives = { YieldsFirst (λ octets. octets) };
+
+    ghost remaining = { item_count (λ octets. octets) };
+
+    #[inline(always)]
+    fn next(&mut self) -> Option<u8> {
+        loop {
+            match self.part {
+                [octet, rest @ ..] => {
+                    self.part = rest;
+                    return Some(*octet);
+                }
+                [] => self.part = self.parts.next()?,
             }
         }
     }

@@ -236,7 +236,7 @@ pub(super) fn put_octets<W: io::Write>(
     ensures { WritesParts W.contents target (OctetsMean tag octets.now mode) ⊥
         (told result why.new) }
 {
-    put_string(tag, mode, octets.len(), OctetStringIter::over(octets), target, why)
+    put_string(tag, mode, octets.len(), OctetStringIter::of_piece(octets), target, why)
 }
 
 /// Writes octets as a string, if it has an encoding.

@@ -5,4 +5,4 @@ use Rattle.bcder.proofs.Segmenting.{same_string}
 use Rattle.bcder.proofs.string.octet.write.put_octets.Goals as goal
 
 pub returns : goal.returns
-returns g c = same_string c.args.tag c.args.mode (ap concat c.over.ensures ∙ piece_joined c.args.octets.now) c.put_string.ensures
+returns g c = same_string c.args.tag c.args.mode (ap concat c.of_piece.ensures ∙ piece_joined c.args.octets.now) c.put_string.ensures

@@ -1,0 +1,51 @@
+//! The octets of an octet string in one piece.
+ghost use Rattle.std.specs.Prelude.{◌≡◌, IfOk};
+ghost use Rattle.bcder.specs.OctetString.{octets_of};
+
+use super::{OctetString, Octets};
+use crate::NoMemory;
+use bytes::Bytes;
+use std::alloc::Global;
+
+impl OctetString {
+    /// The octets, copied into one block.
+    fn joined(&self, alloc: Global) -> Result<Bytes, NoMemory>
+        ensures { IfOk result (λ octets. octets ≡ octets_of self.now) }
+    {
+        let mut octets = Vec::with_capacity(alloc, self.len())?;
+        for part in self {
+            octets.extend_from_slice(part)?;
+        }
+        Ok(Bytes::from_vec(octets)?)
+    }
+
+    /// The octets in one piece. They are shared where they came so, and else copied once.
+    ///
+    /// # Errors
+    ///
+    /// Where there is no memory to share or copy them.
+    pub fn to_bytes(&self, alloc: Global) -> Result<Bytes, NoMemory>
+        ensures { IfOk result (λ octets. octets ≡ octets_of self.now) }
+    {
+        match &self.octets {
+            Octets::Whole(octets) => Ok(octets.clone()?),
+            Octets::Cut(..) => self.joined(alloc),
+        }
+    }
+
+    /// The octets in one piece. They are the string's own where they came so, and else copied once.
+    ///
+    /// # Errors
+    ///
+    /// Where there is no memory for a copy. The string is then dropped.
+    pub fn into_bytes(self, alloc: Global) -> Result<Bytes, NoMemory>
+        ensures { IfOk result (λ octets. octets ≡ octets_of self) }
+    {
+        match self.octets {
+            Octets::Whole(octets) => Ok(octets),
+            Octets::Cut(captured, segments) => {
+                OctetString::of_segments(captured, segments).joined(alloc)
+            }
+        }
+    }
+}
