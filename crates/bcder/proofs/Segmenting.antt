@@ -1,5 +1,5 @@
 -- Octets written in segments.
-use Rattle.std.proofs.Common.{◌≡◌, ℕ, zero, suc, ◌+◌, ◌-◌, ◌*◌, ◌/◌, ◌^◌, ◌<◌, ◌≤◌, min, Bool, true, false, List, [], ◌∷◌, ◌++◌, length, take, drop, Option, Result, Ok, Err, refl, sym, ap, ◌∙◌, subst, append_assoc, append-nil, inl, inr, arith, ltb-true, IsErr, IsErrAnd}
+use Rattle.std.proofs.Common.{◌≡◌, ℕ, zero, suc, ◌+◌, ◌-◌, ◌*◌, ◌/◌, ◌^◌, ◌<◌, ◌≤◌, min, Bool, true, false, List, [], ◌∷◌, ◌++◌, length, take, drop, Option, Result, Ok, Err, refl, sym, ap, ◌∙◌, subst, append_assoc, append-nil, inl, inr, arith, ltb-true, IsErr, IsErrAnd, ◌⊎◌}
 use Rattle.std.specs.List.{concat}
 use Rattle.std.specs.Prelude.{IfOk, IfErr}
 use Rattle.std.specs.Io.KnownBytes.{Appends}
@@ -17,11 +17,18 @@ use Rattle.bcder.specs.declared.mode.Mode.TheVariants.{Ber, Cer, Der}
 use Rattle.bcder.specs.declared.string.octet.write.Progress.{Progress}
 use Rattle.bcder.specs.Identifier.{AreOctets, Tag, IsValueTag, identifier}
 use Rattle.bcder.specs.Octets.{definite_length, header, definite, enclosed, enclosed_size}
-use Rattle.bcder.specs.OctetString.{octet_string_tag}
-use Rattle.bcder.specs.Meaning.{Encoded, octets_of, fits_enclosed, primitive_encoded, constructed_encoded}
-use Rattle.bcder.specs.Encoders.{SizeOfValues, RefusesBy, WroteOf, HasHeader, RefusesHeader}
-use Rattle.bcder.specs.StringMeaning.{full_segments, segmented, segments_in_cer, is_cut, OctetsMean}
+use Rattle.bcder.specs.Tree.{Tree, primitive, constructed, Trees, no_trees, ◌∷ₜ◌}
+use Rattle.bcder.specs.Encoding.{IsEncoding, AreEncodings}
+use Rattle.bcder.specs.OctetString.{octet_string_tag, StringOctets, whole, cut, octets_of as string_octets, segments, segments_of, parts, AreSegmented}
+use Rattle.bcder.specs.Captured.{Kept}
+use Rattle.bcder.specs.Gathered.{KeptMeans}
+use Rattle.bcder.specs.Meaning.{Encoded, Meaning, ValueMeans, constructed_meaning, fits_enclosed, primitive_encoded, constructed_encoded}
+use Rattle.bcder.specs.Encoders.{SizeOfValues, WritesEncoding, WroteOf, HasHeader, RefusesHeader}
+use Rattle.bcder.specs.StringMeaning.{full_segments, segmented, segments_in_cer, is_cut, OctetsMean, StringMeans}
 use Rattle.bcder.specs.Segmenting.{segments_size, CutSize, unwritten, to_write, IsProgress, Advanced, PartWritten, SegmentBegun}
+use Rattle.std.proofs.lemmas.List.Folds.{concat-append}
+use Rattle.bcder.specs.laws.Octets.{AreOctets-nil, AreOctets-append}
+use Rattle.bcder.proofs.Comparing.{parts_joined}
 use Rattle.bcder.proofs.Enclosing.{definite-length, enclosed-length, header-length}
 use Rattle.bcder.proofs.Writing.{stops, follows_on, same_octets}
 
@@ -236,3 +243,55 @@ part_failed {p} {q} {u} {l} part m {a} {b} {c} {d} e x f = advanced_failed x (su
 pub same_string : (t : Tag) (mode : Mode) {v w : List ℕ} {a b : Option (List ℕ)} {r : Result (Unit {0}) WriteError} → v ≡ w
     → ((e : Encoded) → OctetsMean t v mode (Ok e) → WroteOf ⊥ e.octets a b r) → (e : Encoded) → OctetsMean t w mode (Ok e) → WroteOf ⊥ e.octets a b r
 same_string t mode {v} {w} {a} {b} {r} same f = subst (λ u. (e : Encoded) → OctetsMean t u mode (Ok e) → WroteOf ⊥ e.octets a b r) same f
+
+-- ---- a string that was cut
+
+mutual
+  segments_octets : (mode : Mode) (t : Tree) (w : List ℕ) → IsEncoding mode t w → AreOctets (concat (segments t))
+  segments_octets mode (primitive t contents) w h = rw (append-nil contents) (h.0)
+  segments_octets mode (constructed t ts) w h = all_segments_octets mode ts h.0 h.1
+
+  all_segments_octets : (mode : Mode) (ts : Trees) (w : List ℕ) → AreEncodings mode ts w → AreOctets (concat (segments_of ts))
+  all_segments_octets mode no_trees w h = AreOctets-nil
+  all_segments_octets mode (t ∷ₜ ts) w h =
+      subst AreOctets (sym (concat-append (segments t) (segments_of ts)))
+      (AreOctets-append (concat (segments t)) (concat (segments_of ts)) (segments_octets mode t h.0 h.2) (all_segments_octets mode ts h.1 h.3))
+
+pub parts_octets : (mode : Mode) (w : List ℕ) (ps : List (List ℕ)) → AreSegmented mode w ps → AreOctets (concat ps)
+parts_octets mode w ps h = subst (λ p. AreOctets (concat p)) h.hold (all_segments_octets mode h.values w h.encode)
+
+-- in CER and DER it means what its octets mean
+pub by_octets : (t : Tag) (s : StringOctets) (mode : Mode) → (mode ≡ Cer) ⊎ (mode ≡ Der) → StringMeans t s mode ≡ OctetsMean t (string_octets s) mode
+by_octets t (whole w) Ber form = refl
+by_octets t (whole w) Cer form = refl
+by_octets t (whole w) Der form = refl
+by_octets t (cut kept ps) Cer form = refl
+by_octets t (cut kept ps) Der form = refl
+by_octets t (cut kept ps) Ber (inl e) = cc
+by_octets t (cut kept ps) Ber (inr e) = cc
+
+-- and in one piece in any mode
+pub in_one_piece : (t : Tag) (w : List ℕ) (mode : Mode) → StringMeans t (whole w) mode ≡ OctetsMean t w mode
+in_one_piece t w Ber = refl
+in_one_piece t w Cer = refl
+in_one_piece t w Der = refl
+
+-- ---- writings of what is the same
+
+pub written_as : {M N : Meaning → Type 0} {lacks : Type 0} {a b : Option (List ℕ)} {r : Result (Unit {0}) WriteError} → N ≡ M → WritesEncoding M lacks a b r → WritesEncoding N lacks a b r
+written_as same f = λ e m. f e (subst (λ (P : Meaning → Type 0). P (Ok e)) same m)
+
+-- a string in one piece
+pub whole_is : (t : Tag) (s : StringOctets) (mode : Mode) (w u : List ℕ) → whole w ≡ s → u ≡ w → StringMeans t s mode ≡ OctetsMean t u mode
+whole_is t s mode w u is same = ap (λ x. StringMeans t x mode) (sym is) ∙ in_one_piece t w mode ∙ ap (λ x. OctetsMean t x mode) (sym same)
+
+-- a string whose parts are written
+pub parts_are : (t : Tag) (s : StringOctets) (mode : Mode) (ps : List (List ℕ)) → (mode ≡ Cer) ⊎ (mode ≡ Der) → ps ≡ parts s → StringMeans t s mode ≡ OctetsMean t (concat ps) mode
+parts_are t s mode ps form same = by_octets t s mode form ∙ ap (λ x. OctetsMean t x mode) (sym (ap concat same ∙ parts_joined s))
+
+-- a string that is written as it was cut
+pub cut_is : (t : Tag) (s : StringOctets) (mode : Mode) (kept : Kept) (ps : List (List ℕ)) → cut kept ps ≡ s → mode ≡ Ber → StringMeans t s mode ≡ ValueMeans t (constructed_meaning t mode) (KeptMeans kept mode)
+cut_is t s mode kept ps is ber =
+    ap (λ x. StringMeans t x mode) (sym is)
+    ∙ ap (StringMeans t (cut kept ps)) ber
+    ∙ ap (λ x. ValueMeans t (constructed_meaning t x) (KeptMeans kept x)) (sym ber)

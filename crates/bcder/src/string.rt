@@ -1,4 +1,5 @@
 //! The string types (X.690, 8.6, 8.7, 8.23).
 mod octet;
 
-pub use octet::{OctetSliceEncoder, OctetString, OctetStringIter, OctetStringOctets};
+pub use octet::{OctetSliceEncoder, OctetString, OctetStringEncoder};
+pub use octet::{OctetStringIter, OctetStringOctets};

@@ -3,6 +3,7 @@ ghost use Rattle.std.specs.Prelude.{◌≡◌, ◌↔◌, IsTrue, MatchOption, [
 ghost use Rattle.bcder.specs.OctetString.{whole, cut, segments_at, IsTable, IsCut, octets_of};
 
 mod compare;
+mod encode;
 mod iter;
 mod joined;
 mod slice;
@@ -11,6 +12,7 @@ mod write;
 use crate::captured::Captured;
 use crate::decode::source::see_octets;
 use bytes::Bytes;
+pub use encode::OctetStringEncoder;
 pub use iter::{OctetStringIter, OctetStringOctets};
 pub use slice::OctetSliceEncoder;
 use std::alloc::AllocError;
