@@ -63,3 +63,4 @@ pub mod Gathering
 pub mod Parts
 pub mod Comparing
 pub mod Segmenting
+pub mod Wrapping

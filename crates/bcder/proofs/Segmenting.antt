@@ -69,10 +69,11 @@ module _ (t : Tag) (w : List ℕ) (o : AreOctets w) where
   cut_at : (r : Result ℕ EncodeError) → is_cut Cer (length w) ≡ true → CutSize t (length w) r → SizeOfValues (OctetsMean t w Cer) ⊥ r
   cut_at (Ok size) is (v, size_is, fits) =
       let inside = segments_in_cer w in
-      let fits_at = ap (fits_enclosed Cer t) (segments-length w) ∙ fits in
-      (constructed_encoded Cer t inside,
-       inr (v, (Ok w, (refl, o), rw (is, fits_at) refl)),
-       size_is ∙ ap (enclosed_size Cer t) (sym (segments-length w)) ∙ sym (enclosed-length Cer t inside.octets))
+      let fits_at = ap (fits_enclosed Cer t) (segments-length w) ∙ fits in (
+        constructed_encoded Cer t inside,
+        inr (v, (Ok w, (refl, o), rw (is, fits_at) refl)),
+        size_is ∙ ap (enclosed_size Cer t) (sym (segments-length w)) ∙ sym (enclosed-length Cer t inside.octets),
+      )
   cut_at (Err e) is (inl (ends, e_is)) = record { meant = λ ne. inl (ends, ap Err e_is); lacking = λ n. cc }
   cut_at (Err e) is (inr (v, fits, e_is)) =
       let fits_at = ap (fits_enclosed Cer t) (segments-length w) ∙ fits in

@@ -7,13 +7,15 @@ use Rattle.bcder.specs.declared.encode.error.EncodeError.{EncodeError}
 use Rattle.bcder.specs.declared.encode.error.EncodeError.TheVariants.{EndOfValueTag, SizeOverflow}
 use Rattle.bcder.specs.declared.encode.error.WriteError.{WriteError}
 use Rattle.bcder.specs.declared.encode.slot.Failed.{Failed}
+use Rattle.bcder.specs.declared.mode.Mode.{Mode}
 use Rattle.bcder.specs.declared.mode.Mode.TheVariants.{Cer}
 use Rattle.bcder.specs.declared.string.octet.write.Progress.{Progress}
 use Rattle.bcder.specs.Identifier.{Tag, IsValueTag, end_of_contents}
-use Rattle.bcder.specs.Octets.{definite_length, enclosed_size}
-use Rattle.bcder.specs.Meaning.{fits_enclosed}
-use Rattle.bcder.specs.Encoders.{WroteOf}
-use Rattle.bcder.specs.StringMeaning.{full_segments, segments_in_cer}
+use Rattle.bcder.specs.Octets.{definite_length, definite, enclosed_size}
+use Rattle.bcder.specs.OctetString.{octet_string_tag}
+use Rattle.bcder.specs.Meaning.{Encoded, Meaning, fits_enclosed}
+use Rattle.bcder.specs.Encoders.{HasEncoding, RefusesBy, WroteOf}
+use Rattle.bcder.specs.StringMeaning.{full_segments, segments_in_cer, WrappedMeans}
 
 -- ---- sizes
 
@@ -27,6 +29,11 @@ CutSize t n (Ok size) = IsValueTag t × (size ≡ enclosed_size Cer t (segments_
 CutSize t n (Err e) =
     ((t ≡ end_of_contents) × (e ≡ EndOfValueTag))
     ⊎ (IsValueTag t × (fits_enclosed Cer t (segments_size n) ≡ false) × (e ≡ SizeOverflow))
+
+-- r is how many octets stand inside a string of what M says, where that has an encoding, or why it has none
+abbrev pub InsideSize : Mode → (Meaning → Type 0) → Type 0 → Result ℕ EncodeError → Type 0
+InsideSize mode M lacks (Ok n) = (e : Encoded) × M (Ok e) × (n ≡ length e.octets) × HasEncoding (WrappedMeans octet_string_tag mode M)
+InsideSize mode M lacks (Err e) = RefusesBy (WrappedMeans octet_string_tag mode M) lacks e
 
 -- ---- octets
 
@@ -66,3 +73,7 @@ module _ {W : Type 0} (contents : W → Option (List ℕ)) (target : Both (MutBo
 
   abbrev pub BeginsSegment : Progress → WriteError → Result Progress Failed → Type 0
   BeginsSegment p why r = SegmentBegun p why (contents target.entry.now) (contents target.exit.now) r
+
+  -- the octets of what M says were written as a primitive value
+  abbrev pub WritesInside : (Meaning → Type 0) → Type 0 → Result (Unit {0}) WriteError → Type 0
+  WritesInside M lacks r = (e : Encoded) → M (Ok e) → WroteOf lacks (definite octet_string_tag false e.octets) (contents target.entry.now) (contents target.exit.now) r

@@ -1,5 +1,5 @@
 -- What an octet string means in a mode (ITU-T X.690, 8.7, 9.2, 10.2).
-use Rattle.std.specs.Prelude.{◌≡◌, ℕ, zero, suc, ◌-◌, ◌/◌, Bool, false, List, length, take, drop, nat_lt, Ok, Err, if◌then◌else◌}
+use Rattle.std.specs.Prelude.{◌≡◌, ℕ, zero, suc, ◌-◌, ◌/◌, Bool, true, false, List, length, take, drop, nat_lt, Ok, Err, if◌then◌else◌}
 use Rattle.bcder.specs.declared.mode.Mode.{Mode}
 use Rattle.bcder.specs.declared.mode.Mode.TheVariants.{Ber, Cer, Der}
 use Rattle.bcder.specs.Identifier.{Tag}
@@ -50,3 +50,7 @@ contents_of (Err e) = Err e
 -- of the octets that M says
 abbrev pub WrappedMeans : Tag → Mode → (Meaning → Type 0) → Meaning → Type 0
 WrappedMeans t mode M m = ValueMeans t (λ x. string_meaning t mode (contents_of x)) M m
+
+-- they are gathered in memory before they are written where they are cut into segments
+abbrev pub IsGathered : Mode → (Meaning → Type 0) → Type 0
+IsGathered mode M = (e : Encoded) × M (Ok e) × (is_cut mode (length e.octets) ≡ true)

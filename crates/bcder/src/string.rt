@@ -1,5 +1,7 @@
 //! The string types (X.690, 8.6, 8.7, 8.23).
 mod octet;
 
-pub use octet::{OctetSliceEncoder, OctetString, OctetStringEncoder};
-pub use octet::{OctetStringIter, OctetStringOctets};
+pub use octet::{
+    OctetSliceEncoder, OctetString, OctetStringEncoder, OctetStringIter, OctetStringOctets,
+    WrappingOctetStringEncoder,
+};

@@ -31,8 +31,8 @@ segments_encode (suc n) w o h =
     let few : length first ≤ 1000 = omega (arith, length-take 1000 w) in
     let rest = segmented n (drop 1000 w) in
     AreEncodings-join Cer (primitive octet_string_tag first ∷ₜ no_trees) rest.values (definite octet_string_tag false first) rest.octets
-      (AreEncodings-one Cer (primitive octet_string_tag first) (definite octet_string_tag false first) (primitive_written Cer octet_string_tag first octet_string_value (AreOctets-take 1000 w o) (omega arith)))
-      (segments_encode n (drop 1000 w) (AreOctets-drop 1000 w o) (omega (arith, length-drop 1000 w)))
+    (AreEncodings-one Cer (primitive octet_string_tag first) (definite octet_string_tag false first) (primitive_written Cer octet_string_tag first octet_string_value (AreOctets-take 1000 w o) (omega arith)))
+    (segments_encode n (drop 1000 w) (AreOctets-drop 1000 w o) (omega (arith, length-drop 1000 w)))
 
 -- ---- a string
 

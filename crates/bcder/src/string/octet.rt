@@ -7,6 +7,7 @@ mod encode;
 mod iter;
 mod joined;
 mod slice;
+mod wrapped;
 mod write;
 
 use crate::captured::Captured;
@@ -18,6 +19,7 @@ pub use slice::OctetSliceEncoder;
 use std::alloc::AllocError;
 use std::convert::AsRef;
 use std::marker::Model;
+pub use wrapped::WrappingOctetStringEncoder;
 
 /// Where the contents octets of a segment stand among octets that are captured.
 #[derive(Clone, Copy, Debug, Drop)]

@@ -93,7 +93,13 @@ fn begin_segment<W: io::Write>(
         return Ok(progress);
     }
     let left = progress.behind.min(1000);
-    put_header(target, Tag::OCTET_STRING, false, Length::Definite(left), why)?;
+    put_header(
+        target,
+        Tag::OCTET_STRING,
+        false,
+        Length::Definite(left),
+        why,
+    )?;
     Ok(Progress {
         left,
         behind: progress.behind - left,
@@ -236,7 +242,14 @@ pub(super) fn put_octets<W: io::Write>(
     ensures { WritesParts W.contents target (OctetsMean tag octets.now mode) ⊥
         (told result why.new) }
 {
-    put_string(tag, mode, octets.len(), OctetStringIter::of_piece(octets), target, why)
+    put_string(
+        tag,
+        mode,
+        octets.len(),
+        OctetStringIter::of_piece(octets),
+        target,
+        why,
+    )
 }
 
 /// Writes octets as a string, if it has an encoding.
