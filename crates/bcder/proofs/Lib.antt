@@ -64,3 +64,4 @@ pub mod Parts
 pub mod Comparing
 pub mod Segmenting
 pub mod Wrapping
+pub mod WrittenStrings

@@ -1,5 +1,5 @@
 -- Octets written in segments.
-use Rattle.std.proofs.Common.{◌≡◌, ℕ, zero, suc, ◌+◌, ◌-◌, ◌*◌, ◌/◌, ◌^◌, ◌<◌, ◌≤◌, min, Bool, true, false, List, [], ◌∷◌, ◌++◌, length, take, drop, Option, Result, Ok, Err, refl, sym, ap, ◌∙◌, subst, append_assoc, append-nil, inl, inr, arith, ltb-true, IsErr, IsErrAnd, ◌⊎◌}
+use Rattle.std.proofs.Common.{◌≡◌, ℕ, zero, suc, ◌+◌, ◌-◌, ◌*◌, ◌^◌, ◌<◌, ◌≤◌, min, true, false, List, [], ◌∷◌, ◌++◌, length, take, drop, Option, Result, Ok, Err, refl, sym, ap, ◌∙◌, subst, append_assoc, append-nil, inl, inr, arith, IsErr, IsErrAnd, ◌⊎◌}
 use Rattle.std.specs.List.{concat}
 use Rattle.std.specs.Prelude.{IfOk, IfErr}
 use Rattle.std.specs.Io.KnownBytes.{Appends}
@@ -8,15 +8,14 @@ use Rattle.std.proofs.lemmas.Bool.{lt-ltb, le-ltb}
 use Rattle.std.proofs.lemmas.List.{length-append, length-take-le, length-drop, take-append-le, drop-append-le, drop-drop}
 use Rattle.std.proofs.Math.Seq.{take-add, take-length}
 use Rattle.bcder.specs.declared.encode.error.EncodeError.{EncodeError}
-use Rattle.bcder.specs.declared.encode.error.EncodeError.TheVariants.{NoMemory, EndOfValueTag, LengthTooLarge, SizeOverflow}
 use Rattle.bcder.specs.declared.encode.error.WriteError.{WriteError}
 use Rattle.bcder.specs.declared.encode.slot.Failed.{Failed}
 use Rattle.bcder.specs.declared.length.Length.TheVariants.{Definite}
 use Rattle.bcder.specs.declared.mode.Mode.{Mode}
 use Rattle.bcder.specs.declared.mode.Mode.TheVariants.{Ber, Cer, Der}
 use Rattle.bcder.specs.declared.string.octet.write.Progress.{Progress}
-use Rattle.bcder.specs.Identifier.{AreOctets, Tag, IsValueTag, identifier}
-use Rattle.bcder.specs.Octets.{definite_length, header, definite, enclosed, enclosed_size}
+use Rattle.bcder.specs.Identifier.{AreOctets, Tag, identifier}
+use Rattle.bcder.specs.Octets.{definite_length, header, definite, enclosed_size}
 use Rattle.bcder.specs.Tree.{Tree, primitive, constructed, Trees, no_trees, ◌∷ₜ◌}
 use Rattle.bcder.specs.Encoding.{IsEncoding, AreEncodings}
 use Rattle.bcder.specs.OctetString.{octet_string_tag, StringOctets, whole, cut, octets_of as string_octets, segments, segments_of, parts, AreSegmented}
@@ -29,7 +28,7 @@ use Rattle.bcder.specs.Segmenting.{segments_size, CutSize, unwritten, to_write, 
 use Rattle.std.proofs.lemmas.List.Folds.{concat-append}
 use Rattle.bcder.specs.laws.Octets.{AreOctets-nil, AreOctets-append}
 use Rattle.bcder.proofs.Comparing.{parts_joined}
-use Rattle.bcder.proofs.Enclosing.{definite-length, enclosed-length, header-length}
+use Rattle.bcder.proofs.Enclosing.{definite-length, enclosed-length}
 use Rattle.bcder.proofs.Writing.{stops, follows_on, same_octets}
 
 -- ---- sizes

@@ -4,7 +4,7 @@ use Rattle.bcder.specs.OctetString.{octet_string_tag}
 use Rattle.bcder.specs.Segmenting.{InsideSize}
 use Rattle.bcder.specs.declared.encode.error.EncodeError.{EncodeError}
 use Rattle.bcder.specs.declared.mode.Mode.{Mode}
-use Rattle.bcder.specs.Identifier.{AreOctets, Tag, IsValueTag}
+use Rattle.bcder.specs.Identifier.{AreOctets, Tag}
 use Rattle.bcder.specs.Meaning.{Encoded, Meaning, IsOne, IsLawful}
 use Rattle.bcder.specs.Encoders.{HasEncoding, RefusesBy, SizeOfValues}
 use Rattle.bcder.specs.StringMeaning.{string_meaning, contents_of, OctetsMean, WrappedMeans, is_cut, IsGathered}

@@ -62,3 +62,5 @@ pub mod Iterated
 pub mod Gathered
 pub mod StringMeaning
 pub mod Segmenting
+pub mod WrittenStrings
+pub mod StringSource

@@ -1,10 +1,9 @@
 -- What an octet string means in a mode (ITU-T X.690, 8.7, 9.2, 10.2).
 use Rattle.std.specs.Prelude.{◌≡◌, ℕ, zero, suc, ◌-◌, ◌/◌, Bool, true, false, List, length, take, drop, nat_lt, Ok, Err, if◌then◌else◌}
 use Rattle.bcder.specs.declared.mode.Mode.{Mode}
-use Rattle.bcder.specs.declared.mode.Mode.TheVariants.{Ber, Cer, Der}
+use Rattle.bcder.specs.declared.mode.Mode.TheVariants.{Ber, Cer}
 use Rattle.bcder.specs.Identifier.{Tag}
-use Rattle.bcder.specs.Captured.{Kept}
-use Rattle.bcder.specs.OctetString.{octet_string_tag, StringOctets, whole, cut, octets_of}
+use Rattle.bcder.specs.OctetString.{octet_string_tag, StringOctets, cut, octets_of}
 use Rattle.bcder.specs.Meaning.{Encoded, Meaning, ContentsMeaning, ExactlyOctets, ValueMeans, primitive_encoded, primitive_meaning, constructed_meaning}
 use Rattle.bcder.specs.Joined.{join}
 use Rattle.bcder.specs.Gathered.{KeptMeans}

@@ -10,6 +10,7 @@ ghost use Rattle.bcder.specs.Grammar.{ValueHasTwo, ListHasTwo, ValueIsOctets, Li
 pub mod encoders;
 pub mod identifiers;
 pub mod integers;
+pub mod octet_strings;
 pub mod read_back;
 pub mod sources;
 pub mod taken_back;

@@ -1,5 +1,5 @@
 //! The string types (X.690, 8.6, 8.7, 8.23).
-mod octet;
+pub(crate) mod octet;
 
 pub use octet::{
     OctetSliceEncoder, OctetString, OctetStringEncoder, OctetStringIter, OctetStringOctets,

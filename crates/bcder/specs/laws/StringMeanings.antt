@@ -1,15 +1,15 @@
 -- An octet string has one meaning at most, and its octets are an encoding.
-use Rattle.std.specs.Prelude.{◌≡◌, ℕ, zero, suc, ◌+◌, ◌*◌, ◌^◌, ◌<◌, ◌≤◌, Bool, true, false, List, [], ◌∷◌, ◌++◌, length, take, drop, Ok, Err, refl, if◌then◌else◌}
-use Rattle.std.proofs.Common.{inl, inr, sym, ap, ◌∙◌, subst, ltb-true, arith}
+use Rattle.std.specs.Prelude.{◌≡◌, ℕ, zero, suc, ◌+◌, ◌*◌, ◌≤◌, Bool, true, false, List, length, take, drop, Ok, Err, refl, if◌then◌else◌}
+use Rattle.std.proofs.Common.{inl, inr, ap, subst, ltb-true, arith}
 use Rattle.std.proofs.lemmas.List.{length-take, length-drop}
 use Rattle.bcder.specs.declared.mode.Mode.{Mode}
 use Rattle.bcder.specs.declared.mode.Mode.TheVariants.{Ber, Cer, Der}
-use Rattle.bcder.specs.Identifier.{Tag, AreOctets, IsValueTag, universal}
+use Rattle.bcder.specs.Identifier.{Tag, AreOctets, IsValueTag}
 use Rattle.bcder.specs.Octets.{definite}
 use Rattle.bcder.specs.Tree.{primitive, no_trees, ◌∷ₜ◌}
 use Rattle.bcder.specs.Encoding.{AreEncodings}
 use Rattle.bcder.specs.OctetString.{octet_string_tag, StringOctets, whole, cut, octets_of}
-use Rattle.bcder.specs.Meaning.{Encoded, Meaning, ContentsMeaning, IsOne, IsLawful, IsLawfulContents, ExactlyOctets, ValueMeans, primitive_meaning, constructed_meaning, constructed_encoded, primitive_encoded}
+use Rattle.bcder.specs.Meaning.{Encoded, Meaning, ContentsMeaning, IsLawful, IsLawfulContents, ValueMeans, primitive_meaning, constructed_meaning}
 use Rattle.bcder.specs.StringMeaning.{full_segments, segmented, segments_in_cer, is_cut, string_meaning, OctetsMean, StringMeans, contents_of, WrappedMeans}
 use Rattle.bcder.specs.laws.Lists.{AreEncodings-one, AreEncodings-join}
 use Rattle.bcder.specs.laws.Octets.{AreOctets-encodings}

@@ -3,7 +3,7 @@ ghost use Rattle.std.specs.Prelude.{◌≡◌, ◌↔◌, IsTrue, MatchOption, [
 ghost use Rattle.bcder.specs.OctetString.{whole, cut, segments_at, IsTable, IsCut, octets_of};
 
 mod compare;
-mod encode;
+pub(crate) mod encode;
 mod iter;
 mod joined;
 mod slice;

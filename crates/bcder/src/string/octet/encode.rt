@@ -4,10 +4,12 @@ ghost use Rattle.bcder.specs.OctetString.{octet_string_tag};
 ghost use Rattle.bcder.specs.Encoders.{HasEncoding, SizeOfValues, WritesValues, WritesParts};
 ghost use Rattle.bcder.specs.Encoders.{told};
 ghost use Rattle.bcder.specs.StringMeaning.{StringMeans};
+ghost use Rattle.bcder.specs.WrittenStrings.{IsMadeUp};
 ghost use Rattle.bcder.specs.laws.StringMeanings.{StringMeans_lawful};
 
 use super::write::{octets_len, put_octets, put_string, string_len};
 use super::{OctetString, Octets};
+use crate::decode::source::see_octets;
 use crate::encode::slot::{slot, told};
 use crate::encode::{Constructed, EncodeError, Failed, Values, WriteError};
 use crate::mode::Mode;
@@ -53,6 +55,16 @@ impl OctetString {
         ensures { result ≡ record { value = self.entry; tag = tag } }
     {
         OctetStringEncoder { value: self, tag }
+    }
+}
+
+// What a string is made of, for the proof alone.
+pub(crate) fn see_string(string: &OctetString)
+    ensures { IsMadeUp string.now }
+{
+    match &string.octets {
+        Octets::Whole(octets) => see_octets(octets.as_slice()),
+        Octets::Cut(..) => {}
     }
 }
 

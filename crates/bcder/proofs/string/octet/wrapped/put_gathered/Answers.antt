@@ -1,4 +1,4 @@
-use Rattle.std.proofs.Common.{ap, ◌∙◌, Err, inl, inr, ◌⊎◌}
+use Rattle.std.proofs.Common.{ap, ◌∙◌, Err}
 use Rattle.bcder.specs.OctetString.{octet_string_tag}
 use Rattle.bcder.specs.Captured.{Kept}
 use Rattle.bcder.proofs.Writing.{lacks_more, lacked, same_answer}

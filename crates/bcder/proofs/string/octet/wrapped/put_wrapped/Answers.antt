@@ -1,5 +1,4 @@
-use Rattle.std.proofs.Common.{ap, sym, ◌∙◌, inl, inr}
-use Rattle.bcder.specs.StringMeaning.{is_cut}
+use Rattle.std.proofs.Common.{sym}
 use Rattle.bcder.proofs.Writing.{lacks_more}
 use Rattle.bcder.proofs.Wrapping.{or_gathered}
 use Rattle.bcder.proofs.string.octet.wrapped.put_wrapped.Goals as goal

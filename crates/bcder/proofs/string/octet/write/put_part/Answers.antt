@@ -1,4 +1,4 @@
-use Rattle.std.proofs.Common.{List, ℕ, ◌++◌, length, sym, ap, arith}
+use Rattle.std.proofs.Common.{◌++◌, length, sym, ap, arith}
 use Rattle.std.proofs.lemmas.List.{take_rest, length-drop}
 use Rattle.bcder.proofs.Segmenting.{advanced_on, advanced_to, advanced_failed, front_written, front_failed, part_halts}
 use Rattle.bcder.proofs.string.octet.write.put_part.Goals as goal

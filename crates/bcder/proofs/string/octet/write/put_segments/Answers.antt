@@ -1,4 +1,4 @@
-use Rattle.std.proofs.Common.{List, ℕ, ◌≡◌, ap, ◌∙◌, length, arith}
+use Rattle.std.proofs.Common.{◌≡◌, ap, ◌∙◌, length, arith}
 use Rattle.std.specs.List.{concat}
 use Rattle.bcder.specs.StringMeaning.{segments_in_cer}
 use Rattle.bcder.proofs.Writing.{halts, same_octets}
