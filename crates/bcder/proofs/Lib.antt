@@ -62,6 +62,10 @@ pub mod Iterating
 pub mod Gathering
 pub mod Parts
 pub mod Comparing
+<<<<<<< HEAD
 pub mod Segmenting
 pub mod Wrapping
 pub mod WrittenStrings
+=======
+pub mod Hashing
+>>>>>>> b4cfa5b510224948e80be08364332dfdb4272df1

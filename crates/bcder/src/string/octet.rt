@@ -3,7 +3,11 @@ ghost use Rattle.std.specs.Prelude.{◌≡◌, ◌↔◌, IsTrue, MatchOption, [
 ghost use Rattle.bcder.specs.OctetString.{whole, cut, segments_at, IsTable, IsCut, octets_of};
 
 mod compare;
+<<<<<<< HEAD
 pub(crate) mod encode;
+=======
+mod hash;
+>>>>>>> b4cfa5b510224948e80be08364332dfdb4272df1
 mod iter;
 mod joined;
 mod slice;
@@ -96,7 +100,6 @@ impl OctetString {
     }
 
     /// How many octets there are, in all parts.
-    #[tactic(auto, using(crate::proofs::Parts::parts_shorter))]
     pub fn len(&self) -> usize
         ensures { result ≡ length (octets_of self.now) }
     {

@@ -14,7 +14,7 @@ use std::cmp::Ordering;
 
 /// What is left of a part, or else the next part that isn't empty.
 #[inline(always)]
-fn front<'a>(mut part: &'a [u8], parts: &mut OctetStringIter<'a>) -> &'a [u8]
+pub(super) fn front<'a>(mut part: &'a [u8], parts: &mut OctetStringIter<'a>) -> &'a [u8]
     ensures joined { result.now ++ concat parts.new ≡ part.entry.now ++ concat parts.old }
     ensures all { result.now ≡ [] → concat parts.new ≡ [] }
 {

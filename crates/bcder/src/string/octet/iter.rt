@@ -86,9 +86,9 @@ impl<'a> IntoIterator for &'a OctetString {
 
     type IntoIter = OctetStringIter<'a>;
 
-    fn into_iter(self) -> OctetStringIter<'a>
-        ensures { result ≡ parts self.now }
-    {
+    ghost into_iter_gives = { λ s i. i ≡ parts s.now };
+
+    fn into_iter(self) -> OctetStringIter<'a> {
         self.iter()
     }
 }
