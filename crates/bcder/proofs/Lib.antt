@@ -40,6 +40,7 @@ pub mod Capturing
 pub mod CapturingValues
 pub mod Markers
 pub mod Typed
+pub mod Valued
 pub mod Subidentifiers
 pub mod Digits
 pub mod Shown
@@ -60,6 +61,9 @@ pub mod Running
 pub mod Skipped
 pub mod Iterating
 pub mod Gathering
+pub mod Segments
+pub mod OneString
+pub mod Strings
 pub mod Parts
 pub mod Comparing
 <<<<<<< HEAD

@@ -45,7 +45,7 @@ primitive_header tag c within contents w rest h =
     (contents ++ rest, record { tag = tag; form = false; len = Definite (length contents); octets = d.header; is_header = d.is_header; is_asked = refl; rest = e; owed = q.0; falls = q.1; fits = q.2 })
 
 -- a header of the tag is no reason to answer that there is none
-header_not_absent : (tag : Tag) (c : Reading) (x rest : List ℕ) → c.state ≡ Open → HasHeader (tagged tag) c x → IsAbsent (tagged tag) c rest → ⊥
+pub header_not_absent : (tag : Tag) (c : Reading) (x rest : List ℕ) → c.state ≡ Open → HasHeader (tagged tag) c x → IsAbsent (tagged tag) c rest → ⊥
 header_not_absent tag c x rest o f (inl e) = open_not_ended c.state o e.0
 header_not_absent tag c x rest o f (inr e) = elsewhere e.1
   where
@@ -68,7 +68,7 @@ form_is f Indefinite k h e = (let x : IndefiniteValues ≡ Octets = sym h ∙ e 
 form_is false (Definite n) k h e = (n, refl, refl)
 form_is true (Definite n) k h e = (let x : DefiniteValues ≡ Octets = sym h ∙ e in cc)
 
-or_false : (a b : Bool) → b ≡ false → (a || b) ≡ a
+pub or_false : (a b : Bool) → b ≡ false → (a || b) ≡ a
 or_false true b e = refl
 or_false false b e = e
 

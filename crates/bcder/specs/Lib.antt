@@ -8,6 +8,7 @@ pub mod Integer
 pub mod Number
 pub mod ObjectIdentifier
 pub mod OctetString
+pub mod Segments
 pub mod IdentifierText
 pub mod Components
 pub mod Pushed
@@ -31,6 +32,8 @@ pub mod Inside
 pub mod Walking
 pub mod Readers
 pub mod Typed
+pub mod Valued
+pub mod OctetStrings
 pub mod ReadIdentifiers
 pub mod Decoding
 pub mod Begins

@@ -84,6 +84,10 @@ pub record AreSegmented (mode : Mode) (w : List ℕ) (parts : List (List ℕ)) :
   pub shape : AreSegmentsIn mode values
   pub hold : segments_of values ≡ parts
 
+-- octets are what a constructed octet string is cut into
+abbrev pub AreCut : Mode → List ℕ → Type 0
+AreCut mode w = (parts : List (List ℕ)) × AreSegmented mode w parts
+
 -- as it came: in one piece, or cut into parts, with the encodings that these stand in
 pub data StringOctets : Type 0 where
   whole : List ℕ → StringOctets
@@ -103,6 +107,15 @@ parts (cut kept ps) = ps
 abbrev pub octets_of : StringOctets → List ℕ
 octets_of (whole w) = w
 octets_of (cut kept ps) = concat ps
+
+-- the string that a value means in a mode: in one piece, or cut into its segments, with encodings of the values that it is cut into
+abbrev pub IsStringOf : Mode → Tree → StringOctets → Type 0
+IsStringOf mode (primitive t contents) s = s ≡ whole contents
+IsStringOf mode (constructed t ts) s = (kept : Kept) × (kept.mode ≡ mode) × AreEncodings mode ts kept.octets × (s ≡ cut kept (segments_of ts))
+
+-- an octet string, and what it means
+abbrev pub MeansString : Mode → Tree → StringOctets → Type 0
+MeansString mode t s = IsOctetString mode t × IsStringOf mode t s
 
 -- whether it was cut
 abbrev pub IsCut : StringOctets → Type 0

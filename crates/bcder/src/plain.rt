@@ -34,7 +34,7 @@ pub(crate) fn may_have(mode: Mode, constructed: bool, len: Length) -> bool
 /// The identifier and length octets at the front, and the octets after them.
 #[tactic(auto, unfolding(crate::specs::Reading::read_header))]
 #[inline(always)]
-fn header_at(mode: Mode, octets: &[u8]) -> Option<(Tag, bool, Length, &[u8])>
+pub(crate) fn header_at(mode: Mode, octets: &[u8]) -> Option<(Tag, bool, Length, &[u8])>
     ensures less { IfSome result (λ r. length r.3.now + 2 ≤ length octets.now) }
     ensures read { MatchOption result
         (read_header mode octets.now ≡ None)

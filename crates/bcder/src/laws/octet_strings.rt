@@ -1,3 +1,4 @@
+<<<<<<< HEAD
 //! What is written of an octet string is one: each value that its encoders mean is an octet string
 //! in the mode, and holds the octets (X.690, 8.7, 9.2, 10.2).
 ghost use Rattle.std.specs.Prelude.{Ok};
@@ -58,3 +59,31 @@ pub fn wrapped_values_are_written_as_one<V: Values>(
     let _encoder = encoder;
     let _mode = mode;
 }
+=======
+//! Octet strings (X.690, 8.7, 9.2, 10.2).
+ghost use Rattle.bcder.specs.OctetStrings.{PrimitiveInDer, PrimitiveInCer};
+ghost use Rattle.bcder.specs.OctetStrings.{OneString, OneStringEncoding};
+ghost use Rattle.bcder.specs.OctetStrings.{PartsJoin, MeansFlat, MeansSegments};
+
+/// In DER an octet string is primitive (10.2); in CER it is where it has 1000 octets at most, and
+/// constructed where it has more (9.2).
+pub fn strict_strings_have_one_form()
+    ensures der { PrimitiveInDer }
+    ensures cer { PrimitiveInCer }
+{}
+
+/// In CER and DER two octet strings with the same tag and the same octets are the same value, and
+/// have the same encoding (9.2, 10.2).
+pub fn equal_strings_are_equal_octets()
+    ensures value { OneString }
+    ensures encoding { OneStringEncoding }
+{}
+
+/// The parts of an octet string are its octets, cut; and what a value means has the octets, and
+/// where it is constructed the parts, of the value (8.7.3.2).
+pub fn parts_are_the_octets()
+    ensures join { PartsJoin }
+    ensures flat { MeansFlat }
+    ensures segments { MeansSegments }
+{}
+>>>>>>> 998ea1db7f96b9a4b0472d65f5a598017a156cee

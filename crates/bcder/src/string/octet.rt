@@ -10,9 +10,14 @@ mod hash;
 >>>>>>> b4cfa5b510224948e80be08364332dfdb4272df1
 mod iter;
 mod joined;
+<<<<<<< HEAD
 mod slice;
 mod wrapped;
 mod write;
+=======
+mod read;
+mod segments;
+>>>>>>> 998ea1db7f96b9a4b0472d65f5a598017a156cee
 
 use crate::captured::Captured;
 use crate::decode::source::see_octets;

@@ -130,7 +130,7 @@ fn peek_short<S: Source>(source: &mut S, tag: Tag) -> Result<Option<usize>, S::E
 impl<'a, S: Source> Primitive<'a, S> {
     /// A refusal at the present position.
     #[cold]
-    pub(super) fn refusal(&self, text: &'static str) -> DecodeError<S::Error>
+    pub(crate) fn refusal(&self, text: &'static str) -> DecodeError<S::Error>
         ensures { IsRefusal result }
     {
         self.source.content_err(ContentError::from_static(text))
@@ -140,7 +140,7 @@ impl<'a, S: Source> Primitive<'a, S> {
 impl<'a, S: Source> Constructed<'a, S> {
     /// A refusal at the present position.
     #[cold]
-    pub(super) fn refusal(&self, text: &'static str) -> DecodeError<S::Error>
+    pub(crate) fn refusal(&self, text: &'static str) -> DecodeError<S::Error>
         ensures { IsRefusal result }
     {
         self.source.content_err(ContentError::from_static(text))

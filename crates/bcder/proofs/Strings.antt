@@ -1,0 +1,193 @@
+-- Octet strings that are read from content.
+use Rattle.std.proofs.Common.{◌≡◌, ◌≢◌, ℕ, ◌<◌, ◌≤◌, Bool, true, false, IsTrue, ◌↔◌, List, [], ◌++◌, length, Option, Some, None, refl, ap, sym, ◌∙◌, arith, subst, inl, inr}
+use Rattle.std.specs.Prelude.{◌⊎◌, Result, Ok, Err}
+use Rattle.std.proofs.lemmas.Bool.{cases_lt}
+use Rattle.bcder.specs.declared.mode.Mode.{Mode}
+use Rattle.bcder.specs.declared.mode.Mode.TheVariants.{Ber, Cer, Der}
+use Rattle.bcder.specs.declared.decode.content.State.{State}
+use Rattle.bcder.specs.declared.decode.content.State.TheVariants.{Open, Ended, Failed}
+use Rattle.bcder.specs.declared.decode.error.DecodeError.{DecodeError}
+use Rattle.bcder.specs.declared.string.octet.Segment.{Segment}
+use Rattle.bcder.specs.Identifier.{Tag}
+use Rattle.bcder.specs.Tree.{Tree, primitive, constructed, Trees, no_trees}
+use Rattle.bcder.specs.Encoding.{AreEncodings}
+use Rattle.bcder.specs.Cause.{cause_of, of_memory, IsRefusal}
+use Rattle.bcder.specs.Stream.{limit_or}
+use Rattle.bcder.specs.Captured.{Kept}
+use Rattle.bcder.specs.Content.{Reading, Octets, Closes, IsDone, IsUsedUp}
+use Rattle.bcder.specs.Walking.{HasValues, IsShort}
+use Rattle.bcder.specs.Readers.{HasAll, Reads, RefusesReading, RefusesAll, FindNoMemory}
+use Rattle.bcder.specs.Readers as readers
+use Rattle.bcder.specs.CapturingValues.{CapturesBy, CapturesValues, HasOthers, RefusesWhere}
+use Rattle.bcder.specs.CapturingValues as capturing
+use Rattle.bcder.specs.OctetString.{StringOctets, whole, cut, octet_string_tag, segments_of, AreSegmentsIn, MayBeWhole, IsOctetString, AreSegmented, AreCut, segments_at, IsTable, IsStringOf, MeansString}
+use Rattle.bcder.specs.Valued.{HoldsOctets, HoldsThese, HoldsValues, HoldsTree, HoldsNone, ReadsTree, RefusesToRead, ReadsContent}
+use Rattle.bcder.specs.Valued as valued
+use Rattle.bcder.specs.laws.Complete.{one_list}
+use Rattle.bcder.specs.laws.Lists.{empty_list}
+use Rattle.bcder.proofs.Moving.{open_not_ended, open_not_failed}
+use Rattle.bcder.proofs.Valued.{one_values, no_values_of_octets}
+
+-- ---- in one piece
+
+whole_in : (mode : Mode) (w : List ℕ) → (mode ≡ Cer → length w ≤ 1000) → MayBeWhole mode w
+whole_in Ber w h = tt
+whole_in Cer w h = h refl
+whole_in Der w h = tt
+
+-- contents octets are no values
+not_values : (c : Reading) (ts : Trees) → c.kind ≡ Octets → c.state ≡ Open → HoldsValues c ts → ⊥
+not_values c ts k o (inl v) = no_values_of_octets c k v.values
+not_values c ts k o (inr e) = open_not_ended c.state o e.0
+
+some_is : (m n : ℕ) → ◌≡◌ {A = Option ℕ} (Some m) (Some n) → m ≡ n
+some_is m n e = cc
+
+limit_is : (o : Option ℕ) (n : ℕ) → o ≡ Some n → limit_or o 0 ≡ n
+limit_is None n e = (let x : ◌≡◌ {A = Option ℕ} None (Some n) = e in cc)
+limit_is (Some m) n e = some_is m n e
+
+-- a string in one piece that is too long in CER
+too_long : (mode : Mode) (tag : Tag) (c : Reading) → mode ≡ Cer → 1000 < limit_or c.owed 0 → c.kind ≡ Octets → c.state ≡ Open → HoldsNone tag (MeansString mode) c
+too_long mode tag c m l k o (primitive t contents) x h means =
+    let w : length contents ≤ 1000 = subst (λ z. MayBeWhole z contents) m means.0 in
+    omega (arith, l, limit_is c.owed (length contents) h.1.owed, w)
+too_long mode tag c m l k o (constructed t ts) x h means = not_values c ts k o h.1
+
+done_octets : (d : Reading) → d.kind ≡ Octets → d.state ≡ Open → d.owed ≡ Some 0 → IsDone d
+done_octets d k o e = inr (o, subst (λ f. IsUsedUp f d.owed d.stream.rest) (sym k) e)
+
+-- what is answered of contents octets
+pub read_whole : {X : Type 0} (tag : Tag) (c d : Reading) (b : List ℕ) (s : StringOctets) → Reads {X = X} (λ w b. b ≡ w) FindNoMemory c (Ok b) d → s ≡ whole b → (c.kind ≡ Octets) × (c.state ≡ Open) → (d.kind ≡ Octets) × (d.state ≡ Open) → (c.mode ≡ Cer → limit_or c.owed 0 ≤ 1000) → ReadsContent tag (MeansString c.mode) {X = X} c (Ok s) d
+read_whole tag c d b s r is k l most =
+    let n : limit_or c.owed 0 ≡ length c.stream.rest = limit_is c.owed (length c.stream.rest) r.all.owed in
+    record {
+      value = record { tree = primitive tag c.stream.rest; holds = (refl, record { usable = k.1; form = k.0; owed = r.all.owed; rest = refl }); means = (whole_in c.mode c.stream.rest (λ m. (let q = most m in omega (arith, q, n))), is ∙ ap whole r.value) };
+      done = done_octets d l.0 l.1 r.none_owed;
+      no_fault = r.no_fault;
+      refused = tt;
+      mode = r.mode;
+      marked = r.marked;
+    }
+
+pub refuse_long : {X : Type 0} (tag : Tag) (c : Reading) (e : DecodeError X) → IsRefusal e → (c.kind ≡ Octets) × (c.state ≡ Open) → ((c.mode ≡ Cer → limit_or c.owed 0 ≤ 1000) → ⊥) → ReadsContent tag (MeansString c.mode) c (Err e) c
+refuse_long tag c e a k long = record { value = tt; done = tt; no_fault = tt; refused = valued.RefusesToRead.nothing (by_mode c.mode refl) a; mode = refl; marked = refl }
+  where
+    by_mode : (m : Mode) → c.mode ≡ m → HoldsNone tag (MeansString c.mode) c
+    by_mode Ber m = absurd (long (λ q. (let x : ◌≡◌ {A = Mode} Ber Cer = sym m ∙ q in cc)))
+    by_mode Cer m = too_long c.mode tag c m (not_most (limit_or c.owed 0) (λ q. long (λ z. q))) k.0 k.1
+      where
+        not_most : (n : ℕ) → (n ≤ 1000 → ⊥) → 1000 < n
+        not_most n f = elim (cases_lt 1000 n) [ inl l ↦ l | inr l ↦ absurd (f l) ]
+    by_mode Der m = absurd (long (λ q. (let x : ◌≡◌ {A = Mode} Der Cer = sym m ∙ q in cc)))
+
+too_few : (tag : Tag) (Means : Tree → StringOctets → Type 0) (c : Reading) → c.kind ≡ Octets → c.state ≡ Open → IsShort c → HoldsNone tag Means c
+too_few tag Means c k o s (primitive t contents) x h means = omega (arith, s.short (length contents) h.1.owed, ap length h.1.rest)
+too_few tag Means c k o s (constructed t ts) x h means = not_values c ts k o h.1
+
+refused_octets : {X : Type 0} (tag : Tag) (c d : Reading) (e : DecodeError X) → c.kind ≡ Octets → c.state ≡ Open → RefusesReading (λ w (b : List ℕ). b ≡ w) FindNoMemory c e d → RefusesToRead tag (MeansString c.mode) c e d
+refused_octets tag c d e k o (readers.RefusesReading.missing (readers.RefusesAll.source s g)) = valued.RefusesToRead.source s g
+refused_octets tag c d e k o (readers.RefusesReading.missing (readers.RefusesAll.few s a n)) = valued.RefusesToRead.nothing (too_few tag _ c k o s) a
+refused_octets tag c d e k o (readers.RefusesReading.refused h a n) = valued.RefusesToRead.memory a
+
+pub refuse_octets : {X : Type 0} (tag : Tag) (c d : Reading) (e : DecodeError X) → Reads (λ w (b : List ℕ). b ≡ w) FindNoMemory c (Err e) d → (c.kind ≡ Octets) × (c.state ≡ Open) → ReadsContent tag (MeansString c.mode) c (Err e) d
+refuse_octets tag c d e r k = record { value = tt; done = tt; no_fault = tt; refused = refused_octets tag c d e k.0 k.1 r.refused; mode = r.mode; marked = r.marked }
+
+-- ---- cut into segments
+
+-- values that were captured are those that the content holds
+state_of : (c : Reading) (k : Kept) (d : Reading) → CapturesValues c k d → (c.state ≡ Open) ⊎ (c.state ≡ Ended)
+state_of c k d h = by_state c.state refl
+  where
+    failed : c.state ≡ Failed → ⊥
+    failed e = of_closes h.closes
+      where
+        of_done : d.state ≡ Failed → IsDone d → ⊥
+        of_done f (inl g) = (let x : ◌≡◌ {A = State} Failed Ended = sym f ∙ g in cc)
+        of_done f (inr g) = open_not_failed d.state g.0 f
+
+        of_closes : Closes c.mode c h.close d → ⊥
+        of_closes (inl g) = of_done (g.1 ∙ e) h.done
+        of_closes (inr g) = open_not_failed c.state g.2 e
+
+    by_state : (s : State) → c.state ≡ s → (c.state ≡ Open) ⊎ (c.state ≡ Ended)
+    by_state Open e = inl e
+    by_state Ended e = inr e
+    by_state Failed e = absurd (failed e)
+
+captured_values : (c : Reading) (k : Kept) (d : Reading) → CapturesValues c k d → c.state ≡ Open → (ts : Trees) → AreEncodings c.mode ts k.octets → HasValues c
+captured_values c k d h o ts a = record { trees = ts; all = k.octets; after = h.close ++ d.stream.rest; encode = a; rest = h.rest; closes = h.are_all o }
+
+captured_held : (c : Reading) (k : Kept) (d : Reading) → CapturesValues c k d → (ts : Trees) → AreEncodings c.mode ts k.octets → HoldsValues c ts
+unfolding captured_values
+captured_held c k d h ts a = elim (state_of c k d h) [
+  | inl o ↦ inl (record { usable = o; values = captured_values c k d h o ts a; are = refl })
+  | inr e ↦ inr (e, empty_list c.mode ts (subst (AreEncodings c.mode ts) (h.are_none e) a))
+]
+
+cut_in : (m n : Mode) (w : List ℕ) (parts : List (List ℕ)) → m ≡ n → AreSegmented m w parts → AreSegmented n w parts
+cut_in m n w parts e h = subst (λ z. AreSegmented z w parts) e h
+
+read_cut : (tag : Tag) (c d : Reading) (k : Kept) (ss : List Segment) → CapturesValues c k d → IsTable c.mode k.octets ss → ReadsTree tag (MeansString c.mode) c (cut k (segments_at k.octets ss))
+read_cut tag c d k ss h t =
+    let s = t.segmented in
+    record {
+      tree = constructed tag s.values;
+      holds = (refl, captured_held c k d h s.values s.encode);
+      means = (s.shape, (k, h.mode, s.encode, ap (cut k) (sym s.hold)));
+    }
+
+-- values that are no segments
+not_cut : (tag : Tag) (c d : Reading) (k : Kept) → CapturesValues c k d → c.kind ≢ Octets → (AreCut c.mode k.octets → ⊥) → HoldsNone tag (MeansString c.mode) c
+unfolding captured_values
+not_cut tag c d k h o none (primitive t contents) x held means = o held.1.form
+not_cut tag c d k h o none (constructed t ts) x held means = none (segments_of ts, record { values = ts; encode = encoded held.1; shape = means.0; hold = refl })
+  where
+    encoded : HoldsValues c ts → AreEncodings c.mode ts k.octets
+    encoded (inl v) =
+        let w : HasValues c = captured_values c k d h v.usable h.whole.values h.whole.encode in
+        subst (λ z. AreEncodings c.mode z k.octets) (one_values c w v.values ∙ v.are) h.whole.encode
+    encoded (inr e) = subst (λ z. AreEncodings c.mode z k.octets) (sym e.1) (h.are_none e.0)
+
+no_others : (tag : Tag) (Means : Tree → StringOctets → Type 0) (c : Reading) → c.kind ≢ Octets → HasOthers c → HoldsNone tag Means c
+no_others tag Means c o n (primitive t contents) x held means = o held.1.form
+no_others tag Means c o n (constructed t ts) x held means = of_held held.1
+  where
+    of_held : HoldsValues c ts → ⊥
+    of_held (inl v) = n.none v.values
+    of_held (inr e) = open_not_ended c.state n.usable e.0
+
+not_captured : {X : Type 0} (tag : Tag) (c d : Reading) (e : DecodeError X) → c.kind ≢ Octets → RefusesWhere (HasOthers c) c e d → RefusesToRead tag (MeansString c.mode) c e d
+not_captured tag c d e o (capturing.RefusesWhere.failed s a) = valued.RefusesToRead.failed s a
+not_captured tag c d e o (capturing.RefusesWhere.source s g) = valued.RefusesToRead.source s g
+not_captured tag c d e o (capturing.RefusesWhere.nothing n a) = valued.RefusesToRead.nothing (no_others tag _ c o n) a
+not_captured tag c d e o (capturing.RefusesWhere.memory s) = valued.RefusesToRead.memory s
+
+-- what is answered of values
+module _ {X : Type 0} (tag : Tag) (c d : Reading) where
+  pub read_segments : (k : Kept) (ss : List Segment) (s : StringOctets) → CapturesBy {X = X} CapturesValues HasOthers c (Ok k) d → IsTable c.mode k.octets ss → s ≡ cut k (segments_at k.octets ss) → ReadsContent tag (MeansString c.mode) {X = X} c (Ok s) d
+  read_segments k ss s r t is = record {
+    value = subst (ReadsTree tag (MeansString c.mode) c) (sym is) (read_cut tag c d k ss r.captured t);
+    done = (let h : CapturesValues c k d = r.captured in h.done);
+    no_fault = r.no_fault;
+    refused = tt;
+    mode = r.mode;
+    marked = r.marked;
+  }
+
+  pub refuse_segments : (k : Kept) (e : DecodeError X) → CapturesBy {X = X} CapturesValues HasOthers c (Ok k) d → c.kind ≢ Octets → (AreCut c.mode k.octets → ⊥) → IsRefusal e → ReadsContent tag (MeansString c.mode) c (Err e) d
+  refuse_segments k e r o none a = record { value = tt; done = tt; no_fault = tt; refused = valued.RefusesToRead.nothing (not_cut tag c d k r.captured o none) a; mode = r.mode; marked = r.marked }
+
+  pub want_table : (k : Kept) (e : DecodeError X) → CapturesBy {X = X} CapturesValues HasOthers c (Ok k) d → cause_of e ≡ of_memory → ReadsContent tag (MeansString c.mode) c (Err e) d
+  want_table k e r s = record { value = tt; done = tt; no_fault = tt; refused = valued.RefusesToRead.memory s; mode = r.mode; marked = r.marked }
+
+  pub refuse_values : (e : DecodeError X) → CapturesBy {X = X} CapturesValues HasOthers c (Err e) d → c.kind ≢ Octets → ReadsContent tag (MeansString c.mode) c (Err e) d
+  refuse_values e r o = record { value = tt; done = tt; no_fault = tt; refused = not_captured tag c d e o r.refused; mode = r.mode; marked = r.marked }
+
+-- in DER there is no such string
+pub refuse_constructed : {X : Type 0} (tag : Tag) (c : Reading) (e : DecodeError X) → c.mode ≡ Der → c.kind ≢ Octets → IsRefusal e → ReadsContent tag (MeansString c.mode) c (Err e) c
+refuse_constructed tag c e m o a = record { value = tt; done = tt; no_fault = tt; refused = valued.RefusesToRead.nothing none a; mode = refl; marked = refl }
+  where
+    none : HoldsNone tag (MeansString c.mode) c
+    none (primitive t contents) x held means = o held.1.form
+    none (constructed t ts) x held means = (let z : AreSegmentsIn Der ts = subst (λ y. AreSegmentsIn y ts) m means.0 in z)

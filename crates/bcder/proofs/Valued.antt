@@ -1,0 +1,246 @@
+-- Values of either form that are taken by readers of their content.
+use Rattle.std.proofs.Common.{◌≡◌, ℕ, Bool, true, false, List, [], ◌++◌, length, take, Option, Some, None, refl, ap, sym, ◌∙◌, arith, length-append, append_assoc, append-nil, subst, inl, inr}
+use Rattle.std.specs.Prelude.{◌⊎◌, ◌||◌, ◌≤◌, Result, Ok, Err}
+use Rattle.std.specs.Borrow.{MutBor}
+use Rattle.std.proofs.lemmas.List.{take_at}
+use Rattle.bcder.specs.declared.mode.Mode.{Mode}
+use Rattle.bcder.specs.declared.length.Length.{Length}
+use Rattle.bcder.specs.declared.length.Length.TheVariants.{Definite, Indefinite}
+use Rattle.bcder.specs.declared.decode.content.Kind.TheVariants as kind
+use Rattle.bcder.specs.declared.decode.content.State.{State}
+use Rattle.bcder.specs.declared.decode.content.State.TheVariants.{Open, Ended, Failed}
+use Rattle.bcder.specs.declared.decode.error.DecodeError.{DecodeError}
+use Rattle.bcder.specs.Identifier.{Tag}
+use Rattle.bcder.specs.Length.{IsEndOfContents}
+use Rattle.bcder.specs.Tree.{Tree, primitive, constructed, Trees, no_trees}
+use Rattle.bcder.specs.Encoding.{IsHeader, IsDefinite, IsFramed, IsEncoding, AreEncodings}
+use Rattle.bcder.specs.Cause.{cause_of, IsRefusal}
+use Rattle.bcder.specs.Content.{Reading, Form, octets, values, Octets, DefiniteValues, IndefiniteValues, any, tagged, label, HasHeader, HasMarker, IsDone}
+use Rattle.bcder.specs.Content as content
+use Rattle.bcder.specs.Calls.{Hands, IsFormOf, ContentOf, Answered, TakesValue, RefusesFront, RefusesContent, by_closure, unfinished, RefusesEnd, left_failed, source_failed, left_open}
+use Rattle.bcder.specs.Takes.{HasNone, TakesNext, Takes, RefusesTake, by_header, by_form, by_content}
+use Rattle.bcder.specs.Walking.{HasValue, HasValues, ClosesBefore}
+use Rattle.bcder.specs.Valued.{HoldsOctets, HoldsThese, HoldsValues, HoldsTree, ReadsTree, RefusesToRead, ReadsContent, ReadsAny, tag_of, HasTagged, TakesTree, HasNoTree, RefusesTree, TakesNextTree, TakesOneTree}
+use Rattle.bcder.specs.Valued as valued
+use Rattle.bcder.specs.laws.Complete.{one_header, one_list, one_end_of_list}
+use Rattle.bcder.proofs.Moving.{open_not_ended, open_not_failed}
+use Rattle.bcder.proofs.Entering.{Within, no_fewer}
+use Rattle.bcder.proofs.Walking.{owed_after, done_here, grew_between}
+use Rattle.bcder.proofs.Typed.{header_not_absent, or_false}
+
+-- ---- content is that of one value at most
+
+same_fronts : (a b x y : List ℕ) → a ++ x ≡ b ++ y → length a ≡ length b → a ≡ b
+same_fronts a b x y e l = sym (take_at a x (length b) l) ∙ ap (take (length b)) e ∙ take_at b y (length b) refl
+
+some_is : (m n : ℕ) → ◌≡◌ {A = Option ℕ} (Some m) (Some n) → m ≡ n
+some_is m n e = cc
+
+same_values : (f : Form) (mode : Mode) (o : Option ℕ) (ts us : Trees) (a b x y : List ℕ) → AreEncodings mode ts a → AreEncodings mode us b → ClosesBefore f mode o a x → ClosesBefore f mode o b y → a ++ x ≡ b ++ y → ts ≡ us
+same_values octets mode o ts us a b x y h k c d e = absurd c
+same_values (values kind.Definite) mode o ts us a b x y h k c d e =
+    let s : a ≡ b = same_fronts a b x y e (some_is _ _ (sym c ∙ d)) in
+    one_list mode ts us b (subst (AreEncodings mode ts) s h) k
+same_values (values kind.Indefinite) mode o ts us a b x y h k c d e =
+    (one_end_of_list mode ts us a b c.1.marker d.1.marker c.0 d.0 h k c.1.is_end d.1.is_end (ap (λ z. a ++ z) (sym c.1.rest) ∙ e ∙ ap (λ z. b ++ z) d.1.rest)).0
+same_values (values kind.Unbounded) mode o ts us a b x y h k c d e =
+    let s : a ≡ b = sym (append-nil a) ∙ ap (λ z. a ++ z) (sym c) ∙ e ∙ ap (λ z. b ++ z) d ∙ append-nil b in
+    one_list mode ts us b (subst (AreEncodings mode ts) s h) k
+
+pub one_values : (c : Reading) (h k : HasValues c) → h.trees ≡ k.trees
+one_values c h k = same_values c.kind c.mode c.owed h.trees k.trees h.all k.all h.after k.after h.encode k.encode h.closes k.closes (sym h.rest ∙ k.rest)
+
+pub no_values_of_octets : (c : Reading) → c.kind ≡ Octets → HasValues c → ⊥
+no_values_of_octets c e h = subst (λ f. ClosesBefore f c.mode c.owed h.all h.after) e h.closes
+
+pub octets_or_values : (c : Reading) (contents : List ℕ) (ts : Trees) → HoldsOctets c contents → HoldsValues c ts → ⊥
+octets_or_values c contents ts h (inl k) = no_values_of_octets c h.form k.values
+octets_or_values c contents ts h (inr k) = open_not_ended c.state h.usable k.0
+
+same_held : (c : Reading) (ts us : Trees) → HoldsValues c ts → HoldsValues c us → ts ≡ us
+same_held c ts us (inl h) (inl k) = sym h.are ∙ one_values c h.values k.values ∙ k.are
+same_held c ts us (inl h) (inr k) = absurd (open_not_ended c.state h.usable k.0)
+same_held c ts us (inr h) (inl k) = absurd (open_not_ended c.state k.usable h.0)
+same_held c ts us (inr h) (inr k) = h.1 ∙ sym k.1
+
+pub one_content : (tag : Tag) (c : Reading) (t u : Tree) → HoldsTree tag c t → HoldsTree tag c u → t ≡ u
+one_content tag c (primitive t v) (primitive u w) h k = (let a : t ≡ u = h.0 ∙ sym k.0 in let b : v ≡ w = sym h.1.rest ∙ k.1.rest in rw (a, b) refl)
+one_content tag c (primitive t v) (constructed u us) h k = absurd (octets_or_values c v us h.1 k.1)
+one_content tag c (constructed t ts) (primitive u w) h k = absurd (octets_or_values c w ts k.1 h.1)
+one_content tag c (constructed t ts) (constructed u us) h k = (let a : t ≡ u = h.0 ∙ sym k.0 in let b : ts ≡ us = same_held c ts us h.1 k.1 in rw (a, b) refl)
+
+-- ---- a value behind a header
+
+-- the value whose header stands before y, and x behind it
+data Shaped (mode : Mode) (form : Bool) (len : Length) (y x : List ℕ) (tag : Tag) (t : Tree) : Type 0 where
+  of_octets : (contents : List ℕ) → t ≡ primitive tag contents → form ≡ false → len ≡ Definite (length contents) → y ≡ contents ++ x → Shaped mode form len y x tag t
+  of_definite : (ts : Trees) (b : List ℕ) → t ≡ constructed tag ts → form ≡ true → len ≡ Definite (length b) → AreEncodings mode ts b → y ≡ b ++ x → Shaped mode form len y x tag t
+  of_indefinite : (ts : Trees) (b e : List ℕ) → t ≡ constructed tag ts → len ≡ Indefinite → AreEncodings mode ts b → IsEndOfContents mode e → y ≡ b ++ (e ++ x) → Shaped mode form len y x tag t
+
+module _ (mode : Mode) (u : Tag) (form : Bool) (len : Length) (h y : List ℕ) (d : IsHeader mode u form len h) where
+  shaped_octets : (t : Tag) (b v x : List ℕ) → IsDefinite mode t false b v → v ++ x ≡ h ++ y → Shaped mode form len y x u (primitive t b)
+  shaped_octets t b v x k e =
+      let p = one_header mode u t form false len (Definite (length b)) h k.header y (b ++ x) d k.is_header (sym e ∙ ap (λ z. z ++ x) k.is ∙ append_assoc k.header b x) in
+      of_octets b (ap (λ z. primitive z b) (sym (ap (λ z. z.tag) p.0))) (ap (λ z. z.form) p.0) (ap (λ z. z.len) p.0) p.1
+
+  shaped_values : (t : Tag) (ts : Trees) (b v x : List ℕ) → AreEncodings mode ts b → IsFramed mode t b v → v ++ x ≡ h ++ y → Shaped mode form len y x u (constructed t ts)
+  shaped_values t ts b v x q (inl k) e =
+      let p = one_header mode u t form true len (Definite (length b)) h k.header y (b ++ x) d k.is_header (sym e ∙ ap (λ z. z ++ x) k.is ∙ append_assoc k.header b x) in
+      of_definite ts b (ap (λ z. constructed z ts) (sym (ap (λ z. z.tag) p.0))) (ap (λ z. z.form) p.0) (ap (λ z. z.len) p.0) q p.1
+  shaped_values t ts b v x q (inr k) e =
+      let p = one_header mode u t form true len Indefinite h k.header y ((b ++ k.end) ++ x) d k.is_header (sym e ∙ ap (λ z. z ++ x) k.is ∙ append_assoc k.header (b ++ k.end) x) in
+      of_indefinite ts b k.end (ap (λ z. constructed z ts) (sym (ap (λ z. z.tag) p.0))) (ap (λ z. z.len) p.0) q k.is_end (p.1 ∙ append_assoc b k.end x)
+
+  shaped : (t : Tree) (v x : List ℕ) → IsEncoding mode t v → v ++ x ≡ h ++ y → Shaped mode form len y x u t
+  shaped (primitive t b) v x k e = shaped_octets t b v x k.1 e
+  shaped (constructed t ts) v x k e = shaped_values t ts k.0 v x k.1 k.2 e
+
+  -- its content is what is handed
+  held : (t : Tree) (x : List ℕ) (owed : Option ℕ) (i : Reading) → Shaped mode form len y x u t → Hands mode form len owed y i → HoldsTree u i t
+  held t x owed i (of_octets b is f l e) g =
+      let k : i.kind ≡ Octets = subst (λ z. IsFormOf z (Definite (length b)) i.kind) f (subst (λ z. IsFormOf form z i.kind) l g.form) in
+      let o : (i.owed ≡ Some (length b)) × (i.stream.rest ≡ take (length b) y) = subst (λ z. ContentOf z owed y i.owed i.stream.rest) l g.octets in
+      let q : HoldsTree u i (primitive u b) = (refl, record { usable = g.state; form = k; owed = o.0; rest = o.1 ∙ ap (take (length b)) e ∙ take_at b x (length b) refl }) in
+      subst (HoldsTree u i) (sym is) q
+  held t x owed i (of_definite ts b is f l h' e) g =
+      let k : i.kind ≡ DefiniteValues = subst (λ z. IsFormOf z (Definite (length b)) i.kind) f (subst (λ z. IsFormOf form z i.kind) l g.form) in
+      let o : (i.owed ≡ Some (length b)) × (i.stream.rest ≡ take (length b) y) = subst (λ z. ContentOf z owed y i.owed i.stream.rest) l g.octets in
+      let r : i.stream.rest ≡ b ++ [] = o.1 ∙ ap (take (length b)) e ∙ take_at b x (length b) refl ∙ sym (append-nil b) in
+      let c : ClosesBefore i.kind i.mode i.owed b [] = subst (λ z. ClosesBefore z i.mode i.owed b []) (sym k) o.0 in
+      let v : HasValues i = record { trees = ts; all = b; after = []; encode = subst (λ z. AreEncodings z ts b) (sym g.mode) h'; rest = r; closes = c } in
+      let q : HoldsTree u i (constructed u ts) = (refl, inl (record { usable = g.state; values = v; are = refl })) in
+      subst (HoldsTree u i) (sym is) q
+  held t x owed i (of_indefinite ts b end is l h' s e) g =
+      let k : i.kind ≡ IndefiniteValues = subst (λ z. IsFormOf form z i.kind) l g.form in
+      let o : (i.owed ≡ owed) × (i.stream.rest ≡ y) = subst (λ z. ContentOf z owed y i.owed i.stream.rest) l g.octets in
+      let m : HasMarker i.mode (end ++ x) x = record { marker = end; is_end = subst (λ z. IsEndOfContents z end) (sym g.mode) s; rest = refl } in
+      let c : ClosesBefore i.kind i.mode i.owed b (end ++ x) = subst (λ z. ClosesBefore z i.mode i.owed b (end ++ x)) (sym k) (x, m) in
+      let v : HasValues i = record { trees = ts; all = b; after = end ++ x; encode = subst (λ z. AreEncodings z ts b) (sym g.mode) h'; rest = o.1 ∙ e; closes = c } in
+      let q : HoldsTree u i (constructed u ts) = (refl, inl (record { usable = g.state; values = v; are = refl })) in
+      subst (HoldsTree u i) (sym is) q
+
+  -- and its tag is that of the header
+  shaped_tag : (t : Tree) (x : List ℕ) → Shaped mode form len y x u t → tag_of t ≡ u
+  shaped_tag t x (of_octets b is f l e) = ap tag_of is
+  shaped_tag t x (of_definite ts b is f l h' e) = ap tag_of is
+  shaped_tag t x (of_indefinite ts b end is l h' s e) = ap tag_of is
+
+-- ---- where a value of the tag stands in front, its header does
+
+module _ (c : Reading) (w : Within c) where
+  header_before : (tag : Tag) (f : Bool) (len : Length) (h body v after : List ℕ) → IsHeader c.mode tag f len h → v ≡ h ++ body → ((n : ℕ) → len ≡ Definite n → n ≤ length body) → c.stream.rest ≡ v ++ after → (x : List ℕ) × HasHeader (tagged tag) c x
+  header_before tag f len h body v after d is fits r =
+      let e : c.stream.rest ≡ h ++ (body ++ after) = r ∙ ap (λ z. z ++ after) is ∙ append_assoc h body after in
+      let q = owed_after c.owed len (length h) (length c.stream.rest) (length (body ++ after)) w.fits (ap length e ∙ length-append h (body ++ after)) (λ n z. let y : n ≤ length body = fits n z in omega (arith, y, length-append body after)) in
+      (body ++ after, record { tag = tag; form = f; len = len; octets = h; is_header = d; is_asked = refl; rest = e; owed = q.0; falls = q.1; fits = q.2 })
+
+  definite_inj : (a b : ℕ) → ◌≡◌ {A = Length} (Definite a) (Definite b) → a ≤ b
+  definite_inj a b e = (let x : a ≡ b = cc in omega arith)
+
+  no_number : (n : ℕ) → ◌≡◌ {A = Length} Indefinite (Definite n) → ⊥
+  no_number n e = cc
+
+  header_of_value : (t : Tree) (v after : List ℕ) → IsEncoding c.mode t v → c.stream.rest ≡ v ++ after → (x : List ℕ) × HasHeader (tagged (tag_of t)) c x
+  header_of_value (primitive t b) v after k r = header_before t false (Definite (length b)) k.1.header b v after k.1.is_header k.1.is (λ n e. definite_inj n (length b) (sym e)) r
+  header_of_value (constructed t ts) v after k r = of_framed k.2
+    where
+      of_framed : IsFramed c.mode t k.0 v → (x : List ℕ) × HasHeader (tagged t) c x
+      of_framed (inl d) = header_before t true (Definite (length k.0)) d.header k.0 v after d.is_header d.is (λ n e. definite_inj n (length k.0) (sym e)) r
+      of_framed (inr d) = header_before t true Indefinite d.header (k.0 ++ d.end) v after d.is_header d.is (λ n e. absurd (no_number n e)) r
+
+  pub tagged_header : (tag : Tag) (t : Tree) (v after : List ℕ) → HasTagged tag c t v after → (x : List ℕ) × HasHeader (tagged tag) c x
+  tagged_header tag t v after h = subst (λ u. (x : List ℕ) × HasHeader (tagged u) c x) h.1 (header_of_value t v after h.0.encodes h.0.rest)
+
+-- ---- taken, or refused
+
+not_done : (l : Reading) → l.state ≡ Failed → IsDone l → ⊥
+not_done l e (inl h) = (let x : ◌≡◌ {A = State} Failed Ended = sym e ∙ h in cc)
+not_done l e (inr h) = open_not_failed l.state h.0 e
+
+module _ {C T X : Type 0} (view : C → Reading) (post : Tag → MutBor C → Result T (DecodeError X) → MutBor C → Type 0) (tag : Tag) (Means : Mode → Tree → T → Type 0)
+    (reads : (t : Tag) (p : MutBor C) (r : Result T (DecodeError X)) (q : MutBor C) → post t p r q → ReadsAny Means (view p.now) r (view q.now)) where
+  answered_reads : (m : Mode) (u t : Tag) (i j : Reading) (r : Result T (DecodeError X)) → Answered {R = Result T (DecodeError X)} view post t i r j → i.mode ≡ m → ReadsContent u (Means m) i r j
+  answered_reads m u t i j r a e =
+      subst (λ z. ReadsContent u (Means z) i r j) e
+      (subst (λ z. ReadsContent u (Means z.mode) z r j) a.handed_is
+      (subst (λ z. ReadsContent u (Means (view a.handed.now).mode) (view a.handed.now) r z) a.left_is ((reads t a.handed r a.left a.called).at_tag u)))
+
+  module _ (c d : Reading) (x : T) (v : TakesValue view post (tagged tag) c x d) where
+    read_all : ReadsContent v.front.tag (Means c.mode) {X = X} v.handed (Ok x) v.answers.left
+    read_all = answered_reads c.mode v.front.tag v.front.tag v.handed v.answers.left (Ok x) v.answers.answered v.hands.mode
+
+    unmarked : v.left.marked ≡ false
+    unmarked = v.answers.marked ∙ read_all.marked ∙ v.hands.marked
+
+    encodes : IsEncoding c.mode v.tree (v.front.octets ++ v.passed)
+    encodes = subst (λ b. IsEncoding (label c.mode b) v.tree (v.front.octets ++ v.passed)) unmarked v.encodes
+
+    is_shaped : Shaped c.mode v.front.form v.front.len (v.passed ++ d.stream.rest) d.stream.rest v.front.tag v.tree
+    is_shaped = shaped c.mode v.front.tag v.front.form v.front.len v.front.octets (v.passed ++ d.stream.rest) v.front.is_header v.tree (v.front.octets ++ v.passed) d.stream.rest encodes (append_assoc v.front.octets v.passed d.stream.rest)
+
+    taken : TakesTree tag (Means c.mode) c x d
+    taken =
+        let h = held c.mode v.front.tag v.front.form v.front.len v.front.octets (v.passed ++ d.stream.rest) v.front.is_header v.tree d.stream.rest v.front.owed v.handed is_shaped v.hands in
+        let r : ReadsTree v.front.tag (Means c.mode) v.handed x = read_all.value in
+        let same : r.tree ≡ v.tree = one_content v.front.tag v.handed r.tree v.tree r.holds h in
+        record {
+          tree = v.tree;
+          octets = v.front.octets ++ v.passed;
+          has = (record { usable = v.usable; encodes = encodes; rest = v.front.rest ∙ sym (append_assoc v.front.octets v.passed d.stream.rest) }, shaped_tag c.mode v.front.tag v.front.form v.front.len v.front.octets (v.passed ++ d.stream.rest) v.front.is_header v.tree d.stream.rest is_shaped ∙ v.front.is_asked);
+          means = subst (λ t. Means c.mode t x) same r.means;
+          stays = v.stays;
+        }
+
+    taken_marked : d.marked ≡ c.marked
+    taken_marked = v.marked ∙ or_false c.marked v.left.marked unmarked
+
+    taken_faults : d.stream.faults ≡ c.stream.faults
+    taken_faults = sym v.faults_left ∙ v.answers.no_fault ∙ read_all.no_fault ∙ v.faults_handed
+
+  module _ (c d : Reading) (w : Within c) (e : DecodeError X) (f : RefusesFront cause_of view post (tagged tag) c e d) where
+    -- the content of what stands in front is what was handed
+    held_there : (t : Tree) (v rest : List ℕ) → HasTagged tag c t v rest → HoldsTree f.front.tag f.handed t
+    held_there t v rest h =
+        let s = shaped c.mode f.front.tag f.front.form f.front.len f.front.octets f.after f.front.is_header t v rest h.0.encodes (sym h.0.rest ∙ f.front.rest) in
+        held c.mode f.front.tag f.front.form f.front.len f.front.octets f.after f.front.is_header t rest f.front.owed f.handed s f.hands
+
+    refused_read : RefusesToRead f.front.tag (Means c.mode) f.handed e f.left → RefusesTree tag (Means c.mode) c e d
+    refused_read (valued.RefusesToRead.failed s a) = absurd (open_not_failed f.handed.state f.hands.state s)
+    refused_read (valued.RefusesToRead.source s g) = valued.RefusesTree.source s (grew_between _ _ _ _ (no_fewer _ _ f.faults_handed) g f.faults_left)
+    refused_read (valued.RefusesToRead.memory s) = valued.RefusesTree.memory s
+    refused_read (valued.RefusesToRead.nothing n a) = valued.RefusesTree.broken (record { usable = f.usable; value = λ t v rest x h m. n t x (held_there t v rest h) m; absent = λ rest. header_not_absent tag c f.after rest f.usable f.front }) a
+
+    refused_end : (l : Reading) → IsDone l → l.stream.faults ≡ f.handed.stream.faults → RefusesEnd cause_of l e f.left → RefusesTree tag (Means c.mode) c e d
+    refused_end l o n (left_failed x a) = absurd (not_done l x o)
+    refused_end l o n (source_failed s g) = valued.RefusesTree.source s (grew_between _ _ _ _ (no_fewer _ _ (n ∙ f.faults_handed)) g f.faults_left)
+    refused_end l o n (left_open x a) = absurd (x.none l.stream.rest (done_here l l.kind refl o))
+
+    refused_content : RefusesContent cause_of view post f.front.tag f.handed e f.left → RefusesTree tag (Means c.mode) c e d
+    refused_content (by_closure a) = refused_read (answered_reads c.mode f.front.tag f.front.tag f.handed f.left (Err e) a f.hands.mode).refused
+    refused_content (unfinished y l a m k z) = (let r = answered_reads c.mode f.front.tag f.front.tag f.handed l (Ok y) a f.hands.mode in refused_end l r.done r.no_fault z)
+
+    refused_unmarked : RefusesContent cause_of view post f.front.tag f.handed e f.left → f.left.marked ≡ false
+    refused_unmarked (by_closure a) = (answered_reads c.mode f.front.tag f.front.tag f.handed f.left (Err e) a f.hands.mode).marked ∙ f.hands.marked
+    refused_unmarked (unfinished y l a m k z) = k ∙ (answered_reads c.mode f.front.tag f.front.tag f.handed l (Ok y) a f.hands.mode).marked ∙ f.hands.marked
+
+  refused_tree : (c d : Reading) → Within c → (e : DecodeError X) → RefusesTake view post None (tagged tag) c e d → RefusesTree tag (Means c.mode) c e d
+  refused_tree c d w e (by_header (content.RefusesHeader.failed s a) m) = valued.RefusesTree.failed s a
+  refused_tree c d w e (by_header (content.RefusesHeader.source s g) m) = valued.RefusesTree.source s g
+  refused_tree c d w e (by_header (content.RefusesHeader.nothing n a) m) = valued.RefusesTree.broken (record { usable = n.usable; value = λ t v rest x h k. (let y = tagged_header c w tag t v rest h in n.header y.0 y.1); absent = n.absent }) a
+  refused_tree c d w e (by_form f a m) = absurd f
+  refused_tree c d w e (by_content f) = refused_content c d w e f f.refuses
+
+  -- no mode was changed
+  refused_marked : (c d : Reading) → Within c → (e : DecodeError X) → RefusesTake view post None (tagged tag) c e d → d.marked ≡ c.marked
+  refused_marked c d w e (by_header h m) = m
+  refused_marked c d w e (by_form f a m) = m
+  refused_marked c d w e (by_content f) = f.marked ∙ or_false c.marked f.left.marked (refused_unmarked c d w e f f.refuses)
+
+  pub next_tree : (c d : Reading) (r : Result (Option T) (DecodeError X)) → Within c → TakesNext view post None (tagged tag) c r d → TakesNextTree tag (Means c.mode) c r d
+  next_tree c d (Ok (Some x)) w n = record { value = taken c d x n.value; none = tt; no_fault = taken_faults c d x n.value; refused = tt; failed = tt; mode = n.mode; marked = taken_marked c d x n.value }
+  next_tree c d (Ok None) w n = (let h : HasNone (tagged tag) c d = n.none in record { value = tt; none = h; no_fault = h.no_fault; refused = tt; failed = tt; mode = n.mode; marked = h.marked })
+  next_tree c d (Err e) w n = record { value = tt; none = tt; no_fault = tt; refused = refused_tree c d w e n.refused; failed = n.failed; mode = n.mode; marked = refused_marked c d w e n.refused }
+
+  pub one_tree : (c d : Reading) (r : Result T (DecodeError X)) → Within c → Takes view post None (tagged tag) c r d → TakesOneTree tag (Means c.mode) c r d
+  one_tree c d (Ok x) w n = record { value = taken c d x n.value; no_fault = taken_faults c d x n.value; refused = tt; mode = n.mode; marked = taken_marked c d x n.value }
+  one_tree c d (Err e) w n = record { value = tt; no_fault = tt; refused = elim n.refused [ inl h ↦ inl h | inr h ↦ inr (h.0, refused_tree c d w e h.1) ]; mode = n.mode; marked = elim n.refused [ inl h ↦ h.0.marked | inr h ↦ refused_marked c d w e h.1 ] }

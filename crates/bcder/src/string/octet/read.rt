@@ -1,0 +1,137 @@
+//! Reading octet strings (X.690, 8.7, 9.2, 10.2).
+ghost use Rattle.std.specs.Prelude.{◌≡◌, ◌≤◌, ◌↔◌, IsTrue};
+ghost use Rattle.bcder.specs.OctetString.{octet_string_tag, MeansString};
+ghost use Rattle.bcder.specs.Valued.{ReadsAny, ReadTree, TookNextTree, TookOneTree};
+ghost use Rattle.bcder.specs.Views.{before, after, octets_before, octets_after};
+ghost use Rattle.bcder.specs.Views.{Moved, MovedOctets, MovedContent};
+
+use super::OctetString;
+use super::segments::{FULL, table_of};
+use crate::decode::{Constructed, Content, DecodeError, Primitive, Source};
+use crate::mode::Mode;
+use crate::tag::Tag;
+use std::alloc::Global;
+
+/// Whether a string in one piece may have so many octets in a mode (9.2).
+#[inline(always)]
+fn may_be_whole(mode: Mode, len: usize) -> bool
+    ensures { IsTrue result ↔ (mode ≡ Mode.Cer → len ≤ 1000) }
+{
+    match mode {
+        Mode::Ber => true,
+        Mode::Cer => len <= FULL,
+        Mode::Der => true,
+    }
+}
+
+/// Takes all contents octets as a string in one piece, which in CER has 1000 at most.
+#[tactic(auto, using(crate::proofs::moves))]
+fn from_primitive<S: Source>(
+    alloc: Global,
+    octets: &mut Primitive<'_, S>,
+) -> Result<OctetString, DecodeError<S::Error>>
+    ensures moves { MovedOctets S.stream octets }
+    ensures read { ReadsAny MeansString
+        (octets_before S.stream octets) result (octets_after S.stream octets) }
+{
+    if !may_be_whole(octets.mode(), octets.remaining()) {
+        return Err(octets.refusal("an octet string that is to be cut"));
+    }
+    match octets.take_all(alloc) {
+        Ok(octets) => Ok(OctetString::new(octets)),
+        Err(error) => Err(error),
+    }
+}
+
+/// Takes all values as the segments of a string.
+#[tactic(auto, using(crate::proofs::moves))]
+fn from_constructed<S: Source>(
+    alloc: Global,
+    values: &mut Constructed<'_, S>,
+) -> Result<OctetString, DecodeError<S::Error>>
+    ensures moves { Moved S.stream values }
+    ensures read { ReadsAny MeansString
+        (before S.stream values) result (after S.stream values) }
+{
+    let mode = values.mode();
+    if mode == Mode::Der {
+        return Err(values.refusal("a constructed octet string"));
+    }
+    let captured = match values.capture_all(alloc) {
+        Ok(captured) => captured,
+        Err(error) => return Err(error),
+    };
+    match table_of(alloc, mode, captured.as_slice()) {
+        Ok(Some(table)) => Ok(OctetString::of_segments(captured, table)),
+        Ok(None) => Err(values.refusal("no segments of an octet string")),
+        Err(_) => Err(DecodeError::no_memory()),
+    }
+}
+
+#[tactic(auto, using(crate::proofs::moves_refl))]
+impl OctetString {
+    /// Takes the next value, which has to be an OCTET STRING.
+    ///
+    /// # Errors
+    ///
+    /// Those of [`take_opt_from`](Self::take_opt_from), and `ContentError::ExpectedTag` where that
+    /// answers `None`: the content then stays usable.
+    pub fn take_from<S: Source>(
+        alloc: Global,
+        cons: &mut Constructed<'_, S>,
+    ) -> Result<Self, DecodeError<S::Error>>
+        ensures moves { Moved S.stream cons }
+        ensures took { TookOneTree S.stream cons octet_string_tag MeansString result }
+    {
+        cons.take_value_if(Tag::OCTET_STRING, |content| OctetString::from_content(alloc, content))
+    }
+
+    /// Takes the next value if it is an OCTET STRING, or answers `None` at the end and at a value
+    /// of another tag, which stays.
+    ///
+    /// A string in one piece shares its octets with the source where that shares them. Of one that
+    /// is cut into segments (X.690, 8.7.3) the encodings of these are captured, and a table tells
+    /// where each stands; the segments may be nested to any depth. In CER it has two segments or
+    /// more, each of 1000 octets but the last, which has 1 to 1000, and one in one piece has 1000
+    /// at most (9.2). In DER it is in one piece (10.2).
+    ///
+    /// # Errors
+    ///
+    /// Where a value of the tag stands there that is no octet string in the content's mode, or
+    /// octets that are no value; where an earlier value was refused; where the source fails; and
+    /// where there is no memory for the octets, for the table, or for a segment that is open at a
+    /// depth of four or more. The content has then failed.
+    pub fn take_opt_from<S: Source>(
+        alloc: Global,
+        cons: &mut Constructed<'_, S>,
+    ) -> Result<Option<Self>, DecodeError<S::Error>>
+        ensures moves { Moved S.stream cons }
+        ensures took { TookNextTree S.stream cons octet_string_tag MeansString result }
+    {
+        cons.take_opt_value_if(Tag::OCTET_STRING, |content| {
+            OctetString::from_content(alloc, content)
+        })
+    }
+
+    /// Takes all content of a value as an octet string, whatever the tag of the value.
+    ///
+    /// # Errors
+    ///
+    /// Where the content is that of no octet string in its mode, as [`take_opt_from`] says; where
+    /// an earlier value was refused; where the source fails; and where there is no memory. Some of
+    /// the content may then have been taken.
+    ///
+    /// [`take_opt_from`]: Self::take_opt_from
+    pub fn from_content<S: Source>(
+        alloc: Global,
+        content: &mut Content<'_, S>,
+    ) -> Result<Self, DecodeError<S::Error>>
+        ensures moves { MovedContent S.stream content }
+        ensures read { ReadTree S.stream content MeansString result }
+    {
+        match content {
+            Content::Primitive(octets) => from_primitive(alloc, octets),
+            Content::Constructed(values) => from_constructed(alloc, values),
+        }
+    }
+}

@@ -1,0 +1,162 @@
+//! Which octets are segments of an octet string (X.690, 8.7.3, 9.2), and where these stand. The
+//! headers are passed one after the other, however they are nested: no stack is kept.
+ghost use Rattle.std.specs.Prelude.{◌≡◌, ◌+◌, ◌≤◌, length, IfOk, IfSome, IfNone, MatchOption};
+ghost use Rattle.bcder.specs.Answers.{Answers};
+ghost use Rattle.bcder.specs.Captured.{AreWhole};
+ghost use Rattle.bcder.specs.OctetString.{AreCut, IsTable};
+ghost use Rattle.bcder.specs.Segments.{read_segment};
+
+use super::Segment;
+use crate::length::{Length, after_end};
+use crate::memory::NoMemory;
+use crate::mode::Mode;
+use crate::plain::header_at;
+use crate::tag::Tag;
+use std::alloc::Global;
+
+/// How many octets each segment but the last has in CER (9.2).
+pub(super) const FULL: usize = 1000;
+
+/// The identifier octet of a primitive OCTET STRING (8.1.2).
+const OCTET_STRING: u8 = 0x04;
+
+/// The octets after the primitive segment at the front, and how many octets it holds; or those
+/// after the header of a constructed segment, or after end-of-contents octets.
+#[tactic(auto, unfolding(crate::specs::Segments::read_segment))]
+fn any_segment_at(mode: Mode, octets: &[u8]) -> Option<(Option<usize>, &[u8])>
+    ensures { Answers result (read_segment mode octets.now) }
+{
+    let Some((tag, constructed, len, rest)) = header_at(mode, octets) else {
+        return match after_end(mode, octets) {
+            Some(rest) => Some((None, rest)),
+            None => None,
+        };
+    };
+    if tag != Tag::OCTET_STRING {
+        return None;
+    }
+    if constructed {
+        return Some((None, rest));
+    }
+    match len {
+        Length::Definite(len) => {
+            if rest.len() < len {
+                None
+            } else {
+                Some((Some(len), rest.split_at(len).1))
+            }
+        }
+        Length::Indefinite => None,
+    }
+}
+
+/// The same, with a first look for a primitive segment with a header of two octets.
+#[inline(always)]
+fn segment_at(mode: Mode, octets: &[u8]) -> Option<(Option<usize>, &[u8])>
+    ensures { Answers result (read_segment mode octets.now) }
+{
+    match octets {
+        [first, len, ..] => {
+            let len = usize::from(*len);
+            let size = 2 + len;
+            if *first == OCTET_STRING && len < 0x80 && size <= octets.len() {
+                Some((Some(len), octets.split_at(size).1))
+            } else {
+                any_segment_at(mode, octets)
+            }
+        }
+        _ => any_segment_at(mode, octets),
+    }
+}
+
+/// How many primitive segments there are, where all values are segments in BER (8.7.3.2).
+fn count_nested(octets: &[u8]) -> Option<usize>
+    requires { AreWhole Mode.Ber octets.now }
+    ensures found { IfSome result (λ _. AreCut Mode.Ber octets.now) }
+    ensures none { IfNone result (AreCut Mode.Ber octets.now → ⊥) }
+{
+    let mut rest = octets;
+    let mut count = 0usize;
+    while !rest.is_empty() {
+        match segment_at(Mode::Ber, rest) {
+            Some((Some(_), after)) => {
+                count += 1;
+                rest = after;
+            }
+            Some((None, after)) => rest = after,
+            None => return None,
+        }
+    }
+    Some(count)
+}
+
+/// How many segments there are, where they are those of a string in CER: two or more, each
+/// primitive, and of 1000 octets but the last, which has 1 to 1000 (9.2).
+fn count_pieces(octets: &[u8]) -> Option<usize>
+    requires { AreWhole Mode.Cer octets.now }
+    ensures found { IfSome result (λ _. AreCut Mode.Cer octets.now) }
+    ensures none { IfNone result (AreCut Mode.Cer octets.now → ⊥) }
+{
+    let mut rest = octets;
+    let mut count = 0usize;
+    let mut full = true;
+    while !rest.is_empty() {
+        match segment_at(Mode::Cer, rest) {
+            Some((Some(len), after)) => {
+                if !full || len == 0 || len > FULL {
+                    return None;
+                }
+                full = len == FULL;
+                count += 1;
+                rest = after;
+            }
+            Some((None, _)) => return None,
+            None => return None,
+        }
+    }
+    if count < 2 { None } else { Some(count) }
+}
+
+/// Where the primitive segments stand, of which there are so many.
+fn fill(alloc: Global, mode: Mode, octets: &[u8], count: usize) -> Result<Vec<Segment>, NoMemory>
+    requires { AreCut mode octets.now }
+    ensures { IfOk result (λ table. IsTable mode octets.now table.items) }
+{
+    let mut table = Vec::with_capacity(alloc, count)?;
+    let mut rest = octets;
+    while !rest.is_empty() {
+        match segment_at(mode, rest) {
+            Some((Some(len), after)) => {
+                let start = octets.len() - after.len() - len;
+                table.push(Segment { start, len })?;
+                rest = after;
+            }
+            Some((None, after)) => rest = after,
+            None => unreachable!(),
+        }
+    }
+    Ok(table)
+}
+
+/// The table of the segments that these octets are, or none where they are no segments of a
+/// constructed string in the mode. Memory is asked for once, and only where they are.
+pub(super) fn table_of(
+    alloc: Global,
+    mode: Mode,
+    octets: &[u8],
+) -> Result<Option<Vec<Segment>>, NoMemory>
+    requires { AreWhole mode octets.now }
+    ensures { IfOk result (λ o. MatchOption o
+        (AreCut mode octets.now → ⊥)
+        (λ table. IsTable mode octets.now table.items)) }
+{
+    let count = match mode {
+        Mode::Ber => count_nested(octets),
+        Mode::Cer => count_pieces(octets),
+        Mode::Der => None,
+    };
+    match count {
+        Some(count) => Ok(Some(fill(alloc, mode, octets, count)?)),
+        None => Ok(None),
+    }
+}
