@@ -66,10 +66,8 @@ pub mod OneString
 pub mod Strings
 pub mod Parts
 pub mod Comparing
-<<<<<<< HEAD
 pub mod Segmenting
 pub mod Wrapping
 pub mod WrittenStrings
-=======
+pub mod StringSources
 pub mod Hashing
->>>>>>> b4cfa5b510224948e80be08364332dfdb4272df1

@@ -15,7 +15,8 @@ use Rattle.bcder.specs.Gathered.{KeptMeans}
 use Rattle.bcder.specs.OctetString.{StringOctets, whole, cut, octets_of, segments_of, flat, MayBeWhole, FollowFull, AreSegments, AreSegmentsIn, IsOctetString, AreSegmented}
 use Rattle.bcder.specs.Meaning.{Encoded, Meaning, IsLawful, ValueMeans, primitive_meaning, constructed_meaning, primitive_encoded, constructed_encoded, fits_enclosed, enclosed_refusal}
 use Rattle.bcder.specs.StringMeaning.{full_segments, segmented, segments_in_cer, is_cut, string_meaning, OctetsMean, StringMeans, WrappedMeans}
-use Rattle.bcder.specs.WrittenStrings.{tag_of, IsWrittenString, WritesString, WritesAlike, IsMadeUp}
+use Rattle.bcder.specs.WrittenStrings.{IsWrittenString, WritesString, WritesAlike, IsMadeUp}
+use Rattle.bcder.specs.Valued.{tag_of}
 use Rattle.bcder.specs.laws.Complete.{one_list}
 use Rattle.bcder.specs.laws.StringMeanings.{OctetsMean_lawful, StringMeans_lawful}
 use Rattle.bcder.proofs.Enclosing.{inside_of}
@@ -46,9 +47,9 @@ may_be_whole : (mode : Mode) (w : List ℕ) → is_cut mode (length w) ≡ false
 may_be_whole Ber w is = tt
 may_be_whole Der w is = tt
 may_be_whole Cer w is = elim (cases_lt 1000 (length w)) [
-    | inl more ↦ absurd (let t = lt-ltb 1000 (length w) more in cc)
-    | inr few ↦ few
-  ]
+  | inl more ↦ absurd (let t = lt-ltb 1000 (length w) more in cc)
+  | inr few ↦ few
+]
 
 module _ (t : Tag) (mode : Mode) (w : List ℕ) (e : Encoded) (encodes : AreEncodings mode e.values e.octets) where
   written_value : (value : Tree) → e.values ≡ value ∷ₜ no_trees → tag_of value ≡ t → IsOctetString mode value → flat value ≡ w → IsWrittenString t mode w e
@@ -105,8 +106,8 @@ cut_written t kept ps made e m =
     let same = one_list kept.mode inside.values.values made.values kept.octets inside.meant.1 made.encode in
     let encodes = (StringMeans_lawful t (cut kept ps) Ber).encodes e m in
     written_value t Ber (concat ps) e encodes (constructed t inside.values.values) (ap (λ (x : Encoded). x.values) inside.is) refl
-      (subst AreSegments (sym same) (segments_in_ber kept.mode made.values made.shape))
-      (ap (λ ts. concat (segments_of ts)) same ∙ ap concat made.hold)
+    (subst AreSegments (sym same) (segments_in_ber kept.mode made.values made.shape))
+    (ap (λ ts. concat (segments_of ts)) same ∙ ap concat made.hold)
 
 pub string_written : (t : Tag) (mode : Mode) (s : StringOctets) → IsMadeUp s → WritesString t mode (octets_of s) (StringMeans t s mode)
 string_written t Ber (whole w) made = octets_written t Ber w

@@ -63,11 +63,9 @@ pub mod TakenBack
 pub mod Front
 pub mod Iterated
 pub mod Gathered
-<<<<<<< HEAD
 pub mod StringMeaning
 pub mod Segmenting
 pub mod WrittenStrings
 pub mod StringSource
-=======
+pub mod StringSources
 pub mod Blocks
->>>>>>> b4cfa5b510224948e80be08364332dfdb4272df1

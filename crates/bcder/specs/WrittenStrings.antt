@@ -1,17 +1,14 @@
--- What is written of an octet string is one: statements of laws, contracts of functions of `src/laws/octet_strings.rt`.
+-- What is written of an octet string is one: statements of laws, contracts of functions of `src/laws/written_strings.rt`.
 use Rattle.std.specs.Prelude.{◌≡◌, ◌≢◌, ℕ, List, Ok}
 use Rattle.bcder.specs.declared.mode.Mode.{Mode}
 use Rattle.bcder.specs.declared.mode.Mode.TheVariants.{Ber}
 use Rattle.bcder.specs.Identifier.{Tag, AreOctets}
-use Rattle.bcder.specs.Tree.{Tree, primitive, constructed, no_trees, ◌∷ₜ◌}
+use Rattle.bcder.specs.Tree.{Tree, no_trees, ◌∷ₜ◌}
 use Rattle.bcder.specs.Encoding.{IsEncoding}
 use Rattle.bcder.specs.OctetString.{StringOctets, whole, cut, octets_of, flat, IsOctetString, AreSegmented}
 use Rattle.bcder.specs.Meaning.{Encoded, Meaning}
 use Rattle.bcder.specs.StringMeaning.{StringMeans}
-
-abbrev pub tag_of : Tree → Tag
-tag_of (primitive t contents) = t
-tag_of (constructed t ts) = t
+use Rattle.bcder.specs.Valued.{tag_of}
 
 -- e is one value with the tag: an octet string in the mode, with these octets
 pub record IsWrittenString (t : Tag) (mode : Mode) (w : List ℕ) (e : Encoded) : Type 0 where

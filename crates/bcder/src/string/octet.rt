@@ -3,21 +3,16 @@ ghost use Rattle.std.specs.Prelude.{◌≡◌, ◌↔◌, IsTrue, MatchOption, [
 ghost use Rattle.bcder.specs.OctetString.{whole, cut, segments_at, IsTable, IsCut, octets_of};
 
 mod compare;
-<<<<<<< HEAD
 pub(crate) mod encode;
-=======
 mod hash;
->>>>>>> b4cfa5b510224948e80be08364332dfdb4272df1
 mod iter;
 mod joined;
-<<<<<<< HEAD
-mod slice;
-mod wrapped;
-mod write;
-=======
 mod read;
 mod segments;
->>>>>>> 998ea1db7f96b9a4b0472d65f5a598017a156cee
+mod slice;
+mod source;
+mod wrapped;
+mod write;
 
 use crate::captured::Captured;
 use crate::decode::source::see_octets;
@@ -25,6 +20,7 @@ use bytes::Bytes;
 pub use encode::OctetStringEncoder;
 pub use iter::{OctetStringIter, OctetStringOctets};
 pub use slice::OctetSliceEncoder;
+pub use source::OctetStringSource;
 use std::alloc::AllocError;
 use std::convert::AsRef;
 use std::marker::Model;

@@ -1,6 +1,6 @@
 use Rattle.bcder.specs.OctetString.{octet_string_tag}
 use Rattle.bcder.proofs.WrittenStrings.{wrapped_written}
-use Rattle.bcder.proofs.laws.octet_strings.wrapped_values_are_written_as_one.Goals as goal
+use Rattle.bcder.proofs.laws.written_strings.wrapped_values_are_written_as_one.Goals as goal
 
 pub returns : goal.returns
 returns g c = λ inner meant.
