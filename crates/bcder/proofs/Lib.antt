@@ -70,4 +70,8 @@ pub mod Segments
 pub mod OneString
 pub mod Parts
 pub mod Comparing
+pub mod Segmenting
+pub mod Wrapping
+pub mod WrittenStrings
+pub mod StringSources
 pub mod Hashing

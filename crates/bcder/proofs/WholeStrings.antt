@@ -5,17 +5,17 @@ use Rattle.bcder.specs.declared.encode.error.EncodeError.{EncodeError}
 use Rattle.bcder.specs.declared.encode.error.EncodeError.TheVariants.{NoMemory}
 use Rattle.bcder.specs.declared.mode.Mode.{Mode}
 use Rattle.bcder.specs.Identifier.{AreOctets}
-use Rattle.bcder.specs.Meaning.{fits_primitive, StringMeans}
+use Rattle.bcder.specs.Meaning.{fits_primitive, PieceMeans}
 use Rattle.bcder.specs.Encoders.{RefusesBy}
 
 module _ (refusal : EncodeError) (mode : Mode) (w : List ℕ) where
-  pub string_fits : AreOctets w → fits_primitive mode (length w) ≡ true → StringMeans refusal mode w (Ok w)
+  pub string_fits : AreOctets w → fits_primitive mode (length w) ≡ true → PieceMeans refusal mode w (Ok w)
   string_fits octets fits = (rw fits refl, octets)
 
-  string_refused : AreOctets w → fits_primitive mode (length w) ≡ false → StringMeans refusal mode w (Err refusal)
+  string_refused : AreOctets w → fits_primitive mode (length w) ≡ false → PieceMeans refusal mode w (Err refusal)
   string_refused octets long = (rw long refl, octets)
 
-  pub refuses_string : refusal ≢ NoMemory → AreOctets w → fits_primitive mode (length w) ≡ false → RefusesBy (StringMeans refusal mode w) ⊥ refusal
+  pub refuses_string : refusal ≢ NoMemory → AreOctets w → fits_primitive mode (length w) ≡ false → RefusesBy (PieceMeans refusal mode w) ⊥ refusal
   refuses_string memory octets long = record { meant = λ _. string_refused octets long; lacking = memory }
 
   same_string : (c : List ℕ) (fits : Bool) → Ok c ≡ (if fits then Ok w else Err refusal) → c ≡ w
@@ -23,5 +23,5 @@ module _ (refusal : EncodeError) (mode : Mode) (w : List ℕ) where
   same_string c false e = cc
 
   -- a string that is meant is this one
-  pub string_is : (c : List ℕ) → StringMeans refusal mode w (Ok c) → c ≡ w
+  pub string_is : (c : List ℕ) → PieceMeans refusal mode w (Ok c) → c ≡ w
   string_is c m = same_string c (fits_primitive mode (length w)) m.0

@@ -15,7 +15,7 @@ use Rattle.bcder.specs.Meaning.{Encoded, Meaning, octets_of, ValueMeans, constru
 use Rattle.bcder.specs.Encoders.{Writes, WritesValues}
 use Rattle.bcder.specs.Written.{WritesEncodings, EncodesConstructed, AppendsConstructed, WroteConstructed}
 
-one_of : (mode : Mode) (t : Tree) (w : List ℕ) → AreEncodings mode (t ∷ₜ no_trees) w → IsEncoding mode t w
+pub one_of : (mode : Mode) (t : Tree) (w : List ℕ) → AreEncodings mode (t ∷ₜ no_trees) w → IsEncoding mode t w
 one_of mode t w h = subst (IsEncoding mode t) (sym (h.4 ∙ ap (λ z. h.0 ++ z) h.3 ∙ append-nil h.0)) h.2
 
 constructed_is : (t : Tag) (mode : Mode) (x e : Encoded) (b : Bool) → Ok e ≡ (if b then Ok (constructed_encoded mode t x) else Err (enclosed_refusal mode)) → AreEncodings mode e.values e.octets → EncodesConstructed t mode e.octets

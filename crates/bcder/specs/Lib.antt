@@ -67,4 +67,9 @@ pub mod TakenBack
 pub mod Front
 pub mod Iterated
 pub mod Gathered
+pub mod StringMeaning
+pub mod Segmenting
+pub mod WrittenStrings
+pub mod StringSource
+pub mod StringSources
 pub mod Blocks

@@ -56,12 +56,12 @@ fits_primitive Cer n = nat_le n 1000
 fits_primitive mode n = true
 
 -- those of a string, which are octets; or this refusal, where the mode has no primitive string of so many
-abbrev pub StringMeans : EncodeError → Mode → List ℕ → ContentsMeaning → Type 0
-StringMeans refusal mode w m = (m ≡ (if fits_primitive mode (length w) then Ok w else Err refusal)) × AreOctets w
+abbrev pub PieceMeans : EncodeError → Mode → List ℕ → ContentsMeaning → Type 0
+PieceMeans refusal mode w m = (m ≡ (if fits_primitive mode (length w) then Ok w else Err refusal)) × AreOctets w
 
 -- those of a bit string
 abbrev pub BitsMean : EncodeError → Mode → Bits → ContentsMeaning → Type 0
-BitsMean refusal mode x = StringMeans refusal mode (contents_octets (as_written mode x))
+BitsMean refusal mode x = PieceMeans refusal mode (contents_octets (as_written mode x))
 
 -- 8.2, 11.1: of a BOOLEAN
 abbrev pub truth_octets : Bool → List ℕ

@@ -18,3 +18,4 @@ pub mod Meanings
 pub mod Joined
 pub mod Listed
 pub mod Gathered
+pub mod StringMeanings

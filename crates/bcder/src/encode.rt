@@ -7,7 +7,7 @@ pub(crate) mod primitive;
 pub(crate) mod short;
 pub(crate) mod slot;
 pub(crate) mod target;
-mod values;
+pub(crate) mod values;
 
 pub use error::{EncodeError, WriteError};
 pub use header::{total_encoded_len, write_header};

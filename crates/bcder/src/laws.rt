@@ -15,6 +15,7 @@ pub mod octet_strings;
 pub mod read_back;
 pub mod sources;
 pub mod taken_back;
+pub mod written_strings;
 
 use crate::tag::Tag;
 

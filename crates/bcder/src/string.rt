@@ -1,6 +1,9 @@
 //! Strings (X.690, 8.6, 8.7).
 pub(crate) mod bit;
-mod octet;
+pub(crate) mod octet;
 
 pub use bit::{BitSliceEncoder, BitString, BitStringIter};
-pub use octet::{OctetString, OctetStringIter, OctetStringOctets};
+pub use octet::{
+    OctetSliceEncoder, OctetString, OctetStringEncoder, OctetStringIter, OctetStringOctets,
+    OctetStringSource, WrappingOctetStringEncoder,
+};

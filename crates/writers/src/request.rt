@@ -1,10 +1,10 @@
 //! Requests for certificates (RFC 2986, section 4), as they are written.
 ghost use Rattle.std.specs.Prelude.{◌≡◌};
 ghost use Rattle.bcder.specs.Identifier.{universal, sequence_tag};
-ghost use Rattle.bcder.specs.Meaning.{StringMeans};
+ghost use Rattle.bcder.specs.Meaning.{PieceMeans};
 ghost use Rattle.bcder.specs.Written.{WroteConstructed};
 ghost use Rattle.bcder.specs.declared.encode.error.EncodeError.TheVariants.{LongCerPrimitive};
-ghost use Rattle.bcder.specs.laws.Meanings.{StringMeans_lawful};
+ghost use Rattle.bcder.specs.laws.Meanings.{PieceMeans_lawful};
 
 use bcder::encode::{
     EncodeError, PrimitiveContent, Values, WriteError, sequence, sequence_as, set, slice,
@@ -21,7 +21,7 @@ pub struct Text<'a>(pub &'a str);
 impl PrimitiveContent for Text<'_> {
     ghost own_tag = { record { class = universal; number = 12 } };
 
-    ghost means = { λ x mode. StringMeans LongCerPrimitive mode x.0.now };
+    ghost means = { λ x mode. PieceMeans LongCerPrimitive mode x.0.now };
 
     fn tag() -> Tag
         ensures { result ≡ record { class = universal; number = 12 } }
@@ -37,7 +37,7 @@ impl PrimitiveContent for Text<'_> {
         self.0.as_bytes().write_encoded(mode, target)
     }
 
-    ghost lawful = { λ x mode. StringMeans_lawful LongCerPrimitive mode x.0.now };
+    ghost lawful = { λ x mode. PieceMeans_lawful LongCerPrimitive mode x.0.now };
 }
 
 /// A part of a name: its kind and its text.

@@ -2,6 +2,7 @@
 use Rattle.std.specs.Prelude.{◌≡◌, ◌-◌, ◌^◌, ◌<◌, ◌≤◌, ℕ, List, [], ◌∷◌, ◌++◌, Option, Some, None, length, take, drop, min, refl}
 use Rattle.std.proofs.Common.{arith, ap, sym, ◌∙◌, append_assoc, zero, suc}
 use Rattle.std.proofs.lemmas.Grind.{common_steps}
+use Rattle.std.proofs.lemmas.List.{length-append}
 use Rattle.bcder.specs.Identifier.{AreOctets}
 use Rattle.bcder.specs.Stream.{Layer, Stream, IsSound, cut, capped, past, limited, ahead, borrowed, smaller_limit, limit_left}
 use Rattle.bcder.specs.laws.Sound.{AreOctets-take}
@@ -46,6 +47,10 @@ limit_told_after n (Some m) xs ys k c h p =
 
 pub at_most_itself : (n : ℕ) → n ≤ n
 at_most_itself n = omega arith
+
+-- what is part of the octets in front is part of all
+pub within_front : (n : ℕ) (w x : List ℕ) → n ≤ length w → n ≤ length (w ++ x)
+within_front n w x h = omega (arith, length-append w x)
 
 -- octets after the first ones are octets
 pub AreOctets-drop : (n : ℕ) (w : List ℕ) → AreOctets w → AreOctets (drop n w)

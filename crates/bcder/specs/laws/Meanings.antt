@@ -9,19 +9,19 @@ use Rattle.bcder.specs.BitString.{Bits, contents_octets, as_written}
 use Rattle.bcder.specs.Octets.{definite, enclosed}
 use Rattle.bcder.specs.Tree.{primitive, constructed}
 use Rattle.bcder.specs.Encoding.{AreEncodings}
-use Rattle.bcder.specs.Meaning.{Encoded, Meaning, ContentsMeaning, IsOne, IsLawful, IsLawfulContents, Exactly, ExactlyOctets, fits_primitive, StringMeans, BitsMean, truth_octets, ValueMeans, primitive_encoded, primitive_meaning, constructed_encoded, constructed_meaning, fits_enclosed, enclosed_refusal}
+use Rattle.bcder.specs.Meaning.{Encoded, Meaning, ContentsMeaning, IsOne, IsLawful, IsLawfulContents, Exactly, ExactlyOctets, fits_primitive, PieceMeans, BitsMean, truth_octets, ValueMeans, primitive_encoded, primitive_meaning, constructed_encoded, constructed_meaning, fits_enclosed, enclosed_refusal}
 use Rattle.bcder.specs.laws.Octets.{AreOctets-nil, AreOctets-cons}
 use Rattle.bcder.specs.laws.Lists.{AreEncodings-one}
 use Rattle.bcder.specs.laws.Written.{primitive_written, constructed_written}
 
 module _ {A : Type 0} (t : Tag) (f : A → Meaning) {P : A → Type 0} (one : IsOne P) where
-  value_same : (m n : Meaning) → ValueMeans t f P m → ValueMeans t f P n → m ≡ n
+  pub value_same : (m n : Meaning) → ValueMeans t f P m → ValueMeans t f P n → m ≡ n
   value_same m n (inl p) (inl q) = p.1 ∙ sym q.1
   value_same m n (inl p) (inr q) = absurd (q.0.no_end p.0)
   value_same m n (inr p) (inl q) = absurd (p.0.no_end q.0)
   value_same m n (inr p) (inr q) = p.1.2 ∙ ap f (one.same p.1.0 q.1.0 p.1.1 q.1.1) ∙ sym q.1.2
 
-primitive_at : (t : Tag) (mode : Mode) (c : List ℕ) (e : Encoded) (b : Bool) → (b ≡ true → length c < 2 ^ 32) → IsValueTag t → AreOctets c
+pub primitive_at : (t : Tag) (mode : Mode) (c : List ℕ) (e : Encoded) (b : Bool) → (b ≡ true → length c < 2 ^ 32) → IsValueTag t → AreOctets c
     → Ok e ≡ (if b then Ok (primitive_encoded t c) else Err LengthTooLarge) → AreEncodings mode e.values e.octets
 primitive_at t mode c e false fits v o eq = cc
 primitive_at t mode c e true fits v o eq =
@@ -33,7 +33,7 @@ primitive_encodes t mode M octets e (inl p) = cc
 primitive_encodes t mode M octets e (inr (v, (Err d, _, eq))) = cc
 primitive_encodes t mode M octets e (inr (v, (Ok c, m, eq))) = primitive_at t mode c e (nat_lt (length c) (2 ^ 32)) (ltb-true _ _) v (octets c m) eq
 
-constructed_at : (t : Tag) (mode : Mode) (x e : Encoded) (b : Bool) → AreEncodings mode x.values x.octets → fits_enclosed mode t (length x.octets) ≡ b → IsValueTag t
+pub constructed_at : (t : Tag) (mode : Mode) (x e : Encoded) (b : Bool) → AreEncodings mode x.values x.octets → fits_enclosed mode t (length x.octets) ≡ b → IsValueTag t
     → Ok e ≡ (if b then Ok (constructed_encoded mode t x) else Err (enclosed_refusal mode)) → AreEncodings mode e.values e.octets
 constructed_at t mode x e false inside fits v eq = cc
 constructed_at t mode x e true inside fits v eq =
@@ -61,11 +61,11 @@ string_octets : (refusal : EncodeError) (w c : List ℕ) (b : Bool) → AreOctet
 string_octets refusal w c true o e = (let same : c ≡ w = cc in subst AreOctets (sym same) o)
 string_octets refusal w c false o e = cc
 
-pub StringMeans_lawful : (refusal : EncodeError) (mode : Mode) (w : List ℕ) → IsLawfulContents (StringMeans refusal mode w)
-StringMeans_lawful refusal mode w = record { one = record { same = λ m n p q. p.0 ∙ sym q.0 }; octets = λ c p. string_octets refusal w c (fits_primitive mode (length w)) p.1 p.0 }
+pub PieceMeans_lawful : (refusal : EncodeError) (mode : Mode) (w : List ℕ) → IsLawfulContents (PieceMeans refusal mode w)
+PieceMeans_lawful refusal mode w = record { one = record { same = λ m n p q. p.0 ∙ sym q.0 }; octets = λ c p. string_octets refusal w c (fits_primitive mode (length w)) p.1 p.0 }
 
 pub BitsMean_lawful : (refusal : EncodeError) (mode : Mode) (x : Bits) → IsLawfulContents (BitsMean refusal mode x)
-BitsMean_lawful refusal mode x = StringMeans_lawful refusal mode (contents_octets (as_written mode x))
+BitsMean_lawful refusal mode x = PieceMeans_lawful refusal mode (contents_octets (as_written mode x))
 
 pub truth_octets_are : (b : Bool) → AreOctets (truth_octets b)
 truth_octets_are true = AreOctets-cons 0xFF [] (omega arith) AreOctets-nil

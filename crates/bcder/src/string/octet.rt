@@ -3,19 +3,28 @@ ghost use Rattle.std.specs.Prelude.{◌≡◌, ◌↔◌, IsTrue, MatchOption, [
 ghost use Rattle.bcder.specs.OctetString.{whole, cut, segments_at, IsTable, IsCut, octets_of};
 
 mod compare;
+pub(crate) mod encode;
 mod hash;
 mod iter;
 mod joined;
 mod read;
 mod segments;
+mod slice;
+mod source;
+mod wrapped;
+mod write;
 
 use crate::captured::Captured;
 use crate::decode::source::see_octets;
 use bytes::Bytes;
+pub use encode::OctetStringEncoder;
 pub use iter::{OctetStringIter, OctetStringOctets};
+pub use slice::OctetSliceEncoder;
+pub use source::OctetStringSource;
 use std::alloc::AllocError;
 use std::convert::AsRef;
 use std::marker::Model;
+pub use wrapped::WrappingOctetStringEncoder;
 
 /// Where the contents octets of a segment stand among octets that are captured.
 #[derive(Clone, Copy, Debug, Drop)]

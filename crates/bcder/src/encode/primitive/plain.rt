@@ -4,10 +4,10 @@ ghost use Rattle.bcder.specs.Identifier.{universal};
 ghost use Rattle.bcder.specs.Encoders.{SizeOfContents, WritesContents};
 ghost use Rattle.bcder.specs.Encoders.{HasContents, WritesPrimitive, told};
 ghost use Rattle.bcder.specs.Meaning.{Exactly, ExactlyOctets, truth_octets};
-ghost use Rattle.bcder.specs.Meaning.{fits_primitive, StringMeans};
+ghost use Rattle.bcder.specs.Meaning.{fits_primitive, PieceMeans};
 ghost use Rattle.bcder.specs.declared.encode.error.EncodeError.TheVariants.{LongCerPrimitive};
 ghost use Rattle.bcder.specs.laws.Octets.{AreOctets-nil};
-ghost use Rattle.bcder.specs.laws.Meanings.{Exactly_lawful, StringMeans_lawful};
+ghost use Rattle.bcder.specs.laws.Meanings.{Exactly_lawful, PieceMeans_lawful};
 ghost use Rattle.bcder.specs.laws.Meanings.{truth_octets_are};
 
 use super::PrimitiveContent;
@@ -136,7 +136,7 @@ pub(crate) fn fits_primitive(mode: Mode, len: usize) -> bool
 
 /// How many octets a string has, if the mode has a primitive one of so many.
 fn string_len(octets: &[u8], mode: Mode) -> Result<usize, EncodeError>
-    ensures { SizeOfContents (StringMeans LongCerPrimitive mode octets.now) ⊥ result }
+    ensures { SizeOfContents (PieceMeans LongCerPrimitive mode octets.now) ⊥ result }
 {
     if fits_primitive(mode, octets.len()) {
         Ok(octets.len())
@@ -148,7 +148,7 @@ fn string_len(octets: &[u8], mode: Mode) -> Result<usize, EncodeError>
 /// Writes the octets of a string, if the mode has a primitive one of so many.
 fn write_string<W: io::Write>(octets: &[u8], mode: Mode, target: &mut W) -> Result<(), WriteError>
     ensures { WritesContents W.contents target
-        (StringMeans LongCerPrimitive mode octets.now) ⊥ result }
+        (PieceMeans LongCerPrimitive mode octets.now) ⊥ result }
 {
     if fits_primitive(mode, octets.len()) {
         write_all(target, octets)
@@ -167,10 +167,10 @@ fn put_string<W: io::Write>(
     target: &mut W,
     why: &mut WriteError,
 ) -> Result<(), Failed>
-    requires contents { HasContents (StringMeans LongCerPrimitive _mode octets.now) _len }
+    requires contents { HasContents (PieceMeans LongCerPrimitive _mode octets.now) _len }
     requires fits { _len < 2 ^ 32 }
     ensures { WritesPrimitive W.contents target tag
-        (StringMeans LongCerPrimitive _mode octets.now) ⊥ (told result why.new) }
+        (PieceMeans LongCerPrimitive _mode octets.now) ⊥ (told result why.new) }
 {
     put_apart(tag, octets, target, why)
 }
@@ -179,7 +179,7 @@ fn put_string<W: io::Write>(
 impl PrimitiveContent for &'_ [u8] {
     ghost own_tag = { record { class = universal; number = 4 } };
 
-    ghost means = { λ x mode. StringMeans LongCerPrimitive mode x.now };
+    ghost means = { λ x mode. PieceMeans LongCerPrimitive mode x.now };
 
     fn tag() -> Tag
         ensures { result ≡ record { class = universal; number = 4 } }
@@ -207,5 +207,5 @@ impl PrimitiveContent for &'_ [u8] {
         put_string(*self, tag, len, mode, target, why)
     }
 
-    ghost lawful = { λ x mode. StringMeans_lawful LongCerPrimitive mode x.now };
+    ghost lawful = { λ x mode. PieceMeans_lawful LongCerPrimitive mode x.now };
 }

@@ -72,7 +72,7 @@ struct Sizes {
 
 /// The size of a constructed value with `len` contents octets.
 #[inline(always)]
-fn enclosed_size(tag: Tag, mode: Mode, len: usize) -> Result<usize, EncodeError>
+pub(crate) fn enclosed_size(tag: Tag, mode: Mode, len: usize) -> Result<usize, EncodeError>
     ensures { EnclosedSize mode tag len result }
 {
     let identifier = tag.encoded_len();

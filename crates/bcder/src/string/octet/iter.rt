@@ -1,6 +1,7 @@
 //! The parts of an octet string, and its octets.
 ghost use Rattle.std.specs.Prelude.{◌≡◌, ◌+◌, ◌≤◌, length};
 ghost use Rattle.bcder.specs.OctetString.{piece, parts, octets_of, segment_at};
+ghost use Rattle.bcder.specs.OctetString.{AreWithin, segments_at};
 
 use super::{OctetString, Octets, Segment};
 use std::alloc::AllocError;
@@ -50,6 +51,18 @@ impl<'a> OctetStringIter<'a> {
             front: octets,
             octets: &[],
             segments: &[],
+        }
+    }
+
+    /// Segments that stand in octets.
+    pub(super) fn of_segments(octets: &'a [u8], segments: &'a [Segment]) -> OctetStringIter<'a>
+        requires { AreWithin octets.now segments.now }
+        ensures { result ≡ segments_at octets.now segments.now }
+    {
+        OctetStringIter {
+            front: &[],
+            octets,
+            segments,
         }
     }
 }

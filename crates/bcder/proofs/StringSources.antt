@@ -1,0 +1,60 @@
+-- Segments that come one after the other, and octets that are joined in front of them.
+use Rattle.std.proofs.Common.{◌≡◌, ℕ, zero, suc, ◌+◌, ◌<◌, ◌≤◌, ◌^◌, List, [], ◌∷◌, ◌++◌, length, drop, get_or, map, refl, sym, ap, ◌∙◌, subst, append_assoc, append-nil, add-one, drop-cons, inl, inr, arith, ◌⊎◌}
+use Rattle.std.specs.List.{concat}
+use Rattle.std.proofs.lemmas.List.{length-append, length-drop, drop-append-le}
+use Rattle.bcder.specs.declared.string.octet.Segment.{Segment}
+use Rattle.bcder.specs.Identifier.{AreOctets}
+use Rattle.bcder.specs.OctetString.{AreWithin, segment_at, segments_at, AreSegmented}
+use Rattle.bcder.specs.laws.Limits.{AreOctets-drop}
+use Rattle.bcder.specs.StringSource.{IsJoined}
+use Rattle.bcder.proofs.Parts.{parts_shorter}
+use Rattle.bcder.proofs.Segmenting.{parts_octets}
+
+pub AreWithin-drop : (w : List ℕ) (ss : List Segment) (n : ℕ) → AreWithin w ss → AreWithin w (drop n ss)
+AreWithin-drop w ss zero h = h
+AreWithin-drop w [] (suc n) h = h
+AreWithin-drop w (s ∷ ss) (suc n) h = AreWithin-drop w ss n h.1
+
+pub segments_at-drop : (w : List ℕ) (ss : List Segment) (n : ℕ) → segments_at w (drop n ss) ≡ drop n (segments_at w ss)
+segments_at-drop w ss zero = refl
+segments_at-drop w [] (suc n) = refl
+segments_at-drop w (s ∷ ss) (suc n) = segments_at-drop w ss n
+
+pub segments_at-length : (w : List ℕ) (ss : List Segment) → length (segments_at w ss) ≡ length ss
+segments_at-length w [] = refl
+segments_at-length w (s ∷ ss) = ap suc (segments_at-length w ss)
+
+module _ (w : List ℕ) (ss : List Segment) (n : ℕ) (s : Segment) (some : n < length ss) (is : s ≡ get_or ss n s) where
+  next_is : drop n ss ≡ s ∷ drop (n + 1) ss
+  next_is = drop-cons ss n s some ∙ ap (λ x. x ∷ drop (suc n) ss) (sym is) ∙ ap (λ k. s ∷ drop k ss) (sym (add-one n))
+
+  -- the next segment stands within the octets
+  pub next_within : AreWithin w (drop n ss) → (s.start + s.len ≤ length w) × AreWithin w (drop (n + 1) ss)
+  next_within h = subst (AreWithin w) next_is h
+
+  -- and is the first of those to come
+  pub next_of : segments_at w (drop n ss) ≡ segment_at w s ∷ segments_at w (drop (n + 1) ss)
+  next_of = ap (segments_at w) next_is
+
+-- octets that are passed over in front
+pub front_passed : (k : ℕ) (w x : List ℕ) → k ≤ length w → drop k w ++ x ≡ drop k (w ++ x)
+front_passed k w x h = sym (drop-append-le k w x h)
+
+pub passed_octets : (k : ℕ) (w x : List ℕ) → k ≤ length w → AreOctets (w ++ x) → AreOctets (drop k w ++ x)
+passed_octets k w x h o = subst AreOctets (drop-append-le k w x h) (AreOctets-drop k (w ++ x) o)
+
+pub passed_fit : (k : ℕ) (w x : List ℕ) → length (w ++ x) < 2 ^ 64 → length (drop k w ++ x) < 2 ^ 64
+passed_fit k w x h = omega (arith, length-append w x, length-append (drop k w) x, length-drop k w)
+
+-- ---- parts that are joined
+
+-- one more part
+pub joined_on : (block part : List ℕ) {more all : List ℕ} {ps qs : List (List ℕ)} → more ≡ block ++ part → ps ≡ part ∷ qs → block ++ concat ps ≡ all → more ++ concat qs ≡ all
+joined_on block part {more} {all} {ps} {qs} is next so_far =
+    ap (λ w. w ++ concat qs) is ∙ append_assoc block part (concat qs) ∙ ap (λ l. block ++ concat l) (sym next) ∙ so_far
+
+-- what is behind the next of a list
+pub drop_next : (n : ℕ) (xs : List (List ℕ)) (x : List ℕ) (rest : List (List ℕ)) → drop n xs ≡ x ∷ rest → rest ≡ drop (n + 1) xs
+drop_next zero xs x rest e = ap (λ l. drop 1 l) (sym e)
+drop_next (suc n) [] x rest e = cc
+drop_next (suc n) (y ∷ xs) x rest e = drop_next n xs x rest e ∙ ap (λ k. drop k (y ∷ xs)) (let s : suc (n + 1) ≡ suc n + 1 = omega arith in s)

@@ -1,0 +1,61 @@
+//! What is written of an octet string is one: each value that its encoders mean is an octet string
+//! in the mode, and holds the octets (X.690, 8.7, 9.2, 10.2).
+ghost use Rattle.std.specs.Prelude.{Ok};
+ghost use Rattle.bcder.specs.declared.mode.Mode.{Mode};
+ghost use Rattle.bcder.specs.Identifier.{Tag};
+ghost use Rattle.bcder.specs.Meaning.{Encoded};
+ghost use Rattle.bcder.specs.OctetString.{StringOctets, octet_string_tag, octets_of};
+ghost use Rattle.bcder.specs.WrittenStrings.{WritesString, WritesAlike};
+
+use crate::encode::Values;
+use crate::mode::Mode;
+use crate::string::octet::encode::see_string;
+use crate::string::{
+    OctetSliceEncoder, OctetString, OctetStringEncoder, WrappingOctetStringEncoder,
+};
+use crate::tag::Tag;
+use std::convert::AsSlice;
+
+/// What is written of an octet string is one octet string in the mode, under the tag that is asked
+/// for, with the octets of the string.
+pub fn a_string_is_written_as_one<'a>(string: &'a OctetString, tag: Tag, mode: Mode)
+    ensures owned { WritesString tag mode (octets_of string.now)
+        (⟦<OctetStringEncoder<OctetString> as Values>⟧.means
+        (record { value = string.now; tag = tag }) mode) }
+    ensures borrowed { WritesString tag mode (octets_of string.now)
+        (⟦<OctetStringEncoder<&'a OctetString> as Values>⟧.means
+        (record { value = string.entry; tag = tag }) mode) }
+{
+    see_string(string);
+    let _tag = tag;
+    let _mode = mode;
+}
+
+/// In CER and DER strings with the same octets are written alike, however they were cut.
+pub fn equal_strings_are_written_alike()
+    ensures { (t : Tag) (mode : Mode) (r s : StringOctets) → WritesAlike t mode r s }
+{}
+
+/// The same of the octets of a slice.
+pub fn a_slice_is_written_as_one<T: AsSlice<u8>>(encoder: &OctetSliceEncoder<T>, mode: Mode)
+    ensures { WritesString encoder.now.tag mode (T.items encoder.now.slice)
+        (⟦<OctetSliceEncoder<T> as Values>⟧.means encoder.now mode) }
+{
+    let _encoder = encoder;
+    let _mode = mode;
+}
+
+/// What is written of values that are wrapped is one OCTET STRING in the mode, whose octets are
+/// what is written of the values in theirs.
+pub fn wrapped_values_are_written_as_one<V: Values>(
+    encoder: &WrappingOctetStringEncoder<V>,
+    mode: Mode,
+)
+    requires { V.can_encode encoder.now.values }
+    ensures { (inner : Encoded) → V.means encoder.now.values encoder.now.mode (Ok inner)
+        → WritesString octet_string_tag mode inner.octets
+        (⟦<WrappingOctetStringEncoder<V> as Values>⟧.means encoder.now mode) }
+{
+    let _encoder = encoder;
+    let _mode = mode;
+}

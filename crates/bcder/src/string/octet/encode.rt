@@ -1,0 +1,168 @@
+//! Octet strings as encoders (X.690, 8.7, 9.2, 10.2).
+ghost use Rattle.std.specs.Prelude.{◌≡◌};
+ghost use Rattle.bcder.specs.OctetString.{octet_string_tag};
+ghost use Rattle.bcder.specs.Encoders.{HasEncoding, SizeOfValues, WritesValues, WritesParts};
+ghost use Rattle.bcder.specs.Encoders.{told};
+ghost use Rattle.bcder.specs.StringMeaning.{StringMeans};
+ghost use Rattle.bcder.specs.WrittenStrings.{IsMadeUp};
+ghost use Rattle.bcder.specs.laws.StringMeanings.{StringMeans_lawful};
+
+use super::write::{octets_len, put_octets, put_string, string_len};
+use super::{OctetString, Octets};
+use crate::decode::source::see_octets;
+use crate::encode::slot::{slot, told};
+use crate::encode::{Constructed, EncodeError, Failed, Values, WriteError};
+use crate::mode::Mode;
+use crate::tag::Tag;
+use std::io;
+
+/// An octet string as an encoder: `T` is the string, or a reference to it.
+///
+/// In BER it is written as it came: one primitive value, or where it was cut into segments a
+/// constructed value with these inside, of definite length (8.7.3). In DER it is one primitive
+/// value (10.2). In CER it is one of at most 1000 octets, and else a constructed value with
+/// segments of 1000 octets, the last with those that are left (9.2).
+#[derive(Clone, Debug, Drop)]
+pub struct OctetStringEncoder<T> {
+    value: T,
+    tag: Tag,
+}
+
+impl OctetString {
+    /// The string as an OCTET STRING.
+    pub fn encode(self) -> OctetStringEncoder<OctetString>
+        ensures { result ≡ record { value = self; tag = octet_string_tag } }
+    {
+        self.encode_as(Tag::OCTET_STRING)
+    }
+
+    /// The string with another tag.
+    pub fn encode_as(self, tag: Tag) -> OctetStringEncoder<OctetString>
+        ensures { result ≡ record { value = self; tag = tag } }
+    {
+        OctetStringEncoder { value: self, tag }
+    }
+
+    /// A reference to the string as an OCTET STRING.
+    pub fn encode_ref(&self) -> OctetStringEncoder<&OctetString>
+        ensures { result ≡ record { value = self.entry; tag = octet_string_tag } }
+    {
+        self.encode_ref_as(Tag::OCTET_STRING)
+    }
+
+    /// A reference to the string with another tag.
+    pub fn encode_ref_as(&self, tag: Tag) -> OctetStringEncoder<&OctetString>
+        ensures { result ≡ record { value = self.entry; tag = tag } }
+    {
+        OctetStringEncoder { value: self, tag }
+    }
+}
+
+// What a string is made of, for the proof alone.
+pub(crate) fn see_string(string: &OctetString)
+    ensures { IsMadeUp string.now }
+{
+    match &string.octets {
+        Octets::Whole(octets) => see_octets(octets.as_slice()),
+        Octets::Cut(..) => {}
+    }
+}
+
+/// How many octets the string has, or why it has no encoding.
+fn size_of(string: &OctetString, tag: Tag, mode: Mode) -> Result<usize, EncodeError>
+    ensures { SizeOfValues (StringMeans tag string.now mode) ⊥ result }
+{
+    match &string.octets {
+        Octets::Whole(octets) => octets_len(tag, octets.as_slice(), mode),
+        Octets::Cut(kept, _) => match mode {
+            Mode::Ber => Constructed::new(tag, kept).encoded_len(mode),
+            Mode::Cer | Mode::Der => string_len(tag, mode, string.len()),
+        },
+    }
+}
+
+/// Writes the string, which is known to have an encoding.
+fn put<W: io::Write>(
+    string: &OctetString,
+    tag: Tag,
+    mode: Mode,
+    target: &mut W,
+    why: &mut WriteError,
+) -> Result<(), Failed>
+    requires { HasEncoding (StringMeans tag string.now mode) }
+    ensures { WritesParts W.contents target (StringMeans tag string.now mode) ⊥
+        (told result why.new) }
+{
+    match &string.octets {
+        Octets::Whole(octets) => put_octets(tag, octets.as_slice(), mode, target, why),
+        Octets::Cut(kept, _) => match mode {
+            Mode::Ber => Constructed::new(tag, kept).write_known(None, mode, target, why),
+            Mode::Cer | Mode::Der => {
+                put_string(tag, mode, string.len(), string.iter(), target, why)
+            }
+        },
+    }
+}
+
+/// Writes the string, if it has an encoding.
+fn write<W: io::Write>(
+    string: &OctetString,
+    tag: Tag,
+    mode: Mode,
+    target: &mut W,
+) -> Result<(), WriteError>
+    ensures { WritesValues W.contents target (StringMeans tag string.now mode) ⊥ result }
+{
+    size_of(string, tag, mode)?;
+    let mut why = slot();
+    let outcome = put(string, tag, mode, target, &mut why);
+    told(outcome, why)
+}
+
+impl Values for OctetStringEncoder<OctetString> {
+    ghost means = { λ x mode. StringMeans x.tag x.value mode };
+
+    fn encoded_len(&self, mode: Mode) -> Result<usize, EncodeError> {
+        size_of(&self.value, self.tag, mode)
+    }
+
+    fn write_encoded<W: io::Write>(&self, mode: Mode, target: &mut W) -> Result<(), WriteError> {
+        write(&self.value, self.tag, mode, target)
+    }
+
+    fn write_known<W: io::Write>(
+        &self,
+        _size: Option<usize>,
+        mode: Mode,
+        target: &mut W,
+        why: &mut WriteError,
+    ) -> Result<(), Failed> {
+        put(&self.value, self.tag, mode, target, why)
+    }
+
+    ghost lawful = { λ x mode can. StringMeans_lawful x.tag x.value mode };
+}
+
+impl Values for OctetStringEncoder<&'_ OctetString> {
+    ghost means = { λ x mode. StringMeans x.tag x.value.now mode };
+
+    fn encoded_len(&self, mode: Mode) -> Result<usize, EncodeError> {
+        size_of(self.value, self.tag, mode)
+    }
+
+    fn write_encoded<W: io::Write>(&self, mode: Mode, target: &mut W) -> Result<(), WriteError> {
+        write(self.value, self.tag, mode, target)
+    }
+
+    fn write_known<W: io::Write>(
+        &self,
+        _size: Option<usize>,
+        mode: Mode,
+        target: &mut W,
+        why: &mut WriteError,
+    ) -> Result<(), Failed> {
+        put(self.value, self.tag, mode, target, why)
+    }
+
+    ghost lawful = { λ x mode can. StringMeans_lawful x.tag x.value.now mode };
+}

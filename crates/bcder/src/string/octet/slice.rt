@@ -1,0 +1,63 @@
+//! Octets of a slice as an octet string (X.690, 8.7, 9.2, 10.2).
+ghost use Rattle.std.specs.Prelude.{◌≡◌};
+ghost use Rattle.bcder.specs.OctetString.{octet_string_tag};
+ghost use Rattle.bcder.specs.StringMeaning.{OctetsMean};
+ghost use Rattle.bcder.specs.laws.StringMeanings.{OctetsMean_lawful};
+
+use super::OctetString;
+use super::write::{octets_len, put_octets, write_octets};
+use crate::encode::{EncodeError, Failed, Values, WriteError};
+use crate::mode::Mode;
+use crate::tag::Tag;
+use std::convert::AsSlice;
+use std::io;
+
+/// An octet string of the octets of a slice, as an encoder.
+///
+/// In BER and DER it is one primitive value. In CER it is one of at most 1000 octets, and else a
+/// constructed value with segments of 1000 octets, the last with those that are left (9.2).
+#[derive(Clone, Debug, Drop)]
+pub struct OctetSliceEncoder<T> {
+    slice: T,
+    tag: Tag,
+}
+
+impl OctetString {
+    /// The octets of a slice as an OCTET STRING.
+    pub fn encode_slice<T: AsSlice<u8>>(value: T) -> OctetSliceEncoder<T>
+        ensures { result ≡ record { slice = value; tag = octet_string_tag } }
+    {
+        OctetString::encode_slice_as(value, Tag::OCTET_STRING)
+    }
+
+    /// The octets of a slice as an octet string with a tag.
+    pub fn encode_slice_as<T: AsSlice<u8>>(value: T, tag: Tag) -> OctetSliceEncoder<T>
+        ensures { result ≡ record { slice = value; tag = tag } }
+    {
+        OctetSliceEncoder { slice: value, tag }
+    }
+}
+
+impl<T: AsSlice<u8>> Values for OctetSliceEncoder<T> {
+    ghost means = { λ x mode. OctetsMean x.tag (T.items x.slice) mode };
+
+    fn encoded_len(&self, mode: Mode) -> Result<usize, EncodeError> {
+        octets_len(self.tag, self.slice.as_slice(), mode)
+    }
+
+    fn write_encoded<W: io::Write>(&self, mode: Mode, target: &mut W) -> Result<(), WriteError> {
+        write_octets(self.tag, self.slice.as_slice(), mode, target)
+    }
+
+    fn write_known<W: io::Write>(
+        &self,
+        _size: Option<usize>,
+        mode: Mode,
+        target: &mut W,
+        why: &mut WriteError,
+    ) -> Result<(), Failed> {
+        put_octets(self.tag, self.slice.as_slice(), mode, target, why)
+    }
+
+    ghost lawful = { λ x mode can. OctetsMean_lawful x.tag (T.items x.slice) mode };
+}

@@ -1,0 +1,268 @@
+//! Octets written as an octet string (X.690, 8.7, 9.2, 10.2).
+ghost use Rattle.std.specs.Prelude.{◌≡◌, ◌<◌, ◌≤◌, ◌+◌, ◌^◌, ℕ, List, length, false};
+ghost use Rattle.std.specs.List.{concat};
+ghost use Rattle.bcder.specs.Identifier.{AreOctets};
+ghost use Rattle.bcder.specs.Octets.{definite, enclosed};
+ghost use Rattle.bcder.specs.declared.mode.Mode.TheVariants.{Cer};
+ghost use Rattle.bcder.specs.Encoders.{HasEncoding, SizeOfValues, WritesValues, WritesParts};
+ghost use Rattle.bcder.specs.Encoders.{WroteOctets, told};
+ghost use Rattle.bcder.specs.Joined.{IsSum};
+ghost use Rattle.bcder.specs.StringMeaning.{is_cut, OctetsMean, segments_in_cer};
+ghost use Rattle.bcder.specs.Segmenting.{BeginsSegment, CutSize, segments_size, WritesPart};
+
+use super::OctetStringIter;
+use crate::encode::header::put_header;
+use crate::encode::slot::{Failed, slot, told};
+use crate::encode::target::put_all;
+use crate::encode::values::constructed::enclosed_size;
+use crate::encode::{EncodeError, WriteError, total_encoded_len};
+use crate::length::Length;
+use crate::mode::Mode;
+use crate::tag::Tag;
+use std::io;
+
+/// Whether that many octets are cut into segments (9.2).
+#[inline(always)]
+pub(super) fn is_cut(mode: Mode, len: usize) -> bool
+    ensures { result ≡ is_cut mode len }
+{
+    match mode {
+        Mode::Cer => len > 1000,
+        Mode::Ber | Mode::Der => false,
+    }
+}
+
+/// How many octets the segments of `len` octets have.
+fn segments_len(len: usize) -> Option<usize>
+    requires { 0 < len }
+    ensures { IsSum result (segments_size len) }
+{
+    let full = (len - 1) / 1000;
+    let last = len - 1000 * full;
+    len.checked_add(4 * full + 1 + Length::Definite(last).octet_count())
+}
+
+/// The size of a value that is cut into segments.
+#[cold]
+fn cut_len(tag: Tag, len: usize) -> Result<usize, EncodeError>
+    requires { 0 < len }
+    ensures { CutSize tag len result }
+{
+    if !tag.is_value() {
+        return Err(EncodeError::EndOfValueTag);
+    }
+    match segments_len(len) {
+        Some(contents) => enclosed_size(tag, Mode::Cer, contents),
+        None => Err(EncodeError::SizeOverflow),
+    }
+}
+
+/// How many octets a string of `len` octets has, or why it has no encoding.
+#[inline(always)]
+pub(super) fn string_len(tag: Tag, mode: Mode, len: usize) -> Result<usize, EncodeError>
+    ensures { (w : List ℕ) → AreOctets w → len ≡ length w
+        → SizeOfValues (OctetsMean tag w mode) ⊥ result }
+{
+    if is_cut(mode, len) {
+        cut_len(tag, len)
+    } else {
+        total_encoded_len(tag, len)
+    }
+}
+
+/// How far octets are written in segments.
+#[derive(Clone, Copy)]
+struct Progress {
+    /// Octets that are still to come in the segment that was begun.
+    left: usize,
+
+    /// Octets that are still to come behind it.
+    behind: usize,
+}
+
+/// Begins a segment of 1000 octets, or of those that there are, where none was begun.
+fn begin_segment<W: io::Write>(
+    progress: Progress,
+    target: &mut W,
+    why: &mut WriteError,
+) -> Result<Progress, Failed>
+    requires { 0 < progress.left + progress.behind }
+    ensures { BeginsSegment W.contents target progress why.new result }
+{
+    if progress.left > 0 {
+        return Ok(progress);
+    }
+    let left = progress.behind.min(1000);
+    put_header(
+        target,
+        Tag::OCTET_STRING,
+        false,
+        Length::Definite(left),
+        why,
+    )?;
+    Ok(Progress {
+        left,
+        behind: progress.behind - left,
+    })
+}
+
+/// Writes a part, in the segment that was begun and in those behind it.
+fn put_part<W: io::Write>(
+    progress: Progress,
+    part: &[u8],
+    target: &mut W,
+    why: &mut WriteError,
+) -> Result<Progress, Failed>
+    requires { length part.now ≤ progress.left + progress.behind }
+    ensures { WritesPart W.contents target progress part.now why.new result }
+{
+    let mut reached = progress;
+    let mut rest = part;
+    while !rest.is_empty() {
+        let begun = begin_segment(reached, target, why)?;
+        let count = rest.len().min(begun.left);
+        put_all(target, &rest[..count], why)?;
+        reached = Progress {
+            left: begun.left - count,
+            behind: begun.behind,
+        };
+        rest = &rest[count..];
+    }
+    Ok(reached)
+}
+
+/// Writes the octets of the parts, in segments.
+fn put_segments<W: io::Write>(
+    len: usize,
+    parts: OctetStringIter<'_>,
+    target: &mut W,
+    why: &mut WriteError,
+) -> Result<(), Failed>
+    requires some { 0 < len }
+    requires all { len ≡ length (concat parts) }
+    ensures { WroteOctets W.contents target (segments_in_cer (concat parts.entry)).octets
+        (told result why.new) }
+{
+    let mut progress = Progress {
+        left: 0,
+        behind: len,
+    };
+    for part in parts {
+        progress = put_part(progress, part, target, why)?;
+    }
+    Ok(())
+}
+
+/// Writes a value that is cut into segments.
+fn put_cut<W: io::Write>(
+    tag: Tag,
+    len: usize,
+    parts: OctetStringIter<'_>,
+    target: &mut W,
+    why: &mut WriteError,
+) -> Result<(), Failed>
+    requires some { 0 < len }
+    requires all { len ≡ length (concat parts) }
+    ensures { WroteOctets W.contents target
+        (enclosed Cer tag (segments_in_cer (concat parts.entry)).octets) (told result why.new) }
+{
+    put_header(target, tag, true, Length::Indefinite, why)?;
+    put_segments(len, parts, target, why)?;
+    put_all(target, &[0x00, 0x00], why)
+}
+
+/// Writes the octets of the parts.
+fn put_parts<W: io::Write>(
+    parts: OctetStringIter<'_>,
+    target: &mut W,
+    why: &mut WriteError,
+) -> Result<(), Failed>
+    ensures { WroteOctets W.contents target (concat parts.entry) (told result why.new) }
+{
+    for part in parts {
+        put_all(target, part, why)?;
+    }
+    Ok(())
+}
+
+/// Writes a primitive value, each part by itself.
+fn put_whole<W: io::Write>(
+    tag: Tag,
+    len: usize,
+    parts: OctetStringIter<'_>,
+    target: &mut W,
+    why: &mut WriteError,
+) -> Result<(), Failed>
+    requires fits { len < 2 ^ 32 }
+    requires all { len ≡ length (concat parts) }
+    ensures { WroteOctets W.contents target (definite tag false (concat parts.entry))
+        (told result why.new) }
+{
+    put_header(target, tag, false, Length::Definite(len), why)?;
+    put_parts(parts, target, why)
+}
+
+/// Writes the string of the octets of the parts, where it is known that it has an encoding.
+pub(super) fn put_string<W: io::Write>(
+    tag: Tag,
+    mode: Mode,
+    len: usize,
+    parts: OctetStringIter<'_>,
+    target: &mut W,
+    why: &mut WriteError,
+) -> Result<(), Failed>
+    requires known { HasEncoding (OctetsMean tag (concat parts) mode) }
+    requires all { len ≡ length (concat parts) }
+    ensures { WritesParts W.contents target (OctetsMean tag (concat parts.entry) mode) ⊥
+        (told result why.new) }
+{
+    if is_cut(mode, len) {
+        put_cut(tag, len, parts, target, why)
+    } else {
+        put_whole(tag, len, parts, target, why)
+    }
+}
+
+/// How many octets these have as a string.
+pub(super) fn octets_len(tag: Tag, octets: &[u8], mode: Mode) -> Result<usize, EncodeError>
+    ensures { SizeOfValues (OctetsMean tag octets.now mode) ⊥ result }
+{
+    string_len(tag, mode, octets.len())
+}
+
+/// Writes octets as a string that is known to have an encoding.
+pub(super) fn put_octets<W: io::Write>(
+    tag: Tag,
+    octets: &[u8],
+    mode: Mode,
+    target: &mut W,
+    why: &mut WriteError,
+) -> Result<(), Failed>
+    requires { HasEncoding (OctetsMean tag octets.now mode) }
+    ensures { WritesParts W.contents target (OctetsMean tag octets.now mode) ⊥
+        (told result why.new) }
+{
+    put_string(
+        tag,
+        mode,
+        octets.len(),
+        OctetStringIter::of_piece(octets),
+        target,
+        why,
+    )
+}
+
+/// Writes octets as a string, if it has an encoding.
+pub(super) fn write_octets<W: io::Write>(
+    tag: Tag,
+    octets: &[u8],
+    mode: Mode,
+    target: &mut W,
+) -> Result<(), WriteError>
+    ensures { WritesValues W.contents target (OctetsMean tag octets.now mode) ⊥ result }
+{
+    octets_len(tag, octets, mode)?;
+    let mut why = slot();
+    let outcome = put_octets(tag, octets, mode, target, &mut why);
+    told(outcome, why)
+}
