@@ -38,3 +38,5 @@ mod sources;
 #[cfg(test)]
 mod tag_names;
 pub mod tags;
+#[cfg(test)]
+mod written_strings;
