@@ -49,7 +49,10 @@ fn read<S: Source>(alloc: Global, mode: Mode, source: &mut S) -> Option<OctetStr
 
 /// The string that octets are in a mode.
 fn taken(rt: &impl Abort, alloc: Global, mode: Mode, octets: &[u8]) -> OctetString {
-    done(rt, read(alloc, mode, &mut SliceSource::new(octets)).ok_or(()))
+    done(
+        rt,
+        read(alloc, mode, &mut SliceSource::new(octets)).ok_or(()),
+    )
 }
 
 /// A string of these octets that was cut into segments of so many octets.
@@ -192,12 +195,7 @@ const CAME: [[&[u8]; 4]; 7] = [
         &[0x04, 0x02, 0x61, 0x62],
         &[0x04, 0x02, 0x61, 0x62],
     ],
-    [
-        &[0x24, 0x00],
-        &[0x24, 0x00],
-        &[0x04, 0x00],
-        &[0x04, 0x00],
-    ],
+    [&[0x24, 0x00], &[0x24, 0x00], &[0x04, 0x00], &[0x04, 0x00]],
     [
         &[0x24, 0x80, 0x00, 0x00],
         &[0x24, 0x00],
@@ -253,7 +251,13 @@ fn strings_under_another_tag(rt: HostRuntime) {
     let ber = [0xA0, 0x07, 0x04, 0x00, 0x04, 0x00, 0x04, 0x01, 0x61];
     writes(&rt, alloc, &encoder, Mode::Ber, ber.as_slice());
     writes(&rt, alloc, &encoder, Mode::Der, &[0x80, 0x01, 0x61]);
-    writes(&rt, alloc, &string.encode_as(Tag::CTX_1), Mode::Cer, &[0x81, 0x01, 0x61]);
+    writes(
+        &rt,
+        alloc,
+        &string.encode_as(Tag::CTX_1),
+        Mode::Cer,
+        &[0x81, 0x01, 0x61],
+    );
 }
 
 // ---- values that are wrapped
@@ -266,7 +270,13 @@ fn a_value_in_a_string(rt: HostRuntime) {
         writes(&rt, alloc, &wrapped, mode, &[0x04, 0x03, 0x01, 0x01, 0xFF]);
     }
     let twice = OctetString::encode_wrapped(alloc, Mode::Cer, &wrapped);
-    writes(&rt, alloc, &twice, Mode::Der, &[0x04, 0x05, 0x04, 0x03, 0x01, 0x01, 0xFF]);
+    writes(
+        &rt,
+        alloc,
+        &twice,
+        Mode::Der,
+        &[0x04, 0x05, 0x04, 0x03, 0x01, 0x01, 0xFF],
+    );
 }
 
 /// An encoding of 1001 octets, inside a string in CER.
@@ -274,14 +284,24 @@ fn a_value_in_a_string(rt: HostRuntime) {
 fn a_long_value_in_a_string(rt: HostRuntime) {
     let alloc = rt.alloc();
     let value = octets_of(&rt, alloc, 997);
-    let inner = spell(&rt, alloc, value.as_slice(), &[(&[0x04, 0x82, 0x03, 0xE5], 997)]);
+    let inner = spell(
+        &rt,
+        alloc,
+        value.as_slice(),
+        &[(&[0x04, 0x82, 0x03, 0xE5], 997)],
+    );
     let pieces: [(&[u8], usize); 3] = [
         (&[0x24, 0x80, 0x04, 0x82, 0x03, 0xE8], 1000),
         (&[0x04, 0x01], 1),
         (&[0x00, 0x00], 0),
     ];
     let cer = spell(&rt, alloc, inner.as_slice(), &pieces);
-    let der = spell(&rt, alloc, inner.as_slice(), &[(&[0x04, 0x82, 0x03, 0xE9], 1001)]);
+    let der = spell(
+        &rt,
+        alloc,
+        inner.as_slice(),
+        &[(&[0x04, 0x82, 0x03, 0xE9], 1001)],
+    );
     let octets = value.as_slice();
     let wrapped = OctetString::encode_wrapped(alloc, Mode::Der, octets.encode());
     same(&rt, cer.len(), 1011);
@@ -340,7 +360,13 @@ fn up_to_the_failure_in_a_string(rt: HostRuntime) {
     fails(&rt, alloc, &string.encode_ref(), Mode::Ber, ber);
     fails(&rt, alloc, &string.encode_ref(), Mode::Der, der);
     let wrapped = OctetString::encode_wrapped(alloc, Mode::Der, true.encode());
-    fails(&rt, alloc, &wrapped, Mode::Der, &[0x04, 0x03, 0x01, 0x01, 0xFF]);
+    fails(
+        &rt,
+        alloc,
+        &wrapped,
+        Mode::Der,
+        &[0x04, 0x03, 0x01, 0x01, 0xFF],
+    );
 }
 
 #[test]
