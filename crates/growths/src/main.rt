@@ -11,6 +11,7 @@ mod end;
 mod numbers;
 mod sources;
 mod taken;
+mod wrapped;
 
 use anyhow::Error;
 
@@ -20,5 +21,6 @@ fn main(rt: HostRuntime) -> Result<(), Error> {
     taken::run(&rt)?;
     captured::run(&rt)?;
     encoded::run(&rt)?;
+    wrapped::run(&rt)?;
     encoded::run_beyond_memory(&rt)
 }
