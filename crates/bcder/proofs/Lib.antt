@@ -74,4 +74,5 @@ pub mod Segmenting
 pub mod Wrapping
 pub mod WrittenStrings
 pub mod StringSources
+pub mod StringsBack
 pub mod Hashing

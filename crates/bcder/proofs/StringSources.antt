@@ -1,14 +1,11 @@
 -- Segments that come one after the other, and octets that are joined in front of them.
-use Rattle.std.proofs.Common.{◌≡◌, ℕ, zero, suc, ◌+◌, ◌<◌, ◌≤◌, ◌^◌, List, [], ◌∷◌, ◌++◌, length, drop, get_or, map, refl, sym, ap, ◌∙◌, subst, append_assoc, append-nil, add-one, drop-cons, inl, inr, arith, ◌⊎◌}
+use Rattle.std.proofs.Common.{◌≡◌, ℕ, zero, suc, ◌+◌, ◌<◌, ◌≤◌, ◌^◌, List, [], ◌∷◌, ◌++◌, length, drop, get_or, refl, sym, ap, ◌∙◌, subst, append_assoc, add-one, drop-cons, arith}
 use Rattle.std.specs.List.{concat}
 use Rattle.std.proofs.lemmas.List.{length-append, length-drop, drop-append-le}
 use Rattle.bcder.specs.declared.string.octet.Segment.{Segment}
 use Rattle.bcder.specs.Identifier.{AreOctets}
-use Rattle.bcder.specs.OctetString.{AreWithin, segment_at, segments_at, AreSegmented}
+use Rattle.bcder.specs.OctetString.{AreWithin, segment_at, segments_at}
 use Rattle.bcder.specs.laws.Limits.{AreOctets-drop}
-use Rattle.bcder.specs.StringSource.{IsJoined}
-use Rattle.bcder.proofs.Parts.{parts_shorter}
-use Rattle.bcder.proofs.Segmenting.{parts_octets}
 
 pub AreWithin-drop : (w : List ℕ) (ss : List Segment) (n : ℕ) → AreWithin w ss → AreWithin w (drop n ss)
 AreWithin-drop w ss zero h = h

@@ -1,5 +1,5 @@
 -- The octets of a string as a source.
-use Rattle.std.specs.Prelude.{◌≡◌, ℕ, ◌≤◌, ◌⊎◌, List, [], ◌∷◌, ◌++◌, length, drop, Option, None, Some, Result, Ok, Err}
+use Rattle.std.specs.Prelude.{◌≡◌, ℕ, ◌≤◌, ◌⊎◌, List, [], ◌++◌, length, drop, Option, None, Some}
 use Rattle.std.specs.List.{concat}
 use Rattle.bcder.specs.OctetString.{StringOctets, octets_of}
 use Rattle.bcder.specs.Stream.{Stream}

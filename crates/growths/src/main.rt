@@ -12,6 +12,7 @@ mod end;
 mod numbers;
 mod sources;
 mod taken;
+mod wrapped;
 
 use anyhow::Error;
 
@@ -22,5 +23,6 @@ fn main(rt: HostRuntime) -> Result<(), Error> {
     bits::run(&rt)?;
     captured::run(&rt)?;
     encoded::run(&rt)?;
+    wrapped::run(&rt)?;
     encoded::run_beyond_memory(&rt)
 }

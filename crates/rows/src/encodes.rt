@@ -358,7 +358,7 @@ fn refusals(rt: HostRuntime) {
 }
 
 /// The values have so many octets in each mode, or are refused for this reason and not written.
-fn sizes<V: Values>(
+pub fn sizes<V: Values>(
     rt: &impl Abort,
     alloc: Global,
     values: &V,
@@ -423,7 +423,7 @@ fn the_largest_sizes(rt: HostRuntime) {
 
 /// How a target fails.
 #[derive(Clone, Copy, Debug, PartialEq, Eq)]
-enum Failure {
+pub enum Failure {
     /// It answers that it took no octet.
     Nothing,
 
@@ -467,10 +467,11 @@ impl Write for OneByOne {
 
 /// Writes to a target that fails at a call. The octets up to that call were taken, and it isn't
 /// called again, where it would take more.
-fn check_failing<V: Values>(
+pub fn check_failing<V: Values>(
     rt: &impl Abort,
     alloc: Global,
     values: &V,
+    mode: Mode,
     wanted: &[u8],
     failing: usize,
     failure: Failure,
@@ -483,7 +484,7 @@ fn check_failing<V: Values>(
         failing,
         failure,
     };
-    let kind = match values.write_encoded(Mode::Der, &mut target) {
+    let kind = match values.write_encoded(mode, &mut target) {
         Ok(()) => None,
         Err(WriteError::Target(error)) => Some(error.kind()),
         Err(WriteError::Refused(_)) => Some(ErrorKind::Other),
@@ -513,7 +514,15 @@ fn up_to_the_failure(rt: HostRuntime) {
     let values = sequence((true.encode(), 5u8.encode()));
     for failure in failures {
         for failing in 1..10usize {
-            check_failing(&rt, rt.alloc(), &values, &whole, failing, failure);
+            check_failing(
+                &rt,
+                rt.alloc(),
+                &values,
+                Mode::Der,
+                &whole,
+                failing,
+                failure,
+            );
         }
     }
 }

@@ -42,3 +42,5 @@ mod strings;
 #[cfg(test)]
 mod tag_names;
 pub mod tags;
+#[cfg(test)]
+mod written_strings;

@@ -1,11 +1,12 @@
 //! What is written of an octet string is one: each value that its encoders mean is an octet string
 //! in the mode, and holds the octets (X.690, 8.7, 9.2, 10.2).
-ghost use Rattle.std.specs.Prelude.{Ok};
+ghost use Rattle.std.specs.Prelude.{ℕ, List, Ok};
 ghost use Rattle.bcder.specs.declared.mode.Mode.{Mode};
 ghost use Rattle.bcder.specs.Identifier.{Tag};
 ghost use Rattle.bcder.specs.Meaning.{Encoded};
 ghost use Rattle.bcder.specs.OctetString.{StringOctets, octet_string_tag, octets_of};
 ghost use Rattle.bcder.specs.WrittenStrings.{WritesString, WritesAlike};
+ghost use Rattle.bcder.specs.WrittenStrings.{IsWrittenString, IsTakenString};
 
 use crate::encode::Values;
 use crate::mode::Mode;
@@ -59,3 +60,11 @@ pub fn wrapped_values_are_written_as_one<V: Values>(
     let _encoder = encoder;
     let _mode = mode;
 }
+
+/// What is written of a string is taken back by `OctetString::take_from` and `take_opt_from`, and
+/// by all that read as these do, as a string with its octets, unless the source fails, whose
+/// errors are of type `E`, or memory lacks.
+pub fn written_strings_are_taken_back<E>()
+    ensures { (t : Tag) (mode : Mode) (w : List ℕ) (e : Encoded)
+        → IsWrittenString t mode w e → IsTakenString E t mode w e }
+{}

@@ -1,5 +1,4 @@
-use Rattle.std.proofs.Common.{List, ℕ, ◌≡◌, ◌++◌, length, drop, suc, sym, ap, ◌∙◌, append_assoc, add-one, arith}
-use Rattle.std.specs.List.{concat}
+use Rattle.std.proofs.Common.{◌≡◌, ◌++◌, length, sym, ap, ◌∙◌, arith}
 use Rattle.std.proofs.lemmas.List.{length-append}
 use Rattle.bcder.proofs.StringSources.{joined_on, drop_next}
 use Rattle.bcder.proofs.string.octet.source.Behind.join.Goals as goal

@@ -1,4 +1,4 @@
-use Rattle.std.proofs.Common.{List, ℕ, drop, length, sym, ap, ◌∙◌, subst, arith}
+use Rattle.std.proofs.Common.{drop, length, sym, ap, ◌∙◌, subst, arith}
 use Rattle.std.proofs.lemmas.List.{drop-drop, length-drop}
 use Rattle.bcder.specs.OctetString.{AreWithin, segments_at}
 use Rattle.bcder.proofs.StringSources.{AreWithin-drop, segments_at-drop, segments_at-length}

@@ -1,5 +1,5 @@
 use Rattle.std.proofs.Common.{ap, arith, length, ◌<◌}
-use Rattle.bcder.proofs.StringSources.{next_within, next_of}
+use Rattle.bcder.proofs.StringSources.{next_within}
 use Rattle.bcder.proofs.string.octet.source.Behind.take_part.Goals as goal
 
 pub overflow_add-segment : goal.overflow_add-segment

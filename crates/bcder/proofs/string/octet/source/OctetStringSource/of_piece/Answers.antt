@@ -1,4 +1,4 @@
-use Rattle.std.proofs.Common.{List, ℕ, length, append-nil, sym, ap, ◌∙◌, subst, ◌<◌, ◌^◌, arith}
+use Rattle.std.proofs.Common.{List, ℕ, length, append-nil, sym, ◌∙◌, subst, ◌<◌, ◌^◌, arith}
 use Rattle.bcder.specs.Identifier.{AreOctets}
 use Rattle.bcder.proofs.string.octet.source.OctetStringSource.of_piece.Goals as goal
 

@@ -1,4 +1,4 @@
-use Rattle.std.proofs.Common.{List, ℕ, ◌≡◌, ◌++◌, length, sym, ap, ◌∙◌, subst, ◌<◌, ◌≤◌, ◌^◌, arith}
+use Rattle.std.proofs.Common.{List, ℕ, ◌≡◌, ◌++◌, length, sym, ap, ◌∙◌, subst, ◌<◌, ◌^◌, arith}
 use Rattle.std.specs.List.{concat}
 use Rattle.bcder.specs.Identifier.{AreOctets}
 use Rattle.bcder.specs.OctetString.{segments_at}

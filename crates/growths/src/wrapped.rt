@@ -1,0 +1,55 @@
+//! Values that are wrapped into octet strings, and the octets of a string as a source.
+use crate::end::{End, answered, refused, tell};
+use anyhow::Error;
+use bcder::decode::{IntoSource, SliceSource, Source};
+use bcder::encode::{EncodeError, PrimitiveContent, Values, WriteError};
+use bcder::{Mode, NoMemory, OctetString};
+use std::alloc::Global;
+
+/// What 1001 octets begin with in CER that are an OCTET STRING themselves.
+const FRONT: [u8; 10] = [0x24, 0x80, 0x04, 0x82, 0x03, 0xE8, 0x04, 0x82, 0x03, 0xE5];
+
+/// Over 1000 octets are gathered before they are written in CER. Where there is no memory for them,
+/// a front of what is to be written was.
+fn wraps(alloc: Global) -> Result<End, Error> {
+    let zeros = [0; 997];
+    let octets: &[u8] = &zeros;
+    let wrapped = OctetString::encode_wrapped(alloc, Mode::Der, octets.encode());
+    let mut target = Vec::with_capacity(alloc, 1011)?;
+    Ok(match wrapped.write_encoded(Mode::Cer, &mut target) {
+        Ok(()) => answered(target.len() == 1011 && target.as_slice().starts_with(&FRONT)),
+        Err(WriteError::Refused(error)) => refused(
+            error == EncodeError::NoMemory,
+            FRONT.starts_with(target.as_slice()),
+        ),
+        Err(WriteError::Target(_)) => End::Wrong,
+    })
+}
+
+/// A string that was cut into two segments, `a` and `b`.
+const CUT: [u8; 8] = [0x24, 0x06, 0x04, 0x01, 0x61, 0x04, 0x01, 0x62];
+
+/// Segments are joined where more is asked for than one holds. Where there is no memory for that,
+/// the octets are given one by one.
+fn requests(alloc: Global) -> Result<End, Error> {
+    let mut octets = SliceSource::new(&CUT);
+    let string = Mode::Ber.decode_lent(&mut octets, |cons| OctetString::take_from(alloc, cons))?;
+    let mut source = string.into_source();
+    Ok(match source.request(2) {
+        Ok(count) => answered(count == 2 && source.slice() == b"ab".as_slice()),
+        Err(NoMemory) => {
+            let left = source.take_u8()? == b'a' && source.take_u8()? == b'b';
+            refused(true, left && source.request(1)? == 0)
+        }
+    })
+}
+
+pub fn run(rt: &HostRuntime) -> Result<(), Error> {
+    let alloc = rt.alloc();
+    tell(
+        rt,
+        "WrappingOctetStringEncoder::write_encoded",
+        wraps(alloc)?,
+    )?;
+    tell(rt, "OctetStringSource::request", requests(alloc)?)
+}

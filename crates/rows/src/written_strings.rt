@@ -1,0 +1,380 @@
+//! What is written of octet strings: in segments, in one piece, as they came, and of values that
+//! are wrapped into one (X.690, 8.7, 9.2, 10.2).
+#![tactic(auto, using(bcder::proofs::Moving::moves_refl, bcder::proofs::Carrying::carries))]
+
+ghost use Rattle.std.specs.Prelude.{◌<◌};
+
+use crate::asserts::{done, holds, same};
+use crate::encoders::{Nulls, Zeros};
+use crate::encodes::{Failure, check_failing, refuses, sizes, writes};
+use bcder::decode::{SliceSource, Source};
+use bcder::encode::{EncodeError, PrimitiveContent, Values, sequence_as};
+use bcder::string::OctetSliceEncoder;
+use bcder::{Captured, Mode, OctetString, Tag};
+use bytes::Bytes;
+use std::alloc::Global;
+use std::io::ErrorKind;
+use std::process::Abort;
+
+/// Octets that differ from those near them.
+fn octets_of(rt: &impl Abort, alloc: Global, len: usize) -> Vec<u8> {
+    let mut octets = Vec::new(alloc);
+    for index in 0..len {
+        done(rt, octets.push((index % 251) as u8));
+    }
+    octets
+}
+
+/// Octets behind a header, and then those that follow them behind the next, and so on.
+fn spell(rt: &impl Abort, alloc: Global, octets: &[u8], pieces: &[(&[u8], usize)]) -> Vec<u8> {
+    let mut spelled = Vec::new(alloc);
+    let mut rest = octets;
+    for (header, count) in pieces {
+        let (piece, behind) = rest.split_at((*count).min(rest.len()));
+        done(rt, spelled.extend_from_slice(*header));
+        done(rt, spelled.extend_from_slice(piece));
+        rest = behind;
+    }
+    holds(rt, rest.is_empty());
+    spelled
+}
+
+/// The string that a source holds, if it is one in the mode.
+fn read<S: Source>(alloc: Global, mode: Mode, source: &mut S) -> Option<OctetString> {
+    match mode.decode_lent(source, |cons| OctetString::take_from(alloc, cons)) {
+        Ok(string) => Some(string),
+        Err(_) => None,
+    }
+}
+
+/// The string that octets are in a mode.
+fn taken(rt: &impl Abort, alloc: Global, mode: Mode, octets: &[u8]) -> OctetString {
+    done(
+        rt,
+        read(alloc, mode, &mut SliceSource::new(octets)).ok_or(()),
+    )
+}
+
+/// A string of these octets that was cut into segments of so many octets.
+fn cut(rt: &impl Abort, alloc: Global, octets: &[u8], each: usize) -> OctetString
+    requires { 0 < each }
+{
+    let mut list: Vec<OctetSliceEncoder<&[u8]>> = Vec::new(alloc);
+    for segment in octets.chunks(each) {
+        done(rt, list.push(OctetString::encode_slice(segment)));
+    }
+    let values = sequence_as(Tag::OCTET_STRING, list);
+    let captured = done(rt, values.to_captured(alloc, Mode::Ber));
+    taken(rt, alloc, Mode::Ber, captured.as_slice())
+}
+
+// ---- segments
+
+/// How many octets there are, their header in DER, and their segments in CER.
+const SEGMENTED: [(usize, &[u8], &[(&[u8], usize)]); 9] = [
+    (0, &[0x04, 0x00], &[(&[0x04, 0x00], 0)]),
+    (1, &[0x04, 0x01], &[(&[0x04, 0x01], 1)]),
+    (
+        1000,
+        &[0x04, 0x82, 0x03, 0xE8],
+        &[(&[0x04, 0x82, 0x03, 0xE8], 1000)],
+    ),
+    (
+        1001,
+        &[0x04, 0x82, 0x03, 0xE9],
+        &[
+            (&[0x24, 0x80, 0x04, 0x82, 0x03, 0xE8], 1000),
+            (&[0x04, 0x01], 1),
+            (&[0x00, 0x00], 0),
+        ],
+    ),
+    (
+        1127,
+        &[0x04, 0x82, 0x04, 0x67],
+        &[
+            (&[0x24, 0x80, 0x04, 0x82, 0x03, 0xE8], 1000),
+            (&[0x04, 0x7F], 127),
+            (&[0x00, 0x00], 0),
+        ],
+    ),
+    (
+        1128,
+        &[0x04, 0x82, 0x04, 0x68],
+        &[
+            (&[0x24, 0x80, 0x04, 0x82, 0x03, 0xE8], 1000),
+            (&[0x04, 0x81, 0x80], 128),
+            (&[0x00, 0x00], 0),
+        ],
+    ),
+    (
+        1256,
+        &[0x04, 0x82, 0x04, 0xE8],
+        &[
+            (&[0x24, 0x80, 0x04, 0x82, 0x03, 0xE8], 1000),
+            (&[0x04, 0x82, 0x01, 0x00], 256),
+            (&[0x00, 0x00], 0),
+        ],
+    ),
+    (
+        2000,
+        &[0x04, 0x82, 0x07, 0xD0],
+        &[
+            (&[0x24, 0x80, 0x04, 0x82, 0x03, 0xE8], 1000),
+            (&[0x04, 0x82, 0x03, 0xE8], 1000),
+            (&[0x00, 0x00], 0),
+        ],
+    ),
+    (
+        2001,
+        &[0x04, 0x82, 0x07, 0xD1],
+        &[
+            (&[0x24, 0x80, 0x04, 0x82, 0x03, 0xE8], 1000),
+            (&[0x04, 0x82, 0x03, 0xE8], 1000),
+            (&[0x04, 0x01], 1),
+            (&[0x00, 0x00], 0),
+        ],
+    ),
+];
+
+/// A string is written so in CER and DER, however it was cut.
+fn check_string(rt: &impl Abort, alloc: Global, string: &OctetString, cer: &[u8], der: &[u8]) {
+    writes(rt, alloc, &string.encode_ref(), Mode::Cer, cer);
+    writes(rt, alloc, &string.encode_ref(), Mode::Der, der);
+}
+
+#[test]
+fn octets_in_segments(rt: HostRuntime) {
+    let alloc = rt.alloc();
+    for (len, header, pieces) in SEGMENTED {
+        let octets = octets_of(&rt, alloc, len);
+        let cer = spell(&rt, alloc, octets.as_slice(), pieces);
+        let der = spell(&rt, alloc, octets.as_slice(), &[(header, len)]);
+        let encoder = OctetString::encode_slice(octets.as_slice());
+        writes(&rt, alloc, &encoder, Mode::Ber, der.as_slice());
+        writes(&rt, alloc, &encoder, Mode::Cer, cer.as_slice());
+        writes(&rt, alloc, &encoder, Mode::Der, der.as_slice());
+    }
+}
+
+#[test]
+fn strings_in_segments(rt: HostRuntime) {
+    let alloc = rt.alloc();
+    for (len, header, pieces) in SEGMENTED {
+        let octets = octets_of(&rt, alloc, len);
+        let cer = spell(&rt, alloc, octets.as_slice(), pieces);
+        let der = spell(&rt, alloc, octets.as_slice(), &[(header, len)]);
+        let whole = OctetString::new(done(&rt, Bytes::copy_from_slice(alloc, octets.as_slice())));
+        check_string(&rt, alloc, &whole, cer.as_slice(), der.as_slice());
+        for each in [7, 300, 999, 1000, 1001, 3000] {
+            let string = cut(&rt, alloc, octets.as_slice(), each);
+            check_string(&rt, alloc, &string, cer.as_slice(), der.as_slice());
+        }
+    }
+}
+
+/// What is written in CER is read, and written back unchanged.
+#[test]
+fn segments_are_read_back(rt: HostRuntime) {
+    let alloc = rt.alloc();
+    for (len, _, pieces) in SEGMENTED {
+        let octets = octets_of(&rt, alloc, len);
+        let cer = spell(&rt, alloc, octets.as_slice(), pieces);
+        let string = taken(&rt, alloc, Mode::Cer, cer.as_slice());
+        holds(&rt, string.eq_octets(octets.as_slice()));
+        writes(&rt, alloc, &string.encode(), Mode::Cer, cer.as_slice());
+    }
+}
+
+// ---- as they came
+
+/// A string in BER, and what is written of it in BER, CER and DER.
+const CAME: [[&[u8]; 4]; 7] = [
+    [
+        &[0x24, 0x80, 0x04, 0x02, 0x61, 0x62, 0x00, 0x00],
+        &[0x24, 0x04, 0x04, 0x02, 0x61, 0x62],
+        &[0x04, 0x02, 0x61, 0x62],
+        &[0x04, 0x02, 0x61, 0x62],
+    ],
+    [&[0x24, 0x00], &[0x24, 0x00], &[0x04, 0x00], &[0x04, 0x00]],
+    [
+        &[0x24, 0x80, 0x00, 0x00],
+        &[0x24, 0x00],
+        &[0x04, 0x00],
+        &[0x04, 0x00],
+    ],
+    [
+        &[0x24, 0x07, 0x04, 0x00, 0x04, 0x00, 0x04, 0x01, 0x61],
+        &[0x24, 0x07, 0x04, 0x00, 0x04, 0x00, 0x04, 0x01, 0x61],
+        &[0x04, 0x01, 0x61],
+        &[0x04, 0x01, 0x61],
+    ],
+    [
+        &[0x24, 0x81, 0x03, 0x04, 0x01, 0x61],
+        &[0x24, 0x03, 0x04, 0x01, 0x61],
+        &[0x04, 0x01, 0x61],
+        &[0x04, 0x01, 0x61],
+    ],
+    [
+        &[
+            0x24, 0x0A, 0x04, 0x01, 0x61, 0x24, 0x80, 0x04, 0x01, 0x62, 0x00, 0x00,
+        ],
+        &[
+            0x24, 0x0A, 0x04, 0x01, 0x61, 0x24, 0x80, 0x04, 0x01, 0x62, 0x00, 0x00,
+        ],
+        &[0x04, 0x02, 0x61, 0x62],
+        &[0x04, 0x02, 0x61, 0x62],
+    ],
+    [
+        &[0x04, 0x81, 0x01, 0x61],
+        &[0x04, 0x01, 0x61],
+        &[0x04, 0x01, 0x61],
+        &[0x04, 0x01, 0x61],
+    ],
+];
+
+#[test]
+fn strings_as_they_came(rt: HostRuntime) {
+    let alloc = rt.alloc();
+    for [octets, ber, cer, der] in CAME {
+        let string = taken(&rt, alloc, Mode::Ber, octets);
+        check_string(&rt, alloc, &string, cer, der);
+        writes(&rt, alloc, &string.encode(), Mode::Ber, ber);
+    }
+}
+
+#[test]
+fn strings_under_another_tag(rt: HostRuntime) {
+    let alloc = rt.alloc();
+    let octets = [0x24, 0x07, 0x04, 0x00, 0x04, 0x00, 0x04, 0x01, 0x61];
+    let string = taken(&rt, alloc, Mode::Ber, octets.as_slice());
+    let encoder = string.encode_ref_as(Tag::CTX_0);
+    let ber = [0xA0, 0x07, 0x04, 0x00, 0x04, 0x00, 0x04, 0x01, 0x61];
+    writes(&rt, alloc, &encoder, Mode::Ber, ber.as_slice());
+    writes(&rt, alloc, &encoder, Mode::Der, &[0x80, 0x01, 0x61]);
+    writes(
+        &rt,
+        alloc,
+        &string.encode_as(Tag::CTX_1),
+        Mode::Cer,
+        &[0x81, 0x01, 0x61],
+    );
+}
+
+// ---- values that are wrapped
+
+#[test]
+fn a_value_in_a_string(rt: HostRuntime) {
+    let alloc = rt.alloc();
+    let wrapped = OctetString::encode_wrapped(alloc, Mode::Der, true.encode());
+    for mode in [Mode::Ber, Mode::Cer, Mode::Der] {
+        writes(&rt, alloc, &wrapped, mode, &[0x04, 0x03, 0x01, 0x01, 0xFF]);
+    }
+    let twice = OctetString::encode_wrapped(alloc, Mode::Cer, &wrapped);
+    writes(
+        &rt,
+        alloc,
+        &twice,
+        Mode::Der,
+        &[0x04, 0x05, 0x04, 0x03, 0x01, 0x01, 0xFF],
+    );
+}
+
+/// An encoding of 1001 octets, inside a string in CER.
+#[test]
+fn a_long_value_in_a_string(rt: HostRuntime) {
+    let alloc = rt.alloc();
+    let value = octets_of(&rt, alloc, 997);
+    let inner = spell(
+        &rt,
+        alloc,
+        value.as_slice(),
+        &[(&[0x04, 0x82, 0x03, 0xE5], 997)],
+    );
+    let pieces: [(&[u8], usize); 3] = [
+        (&[0x24, 0x80, 0x04, 0x82, 0x03, 0xE8], 1000),
+        (&[0x04, 0x01], 1),
+        (&[0x00, 0x00], 0),
+    ];
+    let cer = spell(&rt, alloc, inner.as_slice(), &pieces);
+    let der = spell(
+        &rt,
+        alloc,
+        inner.as_slice(),
+        &[(&[0x04, 0x82, 0x03, 0xE9], 1001)],
+    );
+    let octets = value.as_slice();
+    let wrapped = OctetString::encode_wrapped(alloc, Mode::Der, octets.encode());
+    same(&rt, cer.len(), 1011);
+    writes(&rt, alloc, &wrapped, Mode::Cer, cer.as_slice());
+    writes(&rt, alloc, &wrapped, Mode::Ber, der.as_slice());
+}
+
+// ---- refusals
+
+#[test]
+fn strings_with_the_tag_of_the_end(rt: HostRuntime) {
+    let alloc = rt.alloc();
+    let octets = octets_of(&rt, alloc, 1001);
+    let slice = OctetString::encode_slice_as(octets.as_slice(), Tag::END_OF_VALUE);
+    let string = cut(&rt, alloc, octets.as_slice(), 7).encode_as(Tag::END_OF_VALUE);
+    for mode in [Mode::Ber, Mode::Cer, Mode::Der] {
+        refuses(&rt, alloc, &slice, mode, EncodeError::EndOfValueTag);
+        refuses(&rt, alloc, &string, mode, EncodeError::EndOfValueTag);
+    }
+}
+
+#[test]
+fn values_that_are_refused_in_a_string(rt: HostRuntime) {
+    let alloc = rt.alloc();
+    let long = Err(EncodeError::LengthTooLarge);
+    let over = Err(EncodeError::SizeOverflow);
+    let other = Captured::empty(alloc, Mode::Ber);
+    let wrapped = OctetString::encode_wrapped(alloc, Mode::Der, other);
+    sizes(&rt, alloc, &wrapped, [Err(EncodeError::CapturedMode); 3]);
+    let wrapped = OctetString::encode_wrapped(alloc, Mode::Der, Zeros(4294967296).encode());
+    sizes(&rt, alloc, &wrapped, [long; 3]);
+    let wrapped = OctetString::encode_wrapped(alloc, Mode::Ber, Nulls(2147483648));
+    sizes(&rt, alloc, &wrapped, [long, Ok(4312147172), long]);
+    let wrapped = OctetString::encode_wrapped(alloc, Mode::Ber, Nulls(9223372036854775807));
+    sizes(&rt, alloc, &wrapped, [long, over, long]);
+}
+
+// ---- targets that fail
+
+/// Each call of the target's fails in turn.
+fn fails<V: Values>(rt: &impl Abort, alloc: Global, values: &V, mode: Mode, wanted: &[u8])
+    requires { V.can_encode values.now }
+{
+    for failing in 1..wanted.len().saturating_add(2) {
+        let failure = Failure::Error(ErrorKind::BrokenPipe);
+        check_failing(rt, alloc, values, mode, wanted, failing, failure);
+        check_failing(rt, alloc, values, mode, wanted, failing, Failure::Nothing);
+    }
+}
+
+#[test]
+fn up_to_the_failure_in_a_string(rt: HostRuntime) {
+    let alloc = rt.alloc();
+    let [octets, ber, _, der] = CAME[5];
+    let string = taken(&rt, alloc, Mode::Ber, octets);
+    fails(&rt, alloc, &string.encode_ref(), Mode::Ber, ber);
+    fails(&rt, alloc, &string.encode_ref(), Mode::Der, der);
+    let wrapped = OctetString::encode_wrapped(alloc, Mode::Der, true.encode());
+    fails(
+        &rt,
+        alloc,
+        &wrapped,
+        Mode::Der,
+        &[0x04, 0x03, 0x01, 0x01, 0xFF],
+    );
+}
+
+#[test]
+fn up_to_the_failure_in_segments(rt: HostRuntime) {
+    let alloc = rt.alloc();
+    let (len, _, pieces) = SEGMENTED[3];
+    let octets = octets_of(&rt, alloc, len);
+    let cer = spell(&rt, alloc, octets.as_slice(), pieces);
+    let string = cut(&rt, alloc, octets.as_slice(), 300);
+    fails(&rt, alloc, &string.encode(), Mode::Cer, cer.as_slice());
+}
