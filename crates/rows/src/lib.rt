@@ -36,5 +36,7 @@ mod skips;
 #[cfg(test)]
 mod sources;
 #[cfg(test)]
+mod strings;
+#[cfg(test)]
 mod tag_names;
 pub mod tags;
