@@ -83,7 +83,10 @@ impl OctetString {
         ensures moves { Moved S.stream cons }
         ensures took { TookOneTree S.stream cons octet_string_tag MeansString result }
     {
-        cons.take_value_if(Tag::OCTET_STRING, |content| OctetString::from_content(alloc, content))
+        cons.take_value_if(
+            Tag::OCTET_STRING,
+            |content| OctetString::from_content(alloc, content),
+        )
     }
 
     /// Takes the next value if it is an OCTET STRING, or answers `None` at the end and at a value

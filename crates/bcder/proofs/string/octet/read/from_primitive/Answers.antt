@@ -5,21 +5,24 @@ use Rattle.bcder.proofs.Strings.{read_whole, refuse_long, refuse_octets}
 use Rattle.bcder.proofs.string.octet.read.from_primitive.Goals as goal
 
 pub returns-then-not-may_be_whole-clause-read : goal.returns-then-not-may_be_whole-clause-read
-returns-then-not-may_be_whole-clause-read g c = record { at_tag = λ tag.
-    let i = of_primitive g.S.Source.stream c.args.octets.now in
-    refuse_long tag i c.refusal.result c.refusal.ensures (octets_form g.S.Source.stream c.args.octets.now) (λ h. (let f : IsTrue false = c.if-not-may_be_whole.ensures.1 (λ m. subst (λ z. z ≤ 1000) (sym c.remaining.ensures) (h (sym c.mode.ensures ∙ m))) in cc))
-    }
+returns-then-not-may_be_whole-clause-read g c = record {
+  at_tag = λ tag.
+      let i = of_primitive g.S.Source.stream c.args.octets.now in
+      refuse_long tag i c.refusal.result c.refusal.ensures (octets_form g.S.Source.stream c.args.octets.now) (λ h. (let f : IsTrue false = c.if-not-may_be_whole.ensures.1 (λ m. subst (λ z. z ≤ 1000) (sym c.remaining.ensures) (h (sym c.mode.ensures ∙ m))) in cc));
+}
 
 pub returns-in-Ok-clause-read : goal.returns-in-Ok-clause-read
-returns-in-Ok-clause-read g c = record { at_tag = λ tag.
-    let i = of_primitive g.S.Source.stream c.args.octets.now in
-    let j = of_primitive g.S.Source.stream c.take_all.new.self in
-    read_whole tag i j c.in-Ok.octets c.new.result c.in-Ok.ensures.read c.new.ensures (octets_form g.S.Source.stream c.args.octets.now) (octets_form g.S.Source.stream c.take_all.new.self) (λ m. subst (λ z. z ≤ 1000) c.remaining.ensures (c.if-not-may_be_whole.ensures.0 refl (c.mode.ensures ∙ m)))
-    }
+returns-in-Ok-clause-read g c = record {
+  at_tag = λ tag.
+      let i = of_primitive g.S.Source.stream c.args.octets.now in
+      let j = of_primitive g.S.Source.stream c.take_all.new.self in
+      read_whole tag i j c.in-Ok.octets c.new.result c.in-Ok.ensures.read c.new.ensures (octets_form g.S.Source.stream c.args.octets.now) (octets_form g.S.Source.stream c.take_all.new.self) (λ m. subst (λ z. z ≤ 1000) c.remaining.ensures (c.if-not-may_be_whole.ensures.0 refl (c.mode.ensures ∙ m)));
+}
 
 pub returns-in-Err-clause-read : goal.returns-in-Err-clause-read
-returns-in-Err-clause-read g c = record { at_tag = λ tag.
-    let i = of_primitive g.S.Source.stream c.args.octets.now in
-    let j = of_primitive g.S.Source.stream c.take_all.new.self in
-    refuse_octets tag i j c.in-Err.error c.in-Err.ensures.read (octets_form g.S.Source.stream c.args.octets.now)
-    }
+returns-in-Err-clause-read g c = record {
+  at_tag = λ tag.
+      let i = of_primitive g.S.Source.stream c.args.octets.now in
+      let j = of_primitive g.S.Source.stream c.take_all.new.self in
+      refuse_octets tag i j c.in-Err.error c.in-Err.ensures.read (octets_form g.S.Source.stream c.args.octets.now);
+}
