@@ -1,10 +1,10 @@
 //! What is taken of content, captured and skipped.
 ghost use Rattle.bcder.specs.Views.{Moved};
 
-use crate::end::{End, answered, read, refused, tell_over};
+use crate::end::{End, answered, read, refused, tell, tell_over};
 use anyhow::Error;
 use bcder::decode::{BytesSource, Constructed, DecodeError, SliceSource, Source};
-use bcder::{Integer, Mode, Oid, Unsigned};
+use bcder::{Integer, Mode, OctetString, Oid, Unsigned};
 use bytes::Bytes;
 use std::alloc::Global;
 use std::convert::TryFrom;
@@ -181,6 +181,69 @@ fn value_for(alloc: Global, take: Take) -> Result<Vec<u8>, Error> {
     }
 }
 
+/// Octet strings in BER, in one piece and in segments, and their octets.
+const STRINGS: [(&str, &[u8], &[u8]); 3] = [
+    (
+        "OctetString::take_from, in one piece",
+        &[0x04, 0x03, 0x61, 0x62, 0x63],
+        b"abc",
+    ),
+    (
+        "OctetString::take_from, in segments",
+        &[
+            0x24, 0x80, 0x04, 0x01, 0x61, 0x24, 0x04, 0x04, 0x02, 0x62, 0x63, 0x04, 0x00, 0x00,
+            0x00,
+        ],
+        b"abc",
+    ),
+    (
+        "OctetString::take_from, in segments of segments",
+        &[
+            0x24, 0x80, 0x24, 0x0F, 0x24, 0x0D, 0x24, 0x0B, 0x24, 0x09, 0x24, 0x07, 0x24, 0x05,
+            0x24, 0x03, 0x04, 0x01, 0x61, 0x04, 0x01, 0x62, 0x00, 0x00,
+        ],
+        b"ab",
+    ),
+];
+
+/// Takes an octet string, and tells whether it has these octets.
+fn take_string<S: Source>(
+    cons: &mut Constructed<'_, S>,
+    alloc: Global,
+    wanted: &[u8],
+) -> Result<bool, DecodeError<S::Error>>
+    ensures { Moved S.stream cons }
+{
+    Ok(OctetString::take_from(alloc, cons)?.eq_octets(wanted))
+}
+
+fn string_of<S: Source>(alloc: Global, source: &mut S, wanted: &[u8]) -> End {
+    read(Mode::Ber.decode_lent(source, |cons| take_string(cons, alloc, wanted)))
+}
+
+/// A length that lies, of which there are fewer octets: refused for that, before memory is asked
+/// for.
+const LYING: &[u8] = &[0x04, 0x84, 0xFF, 0xFF, 0xFF, 0xFF, 0x41];
+
+fn lying_of<S: Source>(alloc: Global, source: &mut S) -> End {
+    match Mode::Ber.decode_lent(source, |cons| take_string(cons, alloc, LYING)) {
+        Ok(_) => End::Wrong,
+        Err(error) => answered(error.content_error().is_some()),
+    }
+}
+
+fn run_strings(rt: &HostRuntime) -> Result<(), Error> {
+    let alloc = rt.alloc();
+    for (name, value, wanted) in STRINGS {
+        let end = string_of(alloc, &mut SliceSource::new(value), wanted);
+        tell_over(rt, name, "copied", end)?;
+        let mut shared = BytesSource::new(Bytes::copy_from_slice(alloc, value)?);
+        tell_over(rt, name, "shared", string_of(alloc, &mut shared, wanted))?;
+    }
+    let end = lying_of(alloc, &mut SliceSource::new(LYING));
+    tell(rt, "OctetString::take_from, of a length that lies", end)
+}
+
 fn end_of<S: Source>(alloc: Global, source: &mut S, take: Take) -> End {
     read(Mode::Der.decode_lent(source, |cons| take_value(cons, alloc, take, &CONTENTS)))
 }
@@ -220,5 +283,6 @@ pub fn run(rt: &HostRuntime) -> Result<(), Error> {
         let mut shared = BytesSource::new(Bytes::copy_from_slice(alloc, value.as_slice())?);
         tell_over(rt, name, "shared", end_of(alloc, &mut shared, take))?;
     }
+    run_strings(rt)?;
     run_captures(rt)
 }

@@ -4,9 +4,9 @@
 
 ghost use Rattle.bcder.specs.Views.{Moved};
 
-use crate::asserts::{done, holds, same, shows};
+use crate::asserts::{done, holds, same};
 use crate::over::{failing_sip, shared, sip};
-use bcder::decode::{Constructed, DecodeError, SliceSource, Source};
+use bcder::decode::{Constructed, ContentError, DecodeError, SliceSource, Source};
 use bcder::{Mode, OctetString, Tag};
 use std::alloc::Global;
 use std::process::Abort;
@@ -235,5 +235,220 @@ fn segments_may_be_nested_to_any_depth(rt: HostRuntime) {
         check_nested(&rt, alloc, mode, &mut SliceSource::new(octets));
         check_nested(&rt, alloc, mode, &mut shared(&rt, alloc, octets));
         check_nested(&rt, alloc, mode, &mut sip(&rt, alloc, octets));
+    }
+}
+
+/// The refusal of what is another tag.
+fn expects<T: Drop, E: Drop>(outcome: Result<T, DecodeError<E>>, tag: Tag) -> bool {
+    match outcome {
+        Ok(_) => false,
+        Err(error) => match error.content_error() {
+            Some(ContentError::ExpectedTag(expected)) => *expected == tag,
+            _ => false,
+        },
+    }
+}
+
+/// No string is there, and the INTEGER 5 that is stays.
+fn take_five<S: Source>(
+    rt: &impl Abort,
+    alloc: Global,
+    cons: &mut Constructed<'_, S>,
+) -> Result<(), DecodeError<S::Error>>
+    ensures { Moved S.stream cons }
+{
+    holds(rt, OctetString::take_opt_from(alloc, cons)?.is_none());
+    let refused = OctetString::take_from(alloc, cons);
+    holds(rt, expects(refused, Tag::OCTET_STRING));
+    same(rt, cons.take_u8()?, 5);
+    holds(rt, OctetString::take_opt_from(alloc, cons)?.is_none());
+    Ok(())
+}
+
+/// Values that are no segments are refused, and the content has failed.
+fn take_no_segments<S: Source>(rt: &impl Abort, alloc: Global, cons: &mut Constructed<'_, S>)
+    ensures { Moved S.stream cons }
+{
+    let refused = OctetString::take_opt_from(alloc, cons);
+    holds(
+        rt,
+        refused.is_err_and(|error| error.content_error().is_some()),
+    );
+    holds(rt, cons.take_u8().is_err());
+}
+
+fn check_absent<S: Source>(
+    rt: &impl Abort,
+    alloc: Global,
+    mode: Mode,
+    absent: &mut S,
+    other: &mut S,
+) {
+    done(
+        rt,
+        mode.decode_lent(absent, |cons| take_five(rt, alloc, cons)),
+    );
+    let refused = mode.decode_lent(other, |cons| {
+        take_no_segments(rt, alloc, cons);
+        Ok(())
+    });
+    holds(rt, refused.is_err());
+}
+
+#[test]
+fn where_no_string_is_another_value_stays(rt: HostRuntime) {
+    let alloc = rt.alloc();
+    let five: &[u8] = &[0x02, 0x01, 0x05];
+    let other: &[u8] = &[0x24, 0x02, 0x05, 0x00, 0x02, 0x01, 0x05];
+    for mode in [Mode::Ber, Mode::Cer, Mode::Der] {
+        check_absent(
+            &rt,
+            alloc,
+            mode,
+            &mut SliceSource::new(five),
+            &mut SliceSource::new(other),
+        );
+        check_absent(
+            &rt,
+            alloc,
+            mode,
+            &mut shared(&rt, alloc, five),
+            &mut shared(&rt, alloc, other),
+        );
+        check_absent(
+            &rt,
+            alloc,
+            mode,
+            &mut sip(&rt, alloc, five),
+            &mut sip(&rt, alloc, other),
+        );
+    }
+}
+
+/// The string that the content of a value of another tag is.
+fn read_tagged<S: Source>(alloc: Global, mode: Mode, source: &mut S) -> Option<OctetString> {
+    let read = mode.decode_lent(source, |cons| {
+        cons.take_value_if(Tag::CTX_0, |content| {
+            OctetString::from_content(alloc, content)
+        })
+    });
+    match read {
+        Ok(string) => Some(string),
+        Err(_) => None,
+    }
+}
+
+/// Strings under another tag, whose segments have the tag of octet strings, and their octets in BER
+/// and in DER.
+const TAGGED: [(&[u8], Option<&[u8]>, Option<&[u8]>); 5] = [
+    (&[0x80, 0x01, 0x61], Some(b"a"), Some(b"a")),
+    (&[0xA0, 0x03, 0x04, 0x01, 0x61], Some(b"a"), None),
+    (
+        &[
+            0xA0, 0x80, 0x04, 0x01, 0x61, 0x24, 0x03, 0x04, 0x01, 0x62, 0x00, 0x00,
+        ],
+        Some(b"ab"),
+        None,
+    ),
+    (&[0xA0, 0x03, 0x80, 0x01, 0x61], None, None),
+    (&[0xA1, 0x03, 0x04, 0x01, 0x61], None, None),
+];
+
+fn check_tagged<S: Source>(
+    rt: &impl Abort,
+    alloc: Global,
+    mode: Mode,
+    source: &mut S,
+    wanted: Option<&[u8]>,
+) {
+    match (read_tagged(alloc, mode, source), wanted) {
+        (Some(string), Some(octets)) => holds(rt, string.eq_octets(octets)),
+        (None, None) => {}
+        _ => holds(rt, false),
+    }
+}
+
+#[test]
+fn content_of_any_tag_is_read(rt: HostRuntime) {
+    let alloc = rt.alloc();
+    for (octets, basic, strict) in TAGGED {
+        for (mode, wanted) in [(Mode::Ber, basic), (Mode::Der, strict)] {
+            check_tagged(&rt, alloc, mode, &mut SliceSource::new(octets), wanted);
+            check_tagged(&rt, alloc, mode, &mut shared(&rt, alloc, octets), wanted);
+            check_tagged(&rt, alloc, mode, &mut sip(&rt, alloc, octets), wanted);
+        }
+    }
+}
+
+/// Octets that are a string in BER, and where its segments stand.
+const TABLES: [(&[u8], &str); 3] = [
+    (&[0x24, 0x00], "[]"),
+    (
+        &[0x24, 0x07, 0x04, 0x00, 0x04, 0x00, 0x04, 0x01, 0x61],
+        "[Segment { start: 2, len: 0 }, Segment { start: 4, len: 0 }, Segment { start: 6, len: 1 }]",
+    ),
+    (
+        &[
+            0x24, 0x0A, 0x04, 0x01, 0x61, 0x24, 0x80, 0x04, 0x01, 0x62, 0x00, 0x00,
+        ],
+        "[Segment { start: 2, len: 1 }, Segment { start: 7, len: 1 }]",
+    ),
+];
+
+/// A string that was cut shows where its segments stand.
+#[test]
+fn the_table_tells_where_segments_stand(rt: HostRuntime) {
+    let alloc = rt.alloc();
+    for (octets, table) in TABLES {
+        match read(alloc, Mode::Ber, &mut SliceSource::new(octets)) {
+            Some(string) => {
+                let shown = done(&rt, format!(in alloc; "{string:?}"));
+                holds(&rt, shown.contains(table));
+            }
+            None => holds(&rt, false),
+        }
+    }
+}
+
+/// Octets that are a string, or none, in a mode, and how many parts they are.
+const INPUTS: [(Mode, &[u8], Option<usize>); 5] = [
+    (Mode::Der, &[0x04, 0x03, 0x61, 0x62, 0x63], Some(1)),
+    (
+        Mode::Ber,
+        &[
+            0x24, 0x80, 0x04, 0x01, 0x61, 0x24, 0x80, 0x04, 0x01, 0x62, 0x00, 0x00, 0x00, 0x00,
+        ],
+        Some(2),
+    ),
+    (
+        Mode::Ber,
+        &[0x24, 0x07, 0x04, 0x00, 0x04, 0x00, 0x04, 0x01, 0x61],
+        Some(3),
+    ),
+    (Mode::Ber, &[0x24, 0x02, 0x05, 0x00], None),
+    (Mode::Cer, &[0x24, 0x80, 0x00, 0x00], None),
+];
+
+/// More requests than any of these strings needs.
+const REQUESTS: usize = 64;
+
+/// Each request of the source fails once. Then the source is told as the cause, and otherwise what
+/// is there is answered as it is.
+#[test]
+fn a_failing_source_is_told(rt: HostRuntime) {
+    let alloc = rt.alloc();
+    for (mode, octets, parts) in INPUTS {
+        for failing in 1..=REQUESTS {
+            let mut source = failing_sip(&rt, alloc, octets, failing);
+            match mode.decode_lent(&mut source, |cons| OctetString::take_from(alloc, cons)) {
+                Ok(string) => same(&rt, Some(string.iter().count()), parts),
+                Err(error) if error.is_source() => same(&rt, source.faults(), 1),
+                Err(error) => {
+                    holds(&rt, error.content_error().is_some() && parts.is_none());
+                }
+            }
+            holds(&rt, failing > 1 || source.faults() == 1);
+            holds(&rt, failing < REQUESTS || source.faults() == 0);
+        }
     }
 }

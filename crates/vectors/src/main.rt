@@ -261,12 +261,7 @@ fn replay_identifiers(rt: &HostRuntime) -> Result<(), Error> {
 /// Replays `octet_strings.tsv`.
 fn replay_strings(rt: &HostRuntime) -> Result<(), Error> {
     let mut tally = Tally::default();
-    replay(
-        rt,
-        "octet_strings.tsv",
-        &mut tally,
-        strings::compare_line,
-    )?;
+    replay(rt, "octet_strings.tsv", &mut tally, strings::compare_line)?;
     print(rt, "octet strings taken", tally)
 }
 
