@@ -10,6 +10,7 @@ mod encoded;
 mod end;
 mod numbers;
 mod sources;
+mod strings;
 mod taken;
 
 use anyhow::Error;
@@ -19,6 +20,7 @@ fn main(rt: HostRuntime) -> Result<(), Error> {
     sources::run(&rt)?;
     taken::run(&rt)?;
     captured::run(&rt)?;
+    strings::run(&rt)?;
     encoded::run(&rt)?;
     encoded::run_beyond_memory(&rt)
 }

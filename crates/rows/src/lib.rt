@@ -36,5 +36,9 @@ mod skips;
 #[cfg(test)]
 mod sources;
 #[cfg(test)]
+mod string_octets;
+#[cfg(test)]
+mod strings;
+#[cfg(test)]
 mod tag_names;
 pub mod tags;
