@@ -1,5 +1,5 @@
 //! Octet strings are hashed by their octets, whether they were cut or not.
-ghost use Rattle.std.specs.Prelude.{◌≡◌, ◌+◌, ◌≤◌, ◌<◌, ◌++◌, [], length, ◌≢◌, ◌-◌};
+ghost use Rattle.std.specs.Prelude.{◌≡◌, ◌+◌, ◌≤◌, ◌<◌, ◌++◌, [], length};
 ghost use Rattle.std.specs.Cmp.Lexicographic.{bytes_decides};
 ghost use Rattle.std.specs.List.{concat, fold};
 ghost use Rattle.std.proofs.Common.{ap};
