@@ -11,7 +11,7 @@ use Rattle.bcder.specs.Identifier.{Tag}
 use Rattle.bcder.specs.Tree.{Tree, primitive, constructed}
 use Rattle.bcder.specs.Encoding.{IsHeader, IsEncoding, AreEncodings}
 use Rattle.bcder.specs.Captured.{Kept}
-use Rattle.bcder.specs.OctetString.{StringOctets, whole, cut, octets_of, segments_of, flat, IsOctetString, IsStringOf, MeansString}
+use Rattle.bcder.specs.OctetString.{StringOctets, whole, cut, octets_of, segments_of, flat, IsOctetString, IsStringOf, MeansString, AreSegmented, AreSegmentsIn}
 use Rattle.bcder.specs.Meaning.{Encoded}
 use Rattle.bcder.specs.Content.{Reading, tagged, IsAbsent, IsElsewhere, none_left, other, marker}
 use Rattle.bcder.specs.Walking.{HasValue}
@@ -19,11 +19,12 @@ use Rattle.bcder.specs.Takes.{HasNone}
 use Rattle.bcder.specs.Valued.{tag_of, HasTagged, TakesTree, RefusesTree, TakesNextTree, TakesOneTree}
 use Rattle.bcder.specs.Valued as valued
 use Rattle.bcder.specs.TakenBack.{StandsIn, SourceFailedOrNoMemory}
-use Rattle.bcder.specs.WrittenStrings.{IsWrittenString, HasOctets, HasSomeOctets, AnswersSuch, IsTakenString}
+use Rattle.bcder.specs.WrittenStrings.{IsWrittenString, HasOctets, HasSomeOctets, AnswersSuch, IsTakenString, IsMadeUp, WrittenAsRead}
 use Rattle.bcder.specs.laws.Complete.{only_at_front, two_octets}
 use Rattle.bcder.proofs.Headers.{front_of_header, no_other_front}
 use Rattle.bcder.proofs.Moving.{open_not_ended, open_not_failed}
-use Rattle.bcder.proofs.OneString.{means_flat}
+use Rattle.bcder.proofs.OneString.{means_flat, one_string_encoding}
+use Rattle.bcder.proofs.WrittenStrings.{string_written}
 
 -- ---- what stands in front
 
@@ -98,3 +99,23 @@ string_taken {X} t mode w e written = record {
   one = λ c after s. one_taken X t mode w e written c after s;
   next = λ c after s. next_taken X t mode w e written c after s;
 }
+
+-- ---- what is read is written back
+
+made_up : (mode : Mode) (t : Tree) (s : StringOctets) (w : List ℕ) → MeansString mode t s → IsEncoding mode t w → IsMadeUp s
+made_up mode (primitive t b) s w m k = subst IsMadeUp (sym m.1) k.0
+made_up mode (constructed t ts) s w m k =
+    let kept = m.1.0 in
+    let is_mode = m.1.1 in
+    let parts : AreSegmented kept.mode kept.octets (segments_of ts) = record {
+      values = ts;
+      encode = subst (λ z. AreEncodings z ts kept.octets) (sym is_mode) m.1.2;
+      shape = subst (λ z. AreSegmentsIn z ts) (sym is_mode) m.0;
+      hold = refl;
+    } in
+    subst IsMadeUp (sym m.1.3) parts
+
+pub written_as_read : WrittenAsRead
+written_as_read mode ne t s w e m k h =
+    let v = string_written (tag_of t) mode s (made_up mode t s w m k) e h in
+    one_string_encoding mode ne v.value t e.octets w v.shape m.0 v.tag (v.octets ∙ means_flat mode t s m.1) v.encodes k

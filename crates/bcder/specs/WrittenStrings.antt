@@ -59,3 +59,7 @@ pub record AnswersSuch {T X : Type 0} (P : T → Type 0) (after : List ℕ) (c :
 pub record IsTakenString (X : Type 0) (t : Tag) (mode : Mode) (w : List ℕ) (e : Encoded) : Type 0 where
   pub one : (c : Reading) (after : List ℕ) → StandsIn mode e.octets after c → (r : Result StringOctets (DecodeError X)) (d : Reading) → TakesOneTree t (MeansString c.mode) c r d → AnswersSuch (HasOctets w) after c r d
   pub next : (c : Reading) (after : List ℕ) → StandsIn mode e.octets after c → (r : Result (Option StringOctets) (DecodeError X)) (d : Reading) → TakesNextTree t (MeansString c.mode) c r d → AnswersSuch (HasSomeOctets w) after c r d
+
+-- in CER and DER a string that was read is written, under its tag, as it was read
+abbrev pub WrittenAsRead : Type 0
+WrittenAsRead = (mode : Mode) → mode ≢ Ber → (t : Tree) (s : StringOctets) (w : List ℕ) (e : Encoded) → MeansString mode t s → IsEncoding mode t w → StringMeans (tag_of t) s mode (Ok e) → e.octets ≡ w

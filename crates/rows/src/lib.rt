@@ -38,11 +38,8 @@ mod skips;
 #[cfg(test)]
 mod sources;
 #[cfg(test)]
-<<<<<<< HEAD
-=======
 mod string_octets;
 #[cfg(test)]
->>>>>>> f1db930c49939ae190b4f9d8208adfa490e35f0e
 mod strings;
 #[cfg(test)]
 mod tag_names;

@@ -6,6 +6,7 @@ ghost use Rattle.bcder.specs.Identifier.{Tag};
 ghost use Rattle.bcder.specs.Meaning.{Encoded};
 ghost use Rattle.bcder.specs.OctetString.{StringOctets, octet_string_tag, octets_of};
 ghost use Rattle.bcder.specs.WrittenStrings.{WritesString, WritesAlike};
+ghost use Rattle.bcder.specs.WrittenStrings.{WrittenAsRead};
 ghost use Rattle.bcder.specs.WrittenStrings.{IsWrittenString, IsTakenString};
 
 use crate::encode::Values;
@@ -67,4 +68,10 @@ pub fn wrapped_values_are_written_as_one<V: Values>(
 pub fn written_strings_are_taken_back<E>()
     ensures { (t : Tag) (mode : Mode) (w : List ℕ) (e : Encoded)
         → IsWrittenString t mode w e → IsTakenString E t mode w e }
+{}
+
+/// In CER and DER an octet string is written, under the tag that it was read with, as it was read
+/// (9.2, 10.2).
+pub fn what_is_read_is_written_back()
+    ensures { WrittenAsRead }
 {}
