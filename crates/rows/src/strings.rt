@@ -266,7 +266,11 @@ fn take_five<S: Source>(
 }
 
 /// Values that are no segments are refused, and the content has failed.
-fn take_no_segments<S: Source>(rt: &impl Abort, alloc: Global, cons: &mut Constructed<'_, S>)
+fn take_no_segments<S: Source>(
+    rt: &impl Abort,
+    alloc: Global,
+    cons: &mut Constructed<'_, S>,
+) -> Result<(), DecodeError<S::Error>>
     ensures { Moved S.stream cons }
 {
     let refused = OctetString::take_opt_from(alloc, cons);
@@ -275,6 +279,7 @@ fn take_no_segments<S: Source>(rt: &impl Abort, alloc: Global, cons: &mut Constr
         refused.is_err_and(|error| error.content_error().is_some()),
     );
     holds(rt, cons.take_u8().is_err());
+    Ok(())
 }
 
 fn check_absent<S: Source>(
@@ -288,10 +293,7 @@ fn check_absent<S: Source>(
         rt,
         mode.decode_lent(absent, |cons| take_five(rt, alloc, cons)),
     );
-    let refused = mode.decode_lent(other, |cons| {
-        take_no_segments(rt, alloc, cons);
-        Ok(())
-    });
+    let refused = mode.decode_lent(other, |cons| take_no_segments(rt, alloc, cons));
     holds(rt, refused.is_err());
 }
 
