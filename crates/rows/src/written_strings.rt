@@ -8,8 +8,7 @@ use crate::asserts::{done, holds, same};
 use crate::encoders::{Nulls, Zeros};
 use crate::encodes::{Failure, check_failing, refuses, sizes, writes};
 use bcder::decode::{SliceSource, Source};
-use bcder::encode::{EncodeError, PrimitiveContent, Values, sequence_as};
-use bcder::string::OctetSliceEncoder;
+use bcder::encode::{EncodeError, PrimitiveContent, Values, write_header};
 use bcder::{Captured, Mode, OctetString, Tag};
 use bytes::Bytes;
 use std::alloc::Global;
@@ -59,13 +58,19 @@ fn taken(rt: &impl Abort, alloc: Global, mode: Mode, octets: &[u8]) -> OctetStri
 fn cut(rt: &impl Abort, alloc: Global, octets: &[u8], each: usize) -> OctetString
     requires { 0 < each }
 {
-    let mut list: Vec<OctetSliceEncoder<&[u8]>> = Vec::new(alloc);
+    let mut segments = Vec::new(alloc);
     for segment in octets.chunks(each) {
-        done(rt, list.push(OctetString::encode_slice(segment)));
+        let encoder = OctetString::encode_slice(segment);
+        holds(rt, encoder.write_encoded(Mode::Ber, &mut segments).is_ok());
     }
-    let values = sequence_as(Tag::OCTET_STRING, list);
-    let captured = done(rt, values.to_captured(alloc, Mode::Ber));
-    taken(rt, alloc, Mode::Ber, captured.as_slice())
+    let len = segments.len();
+    let mut encoding = Vec::new(alloc);
+    holds(
+        rt,
+        write_header(&mut encoding, Tag::OCTET_STRING, true, len).is_ok(),
+    );
+    done(rt, encoding.extend_from_slice(segments.as_slice()));
+    taken(rt, alloc, Mode::Ber, encoding.as_slice())
 }
 
 // ---- segments
