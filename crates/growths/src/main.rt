@@ -10,7 +10,6 @@ mod encoded;
 mod end;
 mod numbers;
 mod sources;
-mod strings;
 mod taken;
 
 use anyhow::Error;
@@ -20,7 +19,6 @@ fn main(rt: HostRuntime) -> Result<(), Error> {
     sources::run(&rt)?;
     taken::run(&rt)?;
     captured::run(&rt)?;
-    strings::run(&rt)?;
     encoded::run(&rt)?;
     encoded::run_beyond_memory(&rt)
 }
