@@ -11,7 +11,6 @@ mod encoded;
 mod end;
 mod numbers;
 mod sources;
-mod strings;
 mod taken;
 mod wrapped;
 
@@ -23,7 +22,6 @@ fn main(rt: HostRuntime) -> Result<(), Error> {
     taken::run(&rt)?;
     bits::run(&rt)?;
     captured::run(&rt)?;
-    strings::run(&rt)?;
     encoded::run(&rt)?;
     wrapped::run(&rt)?;
     encoded::run_beyond_memory(&rt)
