@@ -92,9 +92,7 @@ impl Addresses {
 }
 
 /// A range of addresses, if there is one: a SEQUENCE of two BIT STRINGs.
-fn take_range<S: Source>(
-    cons: &mut Constructed<'_, S>,
-) -> Result<Option<()>, DecodeError<S::Error>>
+fn take_range<S: Source>(cons: &mut Constructed<'_, S>) -> Result<Option<()>, DecodeError<S::Error>>
     ensures { Moved S.stream cons }
 {
     cons.take_opt_sequence(|cons| {
