@@ -73,3 +73,5 @@ pub mod WrittenStrings
 pub mod StringSource
 pub mod StringSources
 pub mod Blocks
+pub mod CharSet
+pub mod CharSetTexts

@@ -1,0 +1,120 @@
+//! Character sets.
+ghost use Rattle.std.specs.Prelude.{◌≡◌, List, ℕ};
+ghost use Rattle.bcder.specs.Identifier.{Tag as TagValue};
+ghost use Rattle.bcder.specs.CharSet.{Step, IsStep, NextChar, Checks, SpellsText};
+
+use crate::memory::NoMemory;
+use crate::string::octet::OctetStringOctets;
+use crate::tag::Tag;
+use std::alloc::Global;
+use std::borrow::CowSlice;
+use std::error::Error;
+use std::fmt;
+
+/// Octets spell no characters of a set.
+#[derive(Clone, Copy, Debug, PartialEq, Eq)]
+pub struct CharSetError;
+
+impl fmt::Display for CharSetError {
+    ghost use Rattle.std.specs.Prelude.{codes, Some};
+
+    ghost output = { λ _. Some (codes "invalid character") };
+
+    fn fmt<W: fmt::Write>(&self, f: &mut fmt::Formatter<W>) -> fmt::Result {
+        write!(f, "invalid character")
+    }
+}
+
+impl Error for CharSetError {}
+
+/// Why a text has no octets in a set.
+#[derive(Clone, Copy, Debug, PartialEq, Eq)]
+pub enum StringError {
+    /// The set hasn't all its characters.
+    CharSet,
+
+    /// The set has its characters, and there is no memory for the octets.
+    NoMemory,
+}
+
+impl fmt::Display for StringError {
+    ghost use Rattle.std.specs.Prelude.{Some};
+    ghost use Rattle.bcder.specs.CharSetTexts.{text_of};
+
+    ghost output = { λ e. Some (text_of e) };
+
+    fn fmt<W: fmt::Write>(&self, f: &mut fmt::Formatter<W>) -> fmt::Result {
+        match self {
+            StringError::CharSet => write!(f, "invalid character"),
+            StringError::NoMemory => write!(f, "out of memory"),
+        }
+    }
+}
+
+impl Error for StringError {}
+
+impl From<CharSetError> for StringError {
+    fn from(_error: CharSetError) -> StringError {
+        StringError::CharSet
+    }
+}
+
+impl From<NoMemory> for StringError {
+    fn from(_error: NoMemory) -> StringError {
+        StringError::NoMemory
+    }
+}
+
+/// A character set: which characters the octets of a restricted character string spell (X.690,
+/// 8.23).
+///
+/// What a set is to the clauses is a step: from octets to the character that they begin with and
+/// the octets behind it. Octets are a string of the set where steps lead from them to their end.
+pub trait CharSet {
+    /// The tag of the strings of this set.
+    ghost own_tag: { TagValue };
+
+    /// How a character is read from the front of octets, where one stands there.
+    ghost step: { Step };
+
+    /// Whether memory may lack for the octets of a text: it doesn't, where an implementation
+    /// doesn't say.
+    ghost may_lack: { Type 0 } = { ⊥ };
+
+    /// The tag of the strings of this set.
+    fn tag() -> Tag
+        ensures { result ≡ own_tag };
+
+    /// Takes the next character, or answers `None` at the end.
+    ///
+    /// # Errors
+    ///
+    /// Where octets are left that begin with no character. Some of them may then have been taken.
+    fn next_char(octets: &mut OctetStringOctets<'_>) -> Result<Option<char>, CharSetError>
+        ensures { NextChar step octets.old result octets.new };
+
+    /// The octets that spell a text: the text's own, where they are the same, or others.
+    ///
+    /// # Errors
+    ///
+    /// `CharSet` where the set hasn't all characters of the text; `NoMemory` where it has them and
+    /// there is no memory for their octets.
+    fn from_str(alloc: Global, text: &str) -> Result<CowSlice<'_, u8>, StringError>
+        ensures { SpellsText step may_lack text.now result };
+
+    /// Whether octets spell characters of the set, up to their end.
+    ///
+    /// # Errors
+    ///
+    /// Where they don't.
+    fn check(octets: OctetStringOctets<'_>) -> Result<(), CharSetError>
+        ensures { Checks step octets.entry result }
+    {
+        let mut octets = octets;
+        while Self::next_char(&mut octets)?.is_some() {}
+        Ok(())
+    }
+
+    /// A character takes at least one octet, and is one of Unicode's.
+    ghost lawful: { IsStep step };
+}
