@@ -40,6 +40,8 @@ mod sources;
 #[cfg(test)]
 mod string_octets;
 #[cfg(test)]
+mod string_sources;
+#[cfg(test)]
 mod strings;
 #[cfg(test)]
 mod tag_names;

@@ -10,7 +10,7 @@ use std::hash::{DefaultHasher, FoldHasher, Hash, Hasher};
 use std::process::Abort;
 
 /// A string in one piece.
-fn whole(rt: &impl Abort, alloc: Global, octets: &[u8]) -> OctetString {
+pub(crate) fn whole(rt: &impl Abort, alloc: Global, octets: &[u8]) -> OctetString {
     OctetString::new(done(rt, Bytes::copy_from_slice(alloc, octets)))
 }
 
@@ -144,7 +144,7 @@ fn no_hasher_is_called_for_each_octet(rt: HostRuntime) {
 
 /// A string as it is read in BER.
 #[tactic(auto, using(bcder::proofs::Moving::moves_refl, bcder::proofs::Carrying::carries))]
-fn read(rt: &impl Abort, alloc: Global, encoding: &[u8]) -> OctetString {
+pub(crate) fn read(rt: &impl Abort, alloc: Global, encoding: &[u8]) -> OctetString {
     let mut source = SliceSource::new(encoding);
     let read = Mode::Ber.decode_lent(&mut source, |cons| OctetString::take_from(alloc, cons));
     done(rt, read)
@@ -192,7 +192,13 @@ fn of_segments(rt: &impl Abort, alloc: Global, segments: &[u8]) -> OctetString {
 }
 
 /// A string that is cut so.
-fn cut(rt: &impl Abort, alloc: Global, octets: &[u8], ends: u8, empty: usize) -> OctetString {
+pub(crate) fn cut(
+    rt: &impl Abort,
+    alloc: Global,
+    octets: &[u8],
+    ends: u8,
+    empty: usize,
+) -> OctetString {
     let content = segments(rt, alloc, octets, ends, empty);
     of_segments(rt, alloc, content.as_slice())
 }
