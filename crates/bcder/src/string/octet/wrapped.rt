@@ -153,7 +153,17 @@ impl<V: Values> Values for WrappingOctetStringEncoder<V> {
 
     ghost can_encode = { λ x. V.can_encode x.values };
 
-    fn encoded_len(&self, mode: Mode) -> Result<usize, EncodeError> {
+    /// As for every encoder. Nothing is gathered, so memory lacks only where it does for the values.
+    fn encoded_len(&self, mode: Mode) -> Result<usize, EncodeError>
+        requires { V.can_encode self.now.values }
+        ensures sized { SizeOfValues
+            (WrappedMeans octet_string_tag mode (V.means self.now.values self.now.mode))
+            (V.may_lack self.now.values self.now.mode
+            ⊎ IsGathered mode (V.means self.now.values self.now.mode)) result }
+        ensures memory { SizeOfValues
+            (WrappedMeans octet_string_tag mode (V.means self.now.values self.now.mode))
+            (V.may_lack self.now.values self.now.mode) result }
+    {
         wrapped_len(&self.values, self.mode, mode)
     }
 
