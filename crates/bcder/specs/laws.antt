@@ -19,3 +19,4 @@ pub mod Joined
 pub mod Listed
 pub mod Gathered
 pub mod StringMeanings
+pub mod CharSets

@@ -9,3 +9,4 @@ pub use octet::{
     OctetStringSource, WrappingOctetStringEncoder,
 };
 pub use restricted::{CharSet, CharSetError, StringError};
+pub use restricted::{Ia5CharSet, NumericCharSet, PrintableCharSet};

@@ -1,0 +1,53 @@
+-- Steps of character sets are steps: a character takes at least one octet, and is one of Unicode's.
+use Rattle.std.specs.Prelude.{◌≡◌, ◌<◌, ℕ, List, [], ◌∷◌, ◌++◌, Bool, true, false, Some, None, refl}
+use Rattle.std.proofs.Common.{ap, sym, subst, arith, ◌∙◌}
+use Rattle.std.proofs.lemmas.Bool.Decides.{nat_tests}
+use Rattle.std.specs.Char.{IsScalar}
+use Rattle.bcder.specs.CharSet.{Front, Step, IsStep}
+use Rattle.bcder.specs.AsciiSets.{one_octet_step, is_numeric, is_printable, is_ia5}
+
+-- ---- sets of single octets
+
+-- a number below those of the surrogates is a character's
+pub low_scalar : (c : ℕ) → c < 0xD800 → IsScalar c
+low_scalar c h = grind (arith, nat_tests)
+
+same_front : (x y : Front) → Some x ≡ Some y → x ≡ y
+same_front x y e = cc
+
+taken : (has : ℕ → Bool) (b : ℕ) (w : List ℕ) (t : Bool) (x : Front) → has b ≡ t → one_octet_step has (b ∷ w) ≡ Some x → (has b ≡ true) × (record { char = b; rest = w } ≡ x)
+taken has b w true x is e = (is, same_front _ _ (sym (rw is) ∙ e))
+taken has b w false x is e = let none : None ≡ Some x = sym (rw is) ∙ e in absurd cc
+
+-- the octet in front passed the test, and is taken
+pub one_octet_taken : (has : ℕ → Bool) (b : ℕ) (w : List ℕ) (x : Front) → one_octet_step has (b ∷ w) ≡ Some x → (has b ≡ true) × (record { char = b; rest = w } ≡ x)
+one_octet_taken has b w x e = taken has b w (has b) x refl e
+
+pub one_octet_lawful : (has : ℕ → Bool) → ((b : ℕ) → has b ≡ true → IsScalar b) → IsStep (one_octet_step has)
+one_octet_lawful has scalar = record {
+  takes = λ w x e. takes w x e;
+  scalar = λ w x e. a_scalar w x e;
+}
+  where
+    takes : (w : List ℕ) (x : Front) → one_octet_step has w ≡ Some x → (b : ℕ) × (bs : List ℕ) × (w ≡ (b ∷ bs) ++ x.rest)
+    takes [] x e = let none : None ≡ Some x = e in absurd cc
+    takes (b ∷ w) x e = (b, [], ap (λ (y : Front). b ∷ y.rest) (one_octet_taken has b w x e).1)
+
+    a_scalar : (w : List ℕ) (x : Front) → one_octet_step has w ≡ Some x → IsScalar x.char
+    a_scalar [] x e = let none : None ≡ Some x = e in absurd cc
+    a_scalar (b ∷ w) x e = let t = one_octet_taken has b w x e in subst (λ (y : Front). IsScalar y.char) t.1 (scalar b t.0)
+
+-- ---- the three of X.680, 41
+
+pub numeric_ascii : (b : ℕ) → is_numeric b ≡ true → b < 128
+numeric_ascii b h = grind (arith, nat_tests)
+
+pub printable_ascii : (b : ℕ) → is_printable b ≡ true → b < 128
+printable_ascii b h = grind (arith, nat_tests)
+
+pub ia5_ascii : (b : ℕ) → is_ia5 b ≡ true → b < 128
+ia5_ascii b h = grind (arith, nat_tests)
+
+-- a set of ASCII's octets
+pub ascii_lawful : (has : ℕ → Bool) → ((b : ℕ) → has b ≡ true → b < 128) → IsStep (one_octet_step has)
+ascii_lawful has ascii = one_octet_lawful has (λ b h. let low = ascii b h in low_scalar b (omega arith))
