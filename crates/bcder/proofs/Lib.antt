@@ -77,3 +77,4 @@ pub mod StringSources
 pub mod StringsBack
 pub mod Hashing
 pub mod CharSets
+pub mod AsciiSets

@@ -76,3 +76,4 @@ pub mod Blocks
 pub mod CharSet
 pub mod CharSetTexts
 pub mod AsciiSets
+pub mod Utf8

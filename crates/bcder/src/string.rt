@@ -8,5 +8,6 @@ pub use octet::{
     OctetSliceEncoder, OctetString, OctetStringEncoder, OctetStringIter, OctetStringOctets,
     OctetStringSource, WrappingOctetStringEncoder,
 };
-pub use restricted::{CharSet, CharSetError, StringError};
-pub use restricted::{Ia5CharSet, NumericCharSet, PrintableCharSet};
+pub use restricted::{
+    CharSet, CharSetError, Ia5CharSet, NumericCharSet, PrintableCharSet, StringError,
+};
