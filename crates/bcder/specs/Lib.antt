@@ -77,3 +77,4 @@ pub mod CharSet
 pub mod CharSetTexts
 pub mod AsciiSets
 pub mod Utf8
+pub mod TextSets

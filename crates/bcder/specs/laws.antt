@@ -20,3 +20,4 @@ pub mod Listed
 pub mod Gathered
 pub mod StringMeanings
 pub mod CharSets
+pub mod Utf8
