@@ -9,31 +9,16 @@ use Rattle.std.proofs.lemmas.Str.{chars-IsAscii, IsUtf8-from_ascii, encodes-char
 use Rattle.std.specs.Str.{IsUtf8, IsAscii, IsNotAscii, chars, encode_utf8_all}
 use Rattle.bcder.specs.CharSet.{Front, Spells, Accepts, HasNo}
 use Rattle.bcder.specs.AsciiSets.{one_octet_step, is_ia5}
-use Rattle.bcder.specs.laws.CharSets.{one_octet_taken, ia5_ascii}
-
--- each octet passes the test
-abbrev pub AllHave : (ℕ → Bool) → List ℕ → Type 0
-AllHave has [] = Unit {0}
-AllHave has (b ∷ w) = (has b ≡ true) × AllHave has w
+use Rattle.bcder.specs.laws.CharSets.{AllHave, self_spelled, all_ascii, spells_text, ia5_ascii}
 
 module _ (has : ℕ → Bool) where
-  -- octets of the set spell themselves, and what octets of the set spell is themselves
+  -- octets of the set spell themselves
   pub spells_self : (w : List ℕ) → AllHave has w → Spells (one_octet_step has) w w
   spells_self [] h = refl
   spells_self (b ∷ w) h = (w, rw h.0, spells_self w h.1)
 
-  pub self_spelled : (cs w : List ℕ) → Spells (one_octet_step has) w cs → (cs ≡ w) × AllHave has w
-  self_spelled [] w e = (sym e, subst (AllHave has) (sym e) tt)
-  self_spelled (c ∷ cs) [] (rest, e, more) = absurd cc
-  self_spelled (c ∷ cs) (b ∷ w) (rest, e, more) =
-      let (passed, same) = one_octet_taken has b w _ e in
-      let (is, all) = self_spelled cs rest more in
-      let char : b ≡ c = ap (λ (x : Front). x.char) same in
-      let behind : w ≡ rest = ap (λ (x : Front). x.rest) same in
-      ((λ i. sym char i ∷ (is ∙ sym behind) i), (passed, subst (AllHave has) (sym behind) all))
-
   pub accepts_all : (w : List ℕ) → Accepts (one_octet_step has) w ↔ AllHave has w
-  accepts_all w = (λ a. (self_spelled a.0 w a.1).1, λ h. (w, spells_self w h))
+  accepts_all w = (λ a. (self_spelled has a.0 w a.1).1, λ h. (w, spells_self w h))
 
   all_both : (v w : List ℕ) → AllHave has v → AllHave has w → AllHave has (v ++ w)
   all_both [] w p q = q
@@ -82,24 +67,14 @@ module _ (has : ℕ → Bool) where
   -- ---- text
 
   module _ (ascii : (b : ℕ) → has b ≡ true → b < 128) where
-    pub all_ascii : (w : List ℕ) → AllHave has w → IsAscii w
-    all_ascii [] h i = omega arith
-    all_ascii (b ∷ w) h zero = ascii b h.0
-    all_ascii (b ∷ w) h (suc i) = all_ascii w h.1 i
-
-    pub spells_text : (cs w : List ℕ) → Spells (one_octet_step has) w cs → IsUtf8 w × (chars w ≡ cs)
-    spells_text cs w h =
-        let (same, all) = self_spelled cs w h in
-        (IsUtf8-from_ascii w (all_ascii w all), chars-IsAscii w (all_ascii w all) ∙ sym same)
-
     pub text_spelled : (w : List ℕ) → Accepts (one_octet_step has) w → Spells (one_octet_step has) w (chars w)
-    text_spelled w a = subst (Spells (one_octet_step has) w) (sym (spells_text a.0 w a.1).1) a.1
+    text_spelled w a = subst (Spells (one_octet_step has) w) (sym (spells_text has ascii a.0 w a.1).1) a.1
 
     -- a text that isn't of the set is spelled by no octets: they would be its own
     pub not_spelled : (text w : List ℕ) → IsUtf8 text → (Accepts (one_octet_step has) text → ⊥) → Spells (one_octet_step has) w (chars text) → ⊥
     not_spelled text w utf8 not h =
-        let (same, all) = self_spelled (chars text) w h in
-        let own : text ≡ w = sym (encodes-chars text utf8) ∙ ap encode_utf8_all same ∙ encodes-IsAscii w (all_ascii w all) in
+        let (same, all) = self_spelled has (chars text) w h in
+        let own : text ≡ w = sym (encodes-chars text utf8) ∙ ap encode_utf8_all same ∙ encodes-IsAscii w (all_ascii has ascii w all) in
         not ((accepts_all text).1 (subst (AllHave has) (sym own) all))
 
     -- what `from_str` answers, by a test of the text's own octets

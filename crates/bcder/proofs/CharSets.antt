@@ -48,7 +48,7 @@ accepts_step step lawful w x e = (λ h. accepts_rest step w x e h lawful, accept
 pub accepts_none : (step : Step) (w : List ℕ) → w ≢ [] → step w ≡ None → Accepts step w → ⊥
 accepts_none step w some none ([], end) = some end
 accepts_none step w some none (c ∷ cs, (rest, front, more)) =
-    let e : Some (record { char = c; rest = rest }) ≡ None = sym front ∙ none in absurd cc
+    let e : ◌≡◌ {A = Option Front} (Some (record { char = c; rest = rest })) None = sym front ∙ none in absurd cc
 
 pub accepts_nil : (step : Step) (w : List ℕ) → w ≡ [] → Accepts step w
 accepts_nil step w end = ([], end)
@@ -66,3 +66,11 @@ pub stopped : {A : Type 0} (step : Step) (w0 w rest : List ℕ) (e : CharSetErro
     → NextChar step w (Err e) rest → Accepts step w0 ↔ Accepts step w → Checks step w0 r
 stopped step w0 w rest e (Ok a) is h k = absurd is
 stopped step w0 w rest e (Err x) is h k = λ a. accepts_none step w h.0 h.1 (k.0 a)
+
+pub went_shorter : (step : Step) → IsStep step → (w rest : List ℕ) (o : Option ℕ) → true ≡ is_some o → NextChar step w (Ok o) rest → length rest < length w
+went_shorter step lawful w rest (Some c) is h = rest_shorter step lawful w _ h
+went_shorter step lawful w rest None is h = let e : true ≡ false = is in absurd cc
+
+pub at_end : (step : Step) (w rest : List ℕ) (o : Option ℕ) → false ≡ is_some o → NextChar step w (Ok o) rest → Accepts step w
+at_end step w rest None is h = accepts_nil step w h.0
+at_end step w rest (Some c) is h = let e : false ≡ true = is in absurd cc

@@ -78,3 +78,4 @@ pub mod StringsBack
 pub mod Hashing
 pub mod CharSets
 pub mod AsciiSets
+pub mod Utf8

@@ -78,3 +78,4 @@ pub mod CharSetTexts
 pub mod AsciiSets
 pub mod Utf8
 pub mod TextSets
+pub mod Utf8Leads

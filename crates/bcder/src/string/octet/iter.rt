@@ -1,5 +1,6 @@
 //! The parts of an octet string, and its octets.
 ghost use Rattle.std.specs.Prelude.{◌≡◌, ◌+◌, ◌<◌, ◌≤◌, [], ◌++◌, length, IfSome, MatchOption};
+ghost use Rattle.std.specs.List.{concat};
 ghost use Rattle.bcder.specs.OctetString.{piece, parts, octets_of, segment_at};
 ghost use Rattle.bcder.specs.OctetString.{AreWithin, segments_at};
 
@@ -190,6 +191,20 @@ impl<'a> OctetStringOctets<'a> {
             return Some(self.parts.front);
         }
         self.parts.front.is_empty().then_some(self.part)
+    }
+
+    /// What is left of a part, and the parts behind it.
+    pub(crate) fn into_parts(self) -> (&'a [u8], OctetStringIter<'a>)
+        ensures { self.entry ≡ result.0.now ++ concat result.1 }
+    {
+        (self.part, self.parts)
+    }
+
+    /// Octets, and parts behind them.
+    pub(crate) fn from_parts(part: &'a [u8], parts: OctetStringIter<'a>) -> OctetStringOctets<'a>
+        ensures { result ≡ part.now ++ concat parts.entry }
+    {
+        OctetStringOctets { part, parts }
     }
 
     /// Takes the octets that stand in one piece in front, as long as there are any.

@@ -3,9 +3,10 @@ ghost use Rattle.std.specs.Prelude.{◌≡◌, ◌↔◌, ◌<◌, ℕ, Bool, tr
 ghost use Rattle.bcder.specs.CharSet.{Accepts, NextChar, Checks, SpellsText};
 ghost use Rattle.bcder.specs.AsciiSets.{one_octet_step, is_numeric, is_printable, is_ia5};
 ghost use Rattle.bcder.specs.AsciiSets.{numeric_string_tag, printable_string_tag, ia5_string_tag};
-ghost use Rattle.bcder.specs.laws.CharSets.{ascii_lawful, numeric_ascii, printable_ascii, ia5_ascii};
+ghost use Rattle.bcder.specs.laws.CharSets.{ascii_lawful, ascii_texts};
+ghost use Rattle.bcder.specs.laws.CharSets.{numeric_ascii, printable_ascii, ia5_ascii};
 
-use super::char_set::{CharSet, CharSetError, StringError};
+use super::char_set::{CharSet, CharSetError, StringError, TextCharSet};
 use crate::string::octet::OctetStringOctets;
 use crate::tag::Tag;
 use std::alloc::Global;
@@ -114,6 +115,10 @@ impl CharSet for NumericCharSet {
     }
 }
 
+impl TextCharSet for NumericCharSet {
+    ghost texts = { ascii_texts is_numeric numeric_ascii };
+}
+
 /// The characters of a PrintableString: letters, digits, space and `' ( ) + , - . / : = ?`
 /// (X.680, 41).
 #[derive(Clone, Debug, Drop)]
@@ -170,6 +175,10 @@ impl CharSet for PrintableCharSet {
     }
 }
 
+impl TextCharSet for PrintableCharSet {
+    ghost texts = { ascii_texts is_printable printable_ascii };
+}
+
 /// The characters of an IA5String: those of ASCII, 00 to 7F (X.680, 41).
 #[derive(Clone, Copy, Debug)]
 pub struct Ia5CharSet;
@@ -210,4 +219,8 @@ impl CharSet for Ia5CharSet {
     fn check(octets: OctetStringOctets<'_>) -> Result<(), CharSetError> {
         check_of::<Ia5CharSet>(octets)
     }
+}
+
+impl TextCharSet for Ia5CharSet {
+    ghost texts = { ascii_texts is_ia5 ia5_ascii };
 }
