@@ -9,5 +9,6 @@ pub use octet::{
     OctetStringSource, WrappingOctetStringEncoder,
 };
 pub use restricted::{
-    CharSet, CharSetError, Ia5CharSet, NumericCharSet, PrintableCharSet, StringError,
+    CharSet, CharSetError, Ia5CharSet, NumericCharSet, PrintableCharSet, StringError, TextCharSet,
+    Utf8CharSet,
 };
