@@ -76,3 +76,6 @@ pub mod WrittenStrings
 pub mod StringSources
 pub mod StringsBack
 pub mod Hashing
+pub mod CharSets
+pub mod AsciiSets
+pub mod Utf8

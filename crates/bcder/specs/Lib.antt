@@ -75,3 +75,7 @@ pub mod StringSources
 pub mod Blocks
 pub mod CharSet
 pub mod CharSetTexts
+pub mod AsciiSets
+pub mod Utf8
+pub mod TextSets
+pub mod Utf8Leads

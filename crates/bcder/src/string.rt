@@ -8,4 +8,7 @@ pub use octet::{
     OctetSliceEncoder, OctetString, OctetStringEncoder, OctetStringIter, OctetStringOctets,
     OctetStringSource, WrappingOctetStringEncoder,
 };
-pub use restricted::{CharSet, CharSetError, StringError};
+pub use restricted::{
+    CharSet, CharSetError, Ia5CharSet, NumericCharSet, PrintableCharSet, StringError, TextCharSet,
+    Utf8CharSet,
+};
