@@ -61,7 +61,6 @@ impl BitString {
     }
 
     /// The bit at a place, counted from 0, the leading one; `false` behind the last.
-    #[inline]
     pub fn bit(&self, bit: usize) -> bool
         ensures { result ≡ get_or (bits self.now) bit false }
     {
