@@ -1,7 +1,7 @@
 -- The octets of a string as a source.
 use Rattle.std.specs.Prelude.{◌≡◌, ℕ, ◌≤◌, ◌⊎◌, List, [], ◌++◌, length, drop, Option, None, Some}
 use Rattle.std.specs.List.{concat}
-use Rattle.bcder.specs.OctetString.{StringOctets, octets_of}
+use Rattle.bcder.specs.OctetString.{StringOctets, whole, cut, octets_of}
 use Rattle.bcder.specs.Stream.{Stream}
 
 -- the octets of the parts behind the one in front, if there can be any
@@ -9,9 +9,14 @@ abbrev pub all_behind : Option (List (List ℕ)) → List ℕ
 all_behind None = []
 all_behind (Some ps) = concat ps
 
--- the octets of a string, none of them asked for
+-- how many octets of a string are at hand before any is asked for: those that came in one piece
+abbrev pub front_size : StringOctets → ℕ
+front_size (whole w) = length w
+front_size (cut c ps) = 0
+
+-- the octets of a string
 abbrev pub string_stream : StringOctets → Stream
-string_stream s = record { rest = octets_of s; avail = 0; faults = 0; position = 0; kept = [] }
+string_stream s = record { rest = octets_of s; avail = front_size s; faults = 0; position = 0; kept = [] }
 
 -- the first n parts behind the front were joined to it in one block, which has as many octets as were asked for, or all
 pub record IsJoined (front : List ℕ) (ps : List (List ℕ)) (asked : ℕ) (block : List ℕ) (n : ℕ) : Type 0 where

@@ -12,13 +12,12 @@ to_come s = s.front ++ all_behind s.behind
 
 -- what it is as a source
 abbrev pub source_stream : OctetStringSource → Stream
-source_stream s = record { rest = to_come s; avail = s.avail; faults = s.faults; position = s.pos; kept = [] }
+source_stream s = record { rest = to_come s; avail = length s.front; faults = s.faults; position = s.pos; kept = [] }
 
 -- octets were put in front, as many as were asked for, or all that there are; if that failed, no fewer stand there than did
 pub record FillsFront (asked : ℕ) (s : Both (MutBor OctetStringSource) (MutBor OctetStringSource)) (r : Result (Unit {0}) NoMemory) : Type 0 where
   pub same : to_come s.exit.now ≡ to_come s.entry.now
   pub no_fewer : length s.entry.now.front ≤ length s.exit.now.front
   pub enough : OnOk r ((asked ≤ length s.exit.now.front) ⊎ (all_behind s.exit.now.behind ≡ []))
-  pub avail : s.exit.now.avail ≡ s.entry.now.avail
   pub faults : s.exit.now.faults ≡ s.entry.now.faults
   pub position : s.exit.now.pos ≡ s.entry.now.pos

@@ -11,6 +11,7 @@ mod encoded;
 mod end;
 mod numbers;
 mod sources;
+mod strings;
 mod taken;
 mod wrapped;
 
@@ -21,6 +22,7 @@ fn main(rt: HostRuntime) -> Result<(), Error> {
     sources::run(&rt)?;
     taken::run(&rt)?;
     bits::run(&rt)?;
+    strings::run(&rt)?;
     captured::run(&rt)?;
     encoded::run(&rt)?;
     wrapped::run(&rt)?;

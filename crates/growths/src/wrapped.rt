@@ -1,9 +1,8 @@
-//! Values that are wrapped into octet strings, and the octets of a string as a source.
+//! Values that are wrapped into octet strings.
 use crate::end::{End, answered, refused, tell};
 use anyhow::Error;
-use bcder::decode::{IntoSource, SliceSource, Source};
 use bcder::encode::{EncodeError, PrimitiveContent, Values, WriteError};
-use bcder::{Mode, NoMemory, OctetString};
+use bcder::{Mode, OctetString};
 use std::alloc::Global;
 
 /// What 1001 octets begin with in CER that are an OCTET STRING themselves.
@@ -26,30 +25,11 @@ fn wraps(alloc: Global) -> Result<End, Error> {
     })
 }
 
-/// A string that was cut into two segments, `a` and `b`.
-const CUT: [u8; 8] = [0x24, 0x06, 0x04, 0x01, 0x61, 0x04, 0x01, 0x62];
-
-/// Segments are joined where more is asked for than one holds. Where there is no memory for that,
-/// the octets are given one by one.
-fn requests(alloc: Global) -> Result<End, Error> {
-    let mut octets = SliceSource::new(&CUT);
-    let string = Mode::Ber.decode_lent(&mut octets, |cons| OctetString::take_from(alloc, cons))?;
-    let mut source = string.into_source();
-    Ok(match source.request(2) {
-        Ok(count) => answered(count == 2 && source.slice() == b"ab".as_slice()),
-        Err(NoMemory) => {
-            let left = source.take_u8()? == b'a' && source.take_u8()? == b'b';
-            refused(true, left && source.request(1)? == 0)
-        }
-    })
-}
-
 pub fn run(rt: &HostRuntime) -> Result<(), Error> {
     let alloc = rt.alloc();
     tell(
         rt,
         "WrappingOctetStringEncoder::write_encoded",
         wraps(alloc)?,
-    )?;
-    tell(rt, "OctetStringSource::request", requests(alloc)?)
+    )
 }

@@ -48,9 +48,9 @@ limit_told_after n (Some m) xs ys k c h p =
 pub at_most_itself : (n : ℕ) → n ≤ n
 at_most_itself n = omega arith
 
--- what is part of the octets in front is part of all
-pub within_front : (n : ℕ) (w x : List ℕ) → n ≤ length w → n ≤ length (w ++ x)
-within_front n w x h = omega (arith, length-append w x)
+-- the octets in front are part of all
+pub within_front : (w x : List ℕ) → length w ≤ length (w ++ x)
+within_front w x = omega (arith, length-append w x)
 
 -- octets after the first ones are octets
 pub AreOctets-drop : (n : ℕ) (w : List ℕ) → AreOctets w → AreOctets (drop n w)

@@ -106,6 +106,7 @@ impl Behind {
 }
 
 /// Makes at least `len` octets stand in front, or all that there are.
+#[inline(never)]
 fn refill(front: &mut Bytes, behind: &mut Behind, len: usize) -> Result<(), NoMemory>
     ensures same { front.new ++ concat behind.new ≡ front.old ++ concat behind.old }
     ensures no_fewer { length front.old ≤ length front.new }
@@ -133,12 +134,10 @@ fn refill(front: &mut Bytes, behind: &mut Behind, len: usize) -> Result<(), NoMe
 pub struct OctetStringSource {
     front: Bytes,
     behind: Option<Behind>,
-    avail: usize,
     pos: Pos,
     faults: u64,
     ghost are_octets: { AreOctets (front ++ all_behind behind) },
     ghost fit: { length (front ++ all_behind behind) < 2 ^ 64 },
-    ghost at_hand: { avail ≤ length front },
 }
 
 impl OctetStringSource {
@@ -152,7 +151,6 @@ impl OctetStringSource {
         OctetStringSource {
             front: octets,
             behind: None,
-            avail: 0,
             pos: Pos::default(),
             faults: 0,
         }
@@ -169,13 +167,13 @@ impl OctetStringSource {
         OctetStringSource {
             front: Bytes::new(),
             behind: Some(behind),
-            avail: 0,
             pos: Pos::default(),
             faults: 0,
         }
     }
 
     /// Makes at least `len` octets stand in front, or all that there are.
+    #[inline(always)]
     fn fill(&mut self, len: usize) -> Result<(), NoMemory>
         ensures { FillsFront len self result }
     {
@@ -200,19 +198,17 @@ impl Source for OctetStringSource {
     ghost sound = { λ s. record {
       octets = s.are_octets;
       size = s.fit;
-      at_hand = within_front s.avail s.front (all_behind s.behind) s.at_hand;
+      at_hand = within_front s.front (all_behind s.behind);
     } };
 
     fn pos(&self) -> Pos {
         self.pos
     }
 
+    #[inline(always)]
     fn request(&mut self, len: usize) -> Result<usize, NoMemory> {
         match self.fill(len) {
-            Ok(()) => {
-                self.avail = self.front.len();
-                Ok(self.avail)
-            }
+            Ok(()) => Ok(self.front.len()),
             Err(error) => {
                 self.faults = self.faults.saturating_add(1);
                 Err(error)
@@ -220,6 +216,7 @@ impl Source for OctetStringSource {
         }
     }
 
+    #[inline(always)]
     fn slice(&self) -> &[u8] {
         self.front.as_slice()
     }
@@ -228,9 +225,9 @@ impl Source for OctetStringSource {
         Ok(self.front.slice(start..end)?)
     }
 
+    #[inline(always)]
     fn advance(&mut self, len: usize) {
         self.front.advance(len);
-        self.avail -= len;
         self.pos = self.pos + Pos::from(len);
     }
 }

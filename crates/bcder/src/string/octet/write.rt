@@ -11,6 +11,7 @@ ghost use Rattle.bcder.specs.StringMeaning.{is_cut, OctetsMean, segments_in_cer}
 ghost use Rattle.bcder.specs.Segmenting.{BeginsSegment, CutSize, segments_size, WritesPart};
 
 use super::OctetStringIter;
+use super::segments::FULL;
 use crate::encode::header::put_header;
 use crate::encode::slot::{Failed, slot, told};
 use crate::encode::target::put_all;
@@ -27,7 +28,7 @@ pub(super) fn is_cut(mode: Mode, len: usize) -> bool
     ensures { result ≡ is_cut mode len }
 {
     match mode {
-        Mode::Cer => len > 1000,
+        Mode::Cer => len > FULL,
         Mode::Ber | Mode::Der => false,
     }
 }
@@ -37,8 +38,8 @@ fn segments_len(len: usize) -> Option<usize>
     requires { 0 < len }
     ensures { IsSum result (segments_size len) }
 {
-    let full = (len - 1) / 1000;
-    let last = len - 1000 * full;
+    let full = (len - 1) / FULL;
+    let last = len - FULL * full;
     len.checked_add(4 * full + 1 + Length::Definite(last).octet_count())
 }
 
@@ -92,7 +93,7 @@ fn begin_segment<W: io::Write>(
     if progress.left > 0 {
         return Ok(progress);
     }
-    let left = progress.behind.min(1000);
+    let left = progress.behind.min(FULL);
     put_header(
         target,
         Tag::OCTET_STRING,

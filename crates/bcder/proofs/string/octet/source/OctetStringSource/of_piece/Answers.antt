@@ -8,5 +8,4 @@ invariant_of-result c =
     record {
       are_octets = subst AreOctets same c.see_octets.ensures.are_octets;
       fit = subst (λ (w : List ℕ). length w < 2 ^ 64) same c.see_octets.ensures.fit;
-      at_hand = omega arith;
     }

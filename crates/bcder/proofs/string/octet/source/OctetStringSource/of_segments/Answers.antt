@@ -17,5 +17,4 @@ invariant_of-result c =
     record {
       are_octets = subst AreOctets same (parts_octets kept.mode kept.octets ps c.requires.segmented);
       fit = subst (λ (w : List ℕ). length w < 2 ^ 64) same fit;
-      at_hand = omega arith;
     }

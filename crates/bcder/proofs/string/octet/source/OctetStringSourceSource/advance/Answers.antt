@@ -1,5 +1,4 @@
-use Rattle.std.proofs.Common.{List, ℕ, ◌++◌, ◌<◌, ◌^◌, length, sym, ap, subst, arith}
-use Rattle.std.proofs.lemmas.List.{length-drop}
+use Rattle.std.proofs.Common.{List, ℕ, ◌++◌, ◌<◌, ◌^◌, length, sym, subst, arith}
 use Rattle.bcder.specs.Identifier.{AreOctets}
 use Rattle.bcder.specs.StringSource.{all_behind}
 use Rattle.bcder.proofs.StringSources.{passed_octets, passed_fit}
@@ -12,7 +11,6 @@ invariant_of-self c =
     let rest = all_behind s.behind in
     let is = c.advance.ensures in
     record {
-      are_octets = subst (λ (w : List ℕ). AreOctets (w ++ rest)) (sym is) (passed_octets len s.front rest (omega (arith, s.at_hand)) s.are_octets);
+      are_octets = subst (λ (w : List ℕ). AreOctets (w ++ rest)) (sym is) (passed_octets len s.front rest (omega arith) s.are_octets);
       fit = subst (λ (w : List ℕ). length (w ++ rest) < 2 ^ 64) (sym is) (passed_fit len s.front rest s.fit);
-      at_hand = omega (arith, ap length is, length-drop len s.front, s.at_hand);
     }
