@@ -1,7 +1,7 @@
 //! Names, as text (RFC 5280, section 4.1.2.4).
 ghost use Rattle.bcder.specs.Views.{Moved};
 
-use bcder::{ConstOid, Oid, Tag};
+use bcder::{ConstOid, Oid};
 use bcder::decode::{Constructed, DecodeError, Source, walk};
 use bcder::string::{Ia5String, PrintableString, Utf8String};
 use std::alloc::Global;
@@ -82,7 +82,7 @@ pub struct Name {
 }
 
 impl Name {
-    /// A SEQUENCE OF SET OF attributes.
+    /// A SEQUENCE OF SET OF attributes, each a SEQUENCE of its kind and its text.
     pub fn take_from<S: Source>(
         alloc: Global,
         cons: &mut Constructed<'_, S>,
@@ -93,20 +93,11 @@ impl Name {
             attributes: Vec::new(alloc),
         };
         cons.take_sequence(|cons| {
-            cons.while_some(|cons| cons.take_opt_set(|cons| name.take_set(alloc, cons)))
+            cons.while_some(|cons| {
+                cons.take_opt_set(|cons| cons.while_some(|cons| name.take_next(alloc, cons)))
+            })
         })?;
         Ok(name)
-    }
-
-    /// The attributes of a SET, each a SEQUENCE of its kind and its text.
-    fn take_set<S: Source>(
-        &mut self,
-        alloc: Global,
-        cons: &mut Constructed<'_, S>,
-    ) -> Result<(), DecodeError<S::Error>>
-        ensures { Moved S.stream cons }
-    {
-        cons.while_some(|cons| self.take_next(alloc, cons))
     }
 
     /// The next attribute, if there is another.
