@@ -7,10 +7,10 @@ ghost use Rattle.bcder.specs.Views.{Moved};
 #[cfg(test)]
 mod written;
 
-use bcder::Mode;
+use bcder::{Mode, Oid};
 use bcder::decode::{Constructed, DecodeError, SliceSource, Source};
 use std::test::Fail;
-use user::{Time, decode_addresses, decode_certificate, decode_signed};
+use user::{Text, Time, decode_addresses, decode_certificate, decode_signed};
 
 /// A self-signed certificate in DER, made with openssl.
 const CERTIFICATE: &str = "\
@@ -81,12 +81,20 @@ const ADDRESSES: &str = "\
 #[test]
 fn reads_a_certificate(rt: HostRuntime) -> Result<(), Fail> {
     let octets = hex::decode(rt.alloc(), CERTIFICATE)?;
-    let found = decode_certificate(SliceSource::new(&octets))?;
+    let found = decode_certificate(rt.alloc(), SliceSource::new(&octets))?;
     assert_eq!(rt;
         (found.version, found.extensions, found.critical),
         (3, 3, 1)
     );
-    assert_eq!(rt; (found.issuer, found.subject), (3, 3));
+    for name in [&found.issuer, &found.subject] {
+        assert_eq!(rt; name.attributes().len(), 3);
+        for (attribute, text) in name.attributes().iter().zip(["NL", "Test", "example.test"]) {
+            assert_eq!(rt; attribute.text.to_string(rt.alloc())?.as_str(), text);
+        }
+        let common = name.text_of(&Oid(&[0x55, 0x04, 0x03]));
+        assert!(rt; matches!(common, Some(Text::Utf8(_))));
+        assert!(rt; name.text_of(&Oid(&[0x55, 0x04, 0x04])).is_none());
+    }
     assert_eq!(rt; (found.serial, found.key), (20, 271));
     assert!(rt; matches!(found.validity.from, Time::Utc(13)));
     assert!(rt; matches!(found.validity.to, Time::Utc(13)));

@@ -3,12 +3,14 @@ ghost use Rattle.std.specs.Prelude.{◌≡◌, ℕ, List, ◌++◌};
 ghost use Rattle.bcder.specs.Views.{Moved, MovedOctets};
 
 use crate::lists::{List, take_list};
+use crate::names::Name;
 use crate::{skip_octets, take_len_of};
 use bcder::decode::{Constructed, ContentError, DecodeError, Primitive, Source, walk};
 use bcder::{Mode, Tag};
+use std::alloc::Global;
 
 /// A time, by the number of its octets.
-#[derive(Clone, Copy)]
+#[derive(Clone, Copy, Debug)]
 pub enum Time {
     /// With two digits for the year.
     Utc(usize),
@@ -47,7 +49,7 @@ impl Time {
 }
 
 /// A time span.
-#[derive(Clone, Copy)]
+#[derive(Clone, Copy, Debug)]
 pub struct Validity {
     /// Its first time.
     pub from: Time,
@@ -91,32 +93,8 @@ pub(crate) fn skip_algorithm_parts<S: Source>(
     Ok(())
 }
 
-/// A name: a SEQUENCE OF SET OF attributes, each a SEQUENCE of its kind and its text. It answers
-/// the number of attributes.
-pub(crate) fn take_name<S: Source>(
-    cons: &mut Constructed<'_, S>,
-) -> Result<u64, DecodeError<S::Error>>
-    ensures { Moved S.stream cons }
-{
-    let mut attributes = 0u64;
-    cons.take_sequence(|cons| {
-        cons.while_some(|cons| {
-            cons.take_opt_set(|cons| {
-                cons.while_some(|cons| {
-                    cons.take_opt_sequence(|cons| {
-                        attributes = attributes.saturating_add(1);
-                        cons.take_primitive_if(Tag::OID, |oid| oid.skip_all())?;
-                        cons.take_primitive(|_tag, text| text.skip_all())
-                    })
-                })
-            })
-        })
-    })?;
-    Ok(attributes)
-}
-
 /// What a certificate holds, as far as it is read here.
-#[derive(Clone, Copy)]
+#[derive(Debug, Drop)]
 pub struct Certificate {
     /// Its version, 1 without the field that says so. Unique identifiers come from 2 on, and
     /// extensions from 3 on.
@@ -125,14 +103,14 @@ pub struct Certificate {
     /// The octets of its serial number.
     pub serial: usize,
 
-    /// The attributes of its issuer.
-    pub issuer: u64,
+    /// Who issued it.
+    pub issuer: Name,
 
     /// When it is valid.
     pub validity: Validity,
 
-    /// The attributes of its subject.
-    pub subject: u64,
+    /// Whose key it holds.
+    pub subject: Name,
 
     /// The octets of its key.
     pub key: usize,
@@ -147,20 +125,22 @@ pub struct Certificate {
 impl Certificate {
     /// A SEQUENCE of what is signed, an algorithm and a signature.
     pub fn take_from<S: Source>(
+        alloc: Global,
         cons: &mut Constructed<'_, S>,
     ) -> Result<Certificate, DecodeError<S::Error>>
         ensures { Moved S.stream cons }
     {
-        cons.take_sequence(|cons| Certificate::take_parts(cons))
+        cons.take_sequence(|cons| Certificate::take_parts(alloc, cons))
     }
 
     /// What is inside that SEQUENCE.
     pub(crate) fn take_parts<S: Source>(
+        alloc: Global,
         cons: &mut Constructed<'_, S>,
     ) -> Result<Certificate, DecodeError<S::Error>>
         ensures { Moved S.stream cons }
     {
-        let certificate = Certificate::take_signed(cons)?;
+        let certificate = Certificate::take_signed(alloc, cons)?;
         skip_algorithm(cons)?;
         skip_octets(Tag::BIT_STRING, cons)?;
         Ok(certificate)
@@ -168,6 +148,7 @@ impl Certificate {
 
     /// What is signed, in one closure.
     fn take_signed<S: Source>(
+        alloc: Global,
         cons: &mut Constructed<'_, S>,
     ) -> Result<Certificate, DecodeError<S::Error>>
         ensures { Moved S.stream cons }
@@ -179,9 +160,9 @@ impl Certificate {
                 let version = cons.take_opt_constructed_if(Tag::CTX_0, |cons| cons.take_u8())?;
                 let serial = take_len_of(Tag::INTEGER, cons)?;
                 skip_algorithm(cons)?;
-                let issuer = take_name(cons)?;
+                let issuer = Name::take_from(alloc, cons)?;
                 let validity = Validity::take_from(cons)?;
-                let subject = take_name(cons)?;
+                let subject = Name::take_from(alloc, cons)?;
                 let key = take_key(cons)?;
                 let mut certificate = Certificate {
                     version: version.unwrap_or(0).saturating_add(1),
@@ -271,21 +252,23 @@ impl List for Extensions {
 
 /// A certificate at the front of a source that is handed in.
 pub fn decode_certificate<S: Source + Drop>(
+    alloc: Global,
     source: S,
 ) -> Result<Certificate, DecodeError<S::Error>> {
-    Constructed::decode(source, Mode::Der, |cons| Certificate::take_from(cons))
+    Constructed::decode(source, Mode::Der, |cons| Certificate::take_from(alloc, cons))
 }
 
 /// Two certificates at the front of a source whose owner goes on with what is left.
 pub fn decode_two<S: Source>(
+    alloc: Global,
     source: &mut S,
 ) -> Result<(Certificate, Certificate), DecodeError<S::Error>>
     ensures { (passed : List ℕ)
         × ((S.stream source.old).rest ≡ passed ++ (S.stream source.new).rest) }
 {
     Constructed::decode_lent(source, Mode::Der, |cons| {
-        let first = Certificate::take_from(cons)?;
-        let second = Certificate::take_from(cons)?;
+        let first = Certificate::take_from(alloc, cons)?;
+        let second = Certificate::take_from(alloc, cons)?;
         Ok((first, second))
     })
 }

@@ -14,6 +14,7 @@ mod addresses;
 mod certificate;
 mod extensions;
 mod lists;
+mod names;
 mod signed;
 
 pub use addresses::{Addresses, decode_addresses};
@@ -21,6 +22,7 @@ use bcder::Tag;
 use bcder::decode::{Constructed, Content, DecodeError, Primitive, Source};
 pub use certificate::{Certificate, Time, Validity, decode_certificate, decode_two};
 pub use extensions::{Basic, Extensions, decode_extensions};
+pub use names::{Attribute, Name, Text};
 pub use signed::{Signed, decode_signed};
 
 /// The number of the contents octets, which are passed over.

@@ -1,7 +1,7 @@
 //! Signed messages (RFC 5652, section 5).
 ghost use Rattle.bcder.specs.Views.{Moved};
 
-use crate::certificate::{Certificate, skip_algorithm, skip_algorithm_parts, take_name};
+use crate::certificate::{Certificate, skip_algorithm, skip_algorithm_parts};
 use crate::lists::{List, take_list, take_opt_list};
 use crate::skip_octets;
 use bcder::decode::{Constructed, DecodeError, Source, walk};
@@ -56,7 +56,8 @@ impl Signed {
         cons.take_u8()?;
         let digests = take_list(Tag::SET, Algorithms(0), cons)?;
         let message = take_message(alloc, cons)?;
-        let certificates = take_opt_list(Tag::CTX_0, Certificates(0), cons)?;
+        let none = Certificates { alloc, all: 0 };
+        let certificates = take_opt_list(Tag::CTX_0, none, cons)?;
         let lists = cons.take_opt_constructed_if(Tag::CTX_1, |cons| count_values(cons))?;
         let none = Signers {
             all: 0,
@@ -66,7 +67,7 @@ impl Signed {
         Ok(Signed {
             digests: digests.0,
             message,
-            certificates: certificates.0,
+            certificates: certificates.all,
             lists: lists.unwrap_or(0),
             signers: signers.all,
             attributes: signers.attributes,
@@ -103,17 +104,20 @@ impl List for Algorithms {
     }
 }
 
-/// The number of certificates.
+/// How many certificates there are.
 #[derive(Clone, Copy)]
-struct Certificates(u64);
+struct Certificates {
+    alloc: Global,
+    all: u64,
+}
 
 impl List for Certificates {
     fn take_one<S: Source>(
         &mut self,
         cons: &mut Constructed<'_, S>,
     ) -> Result<(), DecodeError<S::Error>> {
-        self.0 = self.0.saturating_add(1);
-        Certificate::take_parts(cons)?;
+        self.all = self.all.saturating_add(1);
+        Certificate::take_parts(self.alloc, cons)?;
         Ok(())
     }
 }
@@ -180,7 +184,7 @@ fn skip_signer_name<S: Source>(cons: &mut Constructed<'_, S>) -> Result<(), Deco
     ensures { Moved S.stream cons }
 {
     let name = cons.take_opt_sequence(|cons| {
-        take_name(cons)?;
+        cons.take_sequence(|cons| count_values(cons))?;
         skip_octets(Tag::INTEGER, cons)
     })?;
     match name {
