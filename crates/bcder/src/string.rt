@@ -8,4 +8,4 @@ pub use octet::{
     OctetSliceEncoder, OctetString, OctetStringEncoder, OctetStringIter, OctetStringOctets,
     OctetStringSource, WrappingOctetStringEncoder,
 };
-pub use restricted::{CharSet, CharSetError, StringError};
+pub use restricted::{CharSet, CharSetError, RestrictedString, StringError};

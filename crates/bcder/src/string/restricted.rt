@@ -1,4 +1,93 @@
 //! Restricted character strings (X.690, 8.23).
+ghost use Rattle.std.specs.Prelude.{◌≡◌, MatchResult};
+ghost use Rattle.bcder.specs.OctetString.{octets_of};
+ghost use Rattle.bcder.specs.CharSet.{Accepts};
+
 mod char_set;
 
+use crate::string::octet::OctetString;
 pub use char_set::{CharSet, CharSetError, StringError};
+use std::alloc::AllocError;
+use std::convert::AsRef;
+use std::marker::{Model, PhantomData};
+use std::ops::Deref;
+
+/// A string of the characters of a set (X.690, 8.23).
+///
+/// It is an octet string whose octets spell characters of the set. Two strings with the same octets
+/// are equal, whether they were cut or not.
+#[derive(Drop)]
+pub struct RestrictedString<L: CharSet> {
+    octets: OctetString,
+    set: PhantomData<L>,
+}
+
+/// The clauses see the octets, as they came.
+impl<L: CharSet> Model for RestrictedString<L> {
+    ghost use Rattle.bcder.specs.OctetString.{StringOctets, octets_of};
+    ghost use Rattle.bcder.specs.CharSet.{Accepts};
+
+    ghost Value = { StringOctets };
+
+    ghost view = { λ s. s.octets };
+
+    ghost invariant = { λ s. Accepts L.step (octets_of s.octets) };
+}
+
+impl<L: CharSet> RestrictedString<L> {
+    /// A string of the set with these octets, as they came.
+    ///
+    /// # Errors
+    ///
+    /// Where they spell no characters of the set. The octets are then dropped.
+    pub fn new(octets: OctetString) -> Result<Self, CharSetError>
+        ensures { MatchResult result
+            (λ s. (s ≡ octets) × Accepts L.step (octets_of octets))
+            (λ _. Accepts L.step (octets_of octets) → ⊥) }
+    {
+        L::check(octets.octets())?;
+        Ok(RestrictedString {
+            octets,
+            set: PhantomData,
+        })
+    }
+
+    /// The octets, as they came.
+    pub fn octet_string(&self) -> &OctetString
+        ensures { result.now ≡ self.now }
+    {
+        &self.octets
+    }
+}
+
+/// The clone has the same octets, cut in the same way.
+impl<L: CharSet> Clone for RestrictedString<L> {
+    ghost is_clone = { λ s copy. copy ≡ s };
+
+    fn clone(&self) -> Result<Self, AllocError> {
+        Ok(RestrictedString {
+            octets: self.octets.clone()?,
+            set: PhantomData,
+        })
+    }
+}
+
+/// It lends its octets, as they came.
+impl<L: CharSet> AsRef<OctetString> for RestrictedString<L> {
+    fn as_ref(&self) -> &OctetString
+        ensures { result.now ≡ self.now }
+    {
+        &self.octets
+    }
+}
+
+/// It lends its octets, as they came.
+impl<L: CharSet> Deref for RestrictedString<L> {
+    type Target = OctetString;
+
+    ghost deref_gives = { λ s octets. octets ≡ s };
+
+    fn deref(&self) -> &OctetString {
+        &self.octets
+    }
+}
