@@ -76,3 +76,4 @@ pub mod WrittenStrings
 pub mod StringSources
 pub mod StringsBack
 pub mod Hashing
+pub mod Characters

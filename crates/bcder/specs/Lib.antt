@@ -75,3 +75,4 @@ pub mod StringSources
 pub mod Blocks
 pub mod CharSet
 pub mod CharSetTexts
+pub mod Characters

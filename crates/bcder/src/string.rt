@@ -8,4 +8,6 @@ pub use octet::{
     OctetSliceEncoder, OctetString, OctetStringEncoder, OctetStringIter, OctetStringOctets,
     OctetStringSource, WrappingOctetStringEncoder,
 };
-pub use restricted::{CharSet, CharSetError, RestrictedString, StringError};
+pub use restricted::{
+    CharSet, CharSetError, RestrictedString, RestrictedStringChars, StringError,
+};

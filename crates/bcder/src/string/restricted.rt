@@ -1,12 +1,15 @@
 //! Restricted character strings (X.690, 8.23).
 ghost use Rattle.std.specs.Prelude.{◌≡◌, MatchResult};
-ghost use Rattle.bcder.specs.OctetString.{octets_of};
+ghost use Rattle.bcder.specs.OctetString.{parts, octets_of};
 ghost use Rattle.bcder.specs.CharSet.{Accepts};
 
 mod char_set;
+mod chars;
+mod compare;
 
-use crate::string::octet::OctetString;
+use crate::string::octet::{OctetString, OctetStringIter};
 pub use char_set::{CharSet, CharSetError, StringError};
+pub use chars::RestrictedStringChars;
 use std::alloc::AllocError;
 use std::convert::AsRef;
 use std::marker::{Model, PhantomData};
@@ -16,7 +19,7 @@ use std::ops::Deref;
 ///
 /// It is an octet string whose octets spell characters of the set. Two strings with the same octets
 /// are equal, whether they were cut or not.
-#[derive(Drop)]
+#[derive(Debug, Drop)]
 pub struct RestrictedString<L: CharSet> {
     octets: OctetString,
     set: PhantomData<L>,
@@ -89,5 +92,18 @@ impl<L: CharSet> Deref for RestrictedString<L> {
 
     fn deref(&self) -> &OctetString {
         &self.octets
+    }
+}
+
+/// Its octets, in the parts of the octet string.
+impl<'a, L: CharSet> IntoIterator for &'a RestrictedString<L> {
+    type Item = &'a [u8];
+
+    type IntoIter = OctetStringIter<'a>;
+
+    ghost into_iter_gives = { λ s i. i ≡ parts s.now };
+
+    fn into_iter(self) -> OctetStringIter<'a> {
+        self.octets.iter()
     }
 }
