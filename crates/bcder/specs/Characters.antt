@@ -2,17 +2,17 @@
 use Rattle.std.specs.Prelude.{ℕ, zero, suc, List, [], ◌∷◌, length, Option, Some, None}
 use Rattle.bcder.specs.CharSet.{Front, Step}
 
+-- a character, and those of the octets behind it
+abbrev pub and_behind : (List ℕ → List ℕ) → Option Front → List ℕ
+and_behind behind None = []
+and_behind behind (Some x) = x.char ∷ behind x.rest
+
 module _ (step : Step) where
-  -- of so many octets at most
-  abbrev mutual
-    pub characters_of : ℕ → List ℕ → List ℕ
-    characters_of zero w = []
-    characters_of (suc n) w = characters_from n (step w)
+  -- so many at most
+  abbrev pub characters_within : ℕ → List ℕ → List ℕ
+  characters_within zero w = []
+  characters_within (suc n) w = and_behind (characters_within n) (step w)
 
-    pub characters_from : ℕ → Option Front → List ℕ
-    characters_from n None = []
-    characters_from n (Some x) = x.char ∷ characters_of n x.rest
-
-  -- of octets that are a string of the set
+  -- each takes at least one octet
   unfoldable pub characters : List ℕ → List ℕ
-  characters w = characters_of (length w) w
+  characters w = characters_within (length w) w
