@@ -1,6 +1,7 @@
 -- What octets spell is told by the octets.
-use Rattle.std.proofs.Common.{◌≡◌, ◌≤◌, ℕ, zero, suc, List, [], ◌∷◌, ◌++◌, length, Option, Some, None, refl, ap, sym, ◌∙◌, arith, length-append, subst}
+use Rattle.std.proofs.Common.{◌≡◌, ◌≤◌, ℕ, zero, suc, List, [], ◌∷◌, ◌++◌, length, Option, Some, None, refl, ap, sym, ◌∙◌, arith, length-append, append-nil, subst, encode_utf8, encode_utf8_all}
 use Rattle.std.specs.Prelude.{Result, Ok, Err}
+use Rattle.std.proofs.lemmas.Str.{encodes-append}
 use Rattle.std.specs.Iterator.{YieldsFirst, MakesProgress, item_count}
 use Rattle.bcder.specs.declared.string.restricted.char_set.CharSetError.{CharSetError}
 use Rattle.bcder.specs.CharSet.{Front, Step, IsStep, Spells, Accepts, NextChar}
@@ -88,3 +89,7 @@ module _ (step : Step) (lawful : IsStep step) where
 pub goes_on : {can : List ℕ → Type 0} → ((cs : List ℕ) → can cs) → (v u : List ℕ) (o : Option ℕ) → YieldsFirst (λ (cs : List ℕ). cs) v o u → MakesProgress can (item_count (λ cs. cs)) v o u
 goes_on can v u None y = record { on = λ f. tt; keeps = tt; rests = λ f. tt }
 goes_on can v u (Some c) y = (let l = ap length y in record { on = λ f. (can u, tt, omega (arith, l)); keeps = can u; rests = λ f. tt })
+
+-- a character more, in UTF-8
+pub encoded_behind : (cs : List ℕ) (c : ℕ) → encode_utf8_all (cs ++ c ∷ []) ≡ encode_utf8_all cs ++ encode_utf8 c
+encoded_behind cs c = encodes-append cs (c ∷ []) ∙ ap (λ w. encode_utf8_all cs ++ w) (append-nil (encode_utf8 c))

@@ -77,3 +77,5 @@ pub mod StringSources
 pub mod StringsBack
 pub mod Hashing
 pub mod Characters
+pub mod Accepting
+pub mod RestrictedBack

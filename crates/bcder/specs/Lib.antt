@@ -76,3 +76,5 @@ pub mod Blocks
 pub mod CharSet
 pub mod CharSetTexts
 pub mod Characters
+pub mod RestrictedString
+pub mod WrittenRestricted

@@ -6,6 +6,9 @@ ghost use Rattle.bcder.specs.CharSet.{Accepts};
 mod char_set;
 mod chars;
 mod compare;
+mod encode;
+mod read;
+mod text;
 
 use crate::string::octet::{OctetString, OctetStringIter};
 pub use char_set::{CharSet, CharSetError, StringError};
@@ -57,7 +60,8 @@ impl<L: CharSet> RestrictedString<L> {
 
     /// The octets, as they came.
     pub fn octet_string(&self) -> &OctetString
-        ensures { result.now ≡ self.now }
+        ensures octets { result.now ≡ self.now }
+        ensures accepted { Accepts L.step (octets_of self.now) }
     {
         &self.octets
     }
