@@ -79,3 +79,6 @@ pub mod Hashing
 pub mod Characters
 pub mod Accepting
 pub mod RestrictedBack
+pub mod CharSets
+pub mod AsciiSets
+pub mod Utf8

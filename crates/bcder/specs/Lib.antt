@@ -78,3 +78,7 @@ pub mod CharSetTexts
 pub mod Characters
 pub mod RestrictedString
 pub mod WrittenRestricted
+pub mod AsciiSets
+pub mod Utf8
+pub mod TextSets
+pub mod Utf8Leads

@@ -19,3 +19,5 @@ pub mod Joined
 pub mod Listed
 pub mod Gathered
 pub mod StringMeanings
+pub mod CharSets
+pub mod Utf8

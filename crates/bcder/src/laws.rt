@@ -8,6 +8,7 @@ ghost use Rattle.bcder.specs.Grammar.{OneEncoding, ValueInBer, ListInBer};
 ghost use Rattle.bcder.specs.Grammar.{ValueHasTwo, ListHasTwo, ValueIsOctets, ListIsOctets};
 
 pub mod bit_strings;
+pub mod char_sets;
 pub mod encoders;
 pub mod identifiers;
 pub mod integers;

@@ -9,5 +9,6 @@ pub use octet::{
     OctetStringSource, WrappingOctetStringEncoder,
 };
 pub use restricted::{
-    CharSet, CharSetError, RestrictedString, RestrictedStringChars, StringError,
+    CharSet, CharSetError, Ia5CharSet, NumericCharSet, PrintableCharSet, RestrictedString,
+    RestrictedStringChars, StringError, TextCharSet, Utf8CharSet,
 };

@@ -1,3 +1,4 @@
 pub mod Counted
 pub mod Sip
 pub mod Taken
+pub mod Latin1

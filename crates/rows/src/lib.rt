@@ -15,6 +15,8 @@ mod captured;
 #[cfg(test)]
 mod captures;
 #[cfg(test)]
+mod char_sets;
+#[cfg(test)]
 mod contents;
 #[cfg(test)]
 mod decodes;
@@ -30,6 +32,7 @@ mod encodes;
 mod failures;
 #[cfg(test)]
 mod integers;
+pub mod latin_1;
 #[cfg(test)]
 mod over;
 pub mod sip;

@@ -3,20 +3,24 @@ ghost use Rattle.std.specs.Prelude.{◌≡◌, MatchResult};
 ghost use Rattle.bcder.specs.OctetString.{parts, octets_of};
 ghost use Rattle.bcder.specs.CharSet.{Accepts};
 
+mod ascii;
 mod char_set;
 mod chars;
 mod compare;
 mod encode;
 mod read;
 mod text;
+mod utf8;
 
 use crate::string::octet::{OctetString, OctetStringIter};
-pub use char_set::{CharSet, CharSetError, StringError};
+pub use ascii::{Ia5CharSet, NumericCharSet, PrintableCharSet};
+pub use char_set::{CharSet, CharSetError, StringError, TextCharSet};
 pub use chars::RestrictedStringChars;
 use std::alloc::AllocError;
 use std::convert::AsRef;
 use std::marker::{Model, PhantomData};
 use std::ops::Deref;
+pub use utf8::Utf8CharSet;
 
 /// A string of the characters of a set (X.690, 8.23).
 ///

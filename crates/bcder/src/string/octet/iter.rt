@@ -1,5 +1,6 @@
 //! The parts of an octet string, and its octets.
-ghost use Rattle.std.specs.Prelude.{◌≡◌, ◌+◌, ◌≤◌, length};
+ghost use Rattle.std.specs.Prelude.{◌≡◌, ◌+◌, ◌<◌, ◌≤◌, [], ◌++◌, length, IfSome, MatchOption};
+ghost use Rattle.std.specs.List.{concat};
 ghost use Rattle.bcder.specs.OctetString.{piece, parts, octets_of, segment_at};
 ghost use Rattle.bcder.specs.OctetString.{AreWithin, segments_at};
 
@@ -162,6 +163,64 @@ impl<'a> Model for OctetStringOctets<'a> {
     ghost Value = { List ℕ };
 
     ghost view = { λ o. o.part.now ++ concat o.parts };
+}
+
+impl<'a> OctetStringOctets<'a> {
+    /// Octets that stand in one piece.
+    pub fn new(octets: &'a [u8]) -> OctetStringOctets<'a>
+        ensures { result ≡ octets.now }
+    {
+        OctetStringOctets {
+            part: octets,
+            parts: OctetStringIter::of_piece(&[]),
+        }
+    }
+
+    /// The octets that are still to come, where they are known to stand in one piece.
+    ///
+    /// `None` says that a string was cut, and that there may be segments to come; it says nothing of
+    /// the octets.
+    #[inline(always)]
+    pub fn as_slice(&self) -> Option<&'a [u8]>
+        ensures { IfSome result (λ octets. octets.now ≡ self.now) }
+    {
+        if !self.parts.segments.is_empty() {
+            return None;
+        }
+        if self.part.is_empty() {
+            return Some(self.parts.front);
+        }
+        self.parts.front.is_empty().then_some(self.part)
+    }
+
+    /// What is left of a part, and the parts behind it.
+    pub(crate) fn into_parts(self) -> (&'a [u8], OctetStringIter<'a>)
+        ensures { self.entry ≡ result.0.now ++ concat result.1 }
+    {
+        (self.part, self.parts)
+    }
+
+    /// Octets, and parts behind them.
+    pub(crate) fn from_parts(part: &'a [u8], parts: OctetStringIter<'a>) -> OctetStringOctets<'a>
+        ensures { result ≡ part.now ++ concat parts.entry }
+    {
+        OctetStringOctets { part, parts }
+    }
+
+    /// Takes the octets that stand in one piece in front, as long as there are any.
+    pub(crate) fn next_piece(&mut self) -> Option<&'a [u8]>
+        ensures { MatchOption result ((self.old ≡ []) × (self.new ≡ []))
+            (λ piece. (self.old ≡ piece.now ++ self.new) × (0 < length piece.now)) }
+    {
+        loop {
+            let part = self.part;
+            if !part.is_empty() {
+                self.part = &[];
+                return Some(part);
+            }
+            self.part = self.parts.next()?;
+        }
+    }
 }
 
 /// The clone has the same octets to come.

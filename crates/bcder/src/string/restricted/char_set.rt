@@ -2,6 +2,7 @@
 ghost use Rattle.std.specs.Prelude.{◌≡◌, List, ℕ};
 ghost use Rattle.bcder.specs.Identifier.{Tag as TagValue};
 ghost use Rattle.bcder.specs.CharSet.{Step, IsStep, NextChar, Checks, SpellsText};
+ghost use Rattle.bcder.specs.TextSets.{AreTexts};
 
 use crate::memory::NoMemory;
 use crate::string::octet::OctetStringOctets;
@@ -139,4 +140,10 @@ pub trait CharSet {
 
     /// A character takes at least one octet, and is one of Unicode's.
     ghost lawful: { IsStep step };
+}
+
+/// A character set whose strings are text as they stand: their octets are UTF-8 (RFC 3629), of the
+/// characters that they spell.
+pub trait TextCharSet: CharSet {
+    ghost texts: { AreTexts Self.step };
 }

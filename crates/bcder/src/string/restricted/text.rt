@@ -1,10 +1,11 @@
 //! Restricted strings and texts.
-ghost use Rattle.std.specs.Prelude.{◌≡◌, IfOk, string_bytes};
+ghost use Rattle.std.specs.Prelude.{◌≡◌, IfOk, MatchOption, string_bytes};
+ghost use Rattle.std.specs.Str.{chars};
 ghost use Rattle.bcder.specs.RestrictedString.{MakesText};
-ghost use Rattle.bcder.specs.CharSet.{Accepts};
-ghost use Rattle.bcder.specs.OctetString.{whole, octets_of};
+ghost use Rattle.bcder.specs.CharSet.{Accepts, Spells};
+ghost use Rattle.bcder.specs.OctetString.{whole, octets_of, IsCut};
 
-use super::{CharSet, RestrictedString, StringError};
+use super::{CharSet, RestrictedString, StringError, TextCharSet};
 use crate::NoMemory;
 use crate::string::octet::OctetString;
 use bytes::Bytes;
@@ -76,5 +77,19 @@ impl<L: CharSet> RestrictedString<L> {
         ensures { IfOk result (λ octets. octets ≡ octets_of self) }
     {
         self.octets.into_bytes(alloc)
+    }
+}
+
+impl<L: TextCharSet> RestrictedString<L> {
+    /// The characters as a text, if the string came in one piece: its octets, which aren't copied
+    /// and aren't checked again.
+    pub fn as_str(&self) -> Option<&str>
+        ensures { MatchOption result (IsCut self.now)
+            (λ text. (self.now ≡ whole text.now) × Spells L.step text.now (chars text.now)) }
+    {
+        match self.octets.as_slice() {
+            Some(octets) => Some(unsafe { std::str::from_utf8_unchecked(octets) }),
+            None => None,
+        }
     }
 }

@@ -1,0 +1,226 @@
+//! Character sets whose characters are one octet each (X.680, 41).
+ghost use Rattle.std.specs.Prelude.{◌≡◌, ◌↔◌, ◌<◌, ℕ, Bool, true, IsTrue};
+ghost use Rattle.bcder.specs.CharSet.{Accepts, NextChar, Checks, SpellsText};
+ghost use Rattle.bcder.specs.AsciiSets.{one_octet_step, is_numeric, is_printable, is_ia5};
+ghost use Rattle.bcder.specs.AsciiSets.{numeric_string_tag, printable_string_tag, ia5_string_tag};
+ghost use Rattle.bcder.specs.laws.CharSets.{ascii_lawful, ascii_texts};
+ghost use Rattle.bcder.specs.laws.CharSets.{numeric_ascii, printable_ascii, ia5_ascii};
+
+use super::char_set::{CharSet, CharSetError, StringError, TextCharSet};
+use crate::string::octet::OctetStringOctets;
+use crate::tag::Tag;
+use std::alloc::Global;
+use std::borrow::CowSlice;
+
+/// A set of ASCII's characters.
+trait AsciiSet {
+    ghost test: { ℕ → Bool };
+
+    /// Whether an octet is a character of the set.
+    fn has(octet: u8) -> bool
+        ensures { result ≡ test octet };
+
+    /// Whether each octet is a character of the set.
+    fn has_all(octets: &[u8]) -> bool
+        ensures { IsTrue result ↔ Accepts (one_octet_step test) octets.now }
+    {
+        for octet in octets {
+            if !Self::has(*octet) {
+                return false;
+            }
+        }
+        true
+    }
+
+    ghost ascii: { (b : ℕ) → test b ≡ true → b < 128 };
+}
+
+/// Takes the next octet, which is the character of its number.
+fn next_char_of<S: AsciiSet>(
+    octets: &mut OctetStringOctets<'_>,
+) -> Result<Option<char>, CharSetError>
+    ensures { NextChar (one_octet_step S.test) octets.old result octets.new }
+{
+    match octets.next() {
+        Some(octet) => {
+            if S::has(octet) {
+                Ok(Some(octet as char))
+            } else {
+                Err(CharSetError)
+            }
+        }
+        None => Ok(None),
+    }
+}
+
+/// Looks at the octets piece by piece, as they stand.
+fn check_of<S: AsciiSet>(octets: OctetStringOctets<'_>) -> Result<(), CharSetError>
+    ensures { Checks (one_octet_step S.test) octets.entry result }
+{
+    let mut octets = octets;
+    while let Some(piece) = octets.next_piece() {
+        if !S::has_all(piece) {
+            return Err(CharSetError);
+        }
+    }
+    Ok(())
+}
+
+/// The octets of the text itself, where they are characters of the set.
+fn from_str_of<S: AsciiSet>(text: &str) -> Result<CowSlice<'_, u8>, StringError>
+    ensures { SpellsText (one_octet_step S.test) ⊥ text.now result }
+{
+    if S::has_all(text.as_bytes()) {
+        Ok(CowSlice::Borrowed(text.as_bytes()))
+    } else {
+        Err(StringError::CharSet)
+    }
+}
+
+/// The characters of a NumericString: digits and space (X.680, 41).
+#[derive(Clone, Copy, Debug)]
+pub struct NumericCharSet;
+
+impl AsciiSet for NumericCharSet {
+    ghost test = { is_numeric };
+
+    ghost ascii = { numeric_ascii };
+
+    fn has(octet: u8) -> bool {
+        matches!(octet, b'0'..=b'9' | b' ')
+    }
+}
+
+impl CharSet for NumericCharSet {
+    ghost own_tag = { numeric_string_tag };
+
+    ghost step = { one_octet_step is_numeric };
+
+    ghost lawful = { ascii_lawful is_numeric numeric_ascii };
+
+    fn tag() -> Tag {
+        Tag::NUMERIC_STRING
+    }
+
+    fn next_char(octets: &mut OctetStringOctets<'_>) -> Result<Option<char>, CharSetError> {
+        next_char_of::<NumericCharSet>(octets)
+    }
+
+    fn from_str(_alloc: Global, text: &str) -> Result<CowSlice<'_, u8>, StringError> {
+        from_str_of::<NumericCharSet>(text)
+    }
+
+    fn check(octets: OctetStringOctets<'_>) -> Result<(), CharSetError> {
+        check_of::<NumericCharSet>(octets)
+    }
+}
+
+impl TextCharSet for NumericCharSet {
+    ghost texts = { ascii_texts is_numeric numeric_ascii };
+}
+
+/// The characters of a PrintableString: letters, digits, space and `' ( ) + , - . / : = ?`
+/// (X.680, 41).
+#[derive(Clone, Debug, Drop)]
+pub struct PrintableCharSet;
+
+impl AsciiSet for PrintableCharSet {
+    ghost test = { is_printable };
+
+    ghost ascii = { printable_ascii };
+
+    fn has(octet: u8) -> bool {
+        matches!(
+            octet,
+            b'A'..=b'Z'
+                | b'a'..=b'z'
+                | b'0'..=b'9'
+                | b' '
+                | b'\''
+                | b'('
+                | b')'
+                | b'+'
+                | b','
+                | b'-'
+                | b'.'
+                | b'/'
+                | b':'
+                | b'='
+                | b'?'
+        )
+    }
+}
+
+impl CharSet for PrintableCharSet {
+    ghost own_tag = { printable_string_tag };
+
+    ghost step = { one_octet_step is_printable };
+
+    ghost lawful = { ascii_lawful is_printable printable_ascii };
+
+    fn tag() -> Tag {
+        Tag::PRINTABLE_STRING
+    }
+
+    fn next_char(octets: &mut OctetStringOctets<'_>) -> Result<Option<char>, CharSetError> {
+        next_char_of::<PrintableCharSet>(octets)
+    }
+
+    fn from_str(_alloc: Global, text: &str) -> Result<CowSlice<'_, u8>, StringError> {
+        from_str_of::<PrintableCharSet>(text)
+    }
+
+    fn check(octets: OctetStringOctets<'_>) -> Result<(), CharSetError> {
+        check_of::<PrintableCharSet>(octets)
+    }
+}
+
+impl TextCharSet for PrintableCharSet {
+    ghost texts = { ascii_texts is_printable printable_ascii };
+}
+
+/// The characters of an IA5String: those of ASCII, 00 to 7F (X.680, 41).
+#[derive(Clone, Copy, Debug)]
+pub struct Ia5CharSet;
+
+impl AsciiSet for Ia5CharSet {
+    ghost test = { is_ia5 };
+
+    ghost ascii = { ia5_ascii };
+
+    fn has(octet: u8) -> bool {
+        octet.is_ascii()
+    }
+
+    fn has_all(octets: &[u8]) -> bool {
+        octets.is_ascii()
+    }
+}
+
+impl CharSet for Ia5CharSet {
+    ghost own_tag = { ia5_string_tag };
+
+    ghost step = { one_octet_step is_ia5 };
+
+    ghost lawful = { ascii_lawful is_ia5 ia5_ascii };
+
+    fn tag() -> Tag {
+        Tag::IA5_STRING
+    }
+
+    fn next_char(octets: &mut OctetStringOctets<'_>) -> Result<Option<char>, CharSetError> {
+        next_char_of::<Ia5CharSet>(octets)
+    }
+
+    fn from_str(_alloc: Global, text: &str) -> Result<CowSlice<'_, u8>, StringError> {
+        from_str_of::<Ia5CharSet>(text)
+    }
+
+    fn check(octets: OctetStringOctets<'_>) -> Result<(), CharSetError> {
+        check_of::<Ia5CharSet>(octets)
+    }
+}
+
+impl TextCharSet for Ia5CharSet {
+    ghost texts = { ascii_texts is_ia5 ia5_ascii };
+}

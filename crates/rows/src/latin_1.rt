@@ -1,0 +1,50 @@
+//! A character set of the tests' own, Latin-1: each octet is the character of its number.
+ghost use Rattle.std.specs.Prelude.{⊤};
+ghost use Rattle.bcder.specs.Identifier.{universal};
+ghost use Rattle.bcder.specs.AsciiSets.{one_octet_step};
+ghost use Rattle.bcder.specs.laws.CharSets.{one_octet_lawful};
+ghost use Rattle.rows.specs.Latin1.{is_octet, octet_scalar};
+
+use bcder::Tag;
+use bcder::string::{CharSet, CharSetError, OctetStringOctets, StringError};
+use std::alloc::Global;
+use std::borrow::CowSlice;
+
+/// The set.
+#[derive(Clone, Copy, Debug)]
+pub struct Latin1;
+
+impl CharSet for Latin1 {
+    ghost own_tag = { record { class = universal; number = 20 } };
+
+    ghost step = { one_octet_step is_octet };
+
+    ghost may_lack = { ⊤ };
+
+    ghost lawful = { one_octet_lawful is_octet octet_scalar };
+
+    fn tag() -> Tag {
+        Tag::TELETEX_STRING
+    }
+
+    fn next_char(octets: &mut OctetStringOctets<'_>) -> Result<Option<char>, CharSetError> {
+        match octets.next() {
+            Some(octet) => Ok(Some(octet as char)),
+            None => Ok(None),
+        }
+    }
+
+    fn from_str(alloc: Global, text: &str) -> Result<CowSlice<'_, u8>, StringError> {
+        let mut octets = Vec::new(alloc);
+        for character in text.chars() {
+            if character > '\u{FF}' {
+                return Err(StringError::CharSet);
+            }
+            match octets.push(character as u8) {
+                Ok(()) => (),
+                Err(_) => return Err(StringError::NoMemory),
+            }
+        }
+        Ok(CowSlice::Owned(octets))
+    }
+}
