@@ -44,6 +44,18 @@ impl<L: CharSet> Model for RestrictedString<L> {
     ghost invariant = { λ s. Accepts L.step (octets_of s.octets) };
 }
 
+/// A string of Unicode's characters, in UTF-8 (RFC 3629).
+pub type Utf8String = RestrictedString<Utf8CharSet>;
+
+/// A string of digits and spaces (X.680, 41.2).
+pub type NumericString = RestrictedString<NumericCharSet>;
+
+/// A string of letters, digits, spaces and eleven other characters (X.680, 41.4).
+pub type PrintableString = RestrictedString<PrintableCharSet>;
+
+/// A string of the 128 characters of the International Alphabet No. 5 (X.680, 41.1).
+pub type Ia5String = RestrictedString<Ia5CharSet>;
+
 impl<L: CharSet> RestrictedString<L> {
     /// A string of the set with these octets, as they came.
     ///
