@@ -76,6 +76,9 @@ pub mod WrittenStrings
 pub mod StringSources
 pub mod StringsBack
 pub mod Hashing
+pub mod Characters
+pub mod Accepting
+pub mod RestrictedBack
 pub mod CharSets
 pub mod AsciiSets
 pub mod Utf8

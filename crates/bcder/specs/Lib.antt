@@ -75,6 +75,9 @@ pub mod StringSources
 pub mod Blocks
 pub mod CharSet
 pub mod CharSetTexts
+pub mod Characters
+pub mod RestrictedString
+pub mod WrittenRestricted
 pub mod AsciiSets
 pub mod Utf8
 pub mod TextSets

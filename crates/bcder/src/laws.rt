@@ -14,6 +14,7 @@ pub mod identifiers;
 pub mod integers;
 pub mod octet_strings;
 pub mod read_back;
+pub mod restricted_strings;
 pub mod sources;
 pub mod taken_back;
 pub mod written_strings;

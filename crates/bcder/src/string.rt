@@ -9,6 +9,7 @@ pub use octet::{
     OctetStringSource, WrappingOctetStringEncoder,
 };
 pub use restricted::{
-    CharSet, CharSetError, Ia5CharSet, NumericCharSet, PrintableCharSet, StringError, TextCharSet,
-    Utf8CharSet,
+    CharSet, CharSetError, Ia5CharSet, Ia5String, NumericCharSet, NumericString, PrintableCharSet,
+    PrintableString, RestrictedString, RestrictedStringChars, StringError, TextCharSet, Utf8CharSet,
+    Utf8String,
 };

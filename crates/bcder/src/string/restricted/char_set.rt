@@ -7,7 +7,7 @@ ghost use Rattle.bcder.specs.TextSets.{AreTexts};
 use crate::memory::NoMemory;
 use crate::string::octet::OctetStringOctets;
 use crate::tag::Tag;
-use std::alloc::Global;
+use std::alloc::{AllocError, AllocFailed, Global};
 use std::borrow::CowSlice;
 use std::error::Error;
 use std::fmt;
@@ -62,6 +62,28 @@ impl From<CharSetError> for StringError {
 
 impl From<NoMemory> for StringError {
     fn from(_error: NoMemory) -> StringError {
+        StringError::NoMemory
+    }
+}
+
+impl From<AllocError> for StringError {
+    ghost use Rattle.std.specs.Prelude.{◌≡◌};
+    ghost use Rattle.bcder.specs.declared.string.restricted.char_set.StringError.TheVariants.{NoMemory};
+
+    ghost from_gives = { λ _ e. e ≡ NoMemory };
+
+    fn from(_error: AllocError) -> StringError {
+        StringError::NoMemory
+    }
+}
+
+impl<T: Drop> From<AllocFailed<T>> for StringError {
+    ghost use Rattle.std.specs.Prelude.{◌≡◌};
+    ghost use Rattle.bcder.specs.declared.string.restricted.char_set.StringError.TheVariants.{NoMemory};
+
+    ghost from_gives = { λ _ e. e ≡ NoMemory };
+
+    fn from(_error: AllocFailed<T>) -> StringError {
         StringError::NoMemory
     }
 }

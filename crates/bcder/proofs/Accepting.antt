@@ -1,0 +1,53 @@
+-- A string that is read, and then checked against a set.
+use Rattle.std.proofs.Common.{◌≡◌, List, ℕ, ap, sym, ◌∙◌, subst}
+use Rattle.std.specs.Prelude.{Result, Ok, Err}
+use Rattle.bcder.specs.declared.decode.error.DecodeError.{DecodeError}
+use Rattle.bcder.specs.Cause.{cause_of, IsRefusal}
+use Rattle.bcder.specs.Content.{Reading}
+use Rattle.bcder.specs.Identifier.{Tag}
+use Rattle.bcder.specs.Tree.{Tree}
+use Rattle.bcder.specs.OctetString.{StringOctets, octets_of, flat, MeansString}
+use Rattle.bcder.specs.CharSet.{Step, Accepts}
+use Rattle.bcder.specs.RestrictedString.{MeansRestricted}
+use Rattle.bcder.specs.Valued.{ReadsTree, RefusesToRead, ReadsContent, ReadsAny, HoldsTree, failed, source, memory, nothing}
+use Rattle.bcder.proofs.OneString.{means_flat}
+use Rattle.bcder.proofs.Valued.{one_content}
+
+module _ (step : Step) (c d : Reading) where
+  pub read_accepted : {X : Type 0} (s r : StringOctets) → r ≡ s → Accepts step (octets_of s) → ReadsAny {X = X} MeansString c (Ok s) d → ReadsAny {X = X} (MeansRestricted step) c (Ok r) d
+  read_accepted {X} s r e a h = record { at_tag = λ tag. at tag (h.at_tag tag) }
+    where
+      at : (tag : Tag) → ReadsContent tag (MeansString c.mode) {X = X} c (Ok s) d → ReadsContent tag (MeansRestricted step c.mode) {X = X} c (Ok r) d
+      at tag k = subst (λ z. ReadsContent tag (MeansRestricted step c.mode) {X = X} c (Ok z) d) (sym e) (record {
+        value = record { tree = k.value.tree; holds = k.value.holds; means = (k.value.means, a) };
+        done = k.done;
+        no_fault = k.no_fault;
+        refused = tt;
+        mode = k.mode;
+        marked = k.marked;
+      })
+
+  -- content is that of one value, whose octets are not accepted
+  none_accepted : (tag : Tag) (s : StringOctets) → (Accepts step (octets_of s) → ⊥) → ReadsTree tag (MeansString c.mode) c s → (t : Tree) (x : StringOctets) → HoldsTree tag c t → MeansRestricted step c.mode t x → ⊥
+  none_accepted tag s n k t x h m =
+      let same : t ≡ k.tree = one_content tag c t k.tree h k.holds in
+      let octets : octets_of x ≡ octets_of s = means_flat c.mode t x m.0.1 ∙ ap flat same ∙ sym (means_flat c.mode k.tree s k.means.1) in
+      n (subst (Accepts step) octets m.1)
+
+  pub read_not_accepted : {X : Type 0} (s : StringOctets) (e : DecodeError X) → IsRefusal e → (Accepts step (octets_of s) → ⊥) → ReadsAny {X = X} MeansString c (Ok s) d → ReadsAny {T = StringOctets} (MeansRestricted step) c (Err e) d
+  read_not_accepted {X} s e i n h = record { at_tag = λ tag. at tag (h.at_tag tag) }
+    where
+      at : (tag : Tag) → ReadsContent tag (MeansString c.mode) {X = X} c (Ok s) d → ReadsContent tag (MeansRestricted step c.mode) {X = X} c (Err e) d
+      at tag k = record { value = tt; done = tt; no_fault = tt; refused = nothing (none_accepted tag s n k.value) i; mode = k.mode; marked = k.marked }
+
+  refused_both : {X : Type 0} (tag : Tag) (e : DecodeError X) → RefusesToRead tag (MeansString c.mode) c e d → RefusesToRead tag (MeansRestricted step c.mode) c e d
+  refused_both tag e (failed s i) = failed s i
+  refused_both tag e (source s g) = source s g
+  refused_both tag e (memory s) = memory s
+  refused_both tag e (nothing n i) = nothing (λ t x h m. n t x h m.0) i
+
+  pub read_refused : {X : Type 0} (e : DecodeError X) → ReadsAny {T = StringOctets} MeansString c (Err e) d → ReadsAny {T = StringOctets} (MeansRestricted step) c (Err e) d
+  read_refused {X} e h = record { at_tag = λ tag. at tag (h.at_tag tag) }
+    where
+      at : (tag : Tag) → ReadsContent {T = StringOctets} tag (MeansString c.mode) c (Err e) d → ReadsContent {T = StringOctets} tag (MeansRestricted step c.mode) c (Err e) d
+      at tag k = record { value = tt; done = tt; no_fault = tt; refused = refused_both tag e k.refused; mode = k.mode; marked = k.marked }

@@ -1,0 +1,13 @@
+use Rattle.bcder.specs.OctetString.{octets_of}
+use Rattle.bcder.proofs.RestrictedBack.{restricted_taken}
+use Rattle.bcder.proofs.WrittenStrings.{string_written}
+use Rattle.bcder.proofs.laws.restricted_strings.a_string_is_taken_back.Goals as goal
+
+pub returns-clause-owned : goal.returns-clause-owned
+returns-clause-owned g c = string_written c.args.tag c.args.mode c.args.string.now (rw (← c.octet_string.ensures.octets) c.see_string.ensures)
+
+pub returns-clause-borrowed : goal.returns-clause-borrowed
+returns-clause-borrowed g c = returns-clause-owned g c
+
+pub returns-clause-taken : goal.returns-clause-taken
+returns-clause-taken g c = λ e written. restricted_taken g.L.CharSet.step c.args.tag c.args.mode (octets_of c.args.string.now) e c.octet_string.ensures.accepted written

@@ -1,0 +1,89 @@
+//! The characters of a restricted string.
+ghost use Rattle.std.specs.Prelude.{◌≡◌};
+ghost use Rattle.bcder.specs.CharSet.{Spells};
+ghost use Rattle.bcder.specs.Characters.{characters};
+ghost use Rattle.bcder.specs.OctetString.{octets_of};
+
+use super::{CharSet, RestrictedString};
+use crate::string::octet::OctetStringOctets;
+use std::alloc::AllocError;
+use std::fmt;
+use std::marker::{Model, PhantomData};
+
+/// The characters of a restricted string, in their order.
+#[derive(Debug, Drop)]
+pub struct RestrictedStringChars<'a, L: CharSet> {
+    /// What is left of the string.
+    octets: OctetStringOctets<'a>,
+
+    set: PhantomData<L>,
+}
+
+/// The clauses see the characters that are still to come.
+impl<'a, L: CharSet> Model for RestrictedStringChars<'a, L> {
+    ghost use Rattle.std.specs.Prelude.{ℕ, List};
+    ghost use Rattle.bcder.specs.CharSet.{Accepts};
+    ghost use Rattle.bcder.specs.Characters.{characters};
+
+    ghost Value = { List ℕ };
+
+    ghost view = { λ i. characters L.step i.octets };
+
+    ghost invariant = { λ i. Accepts L.step i.octets };
+}
+
+impl<L: CharSet> RestrictedString<L> {
+    /// The characters, in their order. Octets of one character may stand in two segments (X.690,
+    /// 8.23.6).
+    pub fn chars(&self) -> RestrictedStringChars<'_, L>
+        ensures { Spells L.step (octets_of self.now) result }
+    {
+        RestrictedStringChars {
+            octets: self.octets.octets(),
+            set: PhantomData,
+        }
+    }
+}
+
+/// The clone has the same characters to come.
+impl<L: CharSet> Clone for RestrictedStringChars<'_, L> {
+    ghost is_clone = { λ i copy. copy ≡ i };
+
+    fn clone(&self) -> Result<Self, AllocError> {
+        Ok(RestrictedStringChars {
+            octets: self.octets.clone()?,
+            set: PhantomData,
+        })
+    }
+}
+
+impl<L: CharSet> Iterator for RestrictedStringChars<'_, L> {
+    ghost use Rattle.std.specs.Iterator.{YieldsFirst, item_count};
+
+    type Item = char;
+
+    ghost next_gives = { YieldsFirst (λ chars. chars) };
+
+    ghost remaining = { item_count (λ chars. chars) };
+
+    fn next(&mut self) -> Option<char> {
+        match L::next_char(&mut self.octets) {
+            Ok(next) => next,
+            Err(_) => None,
+        }
+    }
+}
+
+/// Its characters, as text.
+impl<L: CharSet> fmt::Display for RestrictedString<L> {
+    ghost use Rattle.std.specs.Prelude.{Some, encode_utf8_all};
+
+    ghost output = { λ s. Some (encode_utf8_all (characters L.step (octets_of s))) };
+
+    fn fmt<W: fmt::Write>(&self, f: &mut fmt::Formatter<W>) -> fmt::Result {
+        for c in self.chars() {
+            f.write_char(c)?;
+        }
+        Ok(())
+    }
+}

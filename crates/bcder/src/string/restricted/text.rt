@@ -1,0 +1,95 @@
+//! Restricted strings and texts.
+ghost use Rattle.std.specs.Prelude.{◌≡◌, IfOk, MatchOption, string_bytes};
+ghost use Rattle.std.specs.Str.{chars};
+ghost use Rattle.bcder.specs.RestrictedString.{MakesText};
+ghost use Rattle.bcder.specs.CharSet.{Accepts, Spells};
+ghost use Rattle.bcder.specs.OctetString.{whole, octets_of, IsCut};
+
+use super::{CharSet, RestrictedString, StringError, TextCharSet};
+use crate::NoMemory;
+use crate::string::octet::OctetString;
+use bytes::Bytes;
+use std::alloc::Global;
+use std::borrow::CowSlice;
+use std::marker::PhantomData;
+
+impl<L: CharSet> RestrictedString<L> {
+    /// A string of octets that the set accepts, in one piece.
+    fn of_bytes(octets: Bytes) -> Self
+        requires { Accepts L.step octets }
+        ensures { result ≡ whole octets }
+    {
+        RestrictedString {
+            octets: OctetString::new(octets),
+            set: PhantomData,
+        }
+    }
+
+    /// The string of a text, in one piece.
+    ///
+    /// Where the set's octets of the text are the text's own, they are those of the `String`, which
+    /// aren't copied.
+    ///
+    /// # Errors
+    ///
+    /// `CharSet` where the set hasn't all characters of the text; `NoMemory` where it has them and
+    /// there is no memory for their octets. The text is then dropped.
+    pub fn from_string(alloc: Global, text: String) -> Result<Self, StringError>
+        ensures { MakesText L.step (string_bytes text) result }
+    {
+        match L::from_str(alloc, text.as_str())? {
+            CowSlice::Owned(octets) => Ok(RestrictedString::of_bytes(Bytes::from_vec(octets)?)),
+            CowSlice::Borrowed(octets) => {
+                let octets = if octets == text.as_bytes() {
+                    Bytes::from_string(text)?
+                } else {
+                    Bytes::copy_from_slice(alloc, octets)?
+                };
+                Ok(RestrictedString::of_bytes(octets))
+            }
+        }
+    }
+
+    /// The string of a text, in one piece.
+    ///
+    /// # Errors
+    ///
+    /// `CharSet` where the set hasn't all characters of the text; `NoMemory` where it has them and
+    /// there is no memory for their octets.
+    pub fn from_str(alloc: Global, text: &str) -> Result<Self, StringError>
+        ensures { MakesText L.step text.now result }
+    {
+        match L::from_str(alloc, text)? {
+            CowSlice::Borrowed(octets) => {
+                let octets = Bytes::copy_from_slice(alloc, octets)?;
+                Ok(RestrictedString::of_bytes(octets))
+            }
+            CowSlice::Owned(octets) => Ok(RestrictedString::of_bytes(Bytes::from_vec(octets)?)),
+        }
+    }
+
+    /// The octets in one piece. They are the string's own where they came so, and else copied once.
+    ///
+    /// # Errors
+    ///
+    /// Where there is no memory for a copy. The string is then dropped.
+    pub fn into_bytes(self, alloc: Global) -> Result<Bytes, NoMemory>
+        ensures { IfOk result (λ octets. octets ≡ octets_of self) }
+    {
+        self.octets.into_bytes(alloc)
+    }
+}
+
+impl<L: TextCharSet> RestrictedString<L> {
+    /// The characters as a text, if the string came in one piece: its octets, which aren't copied
+    /// and aren't checked again.
+    pub fn as_str(&self) -> Option<&str>
+        ensures { MatchOption result (IsCut self.now)
+            (λ text. (self.now ≡ whole text.now) × Spells L.step text.now (chars text.now)) }
+    {
+        match self.octets.as_slice() {
+            Some(octets) => Some(unsafe { std::str::from_utf8_unchecked(octets) }),
+            None => None,
+        }
+    }
+}
