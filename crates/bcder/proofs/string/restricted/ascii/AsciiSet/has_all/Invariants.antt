@@ -1,5 +1,5 @@
 use Rattle.std.proofs.Common.{take}
-use Rattle.bcder.proofs.AsciiSets.{AllHave}
+use Rattle.bcder.specs.laws.CharSets.{AllHave}
 use Rattle.bcder.proofs.string.restricted.ascii.AsciiSet.has_all.Given as goal
 
 -- the octets so far are characters of the set
