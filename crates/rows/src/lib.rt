@@ -35,6 +35,8 @@ mod integers;
 pub mod latin_1;
 #[cfg(test)]
 mod over;
+#[cfg(test)]
+mod restricted_strings;
 pub mod sip;
 #[cfg(test)]
 mod skips;
