@@ -10,6 +10,6 @@ pub use octet::{
 };
 pub use restricted::{
     CharSet, CharSetError, Ia5CharSet, Ia5String, NumericCharSet, NumericString, PrintableCharSet,
-    PrintableString, RestrictedString, RestrictedStringChars, StringError, TextCharSet, Utf8CharSet,
-    Utf8String,
+    PrintableString, RestrictedString, RestrictedStringChars, StringError, TextCharSet,
+    Utf8CharSet, Utf8String,
 };
