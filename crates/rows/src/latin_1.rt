@@ -15,17 +15,15 @@ use std::borrow::CowSlice;
 pub struct Latin1;
 
 impl CharSet for Latin1 {
-    ghost own_tag = { record { class = universal; number = 20 } };
+    const TAG: Tag = Tag::TELETEX_STRING;
+
+    ghost TAG = { record { class = universal; number = 20 } };
 
     ghost step = { one_octet_step is_octet };
 
     ghost may_lack = { ⊤ };
 
     ghost lawful = { one_octet_lawful is_octet octet_scalar };
-
-    fn tag() -> Tag {
-        Tag::TELETEX_STRING
-    }
 
     fn next_char(octets: &mut OctetStringOctets<'_>) -> Result<Option<char>, CharSetError> {
         match octets.next() {

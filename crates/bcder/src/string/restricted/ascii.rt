@@ -92,15 +92,13 @@ impl AsciiSet for NumericCharSet {
 }
 
 impl CharSet for NumericCharSet {
-    ghost own_tag = { numeric_string_tag };
+    const TAG: Tag = Tag::NUMERIC_STRING;
+
+    ghost TAG = { numeric_string_tag };
 
     ghost step = { one_octet_step is_numeric };
 
     ghost lawful = { ascii_lawful is_numeric numeric_ascii };
-
-    fn tag() -> Tag {
-        Tag::NUMERIC_STRING
-    }
 
     fn next_char(octets: &mut OctetStringOctets<'_>) -> Result<Option<char>, CharSetError> {
         next_char_of::<NumericCharSet>(octets)
@@ -152,15 +150,13 @@ impl AsciiSet for PrintableCharSet {
 }
 
 impl CharSet for PrintableCharSet {
-    ghost own_tag = { printable_string_tag };
+    const TAG: Tag = Tag::PRINTABLE_STRING;
+
+    ghost TAG = { printable_string_tag };
 
     ghost step = { one_octet_step is_printable };
 
     ghost lawful = { ascii_lawful is_printable printable_ascii };
-
-    fn tag() -> Tag {
-        Tag::PRINTABLE_STRING
-    }
 
     fn next_char(octets: &mut OctetStringOctets<'_>) -> Result<Option<char>, CharSetError> {
         next_char_of::<PrintableCharSet>(octets)
@@ -198,15 +194,13 @@ impl AsciiSet for Ia5CharSet {
 }
 
 impl CharSet for Ia5CharSet {
-    ghost own_tag = { ia5_string_tag };
+    const TAG: Tag = Tag::IA5_STRING;
+
+    ghost TAG = { ia5_string_tag };
 
     ghost step = { one_octet_step is_ia5 };
 
     ghost lawful = { ascii_lawful is_ia5 ia5_ascii };
-
-    fn tag() -> Tag {
-        Tag::IA5_STRING
-    }
 
     fn next_char(octets: &mut OctetStringOctets<'_>) -> Result<Option<char>, CharSetError> {
         next_char_of::<Ia5CharSet>(octets)

@@ -34,7 +34,7 @@ pub enum StringError {
     /// The set hasn't all its characters.
     CharSet,
 
-    /// The set has its characters, and there is no memory for the octets.
+    /// There is no memory for the octets.
     NoMemory,
 }
 
@@ -95,7 +95,10 @@ impl<T: Drop> From<AllocFailed<T>> for StringError {
 /// the octets behind it. Octets are a string of the set where steps lead from them to their end.
 pub trait CharSet {
     /// The tag of the strings of this set.
-    ghost own_tag: { TagValue };
+    const TAG: Tag;
+
+    /// The same, to the clauses.
+    ghost TAG: { TagValue };
 
     /// How a character is read from the front of octets, where one stands there.
     ghost step: { Step };
@@ -103,10 +106,6 @@ pub trait CharSet {
     /// Whether memory may lack for the octets of a text: it doesn't, where an implementation
     /// doesn't say.
     ghost may_lack: { Type 0 } = { ⊥ };
-
-    /// The tag of the strings of this set.
-    fn tag() -> Tag
-        ensures { result ≡ own_tag };
 
     /// Takes the next character, or answers `None` at the end.
     ///
@@ -120,8 +119,8 @@ pub trait CharSet {
     ///
     /// # Errors
     ///
-    /// `CharSet` where the set hasn't all characters of the text; `NoMemory` where it has them and
-    /// there is no memory for their octets.
+    /// `CharSet` where the set hasn't all characters of the text; `NoMemory` where there is no memory
+    /// for octets that aren't the text's own.
     fn from_str(alloc: Global, text: &str) -> Result<CowSlice<'_, u8>, StringError>
         ensures { SpellsText step may_lack text.now result };
 

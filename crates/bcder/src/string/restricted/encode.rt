@@ -8,9 +8,9 @@ use crate::tag::Tag;
 impl<L: CharSet> RestrictedString<L> {
     /// The string with the tag of its set.
     pub fn encode(self) -> OctetStringEncoder<OctetString>
-        ensures { result ≡ record { value = self; tag = L.own_tag } }
+        ensures { result ≡ record { value = self; tag = L.TAG } }
     {
-        self.encode_as(L::tag())
+        self.encode_as(L::TAG)
     }
 
     /// The string with another tag.
@@ -23,9 +23,9 @@ impl<L: CharSet> RestrictedString<L> {
     /// A reference to the string with the tag of its set.
     pub fn encode_ref(&self) -> OctetStringEncoder<&OctetString>
         ensures value { result.value.now ≡ self.now }
-        ensures tag { result.tag ≡ L.own_tag }
+        ensures tag { result.tag ≡ L.TAG }
     {
-        self.encode_ref_as(L::tag())
+        self.encode_ref_as(L::TAG)
     }
 
     /// A reference to the string with another tag.

@@ -21,10 +21,10 @@ impl<L: CharSet> RestrictedString<L> {
         cons: &mut Constructed<'_, S>,
     ) -> Result<Self, DecodeError<S::Error>>
         ensures moves { Moved S.stream cons }
-        ensures took { TookOneTree S.stream cons L.own_tag (MeansRestricted L.step) result }
+        ensures took { TookOneTree S.stream cons L.TAG (MeansRestricted L.step) result }
     {
         cons.take_value_if(
-            L::tag(),
+            L::TAG,
             |content| RestrictedString::<L>::from_content(alloc, content),
         )
     }
@@ -45,9 +45,9 @@ impl<L: CharSet> RestrictedString<L> {
         cons: &mut Constructed<'_, S>,
     ) -> Result<Option<Self>, DecodeError<S::Error>>
         ensures moves { Moved S.stream cons }
-        ensures took { TookNextTree S.stream cons L.own_tag (MeansRestricted L.step) result }
+        ensures took { TookNextTree S.stream cons L.TAG (MeansRestricted L.step) result }
     {
-        cons.take_opt_value_if(L::tag(), |content| {
+        cons.take_opt_value_if(L::TAG, |content| {
             RestrictedString::<L>::from_content(alloc, content)
         })
     }

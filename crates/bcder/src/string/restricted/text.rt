@@ -32,8 +32,8 @@ impl<L: CharSet> RestrictedString<L> {
     ///
     /// # Errors
     ///
-    /// `CharSet` where the set hasn't all characters of the text; `NoMemory` where it has them and
-    /// there is no memory for their octets. The text is then dropped.
+    /// `CharSet` where the set hasn't all characters of the text; `NoMemory` where there is no memory
+    /// for the octets. The text is then dropped.
     pub fn from_string(alloc: Global, text: String) -> Result<Self, StringError>
         ensures { MakesText L.step (string_bytes text) result }
     {
@@ -54,8 +54,8 @@ impl<L: CharSet> RestrictedString<L> {
     ///
     /// # Errors
     ///
-    /// `CharSet` where the set hasn't all characters of the text; `NoMemory` where it has them and
-    /// there is no memory for their octets.
+    /// `CharSet` where the set hasn't all characters of the text; `NoMemory` where there is no memory
+    /// for the octets.
     pub fn from_str(alloc: Global, text: &str) -> Result<Self, StringError>
         ensures { MakesText L.step text.now result }
     {

@@ -118,15 +118,13 @@ fn utf8_len(octets: &[u8]) -> usize
 pub struct Utf8CharSet;
 
 impl CharSet for Utf8CharSet {
-    ghost own_tag = { utf8_string_tag };
+    const TAG: Tag = Tag::UTF8_STRING;
+
+    ghost TAG = { utf8_string_tag };
 
     ghost step = { utf8_step };
 
     ghost lawful = { utf8_lawful };
-
-    fn tag() -> Tag {
-        Tag::UTF8_STRING
-    }
 
     #[inline(always)]
     fn next_char(octets: &mut OctetStringOctets<'_>) -> Result<Option<char>, CharSetError> {
