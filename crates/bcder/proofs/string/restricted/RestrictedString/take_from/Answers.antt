@@ -7,6 +7,6 @@ use Rattle.bcder.proofs.string.restricted.RestrictedString.take_from.Goals as go
 
 pub returns-clause-took : goal.returns-clause-took
 returns-clause-took g c =
-    rw (← c.tag.ensures) (one_tree (of_content g.S.Source.stream) _ c.tag.result (MeansRestricted g.L.CharSet.step) (λ t p r q x. search rules)
+    rw (← c.TAG.ensures) (one_tree (of_content g.S.Source.stream) _ c.TAG.result (MeansRestricted g.L.CharSet.step) (λ t p r q x. search rules)
     (of_constructed g.S.Source.stream c.args.cons.now) (of_constructed g.S.Source.stream c.take_value_if.new.self) c.take_value_if.result
     (within_constructed g.S.Source.stream g.met.S.Source.sound c.args.cons.now) c.take_value_if.ensures.took)
