@@ -1,10 +1,12 @@
 //! Character sets: which octets are strings, and which characters these spell (X.680, 41; RFC 3629).
 use crate::asserts::{done, holds, same};
 use crate::latin_1::Latin1;
-use bcder::string::{CharSet, Ia5CharSet, NumericCharSet, OctetStringOctets, PrintableCharSet};
-use bcder::string::{OctetString, StringError, Utf8CharSet};
 use bcder::Mode;
 use bcder::decode::SliceSource;
+use bcder::string::{
+    CharSet, Ia5CharSet, NumericCharSet, OctetString, OctetStringOctets, PrintableCharSet,
+    StringError, Utf8CharSet,
+};
 use std::alloc::Global;
 use std::process::Abort;
 use std::str;
@@ -32,7 +34,11 @@ fn spelled<L: CharSet>(
 fn spell<L: CharSet>(rt: &impl Abort, alloc: Global, octets: &[u8], wanted: Option<&str>) {
     let found = spelled::<L>(rt, alloc, OctetStringOctets::new(octets), octets.len());
     same(rt, found.as_deref(), wanted);
-    same(rt, L::check(OctetStringOctets::new(octets)).is_ok(), wanted.is_some());
+    same(
+        rt,
+        L::check(OctetStringOctets::new(octets)).is_ok(),
+        wanted.is_some(),
+    );
 }
 
 // ---- UTF-8
@@ -97,7 +103,10 @@ const CUTS: [(&[u8], Option<&str>); 9] = [
     (&[0x24, 0x06, 0x04, 0x01, 0x61, 0x04, 0x01, 0x80], None),
     (&[0x24, 0x00], Some("")),
     (&[0x24, 0x04, 0x04, 0x00, 0x04, 0x00], Some("")),
-    (&[0x24, 0x08, 0x04, 0x01, 0xE2, 0x04, 0x00, 0x04, 0x01, 0x82], None),
+    (
+        &[0x24, 0x08, 0x04, 0x01, 0xE2, 0x04, 0x00, 0x04, 0x01, 0x82],
+        None,
+    ),
     (
         &[
             0x24, 0x0B, 0x04, 0x01, 0xE2, 0x04, 0x00, 0x04, 0x01, 0x82, 0x04, 0x01, 0xAC,
@@ -105,7 +114,9 @@ const CUTS: [(&[u8], Option<&str>); 9] = [
         Some("€"),
     ),
     (
-        &[0x24, 0x0A, 0x04, 0x02, 0x61, 0xF0, 0x04, 0x04, 0x9F, 0x98, 0x80, 0x62],
+        &[
+            0x24, 0x0A, 0x04, 0x02, 0x61, 0xF0, 0x04, 0x04, 0x9F, 0x98, 0x80, 0x62,
+        ],
         Some("a😀b"),
     ),
 ];
@@ -120,8 +131,15 @@ fn utf8_across_segments(rt: HostRuntime) {
         let string = done(&rt, string);
         let found = spelled::<Utf8CharSet>(&rt, alloc, string.octets(), octets.len());
         same(&rt, found.as_deref(), text);
-        same(&rt, Utf8CharSet::check(string.octets()).is_ok(), text.is_some());
-        holds(&rt, string.octets().as_slice().is_none() || octets.len() == 2);
+        same(
+            &rt,
+            Utf8CharSet::check(string.octets()).is_ok(),
+            text.is_some(),
+        );
+        holds(
+            &rt,
+            string.octets().as_slice().is_none() || octets.len() == 2,
+        );
     }
 }
 

@@ -20,10 +20,7 @@ fn read<L: CharSet, S: Source>(
     mode: Mode,
     source: &mut S,
 ) -> Option<RestrictedString<L>> {
-    let read = mode.decode_lent(
-        source,
-        |cons| RestrictedString::<L>::take_from(alloc, cons),
-    );
+    let read = mode.decode_lent(source, |cons| RestrictedString::<L>::take_from(alloc, cons));
     read.ok()
 }
 
@@ -95,7 +92,10 @@ fn made<L: CharSet>(rt: &impl Abort, alloc: Global, octets: &[u8]) -> bool {
 fn octets_that_make_a_string(rt: HostRuntime) {
     let alloc = rt.alloc();
     holds(&rt, made::<PrintableCharSet>(&rt, alloc, b"This is okay"));
-    holds(&rt, !made::<PrintableCharSet>(&rt, alloc, b"This is wrong!"));
+    holds(
+        &rt,
+        !made::<PrintableCharSet>(&rt, alloc, b"This is wrong!"),
+    );
     holds(&rt, !made::<PrintableCharSet>(&rt, alloc, b"*"));
     holds(&rt, !made::<PrintableCharSet>(&rt, alloc, b"&"));
     holds(&rt, made::<Utf8CharSet>(&rt, alloc, &[0xC3, 0xA9]));
@@ -103,7 +103,10 @@ fn octets_that_make_a_string(rt: HostRuntime) {
     holds(&rt, !made::<Utf8CharSet>(&rt, alloc, &[0xC0, 0x80]));
     holds(&rt, !made::<Utf8CharSet>(&rt, alloc, &[0xED, 0xA0, 0x80]));
     holds(&rt, !made::<Utf8CharSet>(&rt, alloc, &[0xED, 0xBF, 0xBF]));
-    holds(&rt, !made::<Utf8CharSet>(&rt, alloc, &[0xF4, 0x90, 0x80, 0x80]));
+    holds(
+        &rt,
+        !made::<Utf8CharSet>(&rt, alloc, &[0xF4, 0x90, 0x80, 0x80]),
+    );
 }
 
 /// A text makes a string of these octets, which has its characters.
@@ -189,7 +192,12 @@ fn strings_are_written(rt: HostRuntime) {
     let string = RestrictedString::<PrintableCharSet>::from_str(alloc, "This is okay");
     let string = done(&rt, string);
     check_written(&rt, alloc, Mode::Der, &string, b"\x13\x0CThis is okay");
-    let under = done(&rt, string.encode_ref_as(Tag::CTX_0).to_captured(alloc, Mode::Der));
+    let under = done(
+        &rt,
+        string
+            .encode_ref_as(Tag::CTX_0)
+            .to_captured(alloc, Mode::Der),
+    );
     same(&rt, under.as_slice(), b"\x80\x0CThis is okay");
     let owned = done(&rt, string.encode().to_captured(alloc, Mode::Cer));
     same(&rt, owned.as_slice(), b"\x13\x0CThis is okay");
@@ -201,14 +209,23 @@ fn a_long_string_is_written(rt: HostRuntime) {
     let alloc = rt.alloc();
     let mut text = String::new(alloc);
     let mut octets = Vec::new(alloc);
-    done(&rt, octets.extend_from_slice(&[0x2C, 0x80, 0x04, 0x82, 0x03, 0xE8]));
+    done(
+        &rt,
+        octets.extend_from_slice(&[0x2C, 0x80, 0x04, 0x82, 0x03, 0xE8]),
+    );
     for _ in 0..1000 {
         done(&rt, text.push('a'));
         done(&rt, octets.push(0x61));
     }
     done(&rt, text.push('a'));
-    done(&rt, octets.extend_from_slice(&[0x04, 0x01, 0x61, 0x00, 0x00]));
+    done(
+        &rt,
+        octets.extend_from_slice(&[0x04, 0x01, 0x61, 0x00, 0x00]),
+    );
     same(&rt, octets.len(), 1011);
-    let string = done(&rt, RestrictedString::<Utf8CharSet>::from_string(alloc, text));
+    let string = done(
+        &rt,
+        RestrictedString::<Utf8CharSet>::from_string(alloc, text),
+    );
     check_written(&rt, alloc, Mode::Cer, &string, &octets);
 }
