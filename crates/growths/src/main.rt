@@ -10,6 +10,7 @@ mod captured;
 mod encoded;
 mod end;
 mod numbers;
+mod restricted;
 mod sources;
 mod strings;
 mod taken;
@@ -23,6 +24,7 @@ fn main(rt: HostRuntime) -> Result<(), Error> {
     taken::run(&rt)?;
     bits::run(&rt)?;
     strings::run(&rt)?;
+    restricted::run(&rt)?;
     captured::run(&rt)?;
     encoded::run(&rt)?;
     wrapped::run(&rt)?;

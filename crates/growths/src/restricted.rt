@@ -1,0 +1,66 @@
+//! Restricted character strings: made of texts, read, cloned, and given up for their octets.
+ghost use Rattle.bcder.specs.Views.{Moved};
+
+use crate::end::{End, answered, made, read, tell};
+use anyhow::Error;
+use bcder::Mode;
+use bcder::decode::{Constructed, DecodeError, SliceSource, Source};
+use bcder::string::{StringError, Utf8String};
+use std::alloc::{AllocError, Global};
+
+/// The text of each string.
+const TEXT: &str = "aé";
+
+/// Its octets in two segments, of which the first ends inside a character.
+const CUT: &[u8] = &[0x2C, 0x07, 0x04, 0x02, 0x61, 0xC3, 0x04, 0x01, 0xA9];
+
+/// Whether a string has the characters of the text.
+fn is_it(string: &Utf8String) -> bool {
+    string.eq_octets(TEXT.as_bytes())
+}
+
+/// How a call ended that makes a string of the text.
+fn made_of(outcome: Result<Utf8String, StringError>) -> End {
+    match outcome {
+        Ok(string) => answered(is_it(&string)),
+        Err(StringError::NoMemory) => End::NoMemory,
+        Err(StringError::CharSet) => End::Wrong,
+    }
+}
+
+/// Takes a string, and tells whether it has the characters of the text.
+fn take<S: Source>(
+    cons: &mut Constructed<'_, S>,
+    alloc: Global,
+) -> Result<bool, DecodeError<S::Error>>
+    ensures { Moved S.stream cons }
+{
+    Ok(is_it(&Utf8String::take_from(alloc, cons)?))
+}
+
+/// A clone has the same characters.
+fn clones(string: &Utf8String) -> End {
+    let clone: Result<Utf8String, AllocError> = string.clone();
+    match clone {
+        Ok(clone) => answered(is_it(string) && is_it(&clone)),
+        Err(AllocError) => End::NoMemory,
+    }
+}
+
+pub fn run(rt: &HostRuntime) -> Result<(), Error> {
+    let alloc = rt.alloc();
+    let end = made_of(Utf8String::from_str(alloc, TEXT));
+    tell(rt, "RestrictedString::from_str", end)?;
+    let text = TEXT.to_string(alloc)?;
+    let end = made_of(Utf8String::from_string(alloc, text));
+    tell(rt, "RestrictedString::from_string", end)?;
+    let mut octets = SliceSource::new(CUT);
+    let end = read(Mode::Ber.decode_lent(&mut octets, |cons| take(cons, alloc)));
+    tell(rt, "RestrictedString::take_from", end)?;
+    let mut octets = SliceSource::new(CUT);
+    let cut = Mode::Ber.decode_lent(&mut octets, |cons| Utf8String::take_from(alloc, cons))?;
+    tell(rt, "RestrictedString::clone", clones(&cut))?;
+    let outcome = cut.into_bytes(alloc);
+    let end = made(outcome.map(|octets| octets.as_slice() == TEXT.as_bytes()));
+    tell(rt, "RestrictedString::into_bytes", end)
+}
