@@ -7,8 +7,8 @@ ghost use Rattle.bcder.specs.Views.{Moved};
 #[cfg(test)]
 mod written;
 
-use bcder::{Mode, Oid};
 use bcder::decode::{Constructed, DecodeError, SliceSource, Source};
+use bcder::{Mode, Oid};
 use std::test::Fail;
 use user::{Text, Time, decode_addresses, decode_certificate, decode_signed};
 

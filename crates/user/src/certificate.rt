@@ -255,7 +255,11 @@ pub fn decode_certificate<S: Source + Drop>(
     alloc: Global,
     source: S,
 ) -> Result<Certificate, DecodeError<S::Error>> {
-    Constructed::decode(source, Mode::Der, |cons| Certificate::take_from(alloc, cons))
+    Constructed::decode(
+        source,
+        Mode::Der,
+        |cons| Certificate::take_from(alloc, cons),
+    )
 }
 
 /// Two certificates at the front of a source whose owner goes on with what is left.

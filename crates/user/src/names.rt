@@ -1,9 +1,9 @@
 //! Names, as text (RFC 5280, section 4.1.2.4).
 ghost use Rattle.bcder.specs.Views.{Moved};
 
-use bcder::{ConstOid, Oid};
 use bcder::decode::{Constructed, DecodeError, Source, walk};
 use bcder::string::{Ia5String, PrintableString, Utf8String};
+use bcder::{ConstOid, Oid};
 use std::alloc::Global;
 use std::fmt;
 
