@@ -1,0 +1,71 @@
+//! Makes values from a fixed seed, some of them spoiled, reads them in every way over three
+//! sources, and compares the answers, what is left and the headings with one another. What differs
+//! is printed in hexadecimal, and the status is then 1.
+#![tactic(auto, using(bcder::proofs::Moving::moves_refl))]
+
+mod headings;
+mod made;
+mod random;
+mod readers;
+mod tally;
+
+use anyhow::Error;
+use bcder::Mode;
+use made::{spoiled, values};
+use random::Random;
+use readers::compare;
+use std::alloc::Global;
+use std::fmt;
+use tally::Tally;
+
+/// How many values are made by the rules of each mode.
+const COUNT: u64 = 100_000;
+
+/// Answers differ.
+#[derive(Clone, Copy, Debug)]
+struct Differ;
+
+impl fmt::Display for Differ {
+    fn fmt<W: fmt::Write>(&self, f: &mut fmt::Formatter<W>) -> fmt::Result {
+        write!(f, "answers differ")
+    }
+}
+
+impl std::error::Error for Differ {}
+
+/// Compares the readers on values that are made by the rules of a mode, read in that mode and, one
+/// in eight, in each other one.
+fn read_values(rt: &HostRuntime, mode: Mode, random: &mut Random) -> Result<(), Error> {
+    let alloc = rt.alloc();
+    let mut tally = Tally::default();
+    for _ in 0..COUNT {
+        let octets = values(alloc, random, mode)?;
+        let octets = spoiled(alloc, random, octets)?;
+        let in_each = random.one_of(8);
+        for read in [Mode::Ber, Mode::Cer, Mode::Der] {
+            if read == mode || in_each {
+                let differ = tally.differ;
+                compare(alloc, read, &octets, &mut tally)?;
+                if tally.differ != differ {
+                    println!(rt; "{read:?}: {}", hex::encode(alloc, &octets)?)?;
+                }
+            }
+        }
+    }
+    println!(rt;
+        "made in {mode:?}: {} values, {} others, {} answers compared, {} differ",
+        tally.values, tally.refused, tally.compared, tally.differ
+    )?;
+    if tally.differ > 0 {
+        return Err(Error::from(Differ));
+    }
+    Ok(())
+}
+
+fn main(rt: HostRuntime) -> Result<(), Error> {
+    let mut random = Random::new(20_261_124);
+    for mode in [Mode::Ber, Mode::Cer, Mode::Der] {
+        read_values(&rt, mode, &mut random)?;
+    }
+    Ok(())
+}

@@ -1,0 +1,36 @@
+//! Numbers that follow from a seed, the same in each run.
+
+/// A linear congruential generator of 64 bits (Knuth's), which gives the upper half of them.
+#[derive(Clone, Copy, Debug)]
+pub struct Random {
+    state: u64,
+}
+
+impl Random {
+    pub fn new(seed: u64) -> Random {
+        Random { state: seed }
+    }
+
+    /// The next number, of 32 bits.
+    fn next(&mut self) -> u64 {
+        self.state = self
+            .state
+            .wrapping_mul(6_364_136_223_846_793_005)
+            .wrapping_add(1_442_695_040_888_963_407);
+        self.state / 4_294_967_296
+    }
+
+    /// A number below another one, or 0 where that is 0.
+    pub fn below(&mut self, bound: usize) -> usize {
+        (self.next() as usize).checked_rem(bound).unwrap_or(0)
+    }
+
+    /// Whether a number of so many is the first.
+    pub fn one_of(&mut self, count: usize) -> bool {
+        self.below(count) == 0
+    }
+
+    pub fn octet(&mut self) -> u8 {
+        (self.next() % 256) as u8
+    }
+}
