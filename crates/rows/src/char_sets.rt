@@ -1,11 +1,10 @@
 //! Character sets: which octets are strings, and which characters these spell (X.680, 41; RFC 3629).
 use crate::asserts::{done, holds, same};
 use crate::latin_1::Latin1;
-use bcder::Mode;
-use bcder::decode::SliceSource;
+use crate::string_octets::read;
 use bcder::string::{
-    CharSet, Ia5CharSet, NumericCharSet, OctetString, OctetStringOctets, PrintableCharSet,
-    StringError, Utf8CharSet,
+    CharSet, Ia5CharSet, NumericCharSet, OctetStringOctets, PrintableCharSet, StringError,
+    Utf8CharSet,
 };
 use std::alloc::Global;
 use std::process::Abort;
@@ -125,10 +124,7 @@ const CUTS: [(&[u8], Option<&str>); 9] = [
 fn utf8_across_segments(rt: HostRuntime) {
     let alloc = rt.alloc();
     for (octets, text) in CUTS {
-        let string = Mode::Ber.decode(SliceSource::new(octets), |cons| {
-            OctetString::take_from(alloc, cons)
-        });
-        let string = done(&rt, string);
+        let string = read(&rt, alloc, octets);
         let found = spelled::<Utf8CharSet>(&rt, alloc, string.octets(), octets.len());
         same(&rt, found.as_deref(), text);
         same(

@@ -27,10 +27,11 @@ fn check_at_once(
 ) {
     let mut source = string.into_source();
     same(rt, done(rt, source.skip(passed)), passed);
-    same(rt, done(rt, source.request(wanted.len())), wanted.len());
+    let found = done(rt, source.request(wanted.len()));
+    same(rt, found, wanted.len());
     same(rt, source.slice(), wanted);
-    let shared = done(rt, source.bytes(alloc, 1, wanted.len()));
-    same(rt, Some(shared.as_slice()), wanted.get(1..));
+    let shared = done(rt, source.bytes(alloc, 0, found));
+    same(rt, shared.as_slice(), wanted);
     same(rt, source.slice(), wanted);
     same(rt, done(rt, source.request(wanted.len() + 1)), wanted.len());
 }
