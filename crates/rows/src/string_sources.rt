@@ -85,18 +85,20 @@ fn a_segment_is_lent(rt: HostRuntime) {
     same(&rt, source.slice(), b"abc");
 }
 
+/// The number that the octets of a string are.
+#[tactic(auto, using(bcder::proofs::Moving::moves_refl, bcder::proofs::Carrying::carries))]
+fn number_in(rt: &impl Abort, mode: Mode, string: OctetString) -> u8 {
+    let read = mode.decode(string, |cons| cons.take_u8());
+    done(rt, read)
+}
+
 /// A number that stands in two segments.
 #[test]
 fn a_string_is_decoded(rt: HostRuntime) {
-    let alloc = rt.alloc();
     let encoding = [0x24, 0x07, 0x04, 0x01, 0x02, 0x04, 0x02, 0x01, 0x05];
     for mode in [Mode::Ber, Mode::Cer, Mode::Der] {
-        let string = read(&rt, alloc, &encoding);
-        same(
-            &rt,
-            done(&rt, mode.decode(string, |cons| cons.take_u8())),
-            5,
-        );
+        let string = read(&rt, rt.alloc(), &encoding);
+        same(&rt, number_in(&rt, mode, string), 5);
     }
 }
 
