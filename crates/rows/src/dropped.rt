@@ -1,12 +1,12 @@
 //! Refusals that a closure drops, at any depth.
 #![tactic(auto, using(bcder::proofs::Moving::moves_refl, bcder::proofs::Carrying::carries))]
 
-ghost use Rattle.bcder.specs.Views.{Moved};
+ghost use Rattle.bcder.specs.Views.{Moved, MovedContent};
 
-use crate::asserts::{holds, same};
+use crate::asserts::holds;
 use crate::over::{shared, sip};
-use bcder::Mode;
-use bcder::decode::{Constructed, DecodeError, SliceSource, Source, walk};
+use bcder::decode::{Constructed, Content, DecodeError, SliceSource, Source, walk};
+use bcder::{Mode, Tag};
 use std::alloc::Global;
 use std::process::Abort;
 
@@ -21,17 +21,58 @@ fn takes_nothing<S: Source>(rt: &impl Abort, alloc: Global, cons: &mut Construct
     holds(rt, cons.capture_all(alloc).is_err());
 }
 
-/// Where refusals are dropped, and what was seen of that.
+/// A call that takes a constructed value, whose closure is handed what is inside.
+#[derive(Clone, Copy, Debug, PartialEq, Eq)]
+enum Take {
+    Value,
+    ValueIf,
+    Constructed,
+    ConstructedIf,
+    Sequence,
+    Set,
+    OptValue,
+    OptValueIf,
+    OptConstructed,
+    OptConstructedIf,
+    OptSequence,
+    OptSet,
+}
+
+/// A call on the innermost value.
+#[derive(Clone, Copy, Debug, PartialEq, Eq)]
+enum Last {
+    U8,
+    OptU8,
+    Primitive,
+    PrimitiveIf,
+    OptPrimitive,
+    OptPrimitiveIf,
+    Walk,
+    SkipOne,
+}
+
+/// Where refusals are dropped.
 #[derive(Drop)]
 struct Drops<'a, R> {
     rt: &'a R,
     alloc: Global,
 
-    /// At which level: 0 is that of the outermost sequence.
+    /// The call at each level.
+    take: Take,
+
+    /// At which level: 0 is that of what is in the outermost value.
     level: usize,
 }
 
 impl<'a, R: Abort> Drops<'a, R> {
+    /// The tag of the values at each level.
+    fn tag(&self) -> Tag {
+        match self.take {
+            Take::Set | Take::OptSet => Tag::SET,
+            _ => Tag::SEQUENCE,
+        }
+    }
+
     /// What a closure answers that met this refusal at a level, and tries other calls if it drops
     /// it.
     fn settle<S: Source>(
@@ -52,82 +93,260 @@ impl<'a, R: Abort> Drops<'a, R> {
         takes_nothing(self.rt, self.alloc, cons);
         Ok(0)
     }
+}
 
-    fn take_4<S: Source>(&self, cons: &mut Constructed<'_, S>) -> Result<u8, DecodeError<S::Error>>
+/// What stands at a level.
+trait Nested {
+    /// Takes it, and drops the refusal if it is to be dropped here.
+    fn take<S: Source, R: Abort>(
+        &self,
+        drops: &Drops<'_, R>,
+        cons: &mut Constructed<'_, S>,
+    ) -> Result<u8, DecodeError<S::Error>>
+        ensures { Moved S.stream cons };
+}
+
+/// The innermost value, an INTEGER.
+#[derive(Clone, Copy)]
+struct Number {
+    level: usize,
+    call: Last,
+}
+
+impl Number {
+    /// Takes the octets of the number.
+    fn take_octets<S: Source>(
+        self,
+        cons: &mut Constructed<'_, S>,
+    ) -> Result<u8, DecodeError<S::Error>>
         ensures { Moved S.stream cons }
     {
-        let met = cons.take_u8();
-        self.settle(cons, 4, met)
+        let taken = match self.call {
+            Last::Primitive => return cons.take_primitive(|_tag, octets| octets.to_u8()),
+            Last::PrimitiveIf => return cons.take_primitive_if(
+                Tag::INTEGER,
+                |octets| octets.to_u8(),
+            ),
+            Last::OptPrimitive => cons.take_opt_primitive(|_tag, octets| octets.to_u8())?,
+            _ => cons.take_opt_primitive_if(Tag::INTEGER, |octets| octets.to_u8())?,
+        };
+        Ok(taken.unwrap_or(0))
     }
 
-    fn take_3<S: Source>(&self, cons: &mut Constructed<'_, S>) -> Result<u8, DecodeError<S::Error>>
+    /// Takes or skips the number.
+    fn pass<S: Source>(
+        self,
+        cons: &mut Constructed<'_, S>,
+        alloc: Global,
+    ) -> Result<u8, DecodeError<S::Error>>
         ensures { Moved S.stream cons }
     {
-        let met = cons.take_sequence(|inner| self.take_4(inner));
-        self.settle(cons, 3, met)
-    }
-
-    fn take_2<S: Source>(&self, cons: &mut Constructed<'_, S>) -> Result<u8, DecodeError<S::Error>>
-        ensures { Moved S.stream cons }
-    {
-        let met = cons.take_sequence(|inner| self.take_3(inner));
-        self.settle(cons, 2, met)
-    }
-
-    fn take_1<S: Source>(&self, cons: &mut Constructed<'_, S>) -> Result<u8, DecodeError<S::Error>>
-        ensures { Moved S.stream cons }
-    {
-        let met = cons.take_sequence(|inner| self.take_2(inner));
-        self.settle(cons, 1, met)
-    }
-
-    fn take_0<S: Source>(&self, cons: &mut Constructed<'_, S>) -> Result<u8, DecodeError<S::Error>>
-        ensures { Moved S.stream cons }
-    {
-        let met = cons.take_sequence(|inner| self.take_1(inner));
-        self.settle(cons, 0, met)
-    }
-
-    /// Takes the number in five sequences.
-    fn take<S: Source>(&self, cons: &mut Constructed<'_, S>) -> Result<u8, DecodeError<S::Error>>
-        ensures { Moved S.stream cons }
-    {
-        cons.take_sequence(|inner| self.take_0(inner))
-    }
-
-    /// The number in five sequences is refused.
-    fn refuses<S: Source>(&self, source: &mut S) {
-        let decoded = Mode::Ber.decode_lent(source, |cons| self.take(cons));
-        holds(
-            self.rt,
-            decoded.is_err_and(|error| error.content_error().is_some()),
-        );
+        match self.call {
+            Last::U8 => cons.take_u8(),
+            Last::OptU8 => Ok(cons.take_opt_u8()?.unwrap_or(0)),
+            Last::Walk => Ok(u8::from(walk(cons)?.is_some())),
+            Last::SkipOne => Ok(u8::from(cons.skip_one(alloc)?.is_some())),
+            _ => self.take_octets(cons),
+        }
     }
 }
 
-/// A truncated INTEGER in five sequences, of definite and of indefinite length.
-const ROWS: [&[u8]; 2] = [
-    &[
-        0x30, 0x0B, 0x30, 0x09, 0x30, 0x07, 0x30, 0x05, 0x30, 0x03, 0x02, 0x02, 0x01,
-    ],
-    &[
-        0x30, 0x80, 0x30, 0x80, 0x30, 0x80, 0x30, 0x80, 0x30, 0x80, 0x02, 0x02, 0x01,
-    ],
+impl Nested for Number {
+    fn take<S: Source, R: Abort>(
+        &self,
+        drops: &Drops<'_, R>,
+        cons: &mut Constructed<'_, S>,
+    ) -> Result<u8, DecodeError<S::Error>>
+        ensures { Moved S.stream cons }
+    {
+        let met = self.pass(cons, drops.alloc);
+        drops.settle(cons, self.level, met)
+    }
+}
+
+/// A value with another one inside.
+#[derive(Clone, Copy)]
+struct Around<T> {
+    level: usize,
+    inner: T,
+}
+
+impl<T: Nested> Around<T> {
+    /// Takes what is in content that is constructed.
+    fn take_content<S: Source, R: Abort>(
+        &self,
+        drops: &Drops<'_, R>,
+        content: &mut Content<'_, S>,
+    ) -> Result<u8, DecodeError<S::Error>>
+        ensures { MovedContent S.stream content }
+    {
+        match content {
+            Content::Constructed(inner) => self.inner.take(drops, inner),
+            Content::Primitive(octets) => octets.to_u8(),
+        }
+    }
+
+    /// Takes the value by a call that refuses where there is none.
+    fn enter<S: Source, R: Abort>(
+        &self,
+        drops: &Drops<'_, R>,
+        cons: &mut Constructed<'_, S>,
+    ) -> Result<u8, DecodeError<S::Error>>
+        ensures { Moved S.stream cons }
+    {
+        match drops.take {
+            Take::Value => cons.take_value(|_tag, content| self.take_content(drops, content)),
+            Take::ValueIf => {
+                cons.take_value_if(drops.tag(), |content| self.take_content(drops, content))
+            }
+            Take::Constructed => cons.take_constructed(|_tag, inner| self.inner.take(drops, inner)),
+            Take::ConstructedIf => {
+                cons.take_constructed_if(drops.tag(), |inner| self.inner.take(drops, inner))
+            }
+            Take::Set => cons.take_set(|inner| self.inner.take(drops, inner)),
+            _ => cons.take_sequence(|inner| self.inner.take(drops, inner)),
+        }
+    }
+
+    /// Takes the value by a call that answers `None` where there is none.
+    fn enter_opt<S: Source, R: Abort>(
+        &self,
+        drops: &Drops<'_, R>,
+        cons: &mut Constructed<'_, S>,
+    ) -> Result<Option<u8>, DecodeError<S::Error>>
+        ensures { Moved S.stream cons }
+    {
+        match drops.take {
+            Take::OptValue => {
+                cons.take_opt_value(|_tag, content| self.take_content(drops, content))
+            }
+            Take::OptValueIf => {
+                cons.take_opt_value_if(drops.tag(), |content| self.take_content(drops, content))
+            }
+            Take::OptConstructed => {
+                cons.take_opt_constructed(|_tag, inner| self.inner.take(drops, inner))
+            }
+            Take::OptConstructedIf => {
+                cons.take_opt_constructed_if(drops.tag(), |inner| self.inner.take(drops, inner))
+            }
+            Take::OptSet => cons.take_opt_set(|inner| self.inner.take(drops, inner)),
+            _ => cons.take_opt_sequence(|inner| self.inner.take(drops, inner)),
+        }
+    }
+
+    /// Takes the value.
+    fn pass<S: Source, R: Abort>(
+        &self,
+        drops: &Drops<'_, R>,
+        cons: &mut Constructed<'_, S>,
+    ) -> Result<u8, DecodeError<S::Error>>
+        ensures { Moved S.stream cons }
+    {
+        match drops.take {
+            Take::OptValue
+            | Take::OptValueIf
+            | Take::OptConstructed
+            | Take::OptConstructedIf
+            | Take::OptSequence
+            | Take::OptSet => Ok(self.enter_opt(drops, cons)?.unwrap_or(0)),
+            _ => self.enter(drops, cons),
+        }
+    }
+}
+
+impl<T: Nested> Nested for Around<T> {
+    fn take<S: Source, R: Abort>(
+        &self,
+        drops: &Drops<'_, R>,
+        cons: &mut Constructed<'_, S>,
+    ) -> Result<u8, DecodeError<S::Error>>
+        ensures { Moved S.stream cons }
+    {
+        let met = self.pass(drops, cons);
+        drops.settle(cons, self.level, met)
+    }
+}
+
+/// A value around another one, which stands a level deeper.
+fn around<T: Nested>(level: usize, inner: T) -> Around<T> {
+    Around { level, inner }
+}
+
+/// The INTEGER in five values is refused.
+fn refuses<S: Source>(rt: &impl Abort, drops: &Drops<'_, impl Abort>, source: &mut S, call: Last) {
+    let number = Number { level: 4, call };
+    let inner = around(1, around(2, around(3, number)));
+    let all = around(5, around(0, inner));
+    let decoded = Mode::Ber.decode_lent(source, |cons| all.pass(drops, cons));
+    holds(
+        rt,
+        decoded.is_err_and(|error| error.content_error().is_some()),
+    );
+}
+
+/// A truncated INTEGER in five values of definite length.
+fn definite(tag: u8) -> [u8; 13] {
+    [
+        tag, 0x0B, tag, 0x09, tag, 0x07, tag, 0x05, tag, 0x03, 0x02, 0x02, 0x01,
+    ]
+}
+
+/// The same in values of indefinite length.
+fn indefinite(tag: u8) -> [u8; 13] {
+    [
+        tag, 0x80, tag, 0x80, tag, 0x80, tag, 0x80, tag, 0x80, 0x02, 0x02, 0x01,
+    ]
+}
+
+const TAKES: [Take; 12] = [
+    Take::Value,
+    Take::ValueIf,
+    Take::Constructed,
+    Take::ConstructedIf,
+    Take::Sequence,
+    Take::Set,
+    Take::OptValue,
+    Take::OptValueIf,
+    Take::OptConstructed,
+    Take::OptConstructedIf,
+    Take::OptSequence,
+    Take::OptSet,
 ];
+
+const LASTS: [Last; 8] = [
+    Last::U8,
+    Last::OptU8,
+    Last::Primitive,
+    Last::PrimitiveIf,
+    Last::OptPrimitive,
+    Last::OptPrimitiveIf,
+    Last::Walk,
+    Last::SkipOne,
+];
+
+/// Octets are refused over each source, whatever the call on the innermost value is.
+fn check(rt: &impl Abort, drops: &Drops<'_, impl Abort>, octets: &[u8]) {
+    for call in LASTS {
+        refuses(rt, drops, &mut SliceSource::new(octets), call);
+        refuses(rt, drops, &mut shared(rt, drops.alloc, octets), call);
+        refuses(rt, drops, &mut sip(rt, drops.alloc, octets), call);
+    }
+}
 
 /// Wherever a closure drops the refusal, the enclosing takes and `decode` refuse.
 #[test]
 fn dropped_refusals_are_refused(rt: HostRuntime) {
-    for octets in ROWS {
+    for take in TAKES {
         for level in 0..5usize {
             let drops = Drops {
                 rt: &rt,
                 alloc: rt.alloc(),
+                take,
                 level,
             };
-            drops.refuses(&mut SliceSource::new(octets));
-            drops.refuses(&mut shared(&rt, rt.alloc(), octets));
-            drops.refuses(&mut sip(&rt, rt.alloc(), octets));
+            let tag = if drops.tag() == Tag::SET { 0x31 } else { 0x30 };
+            check(&rt, &drops, &definite(tag));
+            check(&rt, &drops, &indefinite(tag));
         }
     }
 }
