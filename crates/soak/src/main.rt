@@ -1,13 +1,16 @@
 //! Makes values from a fixed seed, some of them spoiled, reads them in every way over three
-//! sources, and compares the answers, what is left and the headings with one another. What differs
-//! is printed in hexadecimal, and the status is then 1.
+//! sources, and compares the answers, what is left and the headings with one another. Then it makes
+//! structures, has the encoders write them, and reads them back. What differs is printed in
+//! hexadecimal, and the status is then 1.
 #![tactic(auto, using(bcder::proofs::Moving::moves_refl))]
 
 mod headings;
 mod made;
 mod random;
 mod readers;
+mod structures;
 mod tally;
+mod written;
 
 use anyhow::Error;
 use bcder::Mode;
@@ -18,7 +21,7 @@ use std::alloc::Global;
 use std::fmt;
 use tally::Tally;
 
-/// How many values are made by the rules of each mode.
+/// How many values, and how many structures, are made by the rules of each mode.
 const COUNT: u64 = 100_000;
 
 /// Answers differ.
@@ -62,10 +65,33 @@ fn read_values(rt: &HostRuntime, mode: Mode, random: &mut Random) -> Result<(), 
     Ok(())
 }
 
+/// Compares structures with what is written of them by the rules of a mode, and read back.
+fn write_values(rt: &HostRuntime, mode: Mode, random: &mut Random) -> Result<(), Error> {
+    let alloc = rt.alloc();
+    let mut tally = Tally::default();
+    for _ in 0..COUNT {
+        if let Some(octets) = written::compare(alloc, mode, random, &mut tally)? {
+            println!(rt; "{mode:?}: {}", hex::encode(alloc, &octets)?)?;
+        }
+    }
+    println!(rt;
+        "written in {mode:?}: {} structures, {} answers compared, {} differ",
+        tally.values, tally.compared, tally.differ
+    )?;
+    if tally.differ > 0 {
+        return Err(Error::from(Differ));
+    }
+    Ok(())
+}
+
 fn main(rt: HostRuntime) -> Result<(), Error> {
     let mut random = Random::new(20_261_124);
     for mode in [Mode::Ber, Mode::Cer, Mode::Der] {
         read_values(&rt, mode, &mut random)?;
+    }
+    let mut random = Random::new(20_261_125);
+    for mode in [Mode::Ber, Mode::Cer, Mode::Der] {
+        write_values(&rt, mode, &mut random)?;
     }
     Ok(())
 }

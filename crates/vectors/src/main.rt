@@ -15,6 +15,7 @@
 mod bits;
 mod calls;
 mod captures;
+mod cut;
 mod fields;
 mod identifiers;
 mod integers;
@@ -272,6 +273,31 @@ fn replay_bits(rt: &HostRuntime) -> Result<(), Error> {
     print(rt, "bit strings taken", tally)
 }
 
+/// The files of data whose lines begin with octets, but for those with the octets of another one.
+const OCTETS_FIRST: [&str; 2] = ["walk.tsv", "octet_strings.tsv"];
+
+/// Those whose lines begin with modes, and then have octets.
+const MODES_FIRST: [&str; 6] = [
+    "fronts.tsv",
+    "skips.tsv",
+    "takes.tsv",
+    "typed.tsv",
+    "captures.tsv",
+    "labels.tsv",
+];
+
+/// Cuts each value of these files at each of its octets, for every reader.
+fn cut_values(rt: &HostRuntime) -> Result<(), Error> {
+    let mut tally = Tally::default();
+    for file in OCTETS_FIRST {
+        replay(rt, file, &mut tally, cut::compare_octets)?;
+    }
+    for file in MODES_FIRST {
+        replay(rt, file, &mut tally, cut::compare_line)?;
+    }
+    print(rt, "values cut at each octet, every reader", tally)
+}
+
 /// Prints what was compared.
 fn print(rt: &HostRuntime, what: &str, tally: Tally) -> Result<(), Error> {
     println!(rt;
@@ -293,5 +319,6 @@ fn main(rt: HostRuntime) -> Result<(), Error> {
     replay_integers(&rt)?;
     replay_identifiers(&rt)?;
     replay_strings(&rt)?;
-    replay_bits(&rt)
+    replay_bits(&rt)?;
+    cut_values(&rt)
 }

@@ -1,0 +1,336 @@
+//! Values that are cut: no reader finds one in a front of a value.
+ghost use Rattle.bcder.specs.Views.{Moved};
+
+use crate::fields::{modes_of, next, octets_of};
+use crate::tally::Tally;
+use anyhow::Error;
+use bcder::decode::{
+    BytesSource, Constructed, Content, ContentError, DecodeError, SliceSource, Source, walk,
+};
+use bcder::string::{Ia5String, NumericString, PrintableString, Utf8String};
+use bcder::{BitString, Integer, Mode, OctetString, Oid, Tag, Unsigned};
+use bytes::Bytes;
+use rows::sip::Sip;
+use std::alloc::{AllocError, Global};
+
+/// A reader of the next value.
+#[derive(Clone, Copy, Debug, PartialEq, Eq)]
+enum Reader {
+    Walk,
+    SkipOne,
+    SkipOpt,
+    SkipAll,
+    CaptureOne,
+    CaptureAll,
+    TakeValue,
+    TakePrimitive,
+    TakeConstructed,
+    TakeSequence,
+    TakeSet,
+    TakeBool,
+    TakeNull,
+    TakeU8,
+    TakeI64,
+    SkipU8If,
+    Integer,
+    Unsigned,
+    Oid,
+    SkipOid,
+    BitString,
+    SkipBits,
+    OctetString,
+    Utf8String,
+    NumericString,
+    PrintableString,
+    Ia5String,
+}
+
+/// Those that read each value.
+const OF_ALL: [Reader; 7] = [
+    Reader::Walk,
+    Reader::SkipOne,
+    Reader::SkipOpt,
+    Reader::SkipAll,
+    Reader::CaptureOne,
+    Reader::CaptureAll,
+    Reader::TakeValue,
+];
+
+/// Those that read values of one form or tag.
+const OF_SOME: [Reader; 20] = [
+    Reader::TakePrimitive,
+    Reader::TakeConstructed,
+    Reader::TakeSequence,
+    Reader::TakeSet,
+    Reader::TakeBool,
+    Reader::TakeNull,
+    Reader::TakeU8,
+    Reader::TakeI64,
+    Reader::SkipU8If,
+    Reader::Integer,
+    Reader::Unsigned,
+    Reader::Oid,
+    Reader::SkipOid,
+    Reader::BitString,
+    Reader::SkipBits,
+    Reader::OctetString,
+    Reader::Utf8String,
+    Reader::NumericString,
+    Reader::PrintableString,
+    Reader::Ia5String,
+];
+
+/// Passes over the next value, or over all values.
+fn pass<S: Source>(
+    cons: &mut Constructed<'_, S>,
+    alloc: Global,
+    reader: Reader,
+) -> Result<(), DecodeError<S::Error>>
+    ensures { Moved S.stream cons }
+{
+    let found = match reader {
+        Reader::Walk => walk(cons)?,
+        Reader::SkipOne => cons.skip_one(alloc)?,
+        Reader::SkipOpt => cons.skip_opt(alloc, &mut |_tag, _constructed, _depth| Ok(()))?,
+        _ => return cons.skip_all(alloc),
+    };
+    found.ok_or(cons.content_err(ContentError::from_static("nothing there")))
+}
+
+/// Takes the next value, whatever stands inside.
+#[tactic(auto, using(bcder::proofs::Moving::moves_refl, bcder::proofs::Carrying::carries))]
+fn take<S: Source>(
+    cons: &mut Constructed<'_, S>,
+    alloc: Global,
+    reader: Reader,
+) -> Result<(), DecodeError<S::Error>>
+    ensures { Moved S.stream cons }
+{
+    match reader {
+        Reader::TakePrimitive => cons.take_primitive(|_tag, octets| octets.skip_all()),
+        Reader::TakeConstructed => cons.take_constructed(|_tag, values| values.skip_all(alloc)),
+        Reader::TakeSequence => cons.take_sequence(|values| values.skip_all(alloc)),
+        Reader::TakeSet => cons.take_set(|values| values.skip_all(alloc)),
+        _ => cons.take_value(|_tag, content| match content {
+            Content::Primitive(octets) => octets.skip_all(),
+            Content::Constructed(values) => values.skip_all(alloc),
+        }),
+    }
+}
+
+/// Takes a truth value, null or an INTEGER.
+fn take_typed<S: Source>(
+    cons: &mut Constructed<'_, S>,
+    reader: Reader,
+) -> Result<(), DecodeError<S::Error>>
+    ensures { Moved S.stream cons }
+{
+    match reader {
+        Reader::TakeBool => {
+            cons.take_bool()?;
+        }
+        Reader::TakeU8 => {
+            cons.take_u8()?;
+        }
+        Reader::TakeI64 => {
+            cons.take_primitive_if(Tag::INTEGER, |octets| octets.to_i64())?;
+        }
+        Reader::SkipU8If => cons.skip_u8_if(5)?,
+        _ => cons.take_null()?,
+    }
+    Ok(())
+}
+
+/// Takes a number, an identifier or a bit string, or skips it.
+fn take_kept<S: Source>(
+    cons: &mut Constructed<'_, S>,
+    alloc: Global,
+    reader: Reader,
+) -> Result<(), DecodeError<S::Error>>
+    ensures { Moved S.stream cons }
+{
+    match reader {
+        Reader::Integer => {
+            Integer::take_from(alloc, cons)?;
+        }
+        Reader::Unsigned => {
+            Unsigned::take_from(alloc, cons)?;
+        }
+        Reader::Oid => {
+            Oid::take_from(alloc, cons)?;
+        }
+        Reader::SkipOid => Oid::skip_in(cons)?,
+        Reader::BitString => {
+            BitString::take_from(alloc, cons)?;
+        }
+        _ => BitString::skip_in(cons)?,
+    }
+    Ok(())
+}
+
+/// Takes a string of octets or characters.
+fn take_string<S: Source>(
+    cons: &mut Constructed<'_, S>,
+    alloc: Global,
+    reader: Reader,
+) -> Result<(), DecodeError<S::Error>>
+    ensures { Moved S.stream cons }
+{
+    match reader {
+        Reader::Utf8String => {
+            Utf8String::take_from(alloc, cons)?;
+        }
+        Reader::NumericString => {
+            NumericString::take_from(alloc, cons)?;
+        }
+        Reader::PrintableString => {
+            PrintableString::take_from(alloc, cons)?;
+        }
+        Reader::Ia5String => {
+            Ia5String::take_from(alloc, cons)?;
+        }
+        _ => {
+            OctetString::take_from(alloc, cons)?;
+        }
+    }
+    Ok(())
+}
+
+/// Captures the next value, or all values, and answers how many octets these have.
+fn capture<S: Source>(
+    cons: &mut Constructed<'_, S>,
+    alloc: Global,
+    reader: Reader,
+) -> Result<usize, DecodeError<S::Error>>
+    ensures { Moved S.stream cons }
+{
+    let captured = match reader {
+        Reader::CaptureAll => cons.capture_all(alloc)?,
+        _ => cons.capture_one(alloc)?,
+    };
+    Ok(captured.len())
+}
+
+/// Reads the next value.
+fn read<S: Source>(
+    cons: &mut Constructed<'_, S>,
+    alloc: Global,
+    reader: Reader,
+) -> Result<(), DecodeError<S::Error>>
+    ensures { Moved S.stream cons }
+{
+    match reader {
+        Reader::Walk | Reader::SkipOne | Reader::SkipOpt | Reader::SkipAll => {
+            pass(cons, alloc, reader)
+        }
+        Reader::CaptureOne | Reader::CaptureAll => {
+            capture(cons, alloc, reader)?;
+            Ok(())
+        }
+        Reader::TakeBool | Reader::TakeNull | Reader::TakeU8 | Reader::TakeI64 | Reader::SkipU8If =>
+            take_typed(cons, reader),
+        Reader::Integer
+        | Reader::Unsigned
+        | Reader::Oid
+        | Reader::SkipOid
+        | Reader::BitString
+        | Reader::SkipBits => take_kept(cons, alloc, reader),
+        Reader::OctetString
+        | Reader::Utf8String
+        | Reader::NumericString
+        | Reader::PrintableString
+        | Reader::Ia5String => take_string(cons, alloc, reader),
+        _ => take(cons, alloc, reader),
+    }
+}
+
+/// Whether a value is read, or none is, for the octets and for nothing else.
+#[tactic(auto, using(bcder::proofs::Moving::moves_refl, bcder::proofs::Carrying::carries))]
+fn is_read<S: Source>(
+    source: &mut S,
+    alloc: Global,
+    mode: Mode,
+    reader: Reader,
+    wanted: bool,
+) -> bool {
+    match mode.decode_lent(source, |cons| read(cons, alloc, reader)) {
+        Ok(()) => wanted,
+        Err(error) => !wanted && error.content_error().is_some(),
+    }
+}
+
+/// Compares whether readers read a value, over three sources.
+fn compare(
+    alloc: Global,
+    mode: Mode,
+    readers: &[Reader],
+    octets: &[u8],
+    wanted: bool,
+    tally: &mut Tally,
+) -> Result<(), AllocError> {
+    let all = Bytes::copy_from_slice(alloc, octets)?;
+    for reader in readers {
+        let mut slice = SliceSource::new(octets);
+        tally.count(is_read(&mut slice, alloc, mode, *reader, wanted));
+        let mut shared = BytesSource::new(all.clone()?);
+        tally.count(is_read(&mut shared, alloc, mode, *reader, wanted));
+        let mut sip = Sip::new(octets.to_vec(alloc)?, 0);
+        tally.count(is_read(&mut sip, alloc, mode, *reader, wanted));
+    }
+    Ok(())
+}
+
+/// Compares that a value is read, and that no reader finds one in a front of it.
+fn compare_value(
+    alloc: Global,
+    mode: Mode,
+    value: &[u8],
+    tally: &mut Tally,
+) -> Result<(), AllocError> {
+    compare(alloc, mode, &OF_ALL, value, true, tally)?;
+    for size in 1..value.len() {
+        let front = value.get(..size).unwrap_or(value);
+        compare(alloc, mode, &OF_ALL, front, false, tally)?;
+        compare(alloc, mode, &OF_SOME, front, false, tally)?;
+    }
+    Ok(())
+}
+
+/// The same of each value of octets, one behind the other, as the plain reader finds them.
+fn compare_values(
+    alloc: Global,
+    mode: Mode,
+    octets: &[u8],
+    tally: &mut Tally,
+) -> Result<(), AllocError> {
+    let mut rest = octets;
+    for _ in 0..octets.len() {
+        let Some(behind) = bcder::plain::skip_one(mode, rest) else {
+            break;
+        };
+        let size = rest.len().saturating_sub(behind.len());
+        compare_value(alloc, mode, rest.get(..size).unwrap_or(rest), tally)?;
+        rest = behind;
+    }
+    Ok(())
+}
+
+/// Compares the readers on the values of a line that begins with octets, in each mode.
+pub fn compare_octets(alloc: Global, line: &str, tally: &mut Tally) -> Result<(), Error> {
+    let octets = octets_of(alloc, next(&mut line.split('\t'))?)?;
+    for mode in [Mode::Ber, Mode::Cer, Mode::Der] {
+        compare_values(alloc, mode, &octets, tally)?;
+    }
+    Ok(())
+}
+
+/// The same of a line that begins with modes, in these.
+pub fn compare_line(alloc: Global, line: &str, tally: &mut Tally) -> Result<(), Error> {
+    let mut fields = line.split('\t');
+    let modes = modes_of(alloc, next(&mut fields)?)?;
+    let octets = octets_of(alloc, next(&mut fields)?)?;
+    for mode in &modes {
+        compare_values(alloc, *mode, &octets, tally)?;
+    }
+    Ok(())
+}
