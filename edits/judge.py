@@ -177,14 +177,14 @@ def free_memory():
 
 
 def edits_in(folder):
-    names = sorted(os.listdir(folder)) if os.path.isdir(folder) else []
-    return [f"{folder}/{it}" for it in names if it.endswith(".edit")]
+    found = [f"{at}/{it}" for at, _, files in os.walk(folder) for it in files if it.endswith(".edit")]
+    return sorted(found)
 
 
 def crate_of(file):
-    """The crate of an edit by its place, edits/CRATE/, edits/controls/CRATE/ or crates/CRATE/must-fail/."""
-    above, folder = os.path.split(os.path.dirname(os.path.abspath(file)))
-    return os.path.basename(above) if folder == "must-fail" else folder
+    """The crate of an edit by its place: below edits/CRATE/ or edits/controls/CRATE/, or in crates/CRATE/must-fail/."""
+    words = os.path.relpath(os.path.abspath(file), ROOT).split(os.sep)
+    return words[2] if words[:2] == ["edits", "controls"] else words[1]
 
 
 def main(words):
