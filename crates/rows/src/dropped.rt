@@ -268,15 +268,15 @@ impl<T: Nested> Nested for Around<T> {
 }
 
 /// A value around another one, which stands a level deeper.
-fn around<T: Nested>(level: usize, inner: T) -> Around<T> {
+fn nest<T: Nested>(level: usize, inner: T) -> Around<T> {
     Around { level, inner }
 }
 
 /// The INTEGER in five values is refused.
 fn refuses<S: Source>(rt: &impl Abort, drops: &Drops<'_, impl Abort>, source: &mut S, call: Last) {
     let number = Number { level: 4, call };
-    let inner = around(1, around(2, around(3, number)));
-    let all = around(5, around(0, inner));
+    let inner = nest(1, nest(2, nest(3, number)));
+    let all = nest(5, nest(0, inner));
     let decoded = Mode::Ber.decode_lent(source, |cons| all.pass(drops, cons));
     holds(
         rt,

@@ -13,13 +13,16 @@ pub enum Kind {
     Private(u32),
 }
 
+/// The last number of a tag that three octets behind the first tell.
+const LAST: u32 = 0x1F_FFFF;
+
 impl Kind {
     pub fn tag(self) -> Tag {
         match self {
             Kind::Sequence => Tag::SEQUENCE,
             Kind::Set => Tag::SET,
-            Kind::Context(number) => Tag::ctx(number),
-            Kind::Private(number) => Tag::private(number),
+            Kind::Context(number) => Tag::ctx(number.min(LAST)),
+            Kind::Private(number) => Tag::private(number.min(LAST)),
         }
     }
 

@@ -28,11 +28,19 @@ fn write_number(number: i128, target: &mut CapturedBuilder) -> Result<(), Error>
     Ok(target.extend(number.encode())?)
 }
 
+/// The bit string of up to 1000 octets, of which so many bits aren't used.
+fn bits_of(alloc: Global, unused: u8, octets: &[u8]) -> Result<BitString, Error> {
+    if octets.is_empty() || octets.len() > 1000 || unused > 7 {
+        return Ok(BitString::new(0, Bytes::new()));
+    }
+    Ok(BitString::new(unused, Bytes::copy_from_slice(alloc, octets)?))
+}
+
 /// Writes a string of octets, bits or characters.
 fn write_string(alloc: Global, part: &Part, target: &mut CapturedBuilder) -> Result<(), Error> {
     match part {
         Part::Bits(unused, bits) => {
-            let string = BitString::new(*unused, Bytes::copy_from_slice(alloc, bits)?);
+            let string = bits_of(alloc, *unused, bits)?;
             Ok(target.extend(string.encode_ref())?)
         }
         Part::Text(text) => {
