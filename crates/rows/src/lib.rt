@@ -52,4 +52,6 @@ mod strings;
 mod tag_names;
 pub mod tags;
 #[cfg(test)]
+mod targets;
+#[cfg(test)]
 mod written_strings;
