@@ -1,26 +1,16 @@
 //! Sources that fail: each request in turn, in each call on content that reads, alone and in calls
-//! around it. The list of calls is [`call`], and what is tried of them [`lines`].
+//! around it.
 #![tactic(auto, using(bcder::proofs::Moving::moves_refl, bcder::proofs::Carrying::carries))]
 
-mod answer;
-mod call;
-mod kept;
-mod lines;
-mod octets;
-mod passes;
-mod takes;
 mod trial;
-mod typed;
 
 use crate::asserts::done;
-use answer::Answer;
+use crate::calls::{
+    Answer, CAPTURES, CONTENTS, Call, KEPT, Line, OCTETS, PASSES, STRINGS, TAKES, TYPED, Take, Text,
+};
 use bcder::Mode;
-use call::Call;
-use kept::Text;
-use lines::{CAPTURES, CONTENTS, KEPT, Line, OCTETS, PASSES, STRINGS, TAKES, TYPED};
 use std::alloc::Global;
 use std::process::Abort;
-use takes::Take;
 use trial::{Place, Trial};
 
 /// Where each call is tried.

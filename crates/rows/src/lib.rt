@@ -10,6 +10,7 @@ mod asserts;
 #[cfg(test)]
 mod bits;
 pub mod borrows;
+pub mod calls;
 #[cfg(test)]
 mod captured;
 #[cfg(test)]

@@ -1,10 +1,8 @@
 //! A call that is tried: alone, with its refusal answered or dropped, and inside of others.
 ghost use Rattle.bcder.specs.Views.{Moved, MovedContent};
 
-use super::answer::Answer;
-use super::call::{Call, ask};
-use super::takes::Take;
 use crate::asserts::{done, holds, same};
+use crate::calls::{Answer, Call, Take, ask};
 use crate::over::{failing_sip, failing_whole};
 use crate::sip::Sip;
 use bcder::decode::{Constructed, Content, DecodeError, Source};
