@@ -80,7 +80,7 @@ fn is_deep(octets: &[u8]) -> bool {
 }
 
 /// The calls of some lines that take no memory.
-fn tally(alloc: Global, name: &'static str, lines: &[Line]) -> Tally {
+fn count_lines(alloc: Global, name: &'static str, lines: &[Line]) -> Tally {
     let mut tally = Tally::new(name);
     for (mode, octets, calls, wanted, _) in lines {
         for call in *calls {
@@ -98,13 +98,13 @@ fn tally(alloc: Global, name: &'static str, lines: &[Line]) -> Tally {
 /// The calls that take no memory.
 pub fn tallies(alloc: Global) -> [Tally; 7] {
     [
-        tally(alloc, "takes by a closure", &TAKES),
-        tally(alloc, "booleans, nulls and integers", &TYPED),
-        tally(alloc, "values that are passed over", &PASSES),
-        tally(alloc, "octets of a primitive value", &OCTETS),
-        tally(alloc, "content of either form", &CONTENTS),
-        tally(alloc, "integers and identifiers", &KEPT),
-        tally(alloc, "strings", &STRINGS),
+        count_lines(alloc, "takes by a closure", &TAKES),
+        count_lines(alloc, "booleans, nulls and integers", &TYPED),
+        count_lines(alloc, "values that are passed over", &PASSES),
+        count_lines(alloc, "octets of a primitive value", &OCTETS),
+        count_lines(alloc, "content of either form", &CONTENTS),
+        count_lines(alloc, "integers and identifiers", &KEPT),
+        count_lines(alloc, "strings", &STRINGS),
     ]
 }
 
