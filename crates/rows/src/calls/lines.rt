@@ -560,7 +560,7 @@ const PASS_ALL: &[Call] = &[
 ];
 
 /// Octets of a primitive value. Of numbers it is told whether they are 5.
-pub const OCTETS: [Line; 14] = [
+pub const OCTETS: [Line; 12] = [
     (
         Mode::Der,
         &[0x02, 0x01, 0x05, 0x05, 0x00],
@@ -573,13 +573,6 @@ pub const OCTETS: [Line; 14] = [
         &[0x02, 0x01, 0x05, 0x05, 0x00],
         READ_ALL,
         Answer::Number(1),
-        2,
-    ),
-    (
-        Mode::Der,
-        &[0x02, 0x01, 0x05, 0x05, 0x00],
-        &[Call::Read(Reader::Octet)],
-        Answer::Number(5),
         2,
     ),
     (
@@ -616,13 +609,6 @@ pub const OCTETS: [Line; 14] = [
         READ_ALL,
         Answer::Number(3),
         2,
-    ),
-    (
-        Mode::Ber,
-        &[0x04, 0x03, 0x01, 0x02, 0x03, 0x05, 0x00],
-        &[Call::Read(Reader::Octet)],
-        Answer::Refused,
-        0,
     ),
     (
         Mode::Der,

@@ -15,7 +15,6 @@ pub enum Reader {
     TakeAll,
     SliceAll,
     WithSliceAll,
-    Octet,
     Signed(Width),
     Unsigned(Width),
     SignedFrom(Width),
@@ -150,7 +149,6 @@ fn read<S: Source>(
 {
     match reader {
         Reader::Bool => Ok(Answer::Truth(octets.to_bool()?)),
-        Reader::Octet => Ok(Answer::Number(usize::from(octets.take_u8()?))),
         Reader::Signed(width) => Ok(Answer::Truth(is_signed(octets, width)?)),
         Reader::Unsigned(width) => Ok(Answer::Truth(is_unsigned(octets, width)?)),
         Reader::SignedFrom(width) => Ok(Answer::Truth(is_signed_from(octets, width)?)),

@@ -78,6 +78,16 @@ pub enum Capture {
     Sequence,
 }
 
+/// Passes over a SEQUENCE.
+fn pass_sequence<S: Source>(
+    cons: &mut Constructed<'_, S>,
+    alloc: Global,
+) -> Result<(), DecodeError<S::Error>>
+    ensures { Moved S.stream cons }
+{
+    cons.take_sequence(|inner| inner.skip_all(alloc))
+}
+
 /// How many octets are captured.
 pub fn ask_captured<S: Source>(
     cons: &mut Constructed<'_, S>,
@@ -89,10 +99,7 @@ pub fn ask_captured<S: Source>(
     let captured = match capture {
         Capture::One => cons.capture_one(alloc)?,
         Capture::All => cons.capture_all(alloc)?,
-        Capture::Sequence => cons.capture(
-            alloc,
-            |cons| cons.take_sequence(|inner| inner.skip_all(alloc)),
-        )?,
+        Capture::Sequence => cons.capture(alloc, |inner| pass_sequence(inner, alloc))?,
     };
     Ok(Answer::Number(captured.len()))
 }

@@ -136,9 +136,10 @@ impl Trial<'_> {
     }
 
     /// The refusal is answered: then `decode` answers it. Whether the source failed.
-    fn check_answered(&self, rt: &impl Abort, alloc: Global, failing: Failing) -> bool {
-        let source = source_of(rt, alloc, self.octets, failing);
-        match self.mode.decode(source, |cons| ask(cons, alloc, self.call)) {
+    #[tactic(auto, using(bcder::proofs::Moving::moves_refl))]
+    fn check_answered<S: Source + Drop>(&self, rt: &impl Abort, alloc: Global, source: S) -> bool {
+        let call = self.call;
+        match self.mode.decode(source, |cons| ask(cons, alloc, call)) {
             Ok(found) => same(rt, found, self.wanted),
             Err(error) if error.is_source() => return true,
             Err(error) => self.check_refusal(rt, error),
@@ -411,7 +412,9 @@ impl Trial<'_> {
     fn check(&self, rt: &impl Abort, alloc: Global, place: Place, failing: Failing) -> bool {
         match place {
             Place::Dropped => self.check_dropped(rt, alloc, failing),
-            Place::Answered => self.check_answered(rt, alloc, failing),
+            Place::Answered => {
+                self.check_answered(rt, alloc, source_of(rt, alloc, self.octets, failing))
+            }
             _ => self.check_inside(rt, alloc, place, failing),
         }
     }
