@@ -8,7 +8,7 @@ use bcder::encode::{
 use bcder::{Integer, Mode, Oid, Tag, Unsigned};
 use std::alloc::Global;
 use std::io;
-use std::io::{Error, ErrorKind, Write};
+use std::io::{ErrorKind, Write};
 use std::process::Abort;
 
 /// The values are written as these octets, and their size is told.
@@ -419,112 +419,6 @@ fn the_largest_sizes(rt: HostRuntime) {
     sizes(&rt, rt.alloc(), &(many, true.encode()), [over; 3]);
     sizes(&rt, rt.alloc(), &Nulls(9223372036854775808), [over; 3]);
     sizes(&rt, rt.alloc(), &sequence(many), [long, over, long]);
-}
-
-/// How a target fails.
-#[derive(Clone, Copy, Debug, PartialEq, Eq)]
-pub enum Failure {
-    /// It answers that it took no octet.
-    Nothing,
-
-    /// It answers an error of this kind.
-    Error(ErrorKind),
-}
-
-/// Takes one octet a call, and fails at one call, of the number `failing`, counted from 1.
-#[derive(Drop)]
-struct OneByOne {
-    taken: Vec<u8>,
-    calls: usize,
-    failing: usize,
-    failure: Failure,
-}
-
-impl Write for OneByOne {
-    ghost use Rattle.std.specs.Prelude.{Some};
-
-    ghost contents = { λ w. Some w.taken.items };
-
-    fn write(&mut self, buf: &[u8]) -> io::Result<usize> {
-        self.calls = self.calls.saturating_add(1);
-        if self.calls == self.failing {
-            return match self.failure {
-                Failure::Nothing => Ok(0),
-                Failure::Error(kind) => Err(Error::from(kind)),
-            };
-        }
-        if buf.is_empty() {
-            return Ok(0);
-        }
-        self.taken.push(buf[0])?;
-        Ok(1)
-    }
-
-    fn flush(&mut self) -> io::Result<()> {
-        Ok(())
-    }
-}
-
-/// Writes to a target that fails at a call. The octets up to that call were taken, and it isn't
-/// called again, where it would take more.
-pub fn check_failing<V: Values>(
-    rt: &impl Abort,
-    alloc: Global,
-    values: &V,
-    mode: Mode,
-    wanted: &[u8],
-    failing: usize,
-    failure: Failure,
-)
-    requires { V.can_encode values.now }
-{
-    let mut target = OneByOne {
-        taken: Vec::new(alloc),
-        calls: 0,
-        failing,
-        failure,
-    };
-    let kind = match values.write_encoded(mode, &mut target) {
-        Ok(()) => None,
-        Err(WriteError::Target(error)) => Some(error.kind()),
-        Err(WriteError::Refused(_)) => Some(ErrorKind::Other),
-    };
-    if failing > wanted.len() {
-        same(rt, kind, None);
-        holds(rt, target.taken.as_slice() == wanted);
-        return;
-    }
-    match failure {
-        Failure::Nothing => same(rt, kind, Some(ErrorKind::WriteZero)),
-        Failure::Error(wanted) => same(rt, kind, Some(wanted)),
-    }
-    same(rt, target.calls, failing);
-    same(rt, target.taken.len() + 1, failing);
-    holds(rt, wanted.starts_with(target.taken.as_slice()));
-}
-
-#[test]
-fn up_to_the_failure(rt: HostRuntime) {
-    let whole = [0x30, 0x06, 0x01, 0x01, 0xFF, 0x02, 0x01, 0x05];
-    let failures = [
-        Failure::Nothing,
-        Failure::Error(ErrorKind::Interrupted),
-        Failure::Error(ErrorKind::BrokenPipe),
-    ];
-    let values = sequence((true.encode(), 5u8.encode()));
-    for failure in failures {
-        for failing in 1..10usize {
-            check_failing(
-                &rt,
-                rt.alloc(),
-                &values,
-                Mode::Der,
-                &whole,
-                failing,
-                failure,
-            );
-        }
-    }
 }
 
 /// Takes nothing.

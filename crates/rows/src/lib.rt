@@ -10,6 +10,7 @@ mod asserts;
 #[cfg(test)]
 mod bits;
 pub mod borrows;
+pub mod calls;
 #[cfg(test)]
 mod captured;
 #[cfg(test)]
@@ -51,5 +52,7 @@ mod strings;
 #[cfg(test)]
 mod tag_names;
 pub mod tags;
+#[cfg(test)]
+mod targets;
 #[cfg(test)]
 mod written_strings;

@@ -20,3 +20,8 @@ pub fn sip(rt: &impl Abort, alloc: Global, octets: &[u8]) -> Sip {
 pub fn failing_sip(rt: &impl Abort, alloc: Global, octets: &[u8], failing: usize) -> Sip {
     Sip::new(done(rt, octets.to_vec(alloc)), failing)
 }
+
+/// The same, which makes all that is left available at each request.
+pub fn failing_whole(rt: &impl Abort, alloc: Global, octets: &[u8], failing: usize) -> Sip {
+    Sip::whole(done(rt, octets.to_vec(alloc)), failing)
+}

@@ -26,8 +26,8 @@ impl fmt::Display for SipError {
 
 impl Error for SipError {}
 
-/// A source over octets that has available exactly what the last request asked for, or all that are
-/// left, and whose request of a given number fails.
+/// A source over octets that has available what the last request asked for and no more, or all that
+/// are left at each request, and whose request of a given number fails.
 #[derive(Drop)]
 pub struct Sip {
     octets: Vec<u8>,
@@ -36,6 +36,7 @@ pub struct Sip {
     faults: usize,
     requests: usize,
     failing: usize,
+    whole: bool,
     ghost are_octets: { AreOctets octets.items },
     ghost fit: { length octets.items < 2 ^ 64 },
     ghost within: { start + avail ≤ length octets.items },
@@ -55,7 +56,17 @@ impl Sip {
             faults: 0,
             requests: 0,
             failing,
+            whole: false,
         }
+    }
+
+    /// The same, of which each request makes all octets available that are left.
+    pub fn whole(octets: Vec<u8>, failing: usize) -> Sip
+        ensures { ⟦<Sip as Source>⟧.stream result ≡ sipped octets.items 0 0 0 }
+    {
+        let mut sip = Sip::new(octets, failing);
+        sip.whole = true;
+        sip
     }
 
     /// How many requests failed.
@@ -92,6 +103,7 @@ impl Source for Sip {
             self.faults = self.faults.saturating_add(1);
             return Err(SipError);
         }
+        let len = if self.whole { usize::MAX } else { len };
         self.avail = len.min(self.octets.len() - self.start);
         Ok(self.avail)
     }

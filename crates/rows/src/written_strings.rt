@@ -6,13 +6,12 @@ ghost use Rattle.std.specs.Prelude.{◌<◌};
 
 use crate::asserts::{done, holds, same};
 use crate::encoders::{Nulls, Zeros};
-use crate::encodes::{Failure, check_failing, refuses, sizes, writes};
+use crate::encodes::{refuses, sizes, writes};
 use bcder::decode::{SliceSource, Source};
 use bcder::encode::{EncodeError, PrimitiveContent, Values, write_header};
 use bcder::{Captured, Mode, OctetString, Tag};
 use bytes::Bytes;
 use std::alloc::Global;
-use std::io::ErrorKind;
 use std::process::Abort;
 
 /// Octets that differ from those near them.
@@ -342,44 +341,4 @@ fn values_that_are_refused_in_a_string(rt: HostRuntime) {
     sizes(&rt, alloc, &wrapped, [long, Ok(4312147172), long]);
     let wrapped = OctetString::encode_wrapped(alloc, Mode::Ber, Nulls(9223372036854775807));
     sizes(&rt, alloc, &wrapped, [long, over, long]);
-}
-
-// ---- targets that fail
-
-/// Each call of the target's fails in turn.
-fn fails<V: Values>(rt: &impl Abort, alloc: Global, values: &V, mode: Mode, wanted: &[u8])
-    requires { V.can_encode values.now }
-{
-    for failing in 1..wanted.len().saturating_add(2) {
-        let failure = Failure::Error(ErrorKind::BrokenPipe);
-        check_failing(rt, alloc, values, mode, wanted, failing, failure);
-        check_failing(rt, alloc, values, mode, wanted, failing, Failure::Nothing);
-    }
-}
-
-#[test]
-fn up_to_the_failure_in_a_string(rt: HostRuntime) {
-    let alloc = rt.alloc();
-    let [octets, ber, _, der] = CAME[5];
-    let string = taken(&rt, alloc, Mode::Ber, octets);
-    fails(&rt, alloc, &string.encode_ref(), Mode::Ber, ber);
-    fails(&rt, alloc, &string.encode_ref(), Mode::Der, der);
-    let wrapped = OctetString::encode_wrapped(alloc, Mode::Der, true.encode());
-    fails(
-        &rt,
-        alloc,
-        &wrapped,
-        Mode::Der,
-        &[0x04, 0x03, 0x01, 0x01, 0xFF],
-    );
-}
-
-#[test]
-fn up_to_the_failure_in_segments(rt: HostRuntime) {
-    let alloc = rt.alloc();
-    let (len, _, pieces) = SEGMENTED[3];
-    let octets = octets_of(&rt, alloc, len);
-    let cer = spell(&rt, alloc, octets.as_slice(), pieces);
-    let string = cut(&rt, alloc, octets.as_slice(), 300);
-    fails(&rt, alloc, &string.encode(), Mode::Cer, cer.as_slice());
 }

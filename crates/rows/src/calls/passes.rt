@@ -1,0 +1,105 @@
+//! The calls that pass over values, or capture them.
+ghost use Rattle.bcder.specs.Views.{Moved};
+
+use super::answer::{Answer, passed};
+use bcder::decode::{Constructed, DecodeError, Source, walk};
+use std::alloc::Global;
+
+/// A call that passes over values.
+#[derive(Clone, Copy, Debug, PartialEq, Eq)]
+pub enum Pass {
+    Walk,
+    SkipOne,
+    SkipOpt,
+    Skip,
+    SkipAll,
+    WhileSome,
+}
+
+/// Skips the next value by a closure that refuses nothing.
+fn skip_opt<S: Source>(
+    cons: &mut Constructed<'_, S>,
+    alloc: Global,
+) -> Result<Option<()>, DecodeError<S::Error>>
+    ensures { Moved S.stream cons }
+{
+    cons.skip_opt(alloc, &mut |_tag, _constructed, _depth| Ok(()))
+}
+
+/// The same of a value that has to be there.
+fn skip<S: Source>(
+    cons: &mut Constructed<'_, S>,
+    alloc: Global,
+) -> Result<Option<()>, DecodeError<S::Error>>
+    ensures { Moved S.stream cons }
+{
+    cons.skip(alloc, &mut |_tag, _constructed, _depth| Ok(()))?;
+    Ok(Some(()))
+}
+
+/// Passes over several values.
+fn pass_all<S: Source>(
+    cons: &mut Constructed<'_, S>,
+    alloc: Global,
+    pass: Pass,
+) -> Result<Option<()>, DecodeError<S::Error>>
+    ensures { Moved S.stream cons }
+{
+    match pass {
+        Pass::SkipAll => cons.skip_all(alloc)?,
+        _ => cons.while_some(|cons| cons.take_opt_sequence(|inner| inner.skip_all(alloc)))?,
+    }
+    Ok(Some(()))
+}
+
+/// What a call answers that passes over values.
+pub fn ask<S: Source>(
+    cons: &mut Constructed<'_, S>,
+    alloc: Global,
+    pass: Pass,
+) -> Result<Answer, DecodeError<S::Error>>
+    ensures { Moved S.stream cons }
+{
+    let found = match pass {
+        Pass::Walk => walk(cons)?,
+        Pass::SkipOne => cons.skip_one(alloc)?,
+        Pass::SkipOpt => skip_opt(cons, alloc)?,
+        Pass::Skip => skip(cons, alloc)?,
+        _ => pass_all(cons, alloc, pass)?,
+    };
+    Ok(passed(found))
+}
+
+/// A call that captures values.
+#[derive(Clone, Copy, Debug, PartialEq, Eq)]
+pub enum Capture {
+    One,
+    All,
+    Sequence,
+}
+
+/// Passes over a SEQUENCE.
+fn pass_sequence<S: Source>(
+    cons: &mut Constructed<'_, S>,
+    alloc: Global,
+) -> Result<(), DecodeError<S::Error>>
+    ensures { Moved S.stream cons }
+{
+    cons.take_sequence(|inner| inner.skip_all(alloc))
+}
+
+/// How many octets are captured.
+pub fn ask_captured<S: Source>(
+    cons: &mut Constructed<'_, S>,
+    alloc: Global,
+    capture: Capture,
+) -> Result<Answer, DecodeError<S::Error>>
+    ensures { Moved S.stream cons }
+{
+    let captured = match capture {
+        Capture::One => cons.capture_one(alloc)?,
+        Capture::All => cons.capture_all(alloc)?,
+        Capture::Sequence => cons.capture(alloc, |inner| pass_sequence(inner, alloc))?,
+    };
+    Ok(Answer::Number(captured.len()))
+}

@@ -1,0 +1,92 @@
+//! The calls that take booleans, nulls and integers.
+ghost use Rattle.bcder.specs.Views.{Moved};
+
+use super::answer::{Answer, truth};
+use bcder::decode::{Constructed, DecodeError, Source};
+
+/// A call that takes a boolean, a null or an integer.
+#[derive(Clone, Copy, Debug, PartialEq, Eq)]
+pub enum Typed {
+    Bool,
+    OptBool,
+    Null,
+    OptNull,
+    U8,
+    OptU8,
+    U16,
+    OptU16,
+    U32,
+    OptU32,
+    U64,
+    OptU64,
+    SkipU8If,
+    SkipOptU8If,
+}
+
+/// The number that is asked for.
+const FIVE: u8 = 5;
+
+/// Whether a number is taken that is the one.
+fn take<S: Source>(
+    cons: &mut Constructed<'_, S>,
+    typed: Typed,
+) -> Result<bool, DecodeError<S::Error>>
+    ensures { Moved S.stream cons }
+{
+    match typed {
+        Typed::U8 => Ok(cons.take_u8()? == FIVE),
+        Typed::U16 => Ok(cons.take_u16()? == u16::from(FIVE)),
+        Typed::U32 => Ok(cons.take_u32()? == u32::from(FIVE)),
+        Typed::U64 => Ok(cons.take_u64()? == u64::from(FIVE)),
+        _ => cons.take_bool(),
+    }
+}
+
+/// The same where there may be none.
+fn take_opt<S: Source>(
+    cons: &mut Constructed<'_, S>,
+    typed: Typed,
+) -> Result<Option<bool>, DecodeError<S::Error>>
+    ensures { Moved S.stream cons }
+{
+    match typed {
+        Typed::OptU8 => Ok(cons.take_opt_u8()?.map(|number| number == FIVE)),
+        Typed::OptU16 => Ok(cons.take_opt_u16()?.map(|number| number == u16::from(FIVE))),
+        Typed::OptU32 => Ok(cons.take_opt_u32()?.map(|number| number == u32::from(FIVE))),
+        Typed::OptU64 => Ok(cons.take_opt_u64()?.map(|number| number == u64::from(FIVE))),
+        _ => cons.take_opt_bool(),
+    }
+}
+
+/// Passes over a value of which nothing is to be told.
+fn skip<S: Source>(cons: &mut Constructed<'_, S>, typed: Typed) -> Result<(), DecodeError<S::Error>>
+    ensures { Moved S.stream cons }
+{
+    match typed {
+        Typed::Null => cons.take_null(),
+        Typed::OptNull => cons.take_opt_null(),
+        Typed::SkipU8If => cons.skip_u8_if(FIVE),
+        _ => cons.skip_opt_u8_if(FIVE),
+    }
+}
+
+/// What a call answers. Of a number it tells whether it is 5.
+pub fn ask<S: Source>(
+    cons: &mut Constructed<'_, S>,
+    typed: Typed,
+) -> Result<Answer, DecodeError<S::Error>>
+    ensures { Moved S.stream cons }
+{
+    match typed {
+        Typed::Bool | Typed::U8 | Typed::U16 | Typed::U32 | Typed::U64 => {
+            Ok(Answer::Truth(take(cons, typed)?))
+        }
+        Typed::OptBool | Typed::OptU8 | Typed::OptU16 | Typed::OptU32 | Typed::OptU64 => {
+            Ok(truth(take_opt(cons, typed)?))
+        }
+        _ => {
+            skip(cons, typed)?;
+            Ok(Answer::Passed)
+        }
+    }
+}

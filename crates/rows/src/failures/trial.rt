@@ -1,0 +1,442 @@
+//! A call that is tried: alone, with its refusal answered or dropped, and inside of others.
+ghost use Rattle.bcder.specs.Views.{Moved, MovedContent};
+
+use crate::asserts::{done, holds, same};
+use crate::calls::{Answer, Call, Take, ask};
+use crate::over::{failing_sip, failing_whole};
+use crate::sip::Sip;
+use bcder::decode::{Constructed, Content, DecodeError, Source};
+use bcder::{Mode, Tag};
+use std::alloc::Global;
+use std::process::Abort;
+
+/// A call, the rules and the octets that it reads, and what it answers and how many octets it
+/// leaves where the source doesn't fail.
+#[derive(Clone, Copy)]
+pub struct Trial<'a> {
+    pub mode: Mode,
+    pub octets: &'a [u8],
+    pub call: Call,
+    pub wanted: Answer,
+    pub left: usize,
+}
+
+/// Which request of a source fails, counted from 1, and whether a request makes all that is left
+/// available, or no more than it asks for.
+#[derive(Clone, Copy, Debug, PartialEq, Eq)]
+pub struct Failing {
+    pub number: usize,
+    pub whole: bool,
+}
+
+/// Where a call is made, and what becomes of its refusal.
+#[derive(Clone, Copy, Debug, PartialEq, Eq)]
+pub enum Place {
+    /// In `decode_lent`, which is not told of it.
+    Dropped,
+
+    /// In `decode`, which is told of it.
+    Answered,
+
+    /// In a value that this call takes, which is not told of it.
+    Inside(Take),
+
+    /// In a capture, which is not told of it.
+    Captured,
+}
+
+/// Where a source failed.
+#[derive(Clone, Copy, Debug, PartialEq, Eq)]
+enum Met {
+    /// Nowhere, or in the call around the one that is tried.
+    Nothing,
+
+    /// In the call that is tried.
+    InCall,
+
+    /// Behind it, in the same content.
+    Behind,
+}
+
+/// A source over octets, of which a request fails.
+fn source_of(rt: &impl Abort, alloc: Global, octets: &[u8], failing: Failing) -> Sip {
+    if failing.whole {
+        failing_whole(rt, alloc, octets, failing.number)
+    } else {
+        failing_sip(rt, alloc, octets, failing.number)
+    }
+}
+
+impl Trial<'_> {
+    /// Whether the call is refused where the source doesn't fail.
+    fn is_refused(&self) -> bool {
+        matches!(self.wanted, Answer::Lacking | Answer::Refused)
+    }
+
+    /// A refusal of content is what is wanted.
+    fn check_refusal<E: Drop>(&self, rt: &impl Abort, error: DecodeError<E>) {
+        holds(rt, error.content_error().is_some());
+        holds(rt, self.is_refused());
+    }
+
+    /// After a failure of the source a capture answers as ever, and anything else is refused.
+    fn ask_again<S: Source>(&self, rt: &impl Abort, alloc: Global, cons: &mut Constructed<'_, S>)
+        ensures { Moved S.stream cons }
+    {
+        match ask(cons, alloc, self.call) {
+            Ok(found) => holds(rt, self.call.captures() && found == self.wanted),
+            Err(error) => {
+                holds(rt, error.content_error().is_some());
+                holds(rt, !self.call.captures() || self.is_refused());
+            }
+        }
+    }
+
+    /// The call answers what is wanted, or the source failed in it: whether it did.
+    fn check_call<S: Source>(
+        &self,
+        rt: &impl Abort,
+        alloc: Global,
+        cons: &mut Constructed<'_, S>,
+    ) -> bool
+        ensures { Moved S.stream cons }
+    {
+        match ask(cons, alloc, self.call) {
+            Ok(found) => same(rt, found, self.wanted),
+            Err(error) if error.is_source() => {
+                self.ask_again(rt, alloc, cons);
+                return true;
+            }
+            Err(error) => self.check_refusal(rt, error),
+        }
+        false
+    }
+
+    // ---- alone
+
+    /// The refusal is dropped: then `decode_lent` refuses, unless the content is usable. Whether
+    /// the source failed.
+    fn check_dropped(&self, rt: &impl Abort, alloc: Global, failing: Failing) -> bool {
+        let mut source = source_of(rt, alloc, self.octets, failing);
+        let mut struck = false;
+        let decoded = self.mode.decode_lent(&mut source, |cons| {
+            struck = self.check_call(rt, alloc, cons);
+            Ok(())
+        });
+        same(rt, source.faults(), usize::from(struck));
+        let usable = self.call.captures() || !struck && self.wanted != Answer::Refused;
+        match decoded {
+            Ok(()) => holds(rt, usable),
+            Err(error) => holds(rt, !usable && error.content_error().is_some()),
+        }
+        if usable && (struck || failing.number == 0) {
+            same(rt, done(rt, source.skip(self.octets.len())), self.left);
+        }
+        struck
+    }
+
+    /// The refusal is answered: then `decode` answers it. Whether the source failed.
+    #[tactic(auto, using(bcder::proofs::Moving::moves_refl))]
+    fn check_answered<S: Source + Drop>(&self, rt: &impl Abort, alloc: Global, source: S) -> bool {
+        let call = self.call;
+        match self.mode.decode(source, |cons| ask(cons, alloc, call)) {
+            Ok(found) => same(rt, found, self.wanted),
+            Err(error) if error.is_source() => return true,
+            Err(error) => self.check_refusal(rt, error),
+        }
+        false
+    }
+
+    // ---- inside another call
+
+    /// Makes the call, and passes over what it leaves, whatever is refused.
+    fn settle<S: Source>(
+        &self,
+        rt: &impl Abort,
+        alloc: Global,
+        cons: &mut Constructed<'_, S>,
+    ) -> Met
+        ensures { Moved S.stream cons }
+    {
+        let struck = self.check_call(rt, alloc, cons);
+        match cons.skip_all(alloc) {
+            Err(error) if error.is_source() => Met::Behind,
+            _ if struck => Met::InCall,
+            _ => Met::Nothing,
+        }
+    }
+
+    /// The same in content, which has to be constructed.
+    fn settle_content<S: Source>(
+        &self,
+        rt: &impl Abort,
+        alloc: Global,
+        content: &mut Content<'_, S>,
+    ) -> (Result<(), DecodeError<S::Error>>, Met)
+        ensures { MovedContent S.stream content }
+    {
+        let mut met = Met::Nothing;
+        let outcome = content.as_constructed(|inner| {
+            met = self.settle(rt, alloc, inner);
+            Ok(())
+        });
+        (outcome, met)
+    }
+
+    /// The same in a value of either form.
+    fn enclose_value<S: Source>(
+        &self,
+        rt: &impl Abort,
+        alloc: Global,
+        cons: &mut Constructed<'_, S>,
+        take: Take,
+    ) -> (Result<Option<()>, DecodeError<S::Error>>, Met)
+        ensures { Moved S.stream cons }
+    {
+        let mut met = Met::Nothing;
+        let outcome = match take {
+            Take::OptValue => cons.take_opt_value(|_tag, content| {
+                let (outcome, found) = self.settle_content(rt, alloc, content);
+                met = found;
+                outcome
+            }),
+            Take::OptValueIf => cons.take_opt_value_if(Tag::SEQUENCE, |content| {
+                let (outcome, found) = self.settle_content(rt, alloc, content);
+                met = found;
+                outcome
+            }),
+            Take::ValueIf => {
+                let taken = cons.take_value_if(Tag::SEQUENCE, |content| {
+                    let (outcome, found) = self.settle_content(rt, alloc, content);
+                    met = found;
+                    outcome
+                });
+                taken.map(|_| Some(()))
+            }
+            _ => {
+                let taken = cons.take_value(|_tag, content| {
+                    let (outcome, found) = self.settle_content(rt, alloc, content);
+                    met = found;
+                    outcome
+                });
+                taken.map(|_| Some(()))
+            }
+        };
+        (outcome, met)
+    }
+
+    /// The same in a constructed value.
+    fn enclose_constructed<S: Source>(
+        &self,
+        rt: &impl Abort,
+        alloc: Global,
+        cons: &mut Constructed<'_, S>,
+        take: Take,
+    ) -> (Result<Option<()>, DecodeError<S::Error>>, Met)
+        ensures { Moved S.stream cons }
+    {
+        let mut met = Met::Nothing;
+        let outcome = match take {
+            Take::OptConstructed => cons.take_opt_constructed(|_tag, inner| {
+                met = self.settle(rt, alloc, inner);
+                Ok(())
+            }),
+            Take::OptConstructedIf => cons.take_opt_constructed_if(Tag::SEQUENCE, |inner| {
+                met = self.settle(rt, alloc, inner);
+                Ok(())
+            }),
+            Take::ConstructedIf => {
+                let taken = cons.take_constructed_if(Tag::SEQUENCE, |inner| {
+                    met = self.settle(rt, alloc, inner);
+                    Ok(())
+                });
+                taken.map(|_| Some(()))
+            }
+            _ => {
+                let taken = cons.take_constructed(|_tag, inner| {
+                    met = self.settle(rt, alloc, inner);
+                    Ok(())
+                });
+                taken.map(|_| Some(()))
+            }
+        };
+        (outcome, met)
+    }
+
+    /// The same in a sequence or a set.
+    fn enclose_sequence<S: Source>(
+        &self,
+        rt: &impl Abort,
+        alloc: Global,
+        cons: &mut Constructed<'_, S>,
+        take: Take,
+    ) -> (Result<Option<()>, DecodeError<S::Error>>, Met)
+        ensures { Moved S.stream cons }
+    {
+        let mut met = Met::Nothing;
+        let outcome = match take {
+            Take::OptSequence => cons.take_opt_sequence(|inner| {
+                met = self.settle(rt, alloc, inner);
+                Ok(())
+            }),
+            Take::OptSet => cons.take_opt_set(|inner| {
+                met = self.settle(rt, alloc, inner);
+                Ok(())
+            }),
+            Take::Set => {
+                let taken = cons.take_set(|inner| {
+                    met = self.settle(rt, alloc, inner);
+                    Ok(())
+                });
+                taken.map(|_| Some(()))
+            }
+            _ => {
+                let taken = cons.take_sequence(|inner| {
+                    met = self.settle(rt, alloc, inner);
+                    Ok(())
+                });
+                taken.map(|_| Some(()))
+            }
+        };
+        (outcome, met)
+    }
+
+    /// The same in a value that a call takes.
+    fn enclose<S: Source>(
+        &self,
+        rt: &impl Abort,
+        alloc: Global,
+        cons: &mut Constructed<'_, S>,
+        take: Take,
+    ) -> (Result<Option<()>, DecodeError<S::Error>>, Met)
+        ensures { Moved S.stream cons }
+    {
+        match take {
+            Take::Value | Take::OptValue | Take::ValueIf | Take::OptValueIf => {
+                self.enclose_value(rt, alloc, cons, take)
+            }
+            Take::Sequence | Take::OptSequence | Take::Set | Take::OptSet => {
+                self.enclose_sequence(rt, alloc, cons, take)
+            }
+            _ => self.enclose_constructed(rt, alloc, cons, take),
+        }
+    }
+
+    /// The same in a capture. One that is refused leaves the content as it was.
+    fn enclose_capture<S: Source>(
+        &self,
+        rt: &impl Abort,
+        alloc: Global,
+        cons: &mut Constructed<'_, S>,
+    ) -> (Result<Option<()>, DecodeError<S::Error>>, Met)
+        ensures { Moved S.stream cons }
+    {
+        let mut met = Met::Nothing;
+        let outcome = cons.capture(alloc, |inner| {
+            met = self.settle(rt, alloc, inner);
+            Ok(())
+        });
+        let outcome = match outcome {
+            Ok(captured) => {
+                same(rt, captured.len(), self.octets.len());
+                Ok(Some(()))
+            }
+            Err(error) => {
+                if self.wanted != Answer::Refused {
+                    let again = cons.capture_all(alloc);
+                    let all = self.octets.len();
+                    holds(rt, again.is_ok_and(|captured| captured.len() == all));
+                }
+                Err(error)
+            }
+        };
+        (outcome, met)
+    }
+
+    /// The octets as the content of a value, the end of which isn't there where the call is refused
+    /// and fails.
+    fn enclosed(&self, rt: &impl Abort, alloc: Global, identifier: u8) -> Vec<u8> {
+        let mut list = Vec::new(alloc);
+        let len = (self.octets.len() % 128) as u8;
+        let length = if self.mode.is_der() { len } else { 0x80 };
+        done(rt, list.extend_from_slice(&[identifier, length]));
+        done(rt, list.extend_from_slice(self.octets));
+        if !self.mode.is_der() && self.wanted != Answer::Refused {
+            done(rt, list.extend_from_slice(&[0x00, 0x00]));
+        }
+        list
+    }
+
+    /// The octets that are there for a place.
+    fn octets_for(&self, rt: &impl Abort, alloc: Global, place: Place) -> Vec<u8> {
+        match place {
+            Place::Inside(Take::Set | Take::OptSet) => self.enclosed(rt, alloc, 0x31),
+            Place::Inside(_) => self.enclosed(rt, alloc, 0x30),
+            _ => done(rt, self.octets.to_vec(alloc)),
+        }
+    }
+
+    /// The refusal is dropped inside another call: that one refuses, unless the content is usable.
+    /// Whether the source failed.
+    fn check_inside(&self, rt: &impl Abort, alloc: Global, place: Place, failing: Failing) -> bool {
+        let list = self.octets_for(rt, alloc, place);
+        let mut source = source_of(rt, alloc, list.as_slice(), failing);
+        let mut met = Met::Nothing;
+        let decoded = self.mode.decode_lent(&mut source, |cons| {
+            let (outcome, found) = match place {
+                Place::Inside(take) => self.enclose(rt, alloc, cons, take),
+                _ => self.enclose_capture(rt, alloc, cons),
+            };
+            met = found;
+            outcome
+        });
+        let struck = source.faults() == 1;
+        let usable = !struck || met == Met::InCall && self.call.captures();
+        match decoded {
+            Ok(found) => holds(
+                rt,
+                found.is_some() && usable && self.wanted != Answer::Refused,
+            ),
+            Err(error) if struck && met == Met::Nothing => holds(rt, error.is_source()),
+            Err(error) => {
+                holds(rt, error.content_error().is_some());
+                holds(rt, !usable || self.wanted == Answer::Refused);
+            }
+        }
+        struck
+    }
+
+    // ---- all
+
+    /// Tries the call where a request fails: whether there was one of that number.
+    fn check(&self, rt: &impl Abort, alloc: Global, place: Place, failing: Failing) -> bool {
+        match place {
+            Place::Dropped => self.check_dropped(rt, alloc, failing),
+            Place::Answered => {
+                self.check_answered(rt, alloc, source_of(rt, alloc, self.octets, failing))
+            }
+            _ => self.check_inside(rt, alloc, place, failing),
+        }
+    }
+
+    /// Tries it with no request that fails, and then with each, in turn, until there are no more.
+    pub fn run(&self, rt: &impl Abort, alloc: Global, place: Place, whole: bool) {
+        holds(
+            rt,
+            !self.check(rt, alloc, place, Failing { number: 0, whole }),
+        );
+        holds(
+            rt,
+            self.check(rt, alloc, place, Failing { number: 1, whole }),
+        );
+        for number in 2..REQUESTS {
+            if !self.check(rt, alloc, place, Failing { number, whole }) {
+                return;
+            }
+        }
+        holds(rt, false);
+    }
+}
+
+/// More requests than any of these calls makes.
+const REQUESTS: usize = 128;

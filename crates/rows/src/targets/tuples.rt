@@ -1,0 +1,89 @@
+//! Tuples of each size, as encoders.
+use bcder::Mode;
+use bcder::encode::{Primitive, PrimitiveContent, Values, WriteError};
+use std::io;
+
+/// The INTEGER of a number.
+fn n(number: u8) -> Primitive<u8> {
+    number.encode()
+}
+
+/// Writes a tuple of one to six.
+fn write_small<W: io::Write>(count: usize, mode: Mode, target: &mut W) -> Result<(), WriteError> {
+    match count {
+        1 => (n(1),).write_encoded(mode, target),
+        2 => (n(1), n(2)).write_encoded(mode, target),
+        3 => (n(1), n(2), n(3)).write_encoded(mode, target),
+        4 => (n(1), n(2), n(3), n(4)).write_encoded(mode, target),
+        5 => (n(1), n(2), n(3), n(4), n(5)).write_encoded(mode, target),
+        _ => (n(1), n(2), n(3), n(4), n(5), n(6)).write_encoded(mode, target),
+    }
+}
+
+/// Writes a tuple of seven to nine.
+fn write_large<W: io::Write>(count: usize, mode: Mode, target: &mut W) -> Result<(), WriteError> {
+    match count {
+        7 => (n(1), n(2), n(3), n(4), n(5), n(6), n(7)).write_encoded(mode, target),
+        8 => (n(1), n(2), n(3), n(4), n(5), n(6), n(7), n(8)).write_encoded(mode, target),
+        _ => {
+            let values = (n(1), n(2), n(3), n(4), n(5), n(6), n(7), n(8), n(9));
+            values.write_encoded(mode, target)
+        }
+    }
+}
+
+/// Writes a tuple of ten to twelve.
+fn write_largest<W: io::Write>(count: usize, mode: Mode, target: &mut W) -> Result<(), WriteError> {
+    match count {
+        10 => {
+            let values = (n(1), n(2), n(3), n(4), n(5), n(6), n(7), n(8), n(9), n(10));
+            values.write_encoded(mode, target)
+        }
+        11 => {
+            let values = (
+                n(1),
+                n(2),
+                n(3),
+                n(4),
+                n(5),
+                n(6),
+                n(7),
+                n(8),
+                n(9),
+                n(10),
+                n(11),
+            );
+            values.write_encoded(mode, target)
+        }
+        _ => {
+            let values = (
+                n(1),
+                n(2),
+                n(3),
+                n(4),
+                n(5),
+                n(6),
+                n(7),
+                n(8),
+                n(9),
+                n(10),
+                n(11),
+                n(12),
+            );
+            values.write_encoded(mode, target)
+        }
+    }
+}
+
+/// Writes a tuple of the INTEGERs from 1 on, of which there are as many as is asked for.
+pub fn write_tuple<W: io::Write>(
+    count: usize,
+    mode: Mode,
+    target: &mut W,
+) -> Result<(), WriteError> {
+    match count {
+        1..=6 => write_small(count, mode, target),
+        7..=9 => write_large(count, mode, target),
+        _ => write_largest(count, mode, target),
+    }
+}
