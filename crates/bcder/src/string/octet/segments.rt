@@ -50,6 +50,26 @@ fn any_segment_at(mode: Mode, octets: &[u8]) -> Option<(Option<usize>, &[u8])>
     }
 }
 
+/// The same, with a first look for a primitive segment with a header of four octets, as one of 256
+/// octets or more has (8.1.3.5).
+#[inline(always)]
+fn long_segment_at(mode: Mode, octets: &[u8]) -> Option<(Option<usize>, &[u8])>
+    ensures { Answers result (read_segment mode octets.now) }
+{
+    match octets {
+        [first, count, high, low, ..] => {
+            let len = usize::from(*high) * 0x100 + usize::from(*low);
+            let size = 4 + len;
+            if *first == OCTET_STRING && *count == 0x82 && len >= 0x100 && size <= octets.len() {
+                Some((Some(len), octets.split_at(size).1))
+            } else {
+                any_segment_at(mode, octets)
+            }
+        }
+        _ => any_segment_at(mode, octets),
+    }
+}
+
 /// The same, with a first look for a primitive segment with a header of two octets.
 #[inline(always)]
 fn segment_at(mode: Mode, octets: &[u8]) -> Option<(Option<usize>, &[u8])>
@@ -62,7 +82,7 @@ fn segment_at(mode: Mode, octets: &[u8]) -> Option<(Option<usize>, &[u8])>
             if *first == OCTET_STRING && len < 0x80 && size <= octets.len() {
                 Some((Some(len), octets.split_at(size).1))
             } else {
-                any_segment_at(mode, octets)
+                long_segment_at(mode, octets)
             }
         }
         _ => any_segment_at(mode, octets),
