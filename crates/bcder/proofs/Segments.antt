@@ -1,7 +1,7 @@
 -- Values whose headers are passed one by one: what is left of them, and of the segments that they are.
-use Rattle.std.proofs.Common.{◌≡◌, ℕ, suc, ◌+◌, ◌-◌, ◌<◌, ◌≤◌, Bool, true, false, List, [], ◌∷◌, ◌++◌, length, get_or, take, drop, Option, Some, None, refl, sym, ap, subst, ◌∙◌, append_assoc, append-nil, arith, inl, inr}
+use Rattle.std.proofs.Common.{◌≡◌, ℕ, suc, ◌+◌, ◌-◌, ◌*◌, ◌<◌, ◌≤◌, Bool, true, false, List, [], ◌∷◌, ◌++◌, length, get_or, take, drop, Option, Some, None, refl, sym, ap, subst, ◌∙◌, append_assoc, append-nil, arith, inl, inr}
 use Rattle.std.specs.Prelude.{nat_eq}
-use Rattle.std.proofs.lemmas.Bool.{lt-ltb, le-ltb}
+use Rattle.std.proofs.lemmas.Bool.{lt-ltb, le-ltb, le-leb}
 use Rattle.std.proofs.lemmas.Bool.Decides.{nat_tests}
 use Rattle.std.proofs.lemmas.List.{length-append, map-append, take_at, drop_at}
 use Rattle.bcder.specs.declared.mode.Mode.{Mode}
@@ -9,10 +9,10 @@ use Rattle.bcder.specs.declared.mode.Mode.TheVariants.{Ber, Cer, Der}
 use Rattle.bcder.specs.declared.length.Length.{Length}
 use Rattle.bcder.specs.declared.length.Length.TheVariants.{Definite}
 use Rattle.bcder.specs.Identifier.{Class, universal, application, context_specific, private, Tag}
-use Rattle.bcder.specs.Length.{IsEndOfContents}
+use Rattle.bcder.specs.Length.{big_endian, IsEndOfContents}
 use Rattle.bcder.specs.Tree.{Tree, primitive, constructed, Trees, no_trees, ◌∷ₜ◌}
 use Rattle.bcder.specs.Encoding.{IsHeader, IsDefinite, IsFramed, IsEncoding, AreEncodings}
-use Rattle.bcder.specs.Reading.{class_of, is_marked, read_identifier, read_header, read_length}
+use Rattle.bcder.specs.Reading.{class_of, is_marked, may_tell, read_identifier, read_header, read_length, read_long}
 use Rattle.bcder.specs.Captured.{AreWhole}
 use Rattle.bcder.specs.OctetString.{octet_string_tag, segments, segments_of, IsSegment, AreSegments, IsPiece, IsFull, IsLast, FollowFull, AreSegmentsIn, AreCut, segment_at, segments_at, AreWithin, IsTable}
 use Rattle.bcder.specs.declared.string.octet.Segment.{Segment}
@@ -209,6 +209,38 @@ short_segment mode (b ∷ (c ∷ x)) y n m two f e l a k is =
     let z : y ≡ drop n x = is ∙ rw d refl in
     let q : n ≤ length x = omega (arith, k, d) in
     let r : read_segment mode (b ∷ (c ∷ x)) ≡ Some (Some n, drop n x) = rw (f, sym e) (short_read mode n x l q) in
+    r ∙ ap (λ v. Some (Some n, v)) (sym z)
+
+-- ---- one with a header of four octets
+
+-- two octets may tell a length from 256 on in each mode
+two_may_tell : (mode : Mode) (n : ℕ) → 256 ≤ n → may_tell mode 2 n ≡ true
+unfolding may_tell
+two_may_tell Ber n l = refl
+two_may_tell Cer n l = le-leb 256 n l
+two_may_tell Der n l = le-leb 256 n l
+
+two_digits : (h l : ℕ) → big_endian (h ∷ (l ∷ [])) ≡ h * 256 + l
+two_digits h l = omega arith
+
+two_read : (mode : Mode) (h l n : ℕ) (x : List ℕ) → h * 256 + l ≡ n → 256 ≤ n → read_long mode 2 (h ∷ (l ∷ x)) ≡ Some (Definite n, x)
+unfolding read_long
+two_read mode h l n x e k = rw (le-ltb (suc (suc (length x))) 2 (omega arith), two_digits h l, e, two_may_tell mode n k) refl
+
+long_read : (mode : Mode) (h l n : ℕ) (x : List ℕ) → h * 256 + l ≡ n → 256 ≤ n → n ≤ length x → read_segment mode (4 ∷ (130 ∷ (h ∷ (l ∷ x)))) ≡ Some (Some n, drop n x)
+unfolding read_segment read_header read_identifier is_marked class_of read_length
+long_read mode h l n x e k s = rw (two_read mode h l n x e k, le-ltb (length x) n s) refl
+
+pub long_segment : (mode : Mode) (w y : List ℕ) (n m : ℕ) → 4 ≤ length w → get_or w 0 0 ≡ 4 → get_or w 1 0 ≡ 130 → n ≡ get_or w 2 0 * 256 + get_or w 3 0 → 256 ≤ n → m ≡ 4 + n → m ≤ length w → y ≡ drop m w → read_segment mode w ≡ Some (Some n, y)
+long_segment mode [] y n m four f c e l a k is = absurd (omega arith)
+long_segment mode (b ∷ []) y n m four f c e l a k is = absurd (omega arith)
+long_segment mode (b ∷ (b2 ∷ [])) y n m four f c e l a k is = absurd (omega arith)
+long_segment mode (b ∷ (b2 ∷ (b3 ∷ []))) y n m four f c e l a k is = absurd (omega arith)
+long_segment mode (b ∷ (b2 ∷ (h ∷ (o ∷ x)))) y n m four f c e l a k is =
+    let d : m ≡ suc (suc (suc (suc n))) = omega arith in
+    let z : y ≡ drop n x = is ∙ rw d refl in
+    let q : n ≤ length x = omega (arith, k, d) in
+    let r : read_segment mode (b ∷ (b2 ∷ (h ∷ (o ∷ x)))) ≡ Some (Some n, drop n x) = rw (f, c) (long_read mode h o n x (sym e) l q) in
     r ∙ ap (λ v. Some (Some n, v)) (sym z)
 
 -- ---- a loop over the headers

@@ -1,5 +1,5 @@
 -- Reading the segments of an octet string from the front on, with no look at how they are nested.
-use Rattle.std.specs.Prelude.{ℕ, Bool, true, false, List, length, drop, Option, Some, None, option_map, nat_eq, nat_lt, if◌then◌else◌}
+use Rattle.std.specs.Prelude.{◌≡◌, ℕ, Bool, true, false, List, length, drop, Option, Some, None, option_map, nat_eq, nat_lt, if◌then◌else◌}
 use Rattle.bcder.specs.declared.mode.Mode.{Mode}
 use Rattle.bcder.specs.declared.length.Length.{Length}
 use Rattle.bcder.specs.declared.length.Length.TheVariants.{Definite, Indefinite}
@@ -28,3 +28,7 @@ segment_behind (Some h) end = if is_octet_string h.0.tag then behind_header h.0.
 -- the primitive segment at the front is passed, and how many octets it holds is told; or the header of a constructed one is, or end-of-contents octets
 unfoldable pub read_segment : Mode → List ℕ → Option (Option ℕ × List ℕ)
 read_segment mode w = segment_behind (read_header mode w) (read_end mode w)
+
+-- a primitive segment of n contents octets begins these octets in each mode, and has m with its header
+abbrev pub BeginSegment : List ℕ → ℕ → ℕ → Type 0
+BeginSegment w m n = (mode : Mode) → read_segment mode w ≡ Some (Some n, drop m w)

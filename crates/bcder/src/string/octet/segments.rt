@@ -4,7 +4,7 @@ ghost use Rattle.std.specs.Prelude.{◌≡◌, ◌+◌, ◌≤◌, length, IfOk,
 ghost use Rattle.bcder.specs.Answers.{Answers};
 ghost use Rattle.bcder.specs.Captured.{AreWhole};
 ghost use Rattle.bcder.specs.OctetString.{AreCut, IsTable};
-ghost use Rattle.bcder.specs.Segments.{read_segment};
+ghost use Rattle.bcder.specs.Segments.{read_segment, BeginSegment};
 
 use super::Segment;
 use crate::length::{Length, after_end};
@@ -23,6 +23,7 @@ const OCTET_STRING: u8 = 0x04;
 /// The octets after the primitive segment at the front, and how many octets it holds; or those
 /// after the header of a constructed segment, or after end-of-contents octets.
 #[tactic(auto, unfolding(crate::specs::Segments::read_segment))]
+#[inline(never)]
 fn any_segment_at(mode: Mode, octets: &[u8]) -> Option<(Option<usize>, &[u8])>
     ensures { Answers result (read_segment mode octets.now) }
 {
@@ -50,22 +51,69 @@ fn any_segment_at(mode: Mode, octets: &[u8]) -> Option<(Option<usize>, &[u8])>
     }
 }
 
-/// The same, with a first look for a primitive segment with a header of two octets.
+/// The size of the primitive segment at the front and how many octets it holds, if its header has
+/// two octets (8.1.3.4) and all of it is here.
 #[inline(always)]
-fn segment_at(mode: Mode, octets: &[u8]) -> Option<(Option<usize>, &[u8])>
-    ensures { Answers result (read_segment mode octets.now) }
+fn short_segment(octets: &[u8]) -> Option<(usize, usize)>
+    ensures fits { IfSome result (λ r. r.0 ≤ length octets.now) }
+    ensures begins { IfSome result (λ r. BeginSegment octets.now r.0 r.1) }
 {
     match octets {
         [first, len, ..] => {
             let len = usize::from(*len);
             let size = 2 + len;
             if *first == OCTET_STRING && len < 0x80 && size <= octets.len() {
-                Some((Some(len), octets.split_at(size).1))
+                Some((size, len))
             } else {
-                any_segment_at(mode, octets)
+                None
             }
         }
-        _ => any_segment_at(mode, octets),
+        _ => None,
+    }
+}
+
+/// The same, if its header has four octets, as that of a segment of 256 octets or more
+/// (8.1.3.5).
+#[inline(always)]
+fn long_segment(octets: &[u8]) -> Option<(usize, usize)>
+    ensures fits { IfSome result (λ r. r.0 ≤ length octets.now) }
+    ensures begins { IfSome result (λ r. BeginSegment octets.now r.0 r.1) }
+{
+    match octets {
+        [first, count, high, low, ..] => {
+            let len = usize::from(*high) * 0x100 + usize::from(*low);
+            let size = 4 + len;
+            if *first == OCTET_STRING && *count == 0x82 && len >= 0x100 && size <= octets.len() {
+                Some((size, len))
+            } else {
+                None
+            }
+        }
+        _ => None,
+    }
+}
+
+/// What [`any_segment_at`] answers, with room for it that is cleared here, and not before the first
+/// looks.
+#[inline(always)]
+fn apart_at(mode: Mode, octets: &[u8]) -> Option<(Option<usize>, &[u8])>
+    ensures { Answers result (read_segment mode octets.now) }
+{
+    let found = any_segment_at(mode, octets);
+    found
+}
+
+/// The same, with first looks for a primitive segment with a header of two octets, or of four.
+#[inline(always)]
+fn segment_at(mode: Mode, octets: &[u8]) -> Option<(Option<usize>, &[u8])>
+    ensures { Answers result (read_segment mode octets.now) }
+{
+    match short_segment(octets) {
+        Some((size, len)) => Some((Some(len), octets.split_at(size).1)),
+        None => match long_segment(octets) {
+            Some((size, len)) => Some((Some(len), octets.split_at(size).1)),
+            None => apart_at(mode, octets),
+        },
     }
 }
 
