@@ -36,6 +36,10 @@ module _ (step : Step) where
   abbrev pub HasNo : List ℕ → Type 0
   HasNo cs = (w : List ℕ) → Spells w cs → ⊥
 
+  -- some octets do
+  abbrev pub HasSome : List ℕ → Type 0
+  HasSome cs = (w : List ℕ) × Spells w cs
+
   -- ---- what the calls of a set answer
 
   -- the next character, and the octets behind it are left; or none, at the end; or there is none in front

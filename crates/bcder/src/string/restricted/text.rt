@@ -35,7 +35,7 @@ impl<L: CharSet> RestrictedString<L> {
     /// `CharSet` where the set hasn't all characters of the text; `NoMemory` where there is no memory
     /// for the octets. The text is then dropped.
     pub fn from_string(alloc: Global, text: String) -> Result<Self, StringError>
-        ensures { MakesText L.step (string_bytes text) result }
+        ensures { MakesText L.step L.may_lack (string_bytes text) result }
     {
         match L::from_str(alloc, text.as_str())? {
             CowSlice::Owned(octets) => Ok(RestrictedString::of_bytes(Bytes::from_vec(octets)?)),
@@ -57,7 +57,7 @@ impl<L: CharSet> RestrictedString<L> {
     /// `CharSet` where the set hasn't all characters of the text; `NoMemory` where there is no memory
     /// for the octets.
     pub fn from_str(alloc: Global, text: &str) -> Result<Self, StringError>
-        ensures { MakesText L.step text.now result }
+        ensures { MakesText L.step L.may_lack text.now result }
     {
         match L::from_str(alloc, text)? {
             CowSlice::Borrowed(octets) => {
