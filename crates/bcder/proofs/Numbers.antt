@@ -36,6 +36,13 @@ magnitude_lt neg (b ∷ w) h =
     let p : 256 ^ suc (length w) ≡ 256 * 256 ^ length w = omega arith in
     omega arith
 
+AreOctets-take : (w : List ℕ) (i : ℕ) → AreOctets w → AreOctets (take i w)
+AreOctets-take [] zero o j = o j
+AreOctets-take [] (suc i) o j = o j
+AreOctets-take (b ∷ w) zero o j = omega arith
+AreOctets-take (b ∷ w) (suc i) o zero = o 0
+AreOctets-take (b ∷ w) (suc i) o (suc j) = AreOctets-take w i (λ k. o (suc k)) j
+
 -- magnitude of at most 16 octets fits 128 bits, on the way too
 pub magnitude_fits : (neg : Bool) (w : List ℕ) (i : ℕ) → AreOctets w → length w ≤ 16 → i < length w → (magnitude neg (take i w) * 256 + 255 < 2 ^ 128)
 magnitude_fits neg w i o l k =
@@ -43,13 +50,14 @@ magnitude_fits neg w i o l k =
     let count : length (take i w) ≡ i = omega (arith, length-take i w) in
     let power : 256 ^ length (take i w) ≤ 256 ^ 15 = pow-le-pow_right (omega arith) (let s : length (take i w) ≤ 15 = omega arith in s) in
     omega arith
-  where
-    AreOctets-take : (w : List ℕ) (i : ℕ) → AreOctets w → AreOctets (take i w)
-    AreOctets-take [] zero o j = o j
-    AreOctets-take [] (suc i) o j = o j
-    AreOctets-take (b ∷ w) zero o j = omega arith
-    AreOctets-take (b ∷ w) (suc i) o zero = o 0
-    AreOctets-take (b ∷ w) (suc i) o (suc j) = AreOctets-take w i (λ k. o (suc k)) j
+
+-- and of at most 8 octets 64 bits
+pub short_magnitude_fits : (neg : Bool) (w : List ℕ) (i : ℕ) → AreOctets w → length w ≤ 8 → i < length w → (magnitude neg (take i w) * 256 + 255 < 2 ^ 64)
+short_magnitude_fits neg w i o l k =
+    let below = magnitude_lt neg (take i w) (AreOctets-take w i o) in
+    let count : length (take i w) ≡ i = omega (arith, length-take i w) in
+    let power : 256 ^ length (take i w) ≤ 256 ^ 7 = pow-le-pow_right (omega arith) (let s : length (take i w) ≤ 7 = omega arith in s) in
+    omega arith
 
 magnitude_false : (w : List ℕ) → big_endian w ≡ magnitude false w
 magnitude_false [] = refl

@@ -1,5 +1,5 @@
 //! Primitive values, written from their contents octets (X.690, 8.1.1.2, 10.1).
-ghost use Rattle.std.specs.Prelude.{◌<◌, ◌≤◌, ◌^◌, length, drop, false};
+ghost use Rattle.std.specs.Prelude.{◌≡◌, ◌<◌, ◌≤◌, ◌+◌, ◌^◌, ◌∷◌, length, take, drop, false};
 ghost use Rattle.bcder.specs.Octets.{definite};
 ghost use Rattle.bcder.specs.Encoders.{WroteOctets, told};
 
@@ -25,6 +25,45 @@ pub(crate) fn put_apart<W: io::Write>(
 {
     put_header(target, tag, false, Length::Definite(contents.len()), why)?;
     put_all(target, contents, why)
+}
+
+/// The octets of a primitive value with one identifier octet and few contents octets, in front of
+/// others.
+#[inline(always)]
+fn together(identifier: u8, contents: &[u8]) -> [u8; 66]
+    requires { length contents.now ≤ 64 }
+    ensures { take (2 + length contents.now) result
+        ≡ identifier ∷ length contents.now ∷ contents.now }
+{
+    let len = contents.len();
+    let mut value = [0; 66];
+    value[0] = identifier;
+    value[1] = len as u8;
+    value[2..2 + len].copy_from_slice(contents);
+    value
+}
+
+/// Writes a primitive value from its contents octets: of up to 64, where its identifier is one
+/// octet, by one call of the target's `write`, if that takes all of it.
+#[inline(always)]
+pub(crate) fn put_contents<W: io::Write>(
+    tag: Tag,
+    contents: &[u8],
+    target: &mut W,
+    why: &mut WriteError,
+) -> Result<(), Failed>
+    requires { length contents.now < 2 ^ 32 }
+    ensures { WroteOctets W.contents target (definite tag false contents.now)
+        (told result why.new) }
+{
+    let len = contents.len();
+    if len > 64 {
+        return put_apart(tag, contents, target, why);
+    }
+    let Some(identifier) = tag.primitive_octet() else {
+        return put_apart(tag, contents, target, why);
+    };
+    put_all(target, &together(identifier, contents)[..2 + len], why)
 }
 
 /// Writes a primitive value with few contents octets, where its identifier is one octet by one

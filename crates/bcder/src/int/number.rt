@@ -81,6 +81,38 @@ fn magnitude_of(negative: bool, octets: &[u8]) -> u128
     value
 }
 
+/// What at most 8 octets tell of a number apart from its sign, in 64 bits.
+#[inline(always)]
+#[tactic(auto, using(crate::proofs::Numbers::magnitude_step))]
+fn short_magnitude_of(negative: bool, octets: &[u8]) -> u64
+    requires { length octets.now ≤ 8 }
+    ensures { result ≡ magnitude negative octets.now }
+{
+    let mut value = 0u64;
+    for octet in octets {
+        value = value * 256 + u64::from(turned(negative, *octet));
+    }
+    value
+}
+
+/// Whether the number of at most 8 octets is negative, and its magnitude, if they are contents
+/// octets of a number.
+#[inline(always)]
+fn short_parts_of(octets: &[u8]) -> Option<(bool, u64)>
+    requires { length octets.now ≤ 8 }
+    ensures some { IfSome result (λ r. AreInteger (complement_if r.0 r.1) octets.now) }
+    ensures none { IfNone result (IsNoNumber HasMagnitude octets.now) }
+{
+    if !is_smallest(octets) {
+        return None;
+    }
+    if is_negative(octets) {
+        Some((true, short_magnitude_of(true, octets)))
+    } else {
+        Some((false, short_magnitude_of(false, octets)))
+    }
+}
+
 /// Whether the number is negative, and its magnitude, if the octets are contents octets of a number
 /// whose magnitude has at most 128 bits.
 #[inline(never)]
@@ -122,11 +154,27 @@ pub(crate) fn number_at<N: Number>(octets: &[u8]) -> Option<N>
     if let [first] = octets {
         return small(*first);
     }
-    // taken apart, so that one octet keeps to its own path
+    if octets.len() <= 8 {
+        return short_number(octets);
+    }
+    // taken apart, so that few octets keep to their own paths
     let Some(number) = any_number(octets) else {
         return None;
     };
     Some(number)
+}
+
+/// The number of at most 8 octets.
+#[inline(always)]
+fn short_number<N: Number>(octets: &[u8]) -> Option<N>
+    requires { length octets.now ≤ 8 }
+    ensures some { IfSome result (IsNumber N.value N.in_range octets.now) }
+    ensures none { IfNone result (IsNoNumber N.in_range octets.now) }
+{
+    match short_parts_of(octets) {
+        Some((negative, magnitude)) => N::of(negative, u128::from(magnitude)),
+        None => None,
+    }
 }
 
 /// The same of any octets.

@@ -11,7 +11,7 @@ ghost use Rattle.bcder.specs.laws.Meanings.{Exactly_lawful, PieceMeans_lawful};
 ghost use Rattle.bcder.specs.laws.Meanings.{truth_octets_are};
 
 use super::PrimitiveContent;
-use crate::encode::short::{put_apart, put_short};
+use crate::encode::short::{put_contents, put_short};
 use crate::encode::slot::Failed;
 use crate::encode::target::write_all;
 use crate::encode::{EncodeError, WriteError};
@@ -120,7 +120,7 @@ pub(crate) fn put_octets<W: io::Write>(
     ensures { WritesPrimitive W.contents target tag (ExactlyOctets octets.now) ⊥
         (told result why.new) }
 {
-    put_apart(tag, octets, target, why)
+    put_contents(tag, octets, target, why)
 }
 
 /// Whether a primitive string may have so many contents octets (9.2).
@@ -172,7 +172,7 @@ fn put_string<W: io::Write>(
     ensures { WritesPrimitive W.contents target tag
         (PieceMeans LongCerPrimitive _mode octets.now) ⊥ (told result why.new) }
 {
-    put_apart(tag, octets, target, why)
+    put_contents(tag, octets, target, why)
 }
 
 /// These octets (8.7), in CER at most 1000 (9.2).
