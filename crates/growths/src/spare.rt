@@ -8,6 +8,7 @@ mod written;
 
 use crate::end::{End, tell};
 use anyhow::Error;
+use read::Tally;
 use std::alloc::Global;
 use values::Things;
 
@@ -38,26 +39,61 @@ fn room(alloc: Global) -> Result<Vec<u8>, Error> {
     Ok(Vec::with_capacity(alloc, 2000)?)
 }
 
-pub fn run(rt: &HostRuntime) -> Result<(), Error> {
+/// How all these calls ended.
+#[derive(Drop)]
+struct Ends {
+    tallies: [Tally; 7],
+    written: [(&'static str, bool); 6],
+    several: [(&'static str, bool); 4],
+    values: [(&'static str, bool); 9],
+    sources: [(&'static str, bool); 5],
+    control: Tally,
+}
+
+impl Ends {
+    /// Makes the calls.
+    fn new(
+        alloc: Global,
+        things: &Things,
+        again: Things,
+        octets: &mut Vec<u8>,
+        text: &mut String,
+    ) -> Ends {
+        Ends {
+            tallies: read::tallies(alloc),
+            written: written::ends(alloc, things, octets),
+            several: written::several_ends(octets),
+            values: values::ends(things, &again, text),
+            sources: values::source_ends(again),
+            control: read::control(alloc),
+        }
+    }
+
+    fn tell(&self, rt: &HostRuntime) -> Result<(), Error> {
+        for tally in self.tallies {
+            tally.tell(rt)?;
+        }
+        tell_all(rt, &self.written)?;
+        tell_all(rt, &self.several)?;
+        tell_all(rt, &self.values)?;
+        tell_all(rt, &self.sources)?;
+        self.control.tell(rt)
+    }
+}
+
+/// Makes the calls between two marks.
+fn make(rt: &HostRuntime, things: &Things, again: Things) -> Result<Ends, Error> {
     let alloc = rt.alloc();
-    let things = Things::new(alloc)?;
-    let again = Things::new(alloc)?;
     let mut octets = room(alloc)?;
     let mut text = String::with_capacity(alloc, 100)?;
     mark(rt, BEGIN, "Calls that take no memory:")?;
-    let tallies = read::tallies(alloc);
-    let written = written::ends(alloc, &things, &mut octets);
-    let several = written::several_ends(&mut octets);
-    let values = values::ends(&things, &again, &mut text);
-    let sources = values::source_ends(again, &mut octets);
-    let control = read::control(alloc);
+    let ends = Ends::new(alloc, things, again, &mut octets, &mut text);
     mark(rt, END, "Behind them:")?;
-    for tally in tallies {
-        tally.tell(rt)?;
-    }
-    tell_all(rt, &written)?;
-    tell_all(rt, &several)?;
-    tell_all(rt, &values)?;
-    tell_all(rt, &sources)?;
-    control.tell(rt)
+    Ok(ends)
+}
+
+pub fn run(rt: &HostRuntime) -> Result<(), Error> {
+    let things = Things::new(rt.alloc())?;
+    let again = Things::new(rt.alloc())?;
+    make(rt, &things, again)?.tell(rt)
 }

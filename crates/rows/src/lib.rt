@@ -1,8 +1,9 @@
 //! Uses of the library, and tests of it with values from outside that are no lines of data: those
 //! are in `vectors`. There is one module for each subject.
 //!
-//! [`sip`] is a source that can fail and makes available no more than what was asked for; each
-//! module of tests runs over it too. [`encoders`] has values of any size.
+//! [`sip`] is a source that can fail and makes available no more than what was asked for, or all it
+//! has; each module of tests runs over it too. [`encoders`] has values of any size, and [`calls`]
+//! the calls that read.
 #![tactic(auto)]
 
 #[cfg(test)]

@@ -145,7 +145,7 @@ impl Writer<'_> {
         let mut whole = Target::new(alloc, one_by_one, 0, failure);
         let outcome = self.write(rt, alloc, mode, &mut whole);
         whole.check_whole(rt, &outcome, wanted);
-        for failing in 1..=whole.calls {
+        for failing in 1..whole.calls.saturating_add(1) {
             let mut target = Target::new(alloc, one_by_one, failing, failure);
             let outcome = self.write(rt, alloc, mode, &mut target);
             target.check_failed(rt, outcome, wanted);

@@ -169,15 +169,15 @@ pub fn ends(one: &Things, other: &Things, text: &mut String) -> [(&'static str, 
     ]
 }
 
-/// The octets of a source, one by one.
-fn gives<S: Source>(source: &mut S, octets: &mut Vec<u8>, wanted: &[u8]) -> bool {
-    octets.clear();
-    while let Ok(Some(octet)) = source.take_opt_u8() {
-        if octets.push(octet).is_err() {
-            return false;
+/// Whether a source gives these octets, one by one, and no others.
+fn gives<S: Source>(source: &mut S, wanted: &[u8]) -> bool {
+    for octet in wanted {
+        match source.take_opt_u8() {
+            Ok(Some(found)) if found == *octet => {}
+            _ => return false,
         }
     }
-    octets.as_slice() == wanted
+    matches!(source.take_opt_u8(), Ok(None))
 }
 
 /// The octets within a limit are passed over, and no others are left there.
@@ -198,7 +198,7 @@ fn reads_tags() -> bool {
 }
 
 /// What sources answer, and calls that give up what they are called on.
-pub fn source_ends(things: Things, octets: &mut Vec<u8>) -> [(&'static str, bool); 5] {
+pub fn source_ends(things: Things) -> [(&'static str, bool); 5] {
     let Things {
         integer: _,
         unsigned: _,
@@ -210,7 +210,7 @@ pub fn source_ends(things: Things, octets: &mut Vec<u8>) -> [(&'static str, bool
         captured,
     } = things;
     let alone = Primitive::decode_slice(&[0x05], Mode::Der, |octets| octets.to_u8());
-    let cut = gives(&mut cut.into_source(), octets, b"abcd");
+    let cut = gives(&mut cut.into_source(), b"abcd");
     let kept = captured.decode(|cons| cons.take_u8());
     [
         ("LimitedSource", passes_limit()),
