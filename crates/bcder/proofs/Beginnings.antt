@@ -8,7 +8,7 @@ use Rattle.bcder.specs.declared.length.Length.TheVariants.{Definite, Indefinite}
 use Rattle.bcder.specs.Identifier.{AreOctets, Tag, end_of_contents, IsTag, base128, identifier}
 use Rattle.bcder.specs.Length.{big_endian, AreLengthOctets}
 use Rattle.bcder.specs.Reading.{may_tell, read_long, read_length, third_digit, second_digit, read_number, class_of, is_marked, read_identifier, read_front}
-use Rattle.bcder.specs.Begins.{BeginsNoIdentifier, BeginsLength, BeginsNoLength}
+use Rattle.bcder.specs.Begins.{BeginsNoIdentifier}
 use Rattle.bcder.specs.laws.Identifiers.{read_identifier-identifier, identifier_some}
 use Rattle.bcder.specs.laws.Lengths.{read_length-tells}
 use Rattle.bcder.specs.laws.Sound.{identifier_sound, length_sound}
@@ -247,13 +247,3 @@ begins_no_identifier w e t f x fits is = some_is_none _ (sym (read_identifier-id
 pub end_begins_no_identifier : (w : List ℕ) → w ≡ [] → BeginsNoIdentifier w
 unfolding read_identifier
 end_begins_no_identifier w e = begins_no_identifier w (rw e refl)
-
-pub length_stands : (mode : Mode) (w : List ℕ) (len : Length) (z : List ℕ) → HasLength mode w len z → (x : List ℕ) → BeginsLength mode len (w ++ x) (drop (length w - length z) (w ++ x))
-length_stands mode w len z l x = (l.octets, l.tells, ap (λ v. v ++ x) l.is ∙ append_assoc l.octets z x ∙ ap (λ v. l.octets ++ v) (sym (behind w l.octets z x l.is)))
-
-pub begins_no_length : (mode : Mode) (w : List ℕ) → read_length mode w ≡ None → BeginsNoLength mode w
-begins_no_length mode w e len v x tells is = some_is_none _ (sym (read_length-tells mode len v x tells) ∙ ap (read_length mode) (sym is) ∙ e)
-
-pub end_begins_no_length : (mode : Mode) (w : List ℕ) → w ≡ [] → BeginsNoLength mode w
-unfolding read_length
-end_begins_no_length mode w e = begins_no_length mode w (rw e refl)

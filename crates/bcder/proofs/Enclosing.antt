@@ -19,13 +19,6 @@ primitive_given t M c m fits v =
 pub constructed_given : (t : Tag) (mode : Mode) (M : Meaning → Type 0) (x : Encoded) → M (Ok x) → fits_enclosed mode t (length x.octets) ≡ true → IsValueTag t → ValueMeans t (constructed_meaning t mode) M (Ok (constructed_encoded mode t x))
 constructed_given t mode M x m fits v = inr (v, (Ok x, m, rw fits refl))
 
--- a length has one meaning
-pub length_same : (len : Length) (m n : ContentsMeaning) → LengthMeans len m → LengthMeans len n → m ≡ n
-length_same len (Ok v) (Ok w) p q = ap Ok (p.1 ∙ sym q.1)
-length_same len (Ok v) (Err e) p q = cc
-length_same len (Err d) (Ok w) p q = cc
-length_same len (Err d) (Err e) p q = ap Err (p.1 ∙ sym q.1)
-
 pub header-length : (t : Tag) (f : Bool) (len : Length) → length (header t f len) ≡ length (identifier t f) + length (length_octets len)
 header-length t f len = length-append (identifier t f) (length_octets len)
 

@@ -49,9 +49,6 @@ pub too_few : (mode : Mode) (o : Option ℕ) (es : List Entry) (x y : List ℕ) 
 unfolding ends
 too_few mode o es x y m = refl
 
-none_after : (calls : List Heading) → after calls None ≡ None
-none_after calls = refl
-
 pub goes_on : (mode : Mode) (top : Entry) (es : List Entry) (x y : List ℕ) (m : ℕ) → AreOctets x → at_end mode (is_indefinite top) x ≡ None → ends mode (top ∷ es) x m y ≡ next_to mode (top ∷ es) (read_tree mode x) m y
 unfolding ends
 goes_on mode (Definite out) es x y zero o e = rw (read_list_step mode false x o, e) (go (read_tree mode x))
@@ -79,9 +76,6 @@ goes_on mode Indefinite es x y m o e = rw (read_list_step mode true x o, e) (go 
     go (Some t) = inner t.0 (read_list mode true t.1)
 
 -- ---- what a header announces
-
-pub none_there : (mode : Mode) (es : List Entry) (m : ℕ) (y : List ℕ) → next_to mode es None m y ≡ None
-none_there mode es m y = refl
 
 -- more octets than there are
 pub too_long : (inside : Inside) (t : Tag) (f : Bool) (n : ℕ) (z : List ℕ) → length z < n → read_contents inside t f (len.Definite n) z ≡ None

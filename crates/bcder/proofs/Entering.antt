@@ -215,9 +215,6 @@ module _ (c d : Reading) (s : Resembles c d) (f : c.stream.faults ≤ d.stream.f
 
 -- ---- a value of any tag
 
-marker_ends : (c d : Reading) → TakesMarker c d → EndsAt c d × IsDone d
-marker_ends c d x = (inr (x.usable, of_indefinite x.kind x.marker), inl x.ended)
-
 pub front_nothing : (c : Reading) → Within c → (c.kind ≢ Octets) → c.state ≡ Open → NoFront c → NothingThere any c
 front_nothing c w k o x = record {
   usable = o;
@@ -315,14 +312,8 @@ module _ (c d : Reading) (s : Resembles c d) (o : c.state ≡ Open) where
   pub if_front_nothing : (t : Tag) (h : Header) (x : List ℕ) → NoFront c → read_front c.mode d.stream.rest ≡ Some (h, x) → h.tag ≡ t → NothingThere (tagged t) c
   if_front_nothing t h x n r e = if_nothing c t h x o n (subst (λ z. read_front c.mode z ≡ Some (h, x)) s.rest r) e
 
-pub if_used_up : (c : Reading) (t : Tag) → Within c → c.state ≡ Open → c.owed ≡ Some 0 → IsAbsent (tagged t) c c.stream.rest × IsLeft t c c
-if_used_up c t w o e = let z = used_rest c w e in (inr (o, none_left z z), inl (refl, refl))
-
 pub if_marker : (c d : Reading) (t u : Tag) → u ≡ t → u ≡ end_of_contents → TakesMarker c d → IsAbsent (tagged t) c d.stream.rest × IsLeft t c d
 if_marker c d t u e f x = (inr (x.usable, marker (sym e ∙ f) x.kind x.marker), inr (sym e ∙ f, x.usable, x.ended))
-
-pub grew_moves : (a b : ℕ) → Grew a b → a ≤ b
-grew_moves a b g = g.no_smaller
 
 -- ---- why content is not left at its end
 

@@ -56,31 +56,5 @@ list_is_found (Some x) now mode octets o h = (λ _. (h.0, list_sound mode octets
 
 -- ---- what was found is what reading gives
 
-pub header_reads : (mode : Mode) (t : Tag) (f : Bool) (len : Length) (octets rest : List ℕ) → HeaderFound mode t f len octets rest → read_header mode octets ≡ Some (record { tag = t; form = f; len = len }, rest)
-header_reads mode t f len octets rest h = ap (read_header mode) h.2 ∙ header_complete mode t f len h.0 rest h.1
-
 pub rest_shorter : (mode : Mode) (t : Tag) (f : Bool) (len : Length) (octets rest : List ℕ) → HeaderFound mode t f len octets rest → length rest + 2 ≤ length octets
 rest_shorter mode t f len octets rest h = omega (arith, header_size mode t f len h.0 h.1, ap length h.2, length-append h.0 rest)
-
-no_headed : (mode : Mode) (octets : List ℕ) (t : Tag) (f : Bool) (len : Length) (x : List ℕ) → NoHeader mode octets → Headed mode (record { tag = t; form = f; len = len }) octets x → ⊥
-no_headed mode octets t f (Definite n) x none h = none t f (Some n) h.octets x h.is_header h.is
-no_headed mode octets t f Indefinite x none h = none t f None h.octets x h.is_header h.is
-
-pub no_header_reads : (mode : Mode) (octets : List ℕ) → AreOctets octets → NoHeader mode octets → read_header mode octets ≡ None
-no_header_reads mode octets o none = go (read_header mode octets) refl
-  where
-    go : (r : Option (Header × List ℕ)) → read_header mode octets ≡ r → r ≡ None
-    go None e = refl
-    go (Some r) e = absurd (no_headed mode octets r.0.tag r.0.form r.0.len r.1 none (header_sound mode octets r o e))
-
-no_end_reads : (mode : Mode) (octets : List ℕ) → AreOctets octets → NoEnd mode octets → read_end mode octets ≡ None
-no_end_reads mode octets o none = go (read_end mode octets) refl
-  where
-    go : (r : Option (List ℕ)) → read_end mode octets ≡ r → r ≡ None
-    go None e = refl
-    go (Some x) e = let d = end_sound mode octets x o e in absurd (none d.marker x d.is_end d.is)
-
-pub end_reads : {X : Type 0} (r : Option X) (now : X → List ℕ) (mode : Mode) (octets : List ℕ) → AreOctets octets → IfSome r (λ x. EndFound mode octets (now x)) → IfNone r (NoEnd mode octets)
-    → MatchOption r (at_end mode true octets ≡ None) (λ x. at_end mode true octets ≡ Some (now x))
-end_reads None now mode octets o found none = at_end-marked mode octets ∙ no_end_reads mode octets o none
-end_reads (Some x) now mode octets o found none = at_end-marked mode octets ∙ ap (read_end mode) found.2 ∙ read_end-complete mode found.0 (now x) found.1

@@ -159,9 +159,6 @@ no_marker_other mode w after h x e n m = n (front_inj w mode h end_header x afte
 pub no_marker_empty : (mode : Mode) (w after : List ℕ) → w ≡ [] → HasMarker mode w after → ⊥
 no_marker_empty mode w after e m = omega (arith, ap length e, ap length m.rest, ap length m.is_end.is, length-append m.marker after)
 
-pub marker_rest : (mode : Mode) (w x y : List ℕ) → HasMarker mode w x → HasMarker mode w y → x ≡ y
-marker_rest mode w x y a b = (front_inj w mode end_header end_header x y (front_of_marker mode w x a) (front_of_marker mode w y b)).1
-
 -- a header is no marker, and no tag of its own is another
 end_no_value : is_value_tag end_of_contents ≡ false
 end_no_value = refl
@@ -189,10 +186,6 @@ pub unread_of : (mode : Mode) (t : Tag) (w : List ℕ) → HasNoLength mode t w 
 unfolding read_front
 unread_of mode t w (inl e) = rw e refl
 unread_of mode t w (inr h) = rw (h.2, h.3) refl
-
-pub no_other_empty : (t : Tag) (w : List ℕ) → w ≡ [] → HasOther t w → ⊥
-unfolding read_identifier
-no_other_empty t w e o = none_triple _ (ap read_identifier (sym e) ∙ identified_of t w o)
 
 -- ---- an encoding behind a header
 

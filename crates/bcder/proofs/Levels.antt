@@ -49,9 +49,6 @@ pub record EndsOn (mode : Mode) (w : List ℕ) (count : ℕ) (left : List ℕ) :
   pub shorter : length left + count ≤ length w + 1
   pub ends : (x : List ℕ) → Closes mode count left x → ListRead mode true w x
 
-pub ends_on : (mode : Mode) (w : List ℕ) → AreOctets w → EndsOn mode w 1 w
-ends_on mode w o = record { octets = o; some = omega arith; shorter = omega arith; ends = λ x c. subst (λ y. ListRead mode true w y) c.2 c.1 }
-
 marked_end : (mode : Mode) (w x : List ℕ) → AreOctets w → read_end mode w ≡ Some x → ListRead mode true w x
 marked_end mode w x o e = list_ends mode true w x o (at_end-marked mode w ∙ e)
 

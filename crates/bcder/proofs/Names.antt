@@ -20,16 +20,6 @@ pub moves_content_name : {S : Type 0} (stream : S → Stream) (a b : Content S) 
 unfolding Moves
 moves_content_name stream a b m = sym (name_of_content stream b) ∙ m.name ∙ name_of_content stream a
 
-pub stream_of_content : {S : Type 0} (stream : S → Stream) (a : Content S) → (of_content stream a).stream ≡ limited_stream stream (content_source a)
-unfolding of_primitive of_constructed
-stream_of_content stream (content.Primitive p) = refl
-stream_of_content stream (content.Constructed p) = refl
-
-pub owed_of_content : {S : Type 0} (stream : S → Stream) (a : Content S) → (of_content stream a).owed ≡ (content_source a).limit
-unfolding of_primitive of_constructed
-owed_of_content stream (content.Primitive p) = refl
-owed_of_content stream (content.Constructed p) = refl
-
 pub moves_constructed_name : {S : Type 0} (stream : S → Stream) (a b : Constructed S) → Moves (of_constructed stream a) (of_constructed stream b) → b.source.ghost_name ≡ a.source.ghost_name
 unfolding of_constructed Moves
 moves_constructed_name stream a b m = m.name

@@ -217,17 +217,6 @@ module _ (p : Progress) (k : ℕ) (w v : List ℕ) (in_segment : k ≤ p.left) (
 pub none_begun : (len : ℕ) (w : List ℕ) → 0 < length w → to_write (record { left = 0; behind = len }) w ≡ (segments_in_cer w).octets
 none_begun len w some = unwritten_some w some
 
-pub all_written : (p : Progress) → to_write p [] ≡ []
-all_written p = ap (λ l. l ++ unwritten (drop p.left [])) (take_none p.left) ∙ ap unwritten (drop_none p.left)
-  where
-    take_none : (k : ℕ) → ◌≡◌ {A = List ℕ} (take k []) []
-    take_none zero = refl
-    take_none (suc k) = refl
-
-    drop_none : (k : ℕ) → ◌≡◌ {A = List ℕ} (drop k []) []
-    drop_none zero = refl
-    drop_none (suc k) = refl
-
 -- the next part was written
 pub next_part : {p q r : Progress} {u l : List ℕ} (part m : List ℕ) {a b c : Option (List ℕ)} → l ≡ part ++ m → Advanced p u q l a b
     → ((v : List ℕ) → IsProgress q (part ++ v) → Advanced q (part ++ v) r v b c) → Advanced p u r m a c

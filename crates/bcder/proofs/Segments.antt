@@ -440,9 +440,6 @@ pub record Pieces (w rest : List ℕ) (count : ℕ) (full : Bool) : Type 0 where
   pub number : count_of values ≡ count + count_of left
   pub bound : count + length rest ≤ length w
 
-pub pieces_all : (w : List ℕ) → AreWhole Cer w → Pieces w w 0 true
-pieces_all w h = record { values = h.values; encode = h.encode; left = h.values; others = h.encode; remain = λ k. k; were = λ k. k; number = omega arith; bound = omega arith }
-
 pub pieces_shorter : (w rest after : List ℕ) (count : ℕ) (full : Bool) (found : Option ℕ) → Pieces w rest count full → 1 ≤ length rest → read_segment Cer rest ≡ Some (found, after) → length after + 2 ≤ length rest
 pieces_shorter w rest after count full found c some r = passed_shorter Cer (before c.left no_items) rest after found (all_items Cer c.left rest c.others) some r
 

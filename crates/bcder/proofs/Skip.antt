@@ -129,9 +129,6 @@ pub record ReadsOn (mode : Mode) (marked : Bool) (w left : List ℕ) : Type 0 wh
   pub fails : read_list mode marked left ≡ None → read_list mode marked w ≡ None
   pub ends : (x : List ℕ) → ListRead mode marked left x → ListRead mode marked w x
 
-pub reads_on : (mode : Mode) (marked : Bool) (w : List ℕ) → AreOctets w → ReadsOn mode marked w w
-reads_on mode marked w o = record { octets = o; shorter = omega arith; fails = λ e. e; ends = λ x e. e }
-
 pub reads_more : (mode : Mode) (marked : Bool) (w v y : List ℕ) → ReadsOn mode marked w v → at_end mode marked v ≡ None → TreeRead mode v y → length y + 2 ≤ length v → ReadsOn mode marked w y
 reads_more mode marked w v y k e t l =
     let s = tree_sound mode v (t.0, y) k.octets t.1 in

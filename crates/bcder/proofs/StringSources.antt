@@ -33,10 +33,6 @@ module _ (w : List ℕ) (ss : List Segment) (n : ℕ) (s : Segment) (some : n < 
   pub next_of : segments_at w (drop n ss) ≡ segment_at w s ∷ segments_at w (drop (n + 1) ss)
   next_of = ap (segments_at w) next_is
 
--- octets that are passed over in front
-pub front_passed : (k : ℕ) (w x : List ℕ) → k ≤ length w → drop k w ++ x ≡ drop k (w ++ x)
-front_passed k w x h = sym (drop-append-le k w x h)
-
 pub passed_octets : (k : ℕ) (w x : List ℕ) → k ≤ length w → AreOctets (w ++ x) → AreOctets (drop k w ++ x)
 passed_octets k w x h o = subst AreOctets (drop-append-le k w x h) (AreOctets-drop k (w ++ x) o)
 

@@ -202,12 +202,6 @@ module _ {C T X : Type 0} (view : C → Reading) (post : Tag → MutBor C → Re
     pub needs_refused : (e : DecodeError X) → TakesNext view post form asked c (Err e) d → Takes view post form asked c (Err e) d
     needs_refused e n = record { value = tt; shorter = tt; refused = inr (n.failed, n.refused); mode = n.mode }
 
--- where no form is refused, why a value wasn't taken
-pub value_not_taken : {C T X : Type 0} (view : C → Reading) (post : Tag → MutBor C → Result T (DecodeError X) → MutBor C → Type 0) (asked : Asked) (c : Reading) (e : DecodeError X) (d : Reading) → RefusesTake view post None asked c e d → RefusesValue cause_of view post asked c e d
-value_not_taken view post asked c e d (by_header h m) = value_refused cause_of view post asked c e d h
-value_not_taken view post asked c e d (by_form f o m) = absurd f
-value_not_taken view post asked c e d (by_content f) = calls.RefusesValue.content f
-
 -- a closure that hands on what it is handed to one of content alone
 module _ {C R : Type 0} (view : C → Reading) (post : MutBor C → R → MutBor C → Type 0) where
   pub moves_on : (P : Reading → Type 0) → ((p : MutBor C) (r : R) (q : MutBor C) → P (view p.now) → post p r q → Moves (view p.now) (view q.now)) → (i : Reading) (r : R) (j : Reading) → P i → AnsweredOn view post i r j → Moves i j

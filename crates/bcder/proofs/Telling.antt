@@ -44,18 +44,6 @@ octets_equal x y v w false o p a c e = go (int_eq x y) refl
 
 -- ---- unsigned numbers
 
-pub plain_smallest : (w : List ℕ) → BeginsAboveZero w → Leads false w → IsSmallest w
-plain_smallest [] b l = absurd l
-plain_smallest (a ∷ []) b l = tt
-plain_smallest (a ∷ c ∷ w) b l = (λ e. absurd (b e), λ e. absurd (omega (arith, l, e)))
-
-pub padded_smallest : (w : List ℕ) → (Leads false w → ⊥) → IsSmallest (0 ∷ w)
-padded_smallest [] n = tt
-padded_smallest (b ∷ w) n = (λ _. elim (cases_lt b 128) [ inl l ↦ absurd (n l) | inr l ↦ l ], λ e. absurd (omega (arith, e)))
-
-pub leads_number : (w : List ℕ) → Leads false w → number w ≡ pos (big_endian w)
-leads_number w l = number_positive w (big_endian w) l refl
-
 pub unsigned_leads : (n : ℕ) (w : List ℕ) → AreOctets w → AreInteger (pos n) w → Leads false w
 unsigned_leads n w o a = by_told (pos n) refl (told_by (pos n) w o a)
   where
@@ -68,22 +56,6 @@ leads_both [] a b = a
 leads_both (c ∷ w) a b = omega (arith, a, b)
 
 -- ---- zeros in front
-
-behind_zero : (w : List ℕ) → big_endian (0 ∷ w) ≡ big_endian w
-behind_zero w = omega arith
-
-pub zeros_more : (w : List ℕ) (i : ℕ) → i < length w → get_or w i 0 ≡ 0 → big_endian (drop i w) ≡ big_endian w → (big_endian (drop (i + 1) w) ≡ big_endian w) × (0 < i + 1 → drop (i + 1 - 1) w ≡ 0 ∷ drop (i + 1) w)
-zeros_more w i l z e =
-    let c : drop i w ≡ 0 ∷ drop (i + 1) w = rw add-one (drop-cons w i 0 l ∙ ap (λ b. b ∷ drop (suc i) w) z) in
-    let p : i + 1 - 1 ≡ i = omega arith in
-    let z : big_endian (drop i w) ≡ big_endian (drop (i + 1) w) = ap big_endian c ∙ behind_zero (drop (i + 1) w) in
-    (sym z ∙ e, λ _. rw p c)
-
-pub zeros_found : (w : List ℕ) (i : ℕ) → i < length w → get_or w i 0 ≢ 0 → big_endian (drop i w) ≡ big_endian w → (0 < i → drop (i - 1) w ≡ 0 ∷ drop i w) → BeginsWithZeros w i
-zeros_found w i l z e f = record { within = omega arith; number = e; last = f; next = subst BeginsAboveZero (sym (drop-cons w i 0 l)) z }
-
-pub zeros_all : (w : List ℕ) (i : ℕ) → i ≡ length w → big_endian (drop i w) ≡ big_endian w → (0 < i → drop (i - 1) w ≡ 0 ∷ drop i w) → BeginsWithZeros w i
-zeros_all w i l e f = record { within = omega arith; number = e; last = f; next = subst BeginsAboveZero (sym (drop_all i w (omega arith))) tt }
 
 -- ---- the same of unsigned numbers
 

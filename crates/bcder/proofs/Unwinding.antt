@@ -53,10 +53,6 @@ no_room v r h e = elim (cases_lt (small_vec_len v) v.capacity) [
 pub full_deep : (v : Opened) → IsCounted v → v.frames.now.capacity ≤ small_vec_len v.frames.now → 4 ≤ v.depth
 full_deep v c l = (let x : 4 ≤ v.frames.now.capacity = c.inline in omega (arith, c.depth, indefinites_count v.inner (framed v.frames.now), around_count (reverse v.frames.now.items), length-reverse v.frames.now.items))
 
-pub top_indefinite : (n : ℕ) (es : List Entry) (k : Kind) → 0 < n → k ≡ kind.Indefinite → TopIs (indefinites n es) k
-top_indefinite zero es k l e = absurd (omega arith)
-top_indefinite (suc n) es k l e = e
-
 pub top_definite : (n : ℕ) (fs : List Frame) (k : Kind) → n ≤ 0 → k ≡ kind.Definite → TopIs (indefinites n (around fs)) k
 top_definite zero [] k l e = refl
 top_definite zero (f ∷ fs) k l e = e

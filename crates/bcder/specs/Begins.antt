@@ -16,11 +16,3 @@ BeginsNoIdentifier w = (t : Tag) (f : Bool) (x : List ℕ) → IsTag t → w ≡
 -- there are octets, and they begin with no tag's identifier octets
 abbrev pub HasNoIdentifier : List ℕ → Type 0
 HasNoIdentifier w = (1 ≤ length w) × BeginsNoIdentifier w
-
--- w is length octets, and x behind them
-abbrev pub BeginsLength : Mode → Length → List ℕ → List ℕ → Type 0
-BeginsLength mode len w x = (v : List ℕ) × AreLengthOctets mode len v × (w ≡ v ++ x)
-
--- w begins with no length octets
-abbrev pub BeginsNoLength : Mode → List ℕ → Type 0
-BeginsNoLength mode w = (len : Length) (v x : List ℕ) → AreLengthOctets mode len v → w ≡ v ++ x → ⊥

@@ -42,7 +42,6 @@ pub mod ReadBits
 pub mod Decoding
 pub mod Begins
 pub mod PeekTag
-pub mod PeekLength
 pub mod Answers
 pub mod Changed
 pub mod Repeating

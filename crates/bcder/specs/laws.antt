@@ -7,7 +7,6 @@ pub mod Sound
 pub mod Stands
 pub mod Octets
 pub mod Lists
-pub mod Options
 pub mod Preorder
 pub mod Limits
 pub mod Integers

@@ -1,13 +1,13 @@
 //! Length octets and end-of-contents octets (X.690, 8.1.3, 8.1.5, 9.1, 10.1).
-ghost use Rattle.std.specs.Prelude.{◌≡◌, ℕ, ◌<◌, ◌≤◌, ◌^◌, ◌↔◌, Bool, List, length, IsTrue};
-ghost use Rattle.std.specs.Prelude.{Some, None, IfSome, IfNone, MatchOption};
+ghost use Rattle.std.specs.Prelude.{◌≡◌, ℕ, ◌<◌, ◌≤◌, ◌^◌, ◌↔◌, Bool, List, ◌++◌, length, IsTrue};
+ghost use Rattle.std.specs.Prelude.{false, Some, None, IfSome, IfNone, MatchOption};
+ghost use Rattle.bcder.specs.declared.mode.Mode.{Mode as ModeValue};
 ghost use Rattle.bcder.specs.Answers.{Answers};
 ghost use Rattle.bcder.specs.Length.{big_endian};
 ghost use Rattle.bcder.specs.Reading.{least, may_tell, read_length, read_long, read_end};
 
 use crate::mode::Mode;
 
-pub(crate) mod take;
 pub(crate) mod write;
 
 /// What length octets say.
@@ -93,6 +93,19 @@ pub(crate) fn length_at(mode: Mode, octets: &[u8]) -> Option<(Length, &[u8])>
                 long_at(mode, usize::from(*first - 0x80), rest)
             }
         }
+    }
+}
+
+/// Whether octets that hold no length octets may begin some.
+#[tactic(auto, using(crate::proofs::Beginnings::length_decides))]
+pub(crate) fn length_goes_on(octets: &[u8]) -> bool
+    ensures short { IsTrue result → length octets.now < 5 }
+    ensures refused { result ≡ false → (mode : ModeValue) (x : List ℕ)
+        → read_length mode octets.now ≡ None → read_length mode (octets.now ++ x) ≡ None }
+{
+    match octets {
+        [] => true,
+        [first, digits @ ..] => *first <= 0x84 && digits.len() + 0x80 < usize::from(*first),
     }
 }
 

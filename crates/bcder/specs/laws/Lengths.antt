@@ -15,9 +15,6 @@ IsLengthForm-from_length Ber n w h = h
 IsLengthForm-from_length Cer n w h = h.0
 IsLengthForm-from_length Der n w h = h.0
 
-AreOctets-tail : (a : ℕ) (w : List ℕ) → AreOctets (a ∷ w) → AreOctets w
-AreOctets-tail a w h i = h (suc i)
-
 shorter : (n a : ℕ) (ds : List ℕ) → 1 ≤ length ds → length ds ≤ 3 → AreOctets ds → big_endian ds ≡ n → IsShortest n ((0x80 + suc (length ds)) ∷ a ∷ ds) → ⊥
 shorter n a ds some limit octets number h =
     let l = h ((0x80 + length ds) ∷ ds) (inr (record { digits = ds; is = refl; some = some; limit = omega arith; octets = octets; number = number })) in

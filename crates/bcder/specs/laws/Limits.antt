@@ -70,12 +70,6 @@ left_sound n w h f = record { octets = AreOctets-drop n w h; size = grind (arith
 pub borrowed_sound : (name : ℕ) (s : Stream) → IsSound s → IsSound (borrowed name s)
 borrowed_sound name s h = record { octets = h.octets; size = h.size; at_hand = h.at_hand }
 
--- two limits are the smaller one
-pub cut_twice : (l m : Option ℕ) (xs : List ℕ) → cut l (cut m xs) ≡ cut (smaller_limit l m) xs
-cut_twice None m xs = refl
-cut_twice (Some n) None xs = refl
-cut_twice (Some n) (Some m) xs = grind (arith, common_steps)
-
 -- the outermost layer, and those below it
 pub first_kept : {x y : Layer} {xs ys : List Layer} → x ∷ xs ≡ y ∷ ys → x ≡ y
 first_kept e = cc

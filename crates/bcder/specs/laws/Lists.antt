@@ -24,10 +24,6 @@ pub record First (mode : Mode) (ts : Trees) (w : List ℕ) : Type 0 where
   pub are : ts ≡ tree ∷ₜ trees
   pub is : w ≡ front ++ others
 
-pub first_of_list : (mode : Mode) (ts : Trees) (w : List ℕ) → AreEncodings mode ts w → 1 ≤ length w → First mode ts w
-first_of_list mode no_trees w h some = absurd (let e = ap length h in omega arith)
-first_of_list mode (t ∷ₜ ts) w h some = record { tree = t; trees = ts; front = h.0; others = h.1; first = h.2; rest = h.3; are = refl; is = h.4 }
-
 pub empty_list : (mode : Mode) (ts : Trees) → AreEncodings mode ts [] → ts ≡ no_trees
 empty_list mode no_trees h = refl
 empty_list mode (t ∷ₜ ts) h = absurd (let two = two_octets mode t h.0 h.2 in omega (arith, ap length h.4, length-append h.0 h.1))

@@ -14,9 +14,6 @@ use Rattle.bcder.specs.laws.CharSets.{low_scalar}
 in_range : (lo hi b : ℕ) → lo ≤ b → b ≤ hi → is_in_range lo hi b ≡ true
 in_range lo hi b h k = grind (arith, nat_tests)
 
-below_range : (lo hi b : ℕ) → b < lo → is_in_range lo hi b ≡ false
-below_range lo hi b h = grind (arith, nat_tests)
-
 above_range : (lo hi b : ℕ) → hi < b → is_in_range lo hi b ≡ false
 above_range lo hi b h = grind (arith, nat_tests)
 

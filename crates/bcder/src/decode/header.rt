@@ -7,8 +7,7 @@ ghost use Rattle.bcder.specs.declared.mode.Mode.{Mode as ModeValue};
 ghost use Rattle.bcder.specs.Peek.{IsAllHere, Peeks, PeeksIf, Sees, SeesOf, SeesIf, StandsShort};
 
 use crate::decode::source::Source;
-use crate::length::take::length_goes_on;
-use crate::length::{Length, length_at};
+use crate::length::{Length, length_at, length_goes_on};
 use crate::mode::Mode;
 use crate::tag::take::identifier_goes_on;
 use crate::tag::{Tag, identifier_at, mark_of_leading, tag_of_leading};
