@@ -12,7 +12,6 @@ mod end;
 mod numbers;
 mod restricted;
 mod sources;
-mod spare;
 mod strings;
 mod taken;
 mod wrapped;
@@ -29,6 +28,5 @@ fn main(rt: HostRuntime) -> Result<(), Error> {
     captured::run(&rt)?;
     encoded::run(&rt)?;
     wrapped::run(&rt)?;
-    spare::run(&rt)?;
     encoded::run_beyond_memory(&rt)
 }

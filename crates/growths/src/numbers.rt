@@ -141,35 +141,12 @@ fn cloned(alloc: Global) -> Result<End, Error> {
     })
 }
 
-fn cloned_unsigned(alloc: Global) -> Result<End, Error> {
-    let number = Unsigned::from_u8(alloc, 200)?;
-    let clone: Result<Unsigned, AllocError> = number.clone();
-    let left = number.as_slice() == [0x00, 0xC8].as_slice();
-    Ok(match clone {
-        Ok(clone) => answered(left && clone == number),
-        Err(AllocError) => refused(true, left),
-    })
-}
-
-/// The same of an identifier.
-fn cloned_identifier(alloc: Global) -> Result<End, Error> {
-    let oid: Oid<Vec<u8>> = Oid(IDENTIFIER.to_vec(alloc)?);
-    let clone: Result<Oid<Vec<u8>>, AllocError> = oid.clone();
-    let left = oid.0.as_slice() == IDENTIFIER.as_slice();
-    Ok(match clone {
-        Ok(clone) => answered(left && clone.same_as(&oid)),
-        Err(AllocError) => refused(true, left),
-    })
-}
-
 pub fn run(rt: &HostRuntime) -> Result<(), Error> {
     run_signed(rt)?;
     run_unsigned(rt)?;
     run_of_unsigned(rt)?;
     run_of_octets(rt)?;
     tell(rt, "Integer::clone", cloned(rt.alloc())?)?;
-    tell(rt, "Unsigned::clone", cloned_unsigned(rt.alloc())?)?;
-    tell(rt, "Oid::clone", cloned_identifier(rt.alloc())?)?;
     tell(rt, "Oid::from_str", identifier(rt.alloc()))?;
     tell(rt, "Oid::into_shared", shared_identifier(rt.alloc())?)?;
     tell(rt, "ContentError::from_boxed", boxed(rt.alloc())?)
