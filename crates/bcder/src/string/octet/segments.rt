@@ -72,8 +72,8 @@ fn short_segment(octets: &[u8]) -> Option<(usize, usize)>
     }
 }
 
-/// The same, if its header has four octets, as that of a segment of 256 octets or more
-/// (8.1.3.5).
+/// The same, if its header has four octets, as that of a segment of 256 to 65,535 octets has in CER
+/// and DER (8.1.3.5, 10.1).
 #[inline(always)]
 fn long_segment(octets: &[u8]) -> Option<(usize, usize)>
     ensures fits { IfSome result (λ r. r.0 ≤ length octets.now) }
