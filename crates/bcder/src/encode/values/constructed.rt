@@ -246,5 +246,10 @@ impl<V: Values> Values for Constructed<V> {
         }
     }
 
+    #[inline(always)]
+    fn weight() -> usize {
+        V::weight().saturating_add(1)
+    }
+
     ghost lawful = { λ x mode can. constructed_lawful x.tag (V.lawful x.inner mode can) };
 }

@@ -187,6 +187,11 @@ impl<V: Values> Values for WrappingOctetStringEncoder<V> {
         }
     }
 
+    #[inline(always)]
+    fn weight() -> usize {
+        V::weight().saturating_add(1)
+    }
+
     ghost lawful = { λ x mode can.
         WrappedMeans_lawful octet_string_tag mode x.mode (V.lawful x.values x.mode can) };
 }
