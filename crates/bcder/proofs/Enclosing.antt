@@ -97,5 +97,5 @@ size_at n m h is =
       ]
     ]
 
-pub contents_size : (t : Tag) (n size k : ℕ) → n < 2 ^ 32 → size ≡ length (header t true (Definite n)) + n → k ≡ length (identifier t true) → (size - k) - length_size (size - k) ≡ n
-contents_size t n size k h is tag = size_at n (size - k) h (omega (arith, is, tag, header-length t true (Definite n)))
+pub contents_size : (t : Tag) (form : Bool) (n size k : ℕ) → n < 2 ^ 32 → size ≡ length (header t form (Definite n)) + n → k ≡ length (identifier t form) → (size - k) - length_size (size - k) ≡ n
+contents_size t form n size k h is tag = size_at n (size - k) h (omega (arith, is, tag, header-length t form (Definite n)))
