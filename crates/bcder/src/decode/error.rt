@@ -136,7 +136,10 @@ impl<S> DecodeError<S> {
     /// Want of memory, of what was refused it: a growth, a push or a clone.
     ///
     /// ```text
-    /// all.push(entry).map_err(DecodeError::from_alloc)?;
+    /// match all.push(entry) {
+    ///     Ok(()) => Ok(Some(())),
+    ///     Err(error) => Err(DecodeError::from_alloc(error)),
+    /// }
     /// ```
     pub fn from_alloc<E: Into<NoMemory> + Drop>(_error: E) -> DecodeError<S>
         ensures { cause_of result ≡ of_memory }
