@@ -1,14 +1,13 @@
 -- Sets of single octets: what they accept, and that their strings are text.
-use Rattle.std.proofs.Common.{◌≡◌, ◌↔◌, ℕ, zero, suc, ◌+◌, ◌<◌, ◌≤◌, List, [], ◌∷◌, ◌++◌, length, take, refl, sym, ap, ◌∙◌, subst, arith}
-use Rattle.std.specs.Prelude.{Bool, true, false, IsTrue, MatchBool, slice_index}
+use Rattle.std.proofs.Common.{◌≡◌, ◌↔◌, ℕ, suc, ◌<◌, List, [], ◌∷◌, ◌++◌, length, take, refl, sym, ap, ◌∙◌, subst, arith}
+use Rattle.std.specs.Prelude.{Bool, true, false, IsTrue, MatchBool}
 use Rattle.std.proofs.Math.Seq.{take-length}
 use Rattle.std.proofs.lemmas.Bool.{and_parts, and_from}
-use Rattle.std.proofs.lemmas.Grind.{common_steps}
 use Rattle.std.proofs.lemmas.Bool.Decides.{nat_tests}
-use Rattle.std.proofs.lemmas.Str.{chars-IsAscii, IsUtf8-from_ascii, encodes-chars, encodes-IsAscii}
+use Rattle.std.proofs.lemmas.Str.{encodes-chars, encodes-IsAscii}
 use Rattle.std.specs.List.{list_all}
 use Rattle.std.specs.Str.{IsUtf8, IsAscii, IsNotAscii, chars, encode_utf8_all}
-use Rattle.bcder.specs.CharSet.{Front, Spells, Accepts, HasNo}
+use Rattle.bcder.specs.CharSet.{Spells, Accepts, HasNo}
 use Rattle.bcder.specs.AsciiSets.{one_octet_step, is_ia5}
 use Rattle.bcder.specs.laws.CharSets.{AllHave, self_spelled, all_ascii, spells_text, ia5_ascii}
 

@@ -1,5 +1,5 @@
 -- Encodings inside an octet string.
-use Rattle.std.proofs.Common.{◌≡◌, ℕ, ◌+◌, ◌<◌, ◌^◌, Bool, true, false, List, length, nat_lt, Option, Some, Result, Ok, Err, ◌⊎◌, inl, inr, refl, sym, ap, ◌∙◌, subst, arith, ltb-true, IsErr, IsErrAnd, if◌then◌else◌}
+use Rattle.std.proofs.Common.{◌≡◌, ℕ, ◌+◌, ◌<◌, ◌^◌, Bool, true, false, List, length, nat_lt, Some, Result, Ok, Err, ◌⊎◌, inl, inr, refl, sym, ap, ◌∙◌, subst, arith, ltb-true, IsErr, IsErrAnd, if◌then◌else◌}
 use Rattle.bcder.specs.OctetString.{octet_string_tag}
 use Rattle.bcder.specs.Segmenting.{InsideSize}
 use Rattle.bcder.specs.declared.encode.error.EncodeError.{EncodeError}

@@ -1,5 +1,5 @@
 -- What calls that take contents octets one by one say.
-use Rattle.std.specs.Prelude.{◌≡◌, ℕ, List, [], ◌∷◌, length, drop, min, Option, Result, IfOk, IfErr, OnOk, OnErr, MatchOption}
+use Rattle.std.specs.Prelude.{◌≡◌, ℕ, [], ◌∷◌, length, drop, min, Option, Result, IfOk, IfErr, OnOk, OnErr, MatchOption}
 use Rattle.std.specs.Borrow.{MutBor}
 use denote.Triple.Both.{Both}
 use Rattle.bcder.specs.declared.decode.content.Primitive.{Primitive}

@@ -1,4 +1,4 @@
-use Rattle.std.proofs.Common.{List, ℕ, ◌≤◌, ◌≡◌, ◌+◌, length, slice_range, sym, ap, ◌∙◌, arith}
+use Rattle.std.proofs.Common.{◌≤◌, ◌≡◌, ◌+◌, length, slice_range, sym, ap, ◌∙◌, arith}
 use Rattle.bytes.proofs.Ranges.{slice_range-slice_range}
 use Rattle.bcder.specs.StringSource.{InBlock}
 use Rattle.bcder.proofs.StringSources.{range_length}
