@@ -25,9 +25,10 @@ enum Take {
     Skip,
     SkipAll,
     SkipSix,
+    Collect,
 }
 
-const TAKES: [(&str, Take); 13] = [
+const TAKES: [(&str, Take); 14] = [
     ("Primitive::take_all", Take::Octets),
     ("Integer::take_from", Take::Integer),
     ("Integer::from_primitive", Take::IntegerOf),
@@ -41,6 +42,7 @@ const TAKES: [(&str, Take); 13] = [
     ("Constructed::skip", Take::Skip),
     ("Constructed::skip_all", Take::SkipAll),
     ("Constructed::skip_opt, six levels", Take::SkipSix),
+    ("Constructed::collect_some", Take::Collect),
 ];
 
 /// Takes the octets of a primitive value, as what they are kept as.
@@ -134,6 +136,22 @@ fn skip<S: Source>(
     }
 }
 
+/// The numbers that are collected, more than a vector has room for after two growths.
+const NUMBERS: [u8; 20] = [
+    19, 18, 17, 16, 15, 14, 13, 12, 11, 10, 9, 8, 7, 6, 5, 4, 3, 2, 1, 0,
+];
+
+/// Collects numbers, and tells whether they are those.
+fn collect<S: Source>(
+    cons: &mut Constructed<'_, S>,
+    alloc: Global,
+) -> Result<bool, DecodeError<S::Error>>
+    ensures { Moved S.stream cons }
+{
+    let numbers = cons.collect_some(alloc, |cons| cons.take_opt_u8())?;
+    Ok(numbers.as_slice() == NUMBERS.as_slice())
+}
+
 /// Takes a value, and tells whether it is the one that is there.
 fn take_value<S: Source>(
     cons: &mut Constructed<'_, S>,
@@ -147,6 +165,7 @@ fn take_value<S: Source>(
         Take::SkipOne | Take::SkipOpt | Take::Skip | Take::SkipAll | Take::SkipSix => {
             skip(cons, alloc, take)
         }
+        Take::Collect => collect(cons, alloc),
         _ => take_octets(cons, alloc, take, wanted),
     }
 }
@@ -227,6 +246,15 @@ fn deep(alloc: Global, levels: usize) -> Result<Vec<u8>, Error> {
     Ok(value)
 }
 
+/// An INTEGER for each of the numbers.
+fn integers(alloc: Global) -> Result<Vec<u8>, Error> {
+    let mut values = Vec::new(alloc);
+    for number in NUMBERS {
+        values.extend_from_slice(&[0x02, 0x01, number])?;
+    }
+    Ok(values)
+}
+
 /// Contents octets of an integer and of an object identifier.
 const CONTENTS: [u8; 3] = [0x55, 0x1D, 0x13];
 
@@ -241,6 +269,7 @@ fn value_for(alloc: Global, take: Take) -> Result<Vec<u8>, Error> {
             short(alloc, 0x06, &CONTENTS)
         }
         Take::SkipSix => deep(alloc, 6),
+        Take::Collect => integers(alloc),
         _ => deep(alloc, LEVELS),
     }
 }

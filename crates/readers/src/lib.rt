@@ -5,6 +5,12 @@
 ghost use Rattle.bcder.specs.Views.{Moved};
 
 #[cfg(test)]
+mod asserts;
+#[cfg(test)]
+mod entries;
+#[cfg(test)]
+mod filters;
+#[cfg(test)]
 mod written;
 
 use bcder::decode::{Constructed, DecodeError, SliceSource, Source};

@@ -3,6 +3,7 @@
 //! what `openssl asn1parse` shows of it; of the others it is worked out by hand.
 ghost use Rattle.bcder.specs.Views.{Moved, MovedOctets};
 
+use crate::asserts::holds;
 use bcder::decode::{Constructed, DecodeError, Primitive, SliceSource, Source};
 use bcder::encode::{PrimitiveContent, Values, sequence};
 use bcder::{ConstOid, Integer, Mode, Oid, Unsigned};
@@ -33,11 +34,6 @@ const EXTENSIONS: &str = "\
 
 /// 2.5.4.10.
 const ORGANIZATION: ConstOid = Oid(&[0x55, 0x04, 0x0A]);
-
-/// The value is the wanted one.
-fn holds(rt: &impl Abort, fact: bool) {
-    assert!(rt; fact);
-}
 
 #[test]
 fn a_request_is_that_of_openssl(rt: HostRuntime) -> Result<(), Fail> {

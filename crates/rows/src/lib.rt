@@ -36,6 +36,10 @@ mod failures;
 mod integers;
 pub mod latin_1;
 #[cfg(test)]
+mod loops;
+#[cfg(test)]
+mod octets;
+#[cfg(test)]
 mod over;
 #[cfg(test)]
 mod restricted_strings;

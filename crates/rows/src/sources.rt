@@ -10,6 +10,7 @@ use bcder::decode::{
     BytesSource, CaptureSource, ContentError, DecodeError, IntoSource, LimitedSource, Message, Pos,
     SliceSource, Source,
 };
+use bcder::encode::EncodeError;
 use bcder::{NoMemory, Tag};
 use bytes::Bytes;
 use std::alloc::Global;
@@ -472,6 +473,22 @@ fn want_of_memory_stays(rt: HostRuntime) {
         &rt,
         matches!(DecodeError::no_memory().into_content(), Err(NoMemory)),
     );
+}
+
+/// What a refused growth answers becomes the error of a call on content, and of one that encodes.
+#[test]
+fn want_of_memory_goes_on(rt: HostRuntime) {
+    let grown = Vec::<u8>::with_capacity(rt.alloc(), usize::MAX);
+    let refused = grown.err().expect(&rt, "so much memory");
+    holds(
+        &rt,
+        DecodeError::<SipError>::from_alloc(refused).is_memory(),
+    );
+    holds(
+        &rt,
+        DecodeError::<SipError>::from_alloc(NoMemory).is_memory(),
+    );
+    same(&rt, EncodeError::from(NoMemory), EncodeError::NoMemory);
 }
 
 #[test]
