@@ -138,7 +138,21 @@ fn the_refusal_is_that_of_the_closure(rt: HostRuntime) {
     shows(&rt, alloc, why, "a nine");
 }
 
-/// Collects numbers up to the end of a SEQUENCE, and goes on there, which takes nothing.
+/// Collects numbers up to the end of the content, and goes on there, which takes nothing.
+fn collect_inside<S: Source>(
+    alloc: Global,
+    cons: &mut Constructed<'_, S>,
+    calls: &mut u64,
+) -> Result<Vec<Option<u8>>, DecodeError<S::Error>>
+    ensures { Moved S.stream cons }
+{
+    cons.collect_some(alloc, |cons| {
+        *calls = calls.saturating_add(1);
+        Ok(Some(cons.take_opt_u8()?))
+    })
+}
+
+/// The same inside a SEQUENCE.
 fn collect_on<S: Source>(
     alloc: Global,
     cons: &mut Constructed<'_, S>,
@@ -146,12 +160,7 @@ fn collect_on<S: Source>(
 ) -> Result<Vec<Option<u8>>, DecodeError<S::Error>>
     ensures { Moved S.stream cons }
 {
-    cons.take_sequence(|cons| {
-        cons.collect_some(alloc, |cons| {
-            *calls = calls.saturating_add(1);
-            Ok(Some(cons.take_opt_u8()?))
-        })
-    })
+    cons.take_sequence(|cons| collect_inside(alloc, cons, calls))
 }
 
 fn check_on<S: Source>(rt: &impl Abort, alloc: Global, source: &mut S, wanted: u64) {
