@@ -19,6 +19,13 @@ class Crate:
                 with open(f"{at}/{it}", encoding="utf-8") as text:
                     self.texts[os.path.relpath(f"{at}/{it}", self.folder)] = text.read()
         self.functions = {path: functions_of(text) for path, text in self.texts.items()}
+        # What a check without an edit says of each function, by the checker's name.
+        self.states = {}
+
+    def turned(self, edits):
+        """The checker's names of the functions that the edits turn, or none where it doesn't name each: then all are checked."""
+        found = {self.symbol(path, name, self.states) for it in edits for path, name in it.turns}
+        return sorted(found) if all(it.turns for it in edits) and None not in found else []
 
     def resting_on(self, names):
         """The last names of what calls these functions, and of what calls those of them that have no clause, and so on."""
@@ -44,7 +51,6 @@ class Crate:
         found = [it for it in states if plain(it).endswith(f"::{name}".lower()) and "::fn::" not in it]
         found = [it for it in found if it.startswith(start)] or found
         return found[0] if len(found) == 1 else None
-
 
     def parts(self, path, name, states):
         """What a report tells of a function apart: itself and the closures in it."""

@@ -20,7 +20,7 @@ from concurrent.futures import ThreadPoolExecutor
 from edit import ROOT, BadEdit, Crate, Edit, place
 from report import BAD, REFUSED, UNJUDGED, Report
 
-PROCESSORS = len(os.sched_getaffinity(0))
+PROCESSORS = int(os.environ.get("RT_JOBS") or len(os.sched_getaffinity(0)))
 # In GB: what the checks that run side by side hold at most, and what one holds, with each of its jobs.
 ROOM, A_PROCESS, A_JOB = 12, 2.5, 1.2
 # In seconds of one processor, as measured in `bcder`: a check of what is kept, and each edit in it.
@@ -37,14 +37,14 @@ class Judge:
         """Whether checks with these jobs find processors and memory."""
         return sum(running) <= PROCESSORS and sum(A_PROCESS + A_JOB * it for it in running) <= self.room
 
-    def check(self, folder, jobs):
-        """Checks a crate once there is room for it."""
+    def check(self, folder, jobs, only=()):
+        """Checks a crate, or these functions of it and what they call, once there is room for it."""
         while jobs > 1 and not self.fits([jobs]):
             jobs -= 1
         with self.ending:
             self.ending.wait_for(lambda: not self.running or self.fits([*self.running, jobs]))
             self.running.append(jobs)
-        words = ["rt", "check", "--jobs", str(jobs)]
+        words = ["rt", "check", "--jobs", str(jobs), *(it for name in only for it in ("--only", name))]
         how = {"stdin": subprocess.DEVNULL, "stdout": subprocess.PIPE, "stderr": subprocess.STDOUT}
         try:
             return Report(subprocess.run(words, cwd=folder, **how).stdout.decode(errors="replace"))
@@ -85,6 +85,8 @@ class Judge:
         share(ROOT, f"{self.scratch}/{name}", name)
         self.note(f"{name}: a check without an edit, then {len(batches)} with edits")
         report = self.check(f"{self.scratch}/{name}/crates/{name}", PROCESSORS)
+        for crate, _ in batches:
+            crate.states = report.states
         if report.is_proved:
             return batches
         print("\n".join(report.text.split("\n")[-30:]))
@@ -101,7 +103,7 @@ class Judge:
         for path, text in texts.items():
             with open(f"{folder}/crates/{crate.name}/{path}", "w", encoding="utf-8") as it:
                 it.write(text)
-        report = self.check(f"{folder}/crates/{crate.name}", jobs)
+        report = self.check(f"{folder}/crates/{crate.name}", jobs, crate.turned(batch))
         shutil.rmtree(folder)
         self.note(f"{crate.name}: a check of {len(batch)} edits")
         bad = report.uncompiled(texts, batch)
@@ -120,8 +122,9 @@ class Judge:
                     self.say(edit.label, BAD if fared == UNJUDGED else fared, why)
             self.apart(crate, left, jobs, len(left) < len(batch), "what calls a body that isn't covered wasn't judged")
         else:
-            # What doesn't compile keeps the others from being judged.
-            self.apart(crate, rest, jobs, bool(bad), "some edit doesn't compile")
+            # What doesn't compile keeps the others from being judged; without it the check may have been killed.
+            why = "some edit doesn't compile" if bad else "the check gave no verdict"
+            self.apart(crate, rest, jobs, bool(bad), why)
 
     def apart(self, crate, edits, jobs, is_fewer, why):
         """Judges edits again: by halves, until each stands alone, unless some of those beside them are gone."""

@@ -54,7 +54,8 @@ class Report:
                 self.open[symbol] = [*above, *re.findall(r"`([^`]*)`", listed[1] if listed else "")]
                 self.states[symbol], above = state, []
         self.is_proved = any(it.startswith("logic=proved") for it in lines)
-        self.is_whole = self.is_proved or any(it.startswith("logic=not-proved") for it in lines)
+        # A check of some functions ends with their number.
+        self.is_whole = self.is_proved or any(it.startswith(("logic=not-proved", "only=")) for it in lines)
 
     def goals(self, part):
         """The goals of a function that aren't proved, and whether each was tried: an answer may name what is gone."""

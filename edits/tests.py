@@ -77,6 +77,9 @@ GONE_BELOW = """./proofs/half/Answers.antt:4:27: error: `returns-clause-ok`: rec
 ./proofs/half/Answers.antt:9:5: error: 1 declaration that depends on `returns-clause-ok`, which was not admitted, was not checked: more
 fn toy::half: no proof: expected answers in ./proofs/half/Answers.antt; `search` did not prove `returns-clause-err`"""
 PROVED = "fn toy::half: proved"
+UNNAMED = """./proofs/half/Answers.antt:6:15: error: `returns`: `goal.returns`: module `Rattle.toy.proofs.half.Goals` has no `returns` that can be named from here
+note: src/lib.rt:7:1: it is not proved that what the function ensures holds when it returns (`returns-then-x-eq7`)
+fn toy::half: not proved"""
 ABOVE = "fn toy::half: depends on `toy::two`, which is not proved"
 
 
@@ -101,11 +104,17 @@ class Verdicts(unittest.TestCase):
         self.assertEqual(self.fared(GONE), ANSWERS)
         self.assertEqual(self.fared(GONE, "ok"), ANSWERS)
         self.assertEqual(self.fared(GONE_BELOW, "err"), ANSWERS)
+        self.assertEqual(self.fared(UNNAMED, "ensures"), ANSWERS)
 
     def test_no_failure_of_its_own(self):
         self.assertEqual(self.fared(PROVED, "ok"), WRONG)
         self.assertEqual(self.fared(ABOVE, "ok"), UNJUDGED)
         self.assertEqual(self.fared("fn toy::two: proved", "ok"), UNJUDGED)
+
+    def test_ends(self):
+        self.assertTrue(Report(f"{OPEN}\n{END}").is_whole)
+        self.assertTrue(Report(f"{OPEN}\nonly=2 proved=1").is_whole)
+        self.assertFalse(Report("checked toy::half, 1 of 2").is_whole)
 
 
 class Functions(unittest.TestCase):

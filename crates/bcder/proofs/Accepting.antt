@@ -1,8 +1,8 @@
 -- A string that is read, and then checked against a set.
-use Rattle.std.proofs.Common.{◌≡◌, List, ℕ, ap, sym, ◌∙◌, subst}
-use Rattle.std.specs.Prelude.{Result, Ok, Err}
+use Rattle.std.proofs.Common.{◌≡◌, ap, sym, ◌∙◌, subst}
+use Rattle.std.specs.Prelude.{Ok, Err}
 use Rattle.bcder.specs.declared.decode.error.DecodeError.{DecodeError}
-use Rattle.bcder.specs.Cause.{cause_of, IsRefusal}
+use Rattle.bcder.specs.Cause.{IsRefusal}
 use Rattle.bcder.specs.Content.{Reading}
 use Rattle.bcder.specs.Identifier.{Tag}
 use Rattle.bcder.specs.Tree.{Tree}

@@ -1,13 +1,13 @@
 -- Sets of single octets: what they accept, and that their strings are text.
-use Rattle.std.proofs.Common.{◌≡◌, ◌↔◌, ℕ, zero, suc, ◌+◌, ◌<◌, ◌≤◌, List, [], ◌∷◌, ◌++◌, length, take, get_or, refl, sym, ap, ◌∙◌, subst, arith}
-use Rattle.std.specs.Prelude.{Bool, true, false, IsTrue, MatchBool, slice_index}
+use Rattle.std.proofs.Common.{◌≡◌, ◌↔◌, ℕ, suc, ◌<◌, List, [], ◌∷◌, ◌++◌, length, take, refl, sym, ap, ◌∙◌, subst, arith}
+use Rattle.std.specs.Prelude.{Bool, true, false, IsTrue, MatchBool}
 use Rattle.std.proofs.Math.Seq.{take-length}
-use Rattle.std.proofs.lemmas.List.{take_more}
-use Rattle.std.proofs.lemmas.Grind.{common_steps}
+use Rattle.std.proofs.lemmas.Bool.{and_parts, and_from}
 use Rattle.std.proofs.lemmas.Bool.Decides.{nat_tests}
-use Rattle.std.proofs.lemmas.Str.{chars-IsAscii, IsUtf8-from_ascii, encodes-chars, encodes-IsAscii}
+use Rattle.std.proofs.lemmas.Str.{encodes-chars, encodes-IsAscii}
+use Rattle.std.specs.List.{list_all}
 use Rattle.std.specs.Str.{IsUtf8, IsAscii, IsNotAscii, chars, encode_utf8_all}
-use Rattle.bcder.specs.CharSet.{Front, Spells, Accepts, HasNo}
+use Rattle.bcder.specs.CharSet.{Spells, Accepts, HasNo}
 use Rattle.bcder.specs.AsciiSets.{one_octet_step, is_ia5}
 use Rattle.bcder.specs.laws.CharSets.{AllHave, self_spelled, all_ascii, spells_text, ia5_ascii}
 
@@ -32,21 +32,20 @@ module _ (has : ℕ → Bool) where
   all_behind [] w h = h
   all_behind (b ∷ v) w h = all_behind v w h.1
 
-  all_at : (w : List ℕ) (i : ℕ) → AllHave has w → i < length w → has (get_or w i 0) ≡ true
-  all_at [] i h l = absurd (omega arith)
-  all_at (b ∷ w) zero h l = h.0
-  all_at (b ∷ w) (suc i) h l = all_at w i h.1 (omega arith)
-
   -- ---- octet by octet
 
-  pub all_more : (w : List ℕ) (i : ℕ) → i < length w → has (get_or w i 0) ≡ true → AllHave has (take i w) → AllHave has (take (i + 1) w)
-  all_more w i l p h = rw (take_more w i 0 l) (all_both (take i w) _ h (p, tt))
+  have_all : (w : List ℕ) → list_all has w ≡ true → AllHave has w
+  have_all [] e = tt
+  have_all (b ∷ w) e = (let p = and_parts _ _ e in (p.0, have_all w p.1))
 
-  pub fails_at : (w : List ℕ) (i : ℕ) → i < length w → has (get_or w i 0) ≡ false → Accepts (one_octet_step has) w → ⊥
-  fails_at w i l p a = let e : true ≡ false = sym (all_at w i ((accepts_all w).0 a) l) ∙ p in absurd cc
+  all_are : (w : List ℕ) → AllHave has w → list_all has w ≡ true
+  all_are [] h = refl
+  all_are (b ∷ w) h = and_from _ _ h.0 (all_are w h.1)
 
-  pub all_passed : (w : List ℕ) (i : ℕ) → i ≡ length w → AllHave has (take i w) → Accepts (one_octet_step has) w
-  all_passed w i e h = (accepts_all w).1 (subst (AllHave has) (ap (λ n. take n w) e ∙ take-length w) h)
+  pub all_told : (w : List ℕ) (n : ℕ) (t : Bool) → n ≡ length w → t ≡ list_all has (take n w) → IsTrue t ↔ Accepts (one_octet_step has) w
+  all_told w n t e is =
+      let all : t ≡ list_all has w = is ∙ ap (list_all has) (ap (λ i. take i w) e ∙ take-length w) in
+      (λ h. (accepts_all w).1 (have_all w (sym all ∙ h)), λ a. all ∙ all_are w ((accepts_all w).0 a))
 
   -- ---- piece by piece
 

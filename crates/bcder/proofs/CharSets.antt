@@ -1,7 +1,7 @@
 -- Character sets: what octets spell, from one step to the next.
-use Rattle.std.proofs.Common.{◌≡◌, ◌≢◌, ◌↔◌, ℕ, ◌<◌, List, [], ◌∷◌, ◌++◌, length, Some, None, refl, sym, ap, ◌∙◌, subst, arith}
+use Rattle.std.proofs.Common.{◌≡◌, ◌≢◌, ◌↔◌, ℕ, ◌<◌, List, [], ◌∷◌, length, Some, None, refl, sym, ap, ◌∙◌, subst, arith}
 use Rattle.std.proofs.lemmas.List.{length-append}
-use Rattle.std.specs.Prelude.{Option, Bool, true, false, is_some, Result, Ok, Err, IsErrAnd}
+use Rattle.std.specs.Prelude.{Option, true, false, is_some, Result, Ok, Err, IsErrAnd}
 use Rattle.bcder.specs.declared.string.restricted.char_set.CharSetError.{CharSetError}
 use Rattle.bcder.specs.CharSet.{Front, Step, IsStep, Spells, Accepts, NextChar, Checks}
 

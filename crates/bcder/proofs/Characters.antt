@@ -1,10 +1,12 @@
 -- What octets spell is told by the octets.
-use Rattle.std.proofs.Common.{◌≡◌, ◌≤◌, ℕ, zero, suc, List, [], ◌∷◌, ◌++◌, length, Option, Some, None, refl, ap, sym, ◌∙◌, arith, length-append, append-nil, subst, encode_utf8, encode_utf8_all}
-use Rattle.std.specs.Prelude.{Result, Ok, Err}
-use Rattle.std.proofs.lemmas.Str.{encodes-append}
+use Rattle.std.proofs.Common.{◌≡◌, ◌≤◌, ℕ, zero, suc, List, [], ◌∷◌, ◌++◌, length, Option, Some, None, refl, ap, sym, ◌∙◌, arith, length-append, append-nil, subst, encode_utf8, encode_utf8_all, Bor}
+use Rattle.std.specs.Prelude.{Result, Ok, Err, IfSome}
+use Rattle.std.proofs.lemmas.Str.{encodes-append, encodes-chars}
+use Rattle.std.specs.Str.{IsUtf8}
 use Rattle.std.specs.Iterator.{YieldsFirst, MakesProgress, item_count}
 use Rattle.bcder.specs.declared.string.restricted.char_set.CharSetError.{CharSetError}
 use Rattle.bcder.specs.CharSet.{Front, Step, IsStep, Spells, Accepts, NextChar}
+use Rattle.bcder.specs.TextSets.{AreTexts}
 use Rattle.bcder.specs.Characters.{and_behind, characters_within, characters}
 
 some_front : (x y : Front) → ◌≡◌ {A = Option Front} (Some x) (Some y) → x ≡ y
@@ -84,6 +86,22 @@ module _ (step : Step) (lawful : IsStep step) where
 
   pub never_refused : (w r : List ℕ) (e : CharSetError) → NextChar step w (Err e) r → Accepts step w → ⊥
   never_refused w r e n a = n.0 (none_behind w n.1 a)
+
+-- ---- octets that are text as they stand
+
+module _ (step : Step) (lawful : IsStep step) (texts : AreTexts step) where
+  pub text_accepted : (w : List ℕ) → Accepts step w → IsUtf8 w
+  text_accepted w a = (texts w a.0 a.1).0
+
+  shown_as : (w : List ℕ) → Accepts step w → w ≡ encode_utf8_all (characters step w)
+  shown_as w a =
+      let t = texts w a.0 a.1 in
+      sym (encodes-chars w t.0) ∙ ap encode_utf8_all (t.1 ∙ sym (characters_spelled step lawful w a.0 a.1))
+
+  -- lent as they are, they are their characters' text
+  pub text_lent : (w : List ℕ) (o : Option (Bor (List ℕ))) → Accepts step w → IfSome o (λ t. t.now ≡ w) → IfSome o (λ t. t.now ≡ encode_utf8_all (characters step w))
+  text_lent w None a e = tt
+  text_lent w (Some t) a e = e ∙ shown_as w a
 
 -- a call that gave the first of what was left
 pub goes_on : {can : List ℕ → Type 0} → ((cs : List ℕ) → can cs) → (v u : List ℕ) (o : Option ℕ) → YieldsFirst (λ (cs : List ℕ). cs) v o u → MakesProgress can (item_count (λ cs. cs)) v o u

@@ -1,5 +1,5 @@
 -- The meaning of a value, from what is inside.
-use Rattle.std.proofs.Common.{◌≡◌, ℕ, suc, ◌+◌, ◌-◌, ◌<◌, arith, ◌^◌, List, [], ◌∷◌, ◌++◌, Bool, true, false, length, nat_lt, Ok, Err, refl, sym, ap, ◌∙◌, inl, inr, length-append, if◌then◌else◌}
+use Rattle.std.proofs.Common.{◌≡◌, ℕ, suc, ◌+◌, ◌-◌, ◌<◌, arith, ◌^◌, List, [], ◌∷◌, ◌++◌, Bool, true, false, length, nat_lt, Ok, Err, refl, ap, ◌∙◌, inl, inr, length-append, if◌then◌else◌}
 use Rattle.std.proofs.lemmas.Bool.{cases_lt, lt-ltb, le-ltb, le-leb, lt-leb}
 use Rattle.bcder.specs.declared.mode.Mode.{Mode}
 use Rattle.bcder.specs.declared.mode.Mode.TheVariants.{Ber, Cer, Der}
@@ -8,7 +8,6 @@ use Rattle.bcder.specs.declared.length.Length.TheVariants.{Definite}
 use Rattle.bcder.specs.Identifier.{Tag, identifier, IsValueTag}
 use Rattle.bcder.specs.Octets.{definite_length, length_octets, fits_length, header, definite, constructed_length, closing, enclosed, enclosed_size}
 use Rattle.bcder.specs.Enclosing.{length_size}
-use Rattle.bcder.specs.Encoders.{LengthMeans}
 use Rattle.bcder.specs.Meaning.{Encoded, Meaning, ContentsMeaning, ValueMeans, primitive_encoded, primitive_meaning, constructed_encoded, constructed_meaning, fits_enclosed, enclosed_refusal}
 
 pub primitive_given : (t : Tag) (M : ContentsMeaning → Type 0) (c : List ℕ) → M (Ok c) → length c < 2 ^ 32 → IsValueTag t → ValueMeans t (primitive_meaning t) M (Ok (primitive_encoded t c))
@@ -97,5 +96,5 @@ size_at n m h is =
       ]
     ]
 
-pub contents_size : (t : Tag) (n size k : ℕ) → n < 2 ^ 32 → size ≡ length (header t true (Definite n)) + n → k ≡ length (identifier t true) → (size - k) - length_size (size - k) ≡ n
-contents_size t n size k h is tag = size_at n (size - k) h (omega (arith, is, tag, header-length t true (Definite n)))
+pub contents_size : (t : Tag) (form : Bool) (n size k : ℕ) → n < 2 ^ 32 → size ≡ length (header t form (Definite n)) + n → k ≡ length (identifier t form) → (size - k) - length_size (size - k) ≡ n
+contents_size t form n size k h is tag = size_at n (size - k) h (omega (arith, is, tag, header-length t form (Definite n)))

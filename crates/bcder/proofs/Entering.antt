@@ -12,7 +12,7 @@ use Rattle.bcder.specs.Peek.{HasOtherTag, HasNoLength}
 use Rattle.bcder.specs.Stream.{Layer, Stream, IsSound, Grew, cut, past, limited}
 use Rattle.bcder.specs.declared.decode.error.ContentError.{ContentError}
 use Rattle.bcder.specs.Cause.{Cause}
-use Rattle.bcder.specs.Content.{Reading, Asked, any, tagged, IsAsked, HasHeader, HasMarker, IndefiniteValues, Falls, Advances, Moves, Accepts, Enters, TakesMarker, NoFront, Resembles, end_header, values, Octets, DefiniteValues, UnboundedValues, IsDone, IsAtEnd, of_octets, of_definite, of_indefinite, of_unbounded, EndsAt, NotAtEnd, IsElsewhere, none_left, other, marker, IsAbsent, IsLeft, NothingThere, RefusesHeader, failed, source, nothing}
+use Rattle.bcder.specs.Content.{Reading, Asked, any, tagged, IsAsked, HasHeader, HasMarker, IndefiniteValues, Falls, Advances, Moves, Accepts, Enters, TakesMarker, NoFront, Resembles, end_header, values, Octets, DefiniteValues, UnboundedValues, IsAtEnd, of_octets, of_definite, of_indefinite, of_unbounded, NotAtEnd, IsElsewhere, none_left, other, marker, IsAbsent, IsLeft, NothingThere, RefusesHeader, failed, source, nothing}
 use Rattle.bcder.specs.Calls.{RefusesEnd, left_failed, source_failed, left_open}
 use Rattle.bcder.specs.laws.Limits.{limit_told_after, limited_sound}
 use Rattle.bcder.specs.laws.Sound.{none_is}

@@ -1,20 +1,19 @@
 -- What the plain reader's answers say of the octets.
-use Rattle.std.proofs.Common.{◌≡◌, ℕ, ◌+◌, ◌≤◌, Bool, true, false, List, ◌++◌, length, Option, Some, None, MatchOption, IfSome, IfNone, IsSome, ◌↔◌, refl, sym, ap, subst, ◌∙◌, arith}
+use Rattle.std.proofs.Common.{◌≡◌, ℕ, ◌+◌, ◌≤◌, Bool, false, List, ◌++◌, length, Option, Some, None, MatchOption, IfSome, IfNone, IsSome, ◌↔◌, refl, sym, ap, subst, ◌∙◌, arith}
 use Rattle.std.proofs.lemmas.List.{length-append}
 use Rattle.bcder.specs.declared.mode.Mode.{Mode}
 use Rattle.bcder.specs.declared.length.Length.{Length}
-use Rattle.bcder.specs.declared.length.Length.TheVariants.{Definite, Indefinite}
 use Rattle.bcder.specs.Identifier.{AreOctets, Tag}
 use Rattle.bcder.specs.Length.{IsEndOfContents}
 use Rattle.bcder.specs.Tree.{Trees}
 use Rattle.bcder.specs.Encoding.{IsHeader, AreEncodings}
 use Rattle.bcder.specs.Told.{told}
-use Rattle.bcder.specs.Reading.{Header, read_header, read_end, read_list, at_end}
+use Rattle.bcder.specs.Reading.{read_header, read_end, read_list}
 use Rattle.bcder.specs.laws.Complete.{header_complete, header_size}
 use Rattle.bcder.specs.laws.Lengths.{read_end-complete}
 use Rattle.bcder.specs.laws.Sound.{end_sound, none_is}
-use Rattle.bcder.specs.laws.Stands.{Headed, header_sound, list_sound, list_complete}
-use Rattle.bcder.proofs.Skip.{ListRead, at_end-marked}
+use Rattle.bcder.specs.laws.Stands.{header_sound, list_sound, list_complete}
+use Rattle.bcder.proofs.Skip.{ListRead}
 
 -- ---- headers
 

@@ -169,6 +169,21 @@ pub rest_size : (M N : Meaning → Type 0) (o f r : Option ℕ) → HasEncoding 
 rest_size M N o f r (z, (x, y, p, q, is)) h g less = each_size N r (λ e m.
     less (length x.octets) (length e.octets) (sum_at o x.octets e.octets (size_at (Then M N) o (join x e) h (x, e, p, m, refl))) (size_at M f x g p))
 
+sum_back : (o : Option ℕ) (x y : List ℕ) → IfSome o (λ n. n ≡ length (x ++ y)) → IfSome o (λ n. n ≡ length y + length x)
+sum_back (Some n) x y h = let e = length-append x y in omega (arith, h, e)
+sum_back None x y h = tt
+
+-- of the first part, by the size of those behind it
+pub front_size : (M N : Meaning → Type 0) (o f r : Option ℕ) → HasEncoding (Then M N) → HasSize (Then M N) o → HasSize N f
+    → ((k n : ℕ) → IfSome o (λ s. s ≡ k + n) → IfSome f (λ d. d ≡ k) → IfSome r (λ d. d ≡ n)) → HasSize M r
+front_size M N o f r (z, (x, y, p, q, is)) h g less = each_size M r (λ e m.
+    less (length y.octets) (length e.octets) (sum_back o e.octets y.octets (size_at (Then M N) o (join e y) h (e, y, m, q, refl))) (size_at N f y g q))
+
+-- of parts that were asked for their sum
+pub summed_size : {M : Meaning → Type 0} (one : IsOne M) (lacks : Type 0) (o : Option ℕ) → TellsSum M lacks (Ok o) → HasSize M o
+summed_size one lacks None h = tt
+summed_size one lacks (Some n) (a, m, is) = one_size one n a m is
+
 -- of parts whose sizes have a sum
 pub joined_size : (M : Meaning → Type 0) (o : Option ℕ) → IsOne M → HasEncoding (Joined M) → HasSize (Joined M) o → HasSize M o
 joined_size M None one known h = tt

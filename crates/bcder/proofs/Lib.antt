@@ -19,6 +19,7 @@ pub mod Inner
 pub mod Taking
 pub mod Forwarding
 pub mod Remaining
+pub mod OctetTakes
 pub mod Walking
 pub mod Walked
 pub mod Stopping

@@ -9,7 +9,7 @@ use Rattle.bcder.specs.Stream.{Stream, IsSound}
 use Rattle.bcder.specs.Content.{octets, values, Octets, Moves}
 use Rattle.bcder.specs.laws.Limits.{limited_sound}
 use Rattle.bcder.proofs.Entering.{Within}
-use Rattle.bcder.specs.Views.{of_content, of_primitive, of_constructed, content_name, content_source, content_mark, limited_stream}
+use Rattle.bcder.specs.Views.{of_content, of_primitive, of_constructed, content_name, content_mark}
 
 pub name_of_content : {S : Type 0} (stream : S → Stream) (a : Content S) → (of_content stream a).name ≡ content_name a
 unfolding of_primitive of_constructed

@@ -1,5 +1,5 @@
 -- A restricted string that was written is taken back.
-use Rattle.std.proofs.Common.{◌≡◌, List, ℕ, Option, Some, None, ap, sym, ◌∙◌, subst, inl, inr}
+use Rattle.std.proofs.Common.{List, ℕ, Option, Some, None, ap, sym, ◌∙◌, subst, inl, inr}
 use Rattle.std.specs.Prelude.{Result, Ok, Err}
 use Rattle.bcder.specs.declared.mode.Mode.{Mode}
 use Rattle.bcder.specs.declared.decode.error.DecodeError.{DecodeError}
@@ -12,7 +12,7 @@ use Rattle.bcder.specs.CharSet.{Step, Accepts}
 use Rattle.bcder.specs.RestrictedString.{MeansRestricted}
 use Rattle.bcder.specs.Meaning.{Encoded}
 use Rattle.bcder.specs.TakenBack.{StandsIn}
-use Rattle.bcder.specs.Valued.{HasTagged, TakesTree, HasNoTree, RefusesTree, TakesNextTree, TakesOneTree, failed, source, memory, broken}
+use Rattle.bcder.specs.Valued.{HasTagged, TakesTree, RefusesTree, TakesNextTree, TakesOneTree, failed, source, memory, broken}
 use Rattle.bcder.specs.WrittenStrings.{IsWrittenString}
 use Rattle.bcder.specs.WrittenRestricted.{IsTakenRestricted, WrittenAsReadOf, OneRestricted}
 use Rattle.bcder.specs.laws.Complete.{only_at_front}

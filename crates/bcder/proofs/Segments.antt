@@ -1,7 +1,7 @@
 -- Values whose headers are passed one by one: what is left of them, and of the segments that they are.
 use Rattle.std.proofs.Common.{◌≡◌, ℕ, suc, ◌+◌, ◌-◌, ◌*◌, ◌<◌, ◌≤◌, Bool, true, false, List, [], ◌∷◌, ◌++◌, length, get_or, take, drop, Option, Some, None, refl, sym, ap, subst, ◌∙◌, append_assoc, append-nil, arith, inl, inr}
 use Rattle.std.specs.Prelude.{nat_eq}
-use Rattle.std.proofs.lemmas.Bool.{lt-ltb, le-ltb, le-leb}
+use Rattle.std.proofs.lemmas.Bool.{lt-ltb, le-ltb}
 use Rattle.std.proofs.lemmas.Bool.Decides.{nat_tests}
 use Rattle.std.proofs.lemmas.List.{length-append, map-append, take_at, drop_at}
 use Rattle.bcder.specs.declared.mode.Mode.{Mode}
@@ -9,10 +9,10 @@ use Rattle.bcder.specs.declared.mode.Mode.TheVariants.{Ber, Cer, Der}
 use Rattle.bcder.specs.declared.length.Length.{Length}
 use Rattle.bcder.specs.declared.length.Length.TheVariants.{Definite}
 use Rattle.bcder.specs.Identifier.{Class, universal, application, context_specific, private, Tag}
-use Rattle.bcder.specs.Length.{big_endian, IsEndOfContents}
+use Rattle.bcder.specs.Length.{IsEndOfContents}
 use Rattle.bcder.specs.Tree.{Tree, primitive, constructed, Trees, no_trees, ◌∷ₜ◌}
 use Rattle.bcder.specs.Encoding.{IsHeader, IsDefinite, IsFramed, IsEncoding, AreEncodings}
-use Rattle.bcder.specs.Reading.{class_of, is_marked, may_tell, read_identifier, read_header, read_length, read_long}
+use Rattle.bcder.specs.Reading.{class_of, is_marked, read_identifier, read_header, read_length}
 use Rattle.bcder.specs.Captured.{AreWhole}
 use Rattle.bcder.specs.OctetString.{octet_string_tag, segments, segments_of, IsSegment, AreSegments, IsPiece, IsFull, IsLast, FollowFull, AreSegmentsIn, AreCut, segment_at, segments_at, AreWithin, IsTable}
 use Rattle.bcder.specs.declared.string.octet.Segment.{Segment}
@@ -21,6 +21,7 @@ use Rattle.bcder.specs.laws.Complete.{header_complete, header_size, two_octets, 
 use Rattle.bcder.specs.laws.Lengths.{read_end-complete}
 use Rattle.bcder.specs.laws.Sound.{some_inj, none_is}
 use Rattle.bcder.proofs.Markers.{end_size}
+use Rattle.bcder.proofs.Skip.{two_read}
 
 -- ---- items: values, and the ends of values that were gone into
 
@@ -212,20 +213,6 @@ short_segment mode (b ∷ (c ∷ x)) y n m two f e l a k is =
     r ∙ ap (λ v. Some (Some n, v)) (sym z)
 
 -- ---- one with a header of four octets
-
--- two octets may tell a length from 256 on in each mode
-two_may_tell : (mode : Mode) (n : ℕ) → 256 ≤ n → may_tell mode 2 n ≡ true
-unfolding may_tell
-two_may_tell Ber n l = refl
-two_may_tell Cer n l = le-leb 256 n l
-two_may_tell Der n l = le-leb 256 n l
-
-two_digits : (h l : ℕ) → big_endian (h ∷ (l ∷ [])) ≡ h * 256 + l
-two_digits h l = omega arith
-
-two_read : (mode : Mode) (h l n : ℕ) (x : List ℕ) → h * 256 + l ≡ n → 256 ≤ n → read_long mode 2 (h ∷ (l ∷ x)) ≡ Some (Definite n, x)
-unfolding read_long
-two_read mode h l n x e k = rw (le-ltb (suc (suc (length x))) 2 (omega arith), two_digits h l, e, two_may_tell mode n k) refl
 
 long_read : (mode : Mode) (h l n : ℕ) (x : List ℕ) → h * 256 + l ≡ n → 256 ≤ n → n ≤ length x → read_segment mode (4 ∷ (130 ∷ (h ∷ (l ∷ x)))) ≡ Some (Some n, drop n x)
 unfolding read_segment read_header read_identifier is_marked class_of read_length

@@ -1,15 +1,17 @@
 -- What reading a value gives, at each way that it can go.
-use Rattle.std.proofs.Common.{◌≡◌, ◌≢◌, ℕ, zero, suc, ◌+◌, ◌%◌, ◌<◌, ◌≤◌, Bool, true, false, List, [], ◌∷◌, ◌++◌, length, get_or, take, drop, Option, Some, None, MatchOption, IfSome, IfNone, refl, sym, ap, subst, ◌∙◌, arith, inl, inr}
-use Rattle.std.proofs.lemmas.Bool.{cases_lt, lt-ltb, le-ltb, lt-leb}
+use Rattle.std.proofs.Common.{◌≡◌, ◌≢◌, ℕ, zero, suc, ◌+◌, ◌*◌, ◌%◌, ◌<◌, ◌≤◌, Bool, true, false, List, [], ◌∷◌, ◌++◌, length, get_or, take, drop, Option, Some, None, MatchOption, IfSome, IfNone, refl, sym, ap, subst, ◌∙◌, arith, inl, inr}
+use Rattle.std.proofs.lemmas.Bool.{cases_lt, lt-ltb, le-ltb, lt-leb, le-leb}
 use Rattle.std.proofs.lemmas.List.{length-append, length-drop, take_at, take-append-drop}
 use Rattle.bcder.specs.declared.mode.Mode.{Mode}
+use Rattle.bcder.specs.declared.mode.Mode.TheVariants.{Ber, Cer, Der}
 use Rattle.bcder.specs.declared.length.Length.{Length}
 use Rattle.bcder.specs.declared.length.Length.TheVariants.{Definite, Indefinite}
 use Rattle.bcder.specs.Identifier.{universal, AreOctets, Tag}
+use Rattle.bcder.specs.Length.{big_endian}
 use Rattle.bcder.specs.Tree.{Tree, primitive, constructed, Trees, no_trees, ◌∷ₜ◌}
 use Rattle.bcder.specs.Encoding.{may_have, IsEncoding}
 use Rattle.bcder.specs.Grammar.{IsOnly, BeginsWhole}
-use Rattle.bcder.specs.Reading.{class_of, is_value_tag, is_marked, read_identifier, read_length, Header, BeginPrimitive, read_header, read_end, read_contents, read_value, at_end, read_list, read_tree}
+use Rattle.bcder.specs.Reading.{class_of, is_value_tag, is_marked, read_identifier, read_length, read_long, may_tell, Header, BeginPrimitive, read_header, read_end, read_contents, read_value, at_end, read_list, read_tree}
 use Rattle.bcder.specs.laws.Complete.{header_size, tree_complete, one_encoding}
 use Rattle.bcder.specs.laws.Sound.{end_sound, some_inj, none_is}
 use Rattle.bcder.specs.laws.Stands.{AreOctets-after, header_sound, tree_sound}
@@ -106,6 +108,42 @@ short_begins (b ∷ l ∷ x) n m o two k e h r mode =
     let f : l ≤ length x = omega (arith, h, e) in
     let c : n ≡ suc (suc l) = omega (arith, r, e) in
     rw c (begins_of_read mode (b ∷ l ∷ x) (suc (suc l)) o (omega arith) (short_read mode b l x o k f))
+
+-- ---- a primitive value with a header of four octets
+
+-- two octets may tell a length from 256 on in each mode
+two_may_tell : (mode : Mode) (n : ℕ) → 256 ≤ n → may_tell mode 2 n ≡ true
+unfolding may_tell
+two_may_tell Ber n l = refl
+two_may_tell Cer n l = le-leb 256 n l
+two_may_tell Der n l = le-leb 256 n l
+
+two_digits : (h l : ℕ) → big_endian (h ∷ (l ∷ [])) ≡ h * 256 + l
+two_digits h l = omega arith
+
+pub two_read : (mode : Mode) (h l n : ℕ) (x : List ℕ) → h * 256 + l ≡ n → 256 ≤ n → read_long mode 2 (h ∷ (l ∷ x)) ≡ Some (Definite n, x)
+unfolding read_long
+two_read mode h l n x e k = rw (le-ltb (suc (suc (length x))) 2 (omega arith), two_digits h l, e, two_may_tell mode n k) refl
+
+long_header : (mode : Mode) (b h l n : ℕ) (x : List ℕ) → 1 ≤ b % 64 → b % 64 ≤ 30 → h * 256 + l ≡ n → 256 ≤ n → (t : Tag) × (read_header mode (b ∷ 130 ∷ h ∷ l ∷ x) ≡ Some (record { tag = t; form = false; len = Definite n }, x))
+unfolding read_header read_identifier is_marked read_length
+long_header mode b h l n x some k e m =
+    let p : b % 32 < 31 = omega arith in
+    let z : b ≢ 0 = λ e. (let m : b % 64 ≡ 0 = rw e refl in omega arith) in
+    (record { class = class_of b; number = b % 32 }, rw (lt-ltb (b % 32) 31 p, lt-leb 32 (b % 64) (omega arith), value_octet b (omega arith) z, two_read mode h l n x e m) refl)
+
+pub long_begins : (w : List ℕ) (n m : ℕ) → AreOctets w → 4 ≤ length w → 1 ≤ get_or w 0 0 % 64 → get_or w 0 0 % 64 ≤ 30 → get_or w 1 0 ≡ 130 → m ≡ get_or w 2 0 * 256 + get_or w 3 0 → 256 ≤ m → n ≡ 4 + m → n ≤ length w → (mode : Mode) → BeginsWhole mode w n
+long_begins [] n m o four s k c e l r h mode = absurd (omega arith)
+long_begins (b ∷ []) n m o four s k c e l r h mode = absurd (omega arith)
+long_begins (b ∷ b2 ∷ []) n m o four s k c e l r h mode = absurd (omega arith)
+long_begins (b ∷ b2 ∷ b3 ∷ []) n m o four s k c e l r h mode = absurd (omega arith)
+long_begins (b ∷ b2 ∷ b3 ∷ b4 ∷ x) n m o four s k c e l r h mode =
+    let d : n ≡ suc (suc (suc (suc m))) = omega arith in
+    let f : m ≤ length x = omega (arith, h, d) in
+    let w = b ∷ b2 ∷ b3 ∷ b4 ∷ x in
+    let t = long_header mode b b3 b4 m x s k (sym e) l in
+    let g : read_header mode w ≡ Some (record { tag = t.0; form = false; len = Definite m }, x) = ap (λ z. read_header mode (b ∷ z ∷ b3 ∷ b4 ∷ x)) c ∙ t.1 in
+    rw d (begins_of_read mode w (suc (suc (suc (suc m)))) o (omega (arith, f)) (primitive_read mode t.0 m w x o g f))
 
 pub whole_read : (mode : Mode) (w rest : List ℕ) (n : ℕ) → BeginsWhole mode w n → rest ≡ drop n w → TreeRead mode w rest
 whole_read mode w rest n b e = (b.tree, ap (read_tree mode) (sym (take-append-drop n w)) ∙ tree_complete mode b.tree (take n w) (drop n w) b.encodes ∙ ap (λ y. Some (b.tree, y)) (sym e))

@@ -1,5 +1,5 @@
 -- Segments that come one after the other, and octets that are joined in front of them.
-use Rattle.std.proofs.Common.{◌≡◌, ℕ, zero, suc, ◌+◌, ◌<◌, ◌≤◌, ◌^◌, List, [], ◌∷◌, ◌++◌, length, drop, get_or, refl, sym, ap, ◌∙◌, subst, append_assoc, add-one, drop-cons, arith}
+use Rattle.std.proofs.Common.{◌≡◌, ℕ, zero, suc, ◌+◌, ◌-◌, ◌<◌, ◌≤◌, ◌^◌, List, [], ◌∷◌, ◌++◌, length, drop, slice_range, get_or, refl, sym, ap, ◌∙◌, subst, append_assoc, add-one, drop-cons, length-take-le, arith}
 use Rattle.std.specs.List.{concat}
 use Rattle.std.proofs.lemmas.List.{length-append, length-drop, drop-append-le}
 use Rattle.bcder.specs.declared.string.octet.Segment.{Segment}
@@ -32,6 +32,11 @@ module _ (w : List ℕ) (ss : List Segment) (n : ℕ) (s : Segment) (some : n < 
   -- and is the first of those to come
   pub next_of : segments_at w (drop n ss) ≡ segment_at w s ∷ segments_at w (drop (n + 1) ss)
   next_of = ap (segments_at w) next_is
+
+-- ---- octets that stand in a block
+
+pub range_length : (w : List ℕ) (s e : ℕ) → s ≤ e → e ≤ length w → length (slice_range w s e) ≡ e - s
+range_length w s e p q = length-take-le (e - s) (drop s w) (omega (arith, length-drop s w))
 
 pub passed_octets : (k : ℕ) (w x : List ℕ) → k ≤ length w → AreOctets (w ++ x) → AreOctets (drop k w ++ x)
 passed_octets k w x h o = subst AreOctets (drop-append-le k w x h) (AreOctets-drop k (w ++ x) o)

@@ -11,7 +11,7 @@ use Rattle.bcder.specs.Identifier.{Tag}
 use Rattle.bcder.specs.Tree.{Tree, primitive, constructed}
 use Rattle.bcder.specs.Encoding.{IsHeader, IsEncoding, AreEncodings}
 use Rattle.bcder.specs.Captured.{Kept}
-use Rattle.bcder.specs.OctetString.{StringOctets, whole, cut, octets_of, segments_of, flat, IsOctetString, IsStringOf, MeansString, AreSegmented, AreSegmentsIn}
+use Rattle.bcder.specs.OctetString.{StringOctets, whole, cut, octets_of, segments_of, flat, IsOctetString, MeansString, AreSegmented, AreSegmentsIn}
 use Rattle.bcder.specs.Meaning.{Encoded}
 use Rattle.bcder.specs.Content.{Reading, tagged, IsAbsent, IsElsewhere, none_left, other, marker}
 use Rattle.bcder.specs.Walking.{HasValue}

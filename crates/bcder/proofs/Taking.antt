@@ -19,7 +19,7 @@ use Rattle.bcder.specs.Decoding.{AnsweredOn}
 use Rattle.bcder.specs.Calls.{IsFormOf, ContentOf, Hands, Untagged, Answered, AnswersDone, RefusesContent, by_closure, unfinished, TakesContent, TakesValue, RefusesFront, RefusesValue, IsInside}
 use Rattle.bcder.specs.Calls as calls
 use Rattle.bcder.specs.Inside.{TakesBehind, of_form, refused, taken}
-use Rattle.bcder.specs.Takes.{HasNone, TellsNone, HasRefusedForm, RefusesTake, by_header, by_form, by_content, TakesNext, Takes}
+use Rattle.bcder.specs.Takes.{HasNone, TellsNone, HasRefusedForm, by_header, by_form, by_content, TakesNext, Takes}
 use Rattle.bcder.specs.laws.Complete.{header_size}
 use Rattle.bcder.proofs.Moving.{moves_value, moves_failed, advances_trans, open_not_ended}
 use Rattle.bcder.proofs.Entering.{advances_to, header_entered}

@@ -1,20 +1,15 @@
 -- What contents octets tell of their integer.
-use Rattle.std.proofs.Common.{◌≡◌, ◌≢◌, ◌<◌, ◌+◌, ◌-◌, ℕ, suc, Bool, true, false, IsTrue, ◌↔◌, List, [], ◌∷◌, length, drop, get_or, add-one, refl, sym, ap, ◌∙◌, arith, subst, inl, inr}
-use Rattle.std.proofs.Math.Seq.{drop-cons}
-use Rattle.std.proofs.lemmas.List.{drop_all}
+use Rattle.std.proofs.Common.{◌≡◌, ℕ, Bool, true, false, IsTrue, ◌↔◌, List, [], ◌∷◌, length, refl, sym, ap, ◌∙◌, arith, subst}
 use Rattle.std.specs.Prelude.{ℤ, pos, negsuc, ◌<ℤ◌}
 use Rattle.std.specs.Prelude.{nat_eq}
 use Rattle.std.specs.Ordering.{int_eq}
 use Rattle.std.specs.Cmp.{signed_Decides}
 use Rattle.std.specs.Cmp.Lexicographic.{pointwise, same_text, nat_list_eq_equiv}
 use Rattle.std.proofs.lemmas.Int.{ints}
-use Rattle.std.proofs.lemmas.Bool.{cases_lt}
 use Rattle.std.proofs.lemmas.Bool.Decides.{nat_tests}
-use Rattle.bcder.specs.Length.{big_endian}
-use Rattle.bcder.specs.Unsigned.{BeginsAboveZero, BeginsWithZeros}
 use Rattle.bcder.specs.Identifier.{AreOctets}
-use Rattle.bcder.specs.Integer.{AreInteger, IsSmallest, Leads, number, is_negative}
-use Rattle.bcder.specs.laws.Integers.{Told, positive, negative, told_by, number_positive, one_integer, AreOctets-nil, AreOctets-cons}
+use Rattle.bcder.specs.Integer.{AreInteger, Leads, number, is_negative}
+use Rattle.bcder.specs.laws.Integers.{Told, positive, negative, told_by, one_integer, AreOctets-nil, AreOctets-cons}
 use Rattle.bcder.specs.laws.Order.{leads_tested, leads_tested_negative}
 
 pub negative_told : (z : ℤ) (w : List ℕ) (b : Bool) → AreOctets w → AreInteger z w → b ≡ is_negative w → IsTrue b ↔ (z <ℤ pos 0)

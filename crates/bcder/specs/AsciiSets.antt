@@ -1,5 +1,5 @@
 -- Character sets whose characters are one octet each (ITU-T X.680, 41; X.690, 8.23).
-use Rattle.std.specs.Prelude.{ℕ, List, [], ◌∷◌, Bool, true, false, ◌||◌, ◌==◌, if◌then◌else◌, Some, None, codes}
+use Rattle.std.specs.Prelude.{ℕ, List, [], ◌∷◌, Bool, false, ◌||◌, ◌==◌, if◌then◌else◌, Some, None, codes}
 use Rattle.std.specs.Int.{is_in_range}
 use Rattle.bcder.specs.Identifier.{Tag, universal}
 use Rattle.bcder.specs.CharSet.{Step}

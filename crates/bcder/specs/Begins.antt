@@ -1,9 +1,6 @@
 -- What octets begin with.
 use Rattle.std.specs.Prelude.{◌≡◌, ◌≢◌, ◌≤◌, Bool, List, ℕ, ◌++◌, length}
-use Rattle.bcder.specs.declared.mode.Mode.{Mode}
-use Rattle.bcder.specs.declared.length.Length.{Length}
 use Rattle.bcder.specs.Identifier.{Tag, IsTag, identifier}
-use Rattle.bcder.specs.Length.{AreLengthOctets}
 
 -- w begins with the identifier octets of another tag than t
 abbrev pub BeginsOther : Tag → List ℕ → Type 0

@@ -1,5 +1,5 @@
 -- Character sets: which characters octets spell (ITU-T X.690, 8.23).
-use Rattle.std.specs.Prelude.{◌≡◌, ◌≢◌, ℕ, zero, suc, List, [], ◌∷◌, ◌++◌, length, Option, Some, None, Result, Ok, Err}
+use Rattle.std.specs.Prelude.{◌≡◌, ◌≢◌, ℕ, List, [], ◌∷◌, ◌++◌, Option, Some, None, Result, Ok, Err}
 use Rattle.std.specs.Char.{IsScalar}
 use Rattle.std.specs.Cow.{cow_slice_items}
 use Rattle.std.specs.Str.{chars}

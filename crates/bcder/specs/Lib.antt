@@ -9,6 +9,7 @@ pub mod BitString
 pub mod Number
 pub mod ObjectIdentifier
 pub mod OctetString
+pub mod OctetTakes
 pub mod Segments
 pub mod IdentifierText
 pub mod Components

@@ -1,5 +1,5 @@
 -- UTF-8 (RFC 3629, 4): the character set of a UTF8String (ITU-T X.680, 41; X.690, 8.23).
-use Rattle.std.specs.Prelude.{ℕ, zero, suc, ◌+◌, ◌-◌, ◌*◌, List, [], ◌∷◌, ◌==◌, if◌then◌else◌, Option, Some, None}
+use Rattle.std.specs.Prelude.{ℕ, zero, suc, ◌+◌, ◌-◌, ◌*◌, [], ◌∷◌, if◌then◌else◌, Option, Some, None}
 use Rattle.std.specs.Int.{is_in_range}
 use Rattle.bcder.specs.Identifier.{Tag, universal}
 use Rattle.bcder.specs.CharSet.{Step}

@@ -2,7 +2,7 @@
 use crate::end::{End, answered, made, refused, tell};
 use anyhow::Error;
 use bcder::captured::CapturedBuilder;
-use bcder::encode::{EncodeError, PrimitiveContent, Values};
+use bcder::encode::{EncodeError, PrimitiveContent, Values, iter};
 use bcder::{Captured, Mode, NoMemory};
 use rows::encoders::Nulls;
 use std::alloc::{AllocError, Global};
@@ -65,6 +65,16 @@ fn continues(alloc: Global) -> Result<End, Error> {
     Ok(answered(builder.freeze()?.as_slice() == FIVE.as_slice()))
 }
 
+/// The same where the octets are shared, and have to be copied.
+fn continues_shared(alloc: Global) -> Result<End, Error> {
+    let captured = five(alloc)?;
+    let shared = captured.bytes()?;
+    let Ok(builder) = captured.into_builder(alloc) else {
+        return Ok(refused(true, shared.as_slice() == FIVE.as_slice()));
+    };
+    Ok(answered(builder.freeze()?.as_slice() == FIVE.as_slice()))
+}
+
 fn clones(alloc: Global) -> Result<End, Error> {
     let captured = five(alloc)?;
     let clone: Result<Captured, AllocError> = captured.clone();
@@ -82,6 +92,23 @@ fn shares(alloc: Global) -> Result<End, Error> {
     Ok(match shared {
         Ok(octets) => answered(left && octets.as_slice() == FIVE.as_slice()),
         Err(NoMemory) => refused(true, left),
+    })
+}
+
+/// The items of an iterator that is cloned for them, and so are they. It stays what it is.
+fn lists(alloc: Global) -> Result<End, Error> {
+    let mut values = Vec::new(alloc);
+    values.push(five(alloc)?)?;
+    values.push(five(alloc)?)?;
+    let list = iter(values);
+    let found = match list.items() {
+        Ok(items) => Some(items.count()),
+        Err(NoMemory) => None,
+    };
+    let left = list.into_iter().count() == 2;
+    Ok(match found {
+        Some(count) => answered(left && count == 2),
+        None => refused(true, left),
     })
 }
 
@@ -105,7 +132,13 @@ pub fn run(rt: &HostRuntime) -> Result<(), Error> {
     tell(rt, "CapturedBuilder::extend", extends(alloc)?)?;
     tell(rt, "CapturedBuilder::freeze", freezes(alloc)?)?;
     tell(rt, "Captured::into_builder", continues(alloc)?)?;
+    tell(
+        rt,
+        "Captured::into_builder, of shared octets",
+        continues_shared(alloc)?,
+    )?;
     tell(rt, "Captured::clone", clones(alloc)?)?;
+    tell(rt, "Iter::items", lists(alloc)?)?;
     tell(rt, "Captured::bytes", shares(alloc)?)?;
     tell(rt, "Captured::decode_partial", decodes(alloc)?)
 }

@@ -56,7 +56,7 @@ fn extends_beyond(alloc: Global) -> Result<End, Error> {
     builder.extend(5u8.encode())?;
     let end = wants(builder.extend(Nulls(BEYOND / 2)));
     let left = builder.freeze()?.as_slice() == [0x02, 0x01, 0x05].as_slice();
-    Ok(refused(end == End::NoMemory, left))
+    Ok(refused(matches!(end, End::NoMemory), left))
 }
 
 /// Calls that want memory on any machine.

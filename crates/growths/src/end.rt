@@ -4,7 +4,7 @@ use bcder::NoMemory;
 use bcder::decode::DecodeError;
 
 /// How a call ended.
-#[derive(Clone, Copy, Debug, PartialEq, Eq)]
+#[derive(Clone, Copy)]
 pub enum End {
     /// It answered what it should.
     Answered,
@@ -54,6 +54,14 @@ pub fn tell(rt: &HostRuntime, call: &str, end: End) -> Result<(), Error> {
         End::Wrong => "WRONG",
     };
     println!(rt; "{call}: {how}")?;
+    Ok(())
+}
+
+/// Prints how several calls ended.
+pub fn tell_all(rt: &HostRuntime, ends: &[(&str, End)]) -> Result<(), Error> {
+    for (call, end) in ends {
+        tell(rt, *call, *end)?;
+    }
     Ok(())
 }
 

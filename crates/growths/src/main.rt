@@ -12,6 +12,7 @@ mod end;
 mod numbers;
 mod restricted;
 mod sources;
+mod spare;
 mod strings;
 mod taken;
 mod wrapped;
@@ -28,5 +29,6 @@ fn main(rt: HostRuntime) -> Result<(), Error> {
     captured::run(&rt)?;
     encoded::run(&rt)?;
     wrapped::run(&rt)?;
+    spare::run(&rt)?;
     encoded::run_beyond_memory(&rt)
 }

@@ -1,5 +1,5 @@
 //! Integers, object identifiers and errors that are made.
-use crate::end::{End, answered, made, refused, tell};
+use crate::end::{End, answered, made, refused, tell, tell_all};
 use anyhow::Error;
 use bcder::decode::{ContentError, Message};
 use bcder::int::IntegerError;
@@ -24,46 +24,76 @@ fn is_unsigned(made: Result<Unsigned, NoMemory>, octets: &[u8]) -> End {
     }
 }
 
-fn run_signed(rt: &HostRuntime) -> Result<(), Error> {
-    let alloc = rt.alloc();
-    let end = is(Integer::from_i8(alloc, -1), &[0xFF]);
-    tell(rt, "Integer::from_i8", end)?;
-    let end = is(Integer::from_i16(alloc, -129), &[0xFF, 0x7F]);
-    tell(rt, "Integer::from_i16", end)?;
-    let end = is(Integer::from_i32(alloc, -129), &[0xFF, 0x7F]);
-    tell(rt, "Integer::from_i32", end)?;
-    let end = is(Integer::from_i64(alloc, -129), &[0xFF, 0x7F]);
-    tell(rt, "Integer::from_i64", end)?;
-    let end = is(Integer::from_i128(alloc, -129), &[0xFF, 0x7F]);
-    tell(rt, "Integer::from_i128", end)
+fn signed(alloc: Global) -> [(&'static str, End); 5] {
+    [
+        ("Integer::from_i8", is(Integer::from_i8(alloc, -1), &[0xFF])),
+        (
+            "Integer::from_i16",
+            is(Integer::from_i16(alloc, -129), &[0xFF, 0x7F]),
+        ),
+        (
+            "Integer::from_i32",
+            is(Integer::from_i32(alloc, -129), &[0xFF, 0x7F]),
+        ),
+        (
+            "Integer::from_i64",
+            is(Integer::from_i64(alloc, -129), &[0xFF, 0x7F]),
+        ),
+        (
+            "Integer::from_i128",
+            is(Integer::from_i128(alloc, -129), &[0xFF, 0x7F]),
+        ),
+    ]
 }
 
-fn run_unsigned(rt: &HostRuntime) -> Result<(), Error> {
-    let alloc = rt.alloc();
-    let end = is(Integer::from_u8(alloc, 200), &[0x00, 0xC8]);
-    tell(rt, "Integer::from_u8", end)?;
-    let end = is(Integer::from_u16(alloc, 200), &[0x00, 0xC8]);
-    tell(rt, "Integer::from_u16", end)?;
-    let end = is(Integer::from_u32(alloc, 200), &[0x00, 0xC8]);
-    tell(rt, "Integer::from_u32", end)?;
-    let end = is(Integer::from_u64(alloc, 200), &[0x00, 0xC8]);
-    tell(rt, "Integer::from_u64", end)?;
-    let end = is(Integer::from_u128(alloc, 200), &[0x00, 0xC8]);
-    tell(rt, "Integer::from_u128", end)
+fn unsigned(alloc: Global) -> [(&'static str, End); 5] {
+    [
+        (
+            "Integer::from_u8",
+            is(Integer::from_u8(alloc, 200), &[0x00, 0xC8]),
+        ),
+        (
+            "Integer::from_u16",
+            is(Integer::from_u16(alloc, 200), &[0x00, 0xC8]),
+        ),
+        (
+            "Integer::from_u32",
+            is(Integer::from_u32(alloc, 200), &[0x00, 0xC8]),
+        ),
+        (
+            "Integer::from_u64",
+            is(Integer::from_u64(alloc, 200), &[0x00, 0xC8]),
+        ),
+        (
+            "Integer::from_u128",
+            is(Integer::from_u128(alloc, 200), &[0x00, 0xC8]),
+        ),
+    ]
 }
 
-fn run_of_unsigned(rt: &HostRuntime) -> Result<(), Error> {
-    let alloc = rt.alloc();
-    let end = is_unsigned(Unsigned::from_u8(alloc, 200), &[0x00, 0xC8]);
-    tell(rt, "Unsigned::from_u8", end)?;
-    let end = is_unsigned(Unsigned::from_u16(alloc, 200), &[0x00, 0xC8]);
-    tell(rt, "Unsigned::from_u16", end)?;
-    let end = is_unsigned(Unsigned::from_u32(alloc, 200), &[0x00, 0xC8]);
-    tell(rt, "Unsigned::from_u32", end)?;
-    let end = is_unsigned(Unsigned::from_u64(alloc, 200), &[0x00, 0xC8]);
-    tell(rt, "Unsigned::from_u64", end)?;
-    let end = is_unsigned(Unsigned::from_u128(alloc, 200), &[0x00, 0xC8]);
-    tell(rt, "Unsigned::from_u128", end)
+fn of_unsigned(alloc: Global) -> [(&'static str, End); 5] {
+    [
+        (
+            "Unsigned::from_u8",
+            is_unsigned(Unsigned::from_u8(alloc, 200), &[0x00, 0xC8]),
+        ),
+        (
+            "Unsigned::from_u16",
+            is_unsigned(Unsigned::from_u16(alloc, 200), &[0x00, 0xC8]),
+        ),
+        (
+            "Unsigned::from_u32",
+            is_unsigned(Unsigned::from_u32(alloc, 200), &[0x00, 0xC8]),
+        ),
+        (
+            "Unsigned::from_u64",
+            is_unsigned(Unsigned::from_u64(alloc, 200), &[0x00, 0xC8]),
+        ),
+        (
+            "Unsigned::from_u128",
+            is_unsigned(Unsigned::from_u128(alloc, 200), &[0x00, 0xC8]),
+        ),
+    ]
 }
 
 /// Whether an unsigned integer that is made of octets has these contents octets.
@@ -141,12 +171,35 @@ fn cloned(alloc: Global) -> Result<End, Error> {
     })
 }
 
+fn cloned_unsigned(alloc: Global) -> Result<End, Error> {
+    let number = Unsigned::from_u8(alloc, 200)?;
+    let clone: Result<Unsigned, AllocError> = number.clone();
+    let left = number.as_slice() == [0x00, 0xC8].as_slice();
+    Ok(match clone {
+        Ok(clone) => answered(left && clone == number),
+        Err(AllocError) => refused(true, left),
+    })
+}
+
+/// The same of an identifier.
+fn cloned_identifier(alloc: Global) -> Result<End, Error> {
+    let oid: Oid<Vec<u8>> = Oid(IDENTIFIER.to_vec(alloc)?);
+    let clone: Result<Oid<Vec<u8>>, AllocError> = oid.clone();
+    let left = oid.0.as_slice() == IDENTIFIER.as_slice();
+    Ok(match clone {
+        Ok(clone) => answered(left && clone.same_as(&oid)),
+        Err(AllocError) => refused(true, left),
+    })
+}
+
 pub fn run(rt: &HostRuntime) -> Result<(), Error> {
-    run_signed(rt)?;
-    run_unsigned(rt)?;
-    run_of_unsigned(rt)?;
+    tell_all(rt, &signed(rt.alloc()))?;
+    tell_all(rt, &unsigned(rt.alloc()))?;
+    tell_all(rt, &of_unsigned(rt.alloc()))?;
     run_of_octets(rt)?;
     tell(rt, "Integer::clone", cloned(rt.alloc())?)?;
+    tell(rt, "Unsigned::clone", cloned_unsigned(rt.alloc())?)?;
+    tell(rt, "Oid::clone", cloned_identifier(rt.alloc())?)?;
     tell(rt, "Oid::from_str", identifier(rt.alloc()))?;
     tell(rt, "Oid::into_shared", shared_identifier(rt.alloc())?)?;
     tell(rt, "ContentError::from_boxed", boxed(rt.alloc())?)

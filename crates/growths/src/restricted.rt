@@ -3,9 +3,9 @@ ghost use Rattle.bcder.specs.Views.{Moved};
 
 use crate::end::{End, answered, made, read, tell};
 use anyhow::Error;
-use bcder::Mode;
 use bcder::decode::{Constructed, DecodeError, SliceSource, Source};
 use bcder::string::{StringError, Utf8String};
+use bcder::{Mode, Tag};
 use std::alloc::{AllocError, Global};
 
 /// The text of each string.
@@ -38,6 +38,33 @@ fn take<S: Source>(
     Ok(is_it(&Utf8String::take_from(alloc, cons)?))
 }
 
+/// The same of one that may be there.
+fn take_opt<S: Source>(
+    cons: &mut Constructed<'_, S>,
+    alloc: Global,
+) -> Result<bool, DecodeError<S::Error>>
+    ensures { Moved S.stream cons }
+{
+    match Utf8String::take_opt_from(alloc, cons)? {
+        Some(string) => Ok(is_it(&string)),
+        None => Ok(false),
+    }
+}
+
+/// The same of its content.
+fn take_content<S: Source>(
+    cons: &mut Constructed<'_, S>,
+    alloc: Global,
+) -> Result<bool, DecodeError<S::Error>>
+    ensures { Moved S.stream cons }
+{
+    let string = cons.take_value_if(
+        Tag::UTF8_STRING,
+        |content| Utf8String::from_content(alloc, content),
+    )?;
+    Ok(is_it(&string))
+}
+
 /// A clone has the same characters.
 fn clones(string: &Utf8String) -> End {
     let clone: Result<Utf8String, AllocError> = string.clone();
@@ -57,6 +84,12 @@ pub fn run(rt: &HostRuntime) -> Result<(), Error> {
     let mut octets = SliceSource::new(CUT);
     let end = read(Mode::Ber.decode_lent(&mut octets, |cons| take(cons, alloc)));
     tell(rt, "RestrictedString::take_from", end)?;
+    let mut octets = SliceSource::new(CUT);
+    let end = read(Mode::Ber.decode_lent(&mut octets, |cons| take_opt(cons, alloc)));
+    tell(rt, "RestrictedString::take_opt_from", end)?;
+    let mut octets = SliceSource::new(CUT);
+    let end = read(Mode::Ber.decode_lent(&mut octets, |cons| take_content(cons, alloc)));
+    tell(rt, "RestrictedString::from_content", end)?;
     let mut octets = SliceSource::new(CUT);
     let cut = Mode::Ber.decode_lent(&mut octets, |cons| Utf8String::take_from(alloc, cons))?;
     tell(rt, "RestrictedString::clone", clones(&cut))?;

@@ -10,26 +10,67 @@ use std::alloc::Global;
 use std::convert::TryFrom;
 
 /// A call that takes a value.
-#[derive(Clone, Copy, Debug, PartialEq, Eq)]
+#[derive(Clone, Copy)]
 enum Take {
     Octets,
     Integer,
+    IntegerOf,
     Unsigned,
+    UnsignedOf,
     Identifier,
+    OptIdentifier,
+    IdentifierOf,
     SkipOne,
     SkipOpt,
+    Skip,
     SkipAll,
+    SkipSix,
 }
 
-const TAKES: [(&str, Take); 7] = [
+const TAKES: [(&str, Take); 13] = [
     ("Primitive::take_all", Take::Octets),
     ("Integer::take_from", Take::Integer),
+    ("Integer::from_primitive", Take::IntegerOf),
     ("Unsigned::take_from", Take::Unsigned),
+    ("Unsigned::from_primitive", Take::UnsignedOf),
     ("Oid::take_from", Take::Identifier),
+    ("Oid::take_opt_from", Take::OptIdentifier),
+    ("Oid::from_primitive", Take::IdentifierOf),
     ("Constructed::skip_one", Take::SkipOne),
     ("Constructed::skip_opt", Take::SkipOpt),
+    ("Constructed::skip", Take::Skip),
     ("Constructed::skip_all", Take::SkipAll),
+    ("Constructed::skip_opt, six levels", Take::SkipSix),
 ];
+
+/// Takes the octets of a primitive value, as what they are kept as.
+fn take_of<S: Source>(
+    cons: &mut Constructed<'_, S>,
+    alloc: Global,
+    take: Take,
+) -> Result<Bytes, DecodeError<S::Error>>
+    ensures { Moved S.stream cons }
+{
+    match take {
+        Take::IntegerOf => {
+            let number = cons.take_primitive(|_tag, octets| Integer::from_primitive(
+                alloc, octets,
+            ))?;
+            Ok(number.into_bytes())
+        }
+        Take::UnsignedOf => {
+            let number = cons.take_primitive(|_tag, octets| Unsigned::from_primitive(
+                alloc, octets,
+            ))?;
+            Ok(number.into_bytes())
+        }
+        Take::IdentifierOf => {
+            let oid = cons.take_primitive(|_tag, octets| Oid::from_primitive(alloc, octets))?;
+            Ok(oid.0)
+        }
+        _ => cons.take_primitive(|_tag, octets| octets.take_all(alloc)),
+    }
+}
 
 /// Takes octets, and tells whether they are these.
 fn take_octets<S: Source>(
@@ -44,7 +85,11 @@ fn take_octets<S: Source>(
         Take::Integer => Integer::take_from(alloc, cons)?.into_bytes(),
         Take::Unsigned => Unsigned::take_from(alloc, cons)?.into_bytes(),
         Take::Identifier => Oid::take_from(alloc, cons)?.0,
-        _ => cons.take_primitive(|_tag, octets| octets.take_all(alloc))?,
+        Take::OptIdentifier => match Oid::take_opt_from(alloc, cons)? {
+            Some(oid) => oid.0,
+            None => return Ok(false),
+        },
+        _ => take_of(cons, alloc, take)?,
     };
     Ok(octets.as_slice() == wanted)
 }
@@ -59,6 +104,17 @@ fn skip_opt<S: Source>(
     cons.skip_opt(alloc, &mut |_tag, _constructed, _depth| Ok(()))
 }
 
+/// The same of a value that has to be there.
+fn skip_next<S: Source>(
+    cons: &mut Constructed<'_, S>,
+    alloc: Global,
+) -> Result<bool, DecodeError<S::Error>>
+    ensures { Moved S.stream cons }
+{
+    cons.skip(alloc, &mut |_tag, _constructed, _depth| Ok(()))?;
+    Ok(true)
+}
+
 /// Skips values, and tells whether there was one.
 fn skip<S: Source>(
     cons: &mut Constructed<'_, S>,
@@ -69,7 +125,8 @@ fn skip<S: Source>(
 {
     match take {
         Take::SkipOne => Ok(cons.skip_one(alloc)?.is_some()),
-        Take::SkipOpt => Ok(skip_opt(cons, alloc)?.is_some()),
+        Take::SkipOpt | Take::SkipSix => Ok(skip_opt(cons, alloc)?.is_some()),
+        Take::Skip => skip_next(cons, alloc),
         _ => {
             cons.skip_all(alloc)?;
             Ok(true)
@@ -87,13 +144,15 @@ fn take_value<S: Source>(
     ensures { Moved S.stream cons }
 {
     match take {
-        Take::SkipOne | Take::SkipOpt | Take::SkipAll => skip(cons, alloc, take),
+        Take::SkipOne | Take::SkipOpt | Take::Skip | Take::SkipAll | Take::SkipSix => {
+            skip(cons, alloc, take)
+        }
         _ => take_octets(cons, alloc, take, wanted),
     }
 }
 
 /// A call that captures values.
-#[derive(Clone, Copy, Debug, PartialEq, Eq)]
+#[derive(Clone, Copy)]
 enum Kind {
     One,
     All,
@@ -153,10 +212,10 @@ fn short(alloc: Global, number: u8, octets: &[u8]) -> Result<Vec<u8>, Error> {
 /// Sequences in one another, more than calls go down.
 const LEVELS: usize = 70;
 
-/// The octets of these sequences, in DER, put together from the last one on.
-fn deep(alloc: Global) -> Result<Vec<u8>, Error> {
+/// The octets of so many sequences, in DER, put together from the last one on.
+fn deep(alloc: Global, levels: usize) -> Result<Vec<u8>, Error> {
     let mut value = Vec::new(alloc);
-    for _ in 0..LEVELS {
+    for _ in 0..levels {
         let len = u8::try_from(value.len())?;
         value.push(len)?;
         if len >= 0x80 {
@@ -175,9 +234,14 @@ const CONTENTS: [u8; 3] = [0x55, 0x1D, 0x13];
 fn value_for(alloc: Global, take: Take) -> Result<Vec<u8>, Error> {
     match take {
         Take::Octets => short(alloc, 0x04, &CONTENTS),
-        Take::Integer | Take::Unsigned => short(alloc, 0x02, &CONTENTS),
-        Take::Identifier => short(alloc, 0x06, &CONTENTS),
-        _ => deep(alloc),
+        Take::Integer | Take::IntegerOf | Take::Unsigned | Take::UnsignedOf => {
+            short(alloc, 0x02, &CONTENTS)
+        }
+        Take::Identifier | Take::OptIdentifier | Take::IdentifierOf => {
+            short(alloc, 0x06, &CONTENTS)
+        }
+        Take::SkipSix => deep(alloc, 6),
+        _ => deep(alloc, LEVELS),
     }
 }
 
@@ -258,7 +322,7 @@ fn captured_of<S: Source>(alloc: Global, source: &mut S, call: Kind, wanted: &[u
 
 fn run_captures(rt: &HostRuntime) -> Result<(), Error> {
     let alloc = rt.alloc();
-    let list = deep(alloc)?;
+    let list = deep(alloc, LEVELS)?;
     let value = list.as_slice();
     for (name, call) in CAPTURES {
         let end = captured_of(alloc, &mut SliceSource::new(value), call, value);

@@ -15,15 +15,18 @@ mod certificate;
 mod extensions;
 mod lists;
 mod names;
+mod revoked;
 mod signed;
 
 pub use addresses::{Addresses, decode_addresses};
-use bcder::Tag;
 use bcder::decode::{Constructed, Content, DecodeError, Primitive, Source};
+use bcder::{Captured, Tag};
 pub use certificate::{Certificate, Time, Validity, decode_certificate, decode_two};
 pub use extensions::{Basic, Extensions, decode_extensions};
 pub use names::{Attribute, Name, Text};
+pub use revoked::{Entry, decode_entries, take_entries, take_reason};
 pub use signed::{Signed, decode_signed};
+use std::alloc::Global;
 
 /// The number of the contents octets, which are passed over.
 fn take_len<S: Source>(octets: &mut Primitive<'_, S>) -> Result<usize, DecodeError<S::Error>>
@@ -52,6 +55,34 @@ fn take_len_of<S: Source>(
     ensures { Moved S.stream cons }
 {
     cons.take_primitive_if(tag, |octets| take_len(octets))
+}
+
+/// The octet of an OCTET STRING that has one.
+pub fn take_octet<S: Source>(cons: &mut Constructed<'_, S>) -> Result<u8, DecodeError<S::Error>>
+    ensures { Moved S.stream cons }
+{
+    cons.take_primitive_if(Tag::OCTET_STRING, |octets| octets.take_u8())
+}
+
+/// What is inside a SEQUENCE of primitive values, to be read later.
+pub fn capture_inside<S: Source>(
+    alloc: Global,
+    cons: &mut Constructed<'_, S>,
+) -> Result<Captured, DecodeError<S::Error>>
+    ensures { Moved S.stream cons }
+{
+    cons.take_sequence(
+        |cons|
+            ensures { Moved S.stream cons }
+        { cons.capture(alloc, |cons| skip_primitives(cons)) },
+    )
+}
+
+/// Passes over primitive values up to the end.
+fn skip_primitives<S: Source>(cons: &mut Constructed<'_, S>) -> Result<(), DecodeError<S::Error>>
+    ensures { Moved S.stream cons }
+{
+    cons.while_some(|cons| cons.take_opt_primitive(|_tag, octets| octets.skip_all()))
 }
 
 /// The number of primitive values up to the end, by a loop over them.

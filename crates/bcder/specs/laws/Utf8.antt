@@ -1,13 +1,13 @@
 -- UTF-8 by RFC 3629's table is UTF-8 as std means it: the encodings of characters.
-use Rattle.std.specs.Prelude.{◌≡◌, ◌↔◌, ℕ, zero, suc, ◌+◌, ◌-◌, ◌*◌, ◌/◌, ◌%◌, ◌<◌, ◌≤◌, ◌⊎◌, List, [], ◌∷◌, ◌++◌, Bool, true, false, ◌&&◌, if◌then◌else◌, Option, Some, None, refl}
-use Rattle.std.proofs.Common.{ap, sym, subst, arith, ◌∙◌, inl, inr, ⊎_elim, append_assoc}
+use Rattle.std.specs.Prelude.{◌≡◌, ◌↔◌, ℕ, suc, ◌+◌, ◌-◌, ◌/◌, ◌%◌, ◌<◌, ◌≤◌, ◌⊎◌, List, [], ◌∷◌, ◌++◌, Bool, true, false, ◌&&◌, if◌then◌else◌, Option, Some, None, refl}
+use Rattle.std.proofs.Common.{ap, sym, subst, arith, ◌∙◌, inl, inr, ⊎_elim}
 use Rattle.std.proofs.lemmas.Bool.{cond-true, cond-false}
 use Rattle.std.proofs.lemmas.Bool.Decides.{nat_tests}
 use Rattle.std.proofs.lemmas.Str.{encode_ascii, chars-encodes}
 use Rattle.std.specs.Int.{is_in_range}
 use Rattle.std.specs.Char.{IsScalar, encode_utf8}
 use Rattle.std.specs.Str.{IsUtf8, chars, encode_utf8_all, all_scalars}
-use Rattle.bcder.specs.CharSet.{Front, Step, IsStep, Spells, Accepts}
+use Rattle.bcder.specs.CharSet.{Front, IsStep, Spells, Accepts}
 use Rattle.bcder.specs.Utf8.{Lead, lead, six_more, read_tails, read_behind, read_led, utf8_step}
 use Rattle.bcder.specs.laws.CharSets.{low_scalar}
 

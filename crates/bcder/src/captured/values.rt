@@ -38,6 +38,11 @@ impl Values for Captured {
         put_all(target, self.octets.as_slice(), why)
     }
 
+    #[inline(always)]
+    fn weight() -> usize {
+        0
+    }
+
     ghost lawful = { λ c mode can. kept_lawful c mode };
 }
 

@@ -133,6 +133,20 @@ impl<S> DecodeError<S> {
         DecodeError::NoMemory
     }
 
+    /// Want of memory, of what was refused it: a growth, a push or a clone.
+    ///
+    /// ```text
+    /// match all.push(entry) {
+    ///     Ok(()) => Ok(Some(())),
+    ///     Err(error) => Err(DecodeError::from_alloc(error)),
+    /// }
+    /// ```
+    pub fn from_alloc<E: Into<NoMemory> + Drop>(_error: E) -> DecodeError<S>
+        ensures { cause_of result ≡ of_memory }
+    {
+        DecodeError::NoMemory
+    }
+
     /// Whether there was no memory.
     pub fn is_memory(&self) -> bool
         ensures { result ≡ is_memory_cause (cause_of self.now) }

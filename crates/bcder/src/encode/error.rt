@@ -1,4 +1,5 @@
 //! Errors: why a value has no encoding, and why one was not written.
+use crate::NoMemory;
 use std::error::Error;
 use std::{fmt, io};
 
@@ -61,6 +62,17 @@ impl fmt::Display for EncodeError {
 }
 
 impl Error for EncodeError {}
+
+impl From<NoMemory> for EncodeError {
+    ghost use Rattle.std.specs.Prelude.{◌≡◌};
+    ghost use Rattle.bcder.specs.declared.encode.error.EncodeError.TheVariants.{NoMemory};
+
+    ghost from_gives = { λ _ e. e ≡ NoMemory };
+
+    fn from(_error: NoMemory) -> EncodeError {
+        EncodeError::NoMemory
+    }
+}
 
 /// Why values were not written.
 #[derive(Debug, Drop)]

@@ -59,10 +59,8 @@ pub fn write_header<W: io::Write>(
     told(outcome, why)
 }
 
-/// Writes a header with a length that four octets tell, by one call of the target's `write` where
-/// that takes all of it.
-#[inline(always)]
-pub(crate) fn put_header<W: io::Write>(
+/// Writes a header as `put_header`, of any size.
+fn put_any_header<W: io::Write>(
     target: &mut W,
     tag: Tag,
     constructed: bool,
@@ -77,6 +75,29 @@ pub(crate) fn put_header<W: io::Write>(
     tag.spell(constructed, &mut front);
     len.spell(&mut front);
     put_all(target, front.as_slice(), why)
+}
+
+/// Writes a header with a length that four octets tell, by one call of the target's `write` where
+/// that takes all of it.
+#[inline(always)]
+pub(crate) fn put_header<W: io::Write>(
+    target: &mut W,
+    tag: Tag,
+    constructed: bool,
+    len: Length,
+    why: &mut WriteError,
+) -> Result<(), Failed>
+    requires { fits_length len ≡ true }
+    ensures { WroteOctets W.contents target (header tag constructed len)
+        (told result why.new) }
+{
+    let Some(identifier) = tag.single_octet(constructed) else {
+        return put_any_header(target, tag, constructed, len, why);
+    };
+    let Some(length) = len.single_octet() else {
+        return put_any_header(target, tag, constructed, len, why);
+    };
+    put_all(target, &[identifier, length], why)
 }
 
 /// Writes the header of a primitive value and the first of its contents octets, by one call of the

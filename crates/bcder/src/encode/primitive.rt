@@ -236,5 +236,10 @@ impl<P: PrimitiveContent> Values for Primitive<P> {
         put_value(self.tag, &self.prim, mode, target, why)
     }
 
+    #[inline(always)]
+    fn weight() -> usize {
+        0
+    }
+
     ghost lawful = { λ x mode can. primitive_lawful x.tag mode (P.lawful x.prim mode) };
 }

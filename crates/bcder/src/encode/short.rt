@@ -27,8 +27,46 @@ pub(crate) fn put_apart<W: io::Write>(
     put_all(target, contents, why)
 }
 
-/// The octets of a primitive value with one identifier octet and few contents octets, in front of
-/// others.
+/// The octets of a primitive value with one identifier octet and at most eight contents octets, in
+/// front of others.
+#[inline(always)]
+fn few_together(identifier: u8, contents: &[u8]) -> [u8; 10]
+    requires { length contents.now ≤ 8 }
+    ensures { take (2 + length contents.now) result
+        ≡ identifier ∷ length contents.now ∷ contents.now }
+{
+    match contents {
+        [] => [identifier, 0, 0, 0, 0, 0, 0, 0, 0, 0],
+        [a] => [identifier, 1, *a, 0, 0, 0, 0, 0, 0, 0],
+        [a, b] => [identifier, 2, *a, *b, 0, 0, 0, 0, 0, 0],
+        [a, b, c] => [identifier, 3, *a, *b, *c, 0, 0, 0, 0, 0],
+        [a, b, c, d] => [identifier, 4, *a, *b, *c, *d, 0, 0, 0, 0],
+        [a, b, c, d, e] => [identifier, 5, *a, *b, *c, *d, *e, 0, 0, 0],
+        [a, b, c, d, e, f] => [identifier, 6, *a, *b, *c, *d, *e, *f, 0, 0],
+        [a, b, c, d, e, f, g] => [identifier, 7, *a, *b, *c, *d, *e, *f, *g, 0],
+        [a, b, c, d, e, f, g, h] => [identifier, 8, *a, *b, *c, *d, *e, *f, *g, *h],
+        _ => [0; 10],
+    }
+}
+
+/// Writes a primitive value with one identifier octet and at most eight contents octets.
+#[inline(always)]
+fn put_few<W: io::Write>(
+    identifier: u8,
+    contents: &[u8],
+    target: &mut W,
+    why: &mut WriteError,
+) -> Result<(), Failed>
+    requires { length contents.now ≤ 8 }
+    ensures { WroteOctets W.contents target (identifier ∷ length contents.now ∷ contents.now)
+        (told result why.new) }
+{
+    let end = 2 + contents.len();
+    put_all(target, &few_together(identifier, contents)[..end], why)
+}
+
+/// The octets of a primitive value with one identifier octet and at most 64 contents octets, in
+/// front of others.
 #[inline(always)]
 fn together(identifier: u8, contents: &[u8]) -> [u8; 66]
     requires { length contents.now ≤ 64 }
@@ -41,6 +79,21 @@ fn together(identifier: u8, contents: &[u8]) -> [u8; 66]
     value[1] = len as u8;
     value[2..2 + len].copy_from_slice(contents);
     value
+}
+
+/// Writes a primitive value with one identifier octet and at most 64 contents octets.
+fn put_together<W: io::Write>(
+    identifier: u8,
+    contents: &[u8],
+    target: &mut W,
+    why: &mut WriteError,
+) -> Result<(), Failed>
+    requires { length contents.now ≤ 64 }
+    ensures { WroteOctets W.contents target (identifier ∷ length contents.now ∷ contents.now)
+        (told result why.new) }
+{
+    let len = contents.len();
+    put_all(target, &together(identifier, contents)[..2 + len], why)
 }
 
 /// Writes a primitive value from its contents octets: of up to 64, where its identifier is one
@@ -60,10 +113,13 @@ pub(crate) fn put_contents<W: io::Write>(
     if len > 64 {
         return put_apart(tag, contents, target, why);
     }
-    let Some(identifier) = tag.primitive_octet() else {
+    let Some(identifier) = tag.single_octet(false) else {
         return put_apart(tag, contents, target, why);
     };
-    put_all(target, &together(identifier, contents)[..2 + len], why)
+    if len > 8 {
+        return put_together(identifier, contents, target, why);
+    }
+    put_few(identifier, contents, target, why)
 }
 
 /// Writes a primitive value with few contents octets, where its identifier is one octet by one
@@ -79,7 +135,7 @@ pub(crate) fn put_short<W: io::Write>(
     ensures { WroteOctets W.contents target
         (definite tag false (drop contents.start contents.buffer)) (told result why.new) }
 {
-    let Some(identifier) = tag.primitive_octet() else {
+    let Some(identifier) = tag.single_octet(false) else {
         return put_apart(tag, contents.as_slice(), target, why);
     };
     let len = contents.len();

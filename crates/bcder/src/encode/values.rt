@@ -25,6 +25,9 @@ use crate::tag::Tag;
 use std::alloc::Global;
 use std::io;
 
+/// How much a size is taken to cost where nothing is said of it, and where items have to be counted.
+pub(crate) const UNKNOWN_WEIGHT: usize = 64;
+
 /// What has an encoding as a list of values, one after the other.
 ///
 /// For each mode an encoder means one thing at most: why it has no encoding, or a list of values
@@ -84,6 +87,14 @@ pub trait Values {
         kept(self.write_encoded(mode, target), why)
     }
 
+    /// About how much work `encoded_len` is, in constructed values: none, where it is little and
+    /// `write_known` has no use for a size. Of two parts the lighter is asked for its size.
+    #[doc(hidden)]
+    #[inline(always)]
+    fn weight() -> usize {
+        UNKNOWN_WEIGHT
+    }
+
     /// There is one meaning at most, and it is a refusal or an encoding.
     ghost lawful: { (x : Self) (mode : Mode) → can_encode x → IsLawful mode (means x mode) };
 
@@ -137,6 +148,11 @@ impl<V: Values> Values for &'_ V {
         why: &mut WriteError,
     ) -> Result<(), Failed> {
         (**self).write_known(size, mode, target, why)
+    }
+
+    #[inline(always)]
+    fn weight() -> usize {
+        V::weight()
     }
 
     ghost lawful = { λ x mode can. V.lawful x.now mode can };

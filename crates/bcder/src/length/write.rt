@@ -1,5 +1,5 @@
 //! Writing length octets (X.690, 8.1.3, 10.1).
-ghost use Rattle.std.specs.Prelude.{◌≡◌, ◌<◌, ◌++◌, length, true, IfOk, ◌+◌};
+ghost use Rattle.std.specs.Prelude.{◌≡◌, ◌<◌, ◌++◌, length, true, IfOk, IfSome, ◌+◌, ◌∷◌, []};
 ghost use Rattle.bcder.specs.Encoders.{LengthMeans, SizeOfContents};
 ghost use Rattle.bcder.specs.Front.{front_of};
 ghost use Rattle.bcder.specs.Octets.{length_octets, fits_length};
@@ -58,6 +58,18 @@ impl Length {
             Ok(self.octet_count())
         } else {
             Err(EncodeError::LengthTooLarge)
+        }
+    }
+
+    /// The octet that it has, where it is one alone (8.1.3.4, 8.1.3.6).
+    #[tactic(auto, unfolding(crate::specs::Octets::definite_length))]
+    #[inline(always)]
+    pub(crate) fn single_octet(self) -> Option<u8>
+        ensures { IfSome result (λ octet. length_octets self ≡ octet ∷ []) }
+    {
+        match self {
+            Length::Definite(len) => { if len < 0x80 { Some(len as u8) } else { None } }
+            Length::Indefinite => Some(0x80),
         }
     }
 

@@ -3,6 +3,7 @@
 //! not read.
 ghost use Rattle.std.specs.Prelude.{◌≡◌, ◌+◌, ◌≤◌, Bool, true, false, [], length, Some};
 ghost use Rattle.std.specs.Prelude.{IfSome, IsTrue};
+ghost use Rattle.bcder.specs.declared.mode.Mode.{Mode as ModeValue};
 ghost use Rattle.bcder.specs.Grammar.{BeginsWhole};
 ghost use Rattle.bcder.specs.Reading.{read_header, read_list, read_tree};
 ghost use Rattle.bcder.specs.Tree.{Tree, Trees};
@@ -24,6 +25,29 @@ pub(crate) fn size_within(mode: Mode, octets: &[u8]) -> Option<usize>
     match value_within(mode, octets, LEVELS) {
         Some(rest) => Some(octets.len() - rest.len()),
         None => None,
+    }
+}
+
+/// How many octets the value at the front has, if it is primitive, has one identifier octet and
+/// three length octets for a length that no mode has fewer for (8.1.3.5, 10.1), and is all here.
+#[inline(always)]
+fn long_size(octets: &[u8]) -> Option<usize>
+    ensures some { IfSome result (λ n. 2 ≤ n) }
+    ensures fits { IfSome result (λ n. n ≤ length octets.now) }
+    ensures begins { IfSome result (λ n. (mode : ModeValue) → BeginsWhole mode octets.now n) }
+{
+    match octets {
+        [first, count, high, low, ..] if *count == 0x82 => {
+            let kind = *first % 64;
+            let len = usize::from(*high) * 0x100 + usize::from(*low);
+            let size = 4 + len;
+            if 1 <= kind && kind <= 30 && len >= 0x100 && size <= octets.len() {
+                Some(size)
+            } else {
+                None
+            }
+        }
+        _ => None,
     }
 }
 
@@ -53,7 +77,8 @@ fn apart_within(mode: Mode, octets: &[u8], levels: usize) -> Option<&[u8]>
     rest
 }
 
-/// The same, whatever value it is.
+/// The same, whatever value it is, with a first look for a primitive one with a header of four
+/// octets.
 #[cycle(levels)]
 #[inline(never)]
 fn any_within(mode: Mode, octets: &[u8], levels: usize) -> Option<&[u8]>
@@ -61,6 +86,9 @@ fn any_within(mode: Mode, octets: &[u8], levels: usize) -> Option<&[u8]>
         (λ r. (t : Tree) × (read_tree mode octets.now ≡ Some (t, r.now))) }
     ensures less { IfSome result (λ r. length r.now + 2 ≤ length octets.now) }
 {
+    if let Some(size) = long_size(octets) {
+        return Some(octets.split_at(size).1);
+    }
     match front_within(mode, octets, levels) {
         Some((false, rest)) => Some(rest),
         Some((true, inside)) => end_within(mode, inside, levels),

@@ -1,7 +1,7 @@
 //! Writing identifier octets (X.690, 8.1.2).
 #![tactic(auto, using(crate::proofs::nat_tests), unfolding(crate::specs::Identifier::identifier))]
 
-ghost use Rattle.std.specs.Prelude.{◌≡◌, ◌<◌, ◌+◌, ◌++◌, Bool, false, length, OnOk, OnErr};
+ghost use Rattle.std.specs.Prelude.{◌≡◌, ◌<◌, ◌+◌, ◌++◌, Bool, length, OnOk, OnErr};
 ghost use Rattle.std.specs.Prelude.{IfSome, [], ◌∷◌};
 ghost use Rattle.bcder.specs.Classes.{class_meant};
 ghost use Rattle.bcder.specs.Front.{front_of};
@@ -55,13 +55,13 @@ impl Tag {
         self.class.bits() + mark + low
     }
 
-    /// The identifier octet of a primitive encoding, where there is one alone (8.1.2.2).
+    /// The identifier octet, where there is one alone (8.1.2.2).
     #[inline(always)]
-    pub(crate) fn primitive_octet(self) -> Option<u8>
-        ensures { IfSome result (λ octet. identifier self false ≡ octet ∷ []) }
+    pub(crate) fn single_octet(self, constructed: bool) -> Option<u8>
+        ensures { IfSome result (λ octet. identifier self constructed ≡ octet ∷ []) }
     {
         if self.number < 31 {
-            Some(self.leading(false, self.number as u8))
+            Some(self.leading(constructed, self.number as u8))
         } else {
             None
         }

@@ -14,6 +14,7 @@ ghost use Rattle.bcder.specs.Views.{of_primitive, octets_before, octets_after, M
 
 mod bits;
 mod identifier;
+mod octets;
 
 use super::Primitive;
 use crate::NoMemory;

@@ -1,12 +1,13 @@
 //! Loops over content.
 ghost use Rattle.std.specs.Prelude.{◌≡◌, IsTrue, ◌↔◌};
-ghost use Rattle.bcder.specs.Repeating.{AnswersOnce, MayRepeat, OwesAsBefore, Repeated};
-ghost use Rattle.bcder.specs.Repeating.{RepeatsLawfully};
+ghost use Rattle.bcder.specs.Repeating.{AnswersOnce, Collected, MayRepeat, OwesAsBefore};
+ghost use Rattle.bcder.specs.Repeating.{Repeated, RepeatsLawfully};
 ghost use Rattle.bcder.specs.Views.{Moved, of_constructed};
 
 use super::Constructed;
 use crate::decode::error::DecodeError;
 use crate::decode::source::Source;
+use std::alloc::Global;
 
 /// Whether as many octets are owed as before. Without a limit that isn't known.
 fn owes_as_before(before: Option<usize>, after: Option<usize>) -> bool
@@ -23,12 +24,12 @@ fn owes_as_before(before: Option<usize>, after: Option<usize>) -> bool
 
 /// One call of the closure.
 #[inline(always)]
-fn call<S: Source, F>(
+fn call<S: Source, T, F>(
     cons: &mut Constructed<'_, S>,
     op: &mut F,
-) -> Result<Option<()>, DecodeError<S::Error>>
+) -> Result<Option<T>, DecodeError<S::Error>>
 where
-    F: FnMut(&mut Constructed<'_, S>) -> Result<Option<()>, DecodeError<S::Error>>,
+    F: FnMut(&mut Constructed<'_, S>) -> Result<Option<T>, DecodeError<S::Error>>,
     requires { (p : _) → p.now ≡ cons.old → F.pre op.old p }
     ensures { AnswersOnce S.stream cons F.step op.old result op.new }
 {
@@ -85,5 +86,48 @@ impl<'a, S: Source> Constructed<'a, S> {
             }
         }
         Err(self.refusal("steps without an end"))
+    }
+
+    /// Calls the closure over the content again and again while it answers `Some`, and answers
+    /// what it answered, in that order: the values of a SEQUENCE OF or a SET OF.
+    ///
+    /// ```text
+    /// let numbers = cons.take_sequence(|cons| cons.collect_some(alloc, |cons| cons.take_opt_u32()))?;
+    /// ```
+    ///
+    /// It calls the closure, and leaves the content, as [`while_some`](Self::while_some) does.
+    ///
+    /// # Errors
+    ///
+    /// The closure's refusal; where the closure answers `Some` and took no octet of content within
+    /// a limit; and where there is no memory for one more value. Each ends the loop, and the values
+    /// that were collected are dropped.
+    pub fn collect_some<F, T: Drop>(
+        &mut self,
+        alloc: Global,
+        mut op: F,
+    ) -> Result<Vec<T>, DecodeError<S::Error>>
+    where
+        F: FnMut(&mut Constructed<'_, S>) -> Result<Option<T>, DecodeError<S::Error>>,
+        requires callable { MayRepeat S.stream self F.pre }
+        requires lawful { RepeatsLawfully S.stream self F.step }
+        ensures moves { Moved S.stream self }
+        ensures collected { Collected S.stream self F.step op result }
+    {
+        let mut all = Vec::new(alloc);
+        loop {
+            let owed = self.owed();
+            let value = match call(self, &mut op) {
+                Ok(Some(value)) => value,
+                Ok(None) => return Ok(all),
+                Err(error) => return Err(error),
+            };
+            if owes_as_before(owed, self.owed()) {
+                return Err(self.refusal("a repeated step took no octet"));
+            }
+            if all.push(value).is_err() {
+                return Err(DecodeError::no_memory());
+            }
+        }
     }
 }

@@ -23,6 +23,7 @@ impl<T: AsSlice<u8>> PrimitiveContent for Oid<T> {
         Tag::OID
     }
 
+    #[inline(always)]
     fn encoded_len(&self, _mode: Mode) -> Result<usize, EncodeError> {
         octets_len(self.0.as_slice())
     }

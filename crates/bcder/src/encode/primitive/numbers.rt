@@ -20,6 +20,7 @@ use std::convert::AsSlice;
 use std::io;
 
 /// How many octets an integer has.
+#[inline(always)]
 fn integer_len(x: &Integer) -> Result<usize, EncodeError>
     ensures { SizeOfContents (Exactly (integer_octets x.now)) ⊥ result }
 {
@@ -62,6 +63,7 @@ impl PrimitiveContent for &'_ Integer {
         Tag::INTEGER
     }
 
+    #[inline(always)]
     fn encoded_len(&self, _mode: Mode) -> Result<usize, EncodeError> {
         integer_len(*self)
     }
@@ -97,6 +99,7 @@ impl PrimitiveContent for &'_ Unsigned {
         Tag::INTEGER
     }
 
+    #[inline(always)]
     fn encoded_len(&self, _mode: Mode) -> Result<usize, EncodeError> {
         integer_len((*self).as_ref())
     }

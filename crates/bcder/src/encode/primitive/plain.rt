@@ -30,6 +30,7 @@ impl PrimitiveContent for () {
         Tag::NULL
     }
 
+    #[inline(always)]
     fn encoded_len(&self, _mode: Mode) -> Result<usize, EncodeError> {
         Ok(0)
     }
@@ -63,6 +64,7 @@ impl PrimitiveContent for bool {
         Tag::BOOLEAN
     }
 
+    #[inline(always)]
     fn encoded_len(&self, _mode: Mode) -> Result<usize, EncodeError> {
         Ok(1)
     }
@@ -93,6 +95,7 @@ impl PrimitiveContent for bool {
 }
 
 /// How many octets there are.
+#[inline(always)]
 pub(crate) fn octets_len(octets: &[u8]) -> Result<usize, EncodeError>
     ensures { SizeOfContents (ExactlyOctets octets.now) ⊥ result }
 {
@@ -135,6 +138,7 @@ pub(crate) fn fits_primitive(mode: Mode, len: usize) -> bool
 }
 
 /// How many octets a string has, if the mode has a primitive one of so many.
+#[inline(always)]
 fn string_len(octets: &[u8], mode: Mode) -> Result<usize, EncodeError>
     ensures { SizeOfContents (PieceMeans LongCerPrimitive mode octets.now) ⊥ result }
 {
@@ -187,6 +191,7 @@ impl PrimitiveContent for &'_ [u8] {
         Tag::OCTET_STRING
     }
 
+    #[inline(always)]
     fn encoded_len(&self, mode: Mode) -> Result<usize, EncodeError> {
         string_len(*self, mode)
     }

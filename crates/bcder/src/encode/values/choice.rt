@@ -26,6 +26,11 @@ impl Values for Nothing {
         Ok(())
     }
 
+    #[inline(always)]
+    fn weight() -> usize {
+        0
+    }
+
     ghost lawful = { λ x mode can. NoValues_lawful mode };
 }
 
@@ -62,6 +67,11 @@ impl<V: Values> Values for Option<V> {
             Some(values) => values.write_known(size, mode, target, why),
             None => Nothing.write_known(size, mode, target, why),
         }
+    }
+
+    #[inline(always)]
+    fn weight() -> usize {
+        V::weight()
     }
 
     ghost lawful = { λ x mode can. option_lawful mode (λ v. V.lawful v mode) x can };
@@ -109,6 +119,11 @@ impl<L: Values, R: Values> Values for Choice2<L, R> {
             Choice2::One(values) => values.write_known(size, mode, target, why),
             Choice2::Two(values) => values.write_known(size, mode, target, why),
         }
+    }
+
+    #[inline(always)]
+    fn weight() -> usize {
+        L::weight().max(R::weight())
     }
 
     ghost lawful = { λ x mode can.
@@ -165,6 +180,11 @@ impl<L: Values, C: Values, R: Values> Values for Choice3<L, C, R> {
             Choice3::Two(values) => values.write_known(size, mode, target, why),
             Choice3::Three(values) => values.write_known(size, mode, target, why),
         }
+    }
+
+    #[inline(always)]
+    fn weight() -> usize {
+        L::weight().max(C::weight()).max(R::weight())
     }
 
     ghost lawful = { λ x mode can. any_lawful mode

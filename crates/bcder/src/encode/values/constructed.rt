@@ -1,5 +1,5 @@
 //! Encoders of constructed values.
-ghost use Rattle.std.specs.Prelude.{◌≡◌, ◌<◌, ◌+◌, ◌^◌, ℕ, length, true};
+ghost use Rattle.std.specs.Prelude.{◌≡◌, ◌<◌, ◌+◌, ◌^◌, ℕ, Bool, length, true};
 ghost use Rattle.bcder.specs.declared.length.Length.TheVariants.{Definite};
 ghost use Rattle.bcder.specs.Identifier.{sequence_tag, set_tag};
 ghost use Rattle.bcder.specs.Octets.{header, fits_length, constructed_length, closing};
@@ -119,9 +119,9 @@ fn constructed_length(mode: Mode, len: usize) -> Length
 /// How many contents octets a value of that many octets has, behind a definite length in the
 /// fewest octets (X.690, 10.1).
 #[tactic(auto, using(crate::proofs::nat_tests))]
-fn contents_size(tag: Tag, size: usize) -> usize
-    ensures { (n : ℕ) → n < 2 ^ 32 → size ≡ length (header tag true (Definite n)) + n
-        → result ≡ n }
+pub(crate) fn contents_size(tag: Tag, size: usize) -> usize
+    ensures { (form : Bool) (n : ℕ) → n < 2 ^ 32
+        → size ≡ length (header tag form (Definite n)) + n → result ≡ n }
 {
     let rest = size.saturating_sub(tag.encoded_len());
     rest.saturating_sub(length_size(rest))
@@ -244,6 +244,11 @@ impl<V: Values> Values for Constructed<V> {
             Ok(len) => put_enclosed(self.tag, len, &self.inner, mode, target, why),
             Err(error) => Err(refused(why, error)),
         }
+    }
+
+    #[inline(always)]
+    fn weight() -> usize {
+        V::weight().saturating_add(1)
     }
 
     ghost lawful = { λ x mode can. constructed_lawful x.tag (V.lawful x.inner mode can) };

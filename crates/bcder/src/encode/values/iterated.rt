@@ -6,8 +6,8 @@ ghost use Rattle.bcder.specs.laws.Joined.{Joined_lawful};
 
 use crate::NoMemory;
 use crate::encode::slot::{Failed, refused};
-use crate::encode::values::Values;
 use crate::encode::values::parts::{Parts, add_len, joined_len, write_joined, write_known_parts};
+use crate::encode::values::{UNKNOWN_WEIGHT, Values};
 use crate::encode::{EncodeError, WriteError};
 use crate::mode::Mode;
 use std::io;
@@ -132,6 +132,11 @@ where
         why: &mut WriteError,
     ) -> Result<(), Failed> {
         write_known_parts(self, size, mode, target, why)
+    }
+
+    #[inline(always)]
+    fn weight() -> usize {
+        UNKNOWN_WEIGHT.saturating_add(T::Item::weight())
     }
 
     ghost lawful = { λ x mode can.

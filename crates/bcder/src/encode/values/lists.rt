@@ -4,8 +4,8 @@ ghost use Rattle.bcder.specs.Joined.{EachOf, Joined};
 ghost use Rattle.bcder.specs.laws.Joined.{EachOf_lawful, Joined_lawful};
 
 use crate::encode::slot::Failed;
-use crate::encode::values::Values;
 use crate::encode::values::parts::{Parts, add_len, joined_len, write_joined, write_known_parts};
+use crate::encode::values::{UNKNOWN_WEIGHT, Values};
 use crate::encode::{EncodeError, WriteError};
 use crate::mode::Mode;
 use std::io;
@@ -74,6 +74,11 @@ impl<V: Values> Values for &'_ [V] {
         write_known_parts(&Items { items: *self }, size, mode, target, why)
     }
 
+    #[inline(always)]
+    fn weight() -> usize {
+        UNKNOWN_WEIGHT.saturating_add(V::weight())
+    }
+
     ghost lawful = { λ x mode can.
         Joined_lawful (EachOf_lawful mode (λ v. V.lawful v mode) x.now can) };
 }
@@ -101,6 +106,11 @@ impl<V: Values> Values for Vec<V> {
         why: &mut WriteError,
     ) -> Result<(), Failed> {
         self.as_slice().write_known(size, mode, target, why)
+    }
+
+    #[inline(always)]
+    fn weight() -> usize {
+        UNKNOWN_WEIGHT.saturating_add(V::weight())
     }
 
     ghost lawful = { λ x mode can.

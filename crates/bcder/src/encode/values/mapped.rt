@@ -6,8 +6,8 @@ ghost use Rattle.bcder.specs.Slices.{TakesItem, Gives, ItemMeans, ItemLacks, May
 ghost use Rattle.bcder.specs.laws.Joined.{EachOf_lawful, Joined_lawful};
 
 use crate::encode::slot::Failed;
-use crate::encode::values::Values;
 use crate::encode::values::parts::{Parts, add_len, joined_len, write_joined, write_known_parts};
+use crate::encode::values::{UNKNOWN_WEIGHT, Values};
 use crate::encode::{EncodeError, WriteError};
 use crate::mode::Mode;
 use std::convert::AsSlice;
@@ -161,6 +161,11 @@ impl<T: AsSlice<U>, F: Fn(&U) -> V, U, V: Values + Drop> Values for Slice<T, F, 
             marker: PhantomData,
         };
         write_known_parts(&parts, size, mode, target, why)
+    }
+
+    #[inline(always)]
+    fn weight() -> usize {
+        UNKNOWN_WEIGHT.saturating_add(V::weight())
     }
 
     ghost lawful = { λ x mode can. Joined_lawful (EachOf_lawful mode

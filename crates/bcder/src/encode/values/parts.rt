@@ -8,7 +8,7 @@ ghost use Rattle.bcder.specs.Joined.{Then, NoValues, Joined, IsSum};
 ghost use Rattle.bcder.specs.laws.Joined.{Then_lawful, NoValues_lawful};
 
 use crate::encode::slot::{Failed, slot, told};
-use crate::encode::values::Values;
+use crate::encode::values::{UNKNOWN_WEIGHT, Values};
 use crate::encode::{EncodeError, WriteError};
 use crate::mode::Mode;
 use std::io;
@@ -40,6 +40,12 @@ pub(crate) trait Parts {
         requires sized { HasSize (all self.now mode) size }
         ensures { WritesParts W.contents target
             (all self.now mode) (may_lack self.now mode) (told result why.new) };
+
+    /// What they weigh together, as encoders.
+    #[inline(always)]
+    fn weight() -> usize {
+        UNKNOWN_WEIGHT
+    }
 
     /// Whether there is no part.
     #[inline(always)]
@@ -137,6 +143,11 @@ impl Parts for End {
         true
     }
 
+    #[inline(always)]
+    fn weight() -> usize {
+        0
+    }
+
     ghost all_lawful = { λ _ mode _. NoValues_lawful mode };
 }
 
@@ -163,11 +174,37 @@ pub(crate) struct Chain<'a, V, R> {
 }
 
 impl<'a, V: Values, R: Parts> Chain<'a, V, R> {
+    /// How many octets the parts behind the first have, unless memory lacks.
+    #[inline(always)]
+    fn rest_size(&self, mode: Mode) -> Option<usize>
+        requires { R.can_encode self.now.rest }
+        ensures { HasSize (R.all self.now.rest mode) result }
+    {
+        match self.rest.parts_len(mode) {
+            Ok(len) => len,
+            Err(_) => None,
+        }
+    }
+
+    /// How many octets the first part has, where it is known how many all have, by those behind it.
+    #[inline(always)]
+    fn size_beside(&self, size: Option<usize>, mode: Mode) -> Option<usize>
+        requires can { R.can_encode self.now.rest }
+        requires known { HasEncoding
+            (Then (V.means self.now.first.now mode) (R.all self.now.rest mode)) }
+        requires sized { HasSize
+            (Then (V.means self.now.first.now mode) (R.all self.now.rest mode)) size }
+        ensures { HasSize (V.means self.now.first.now mode) result }
+    {
+        less(size, self.rest_size(mode))
+    }
+
     /// How many octets the first part has, where it is known how many all have. The last part
-    /// isn't asked.
+    /// isn't asked, and of a part and those behind it only the lighter: what holds many values
+    /// is gone over once, wherever it stands.
     #[inline(always)]
     fn first_size(&self, size: Option<usize>, mode: Mode) -> Option<usize>
-        requires can { V.can_encode self.now.first.now }
+        requires can { V.can_encode self.now.first.now × R.can_encode self.now.rest }
         requires known { HasEncoding
             (Then (V.means self.now.first.now mode) (R.all self.now.rest mode)) }
         requires sized { HasSize
@@ -177,12 +214,15 @@ impl<'a, V: Values, R: Parts> Chain<'a, V, R> {
         if self.rest.is_none() {
             return size;
         }
-        match size {
-            Some(_) => match self.first.encoded_len(mode) {
-                Ok(len) => Some(len),
-                Err(_) => None,
-            },
-            None => None,
+        if size.is_none() || R::weight().saturating_add(V::weight()) == 0 {
+            return None;
+        }
+        if R::weight() < V::weight() {
+            return self.size_beside(size, mode);
+        }
+        match self.first.encoded_len(mode) {
+            Ok(len) => Some(len),
+            Err(_) => None,
         }
     }
 }
@@ -215,6 +255,11 @@ impl<'a, V: Values, R: Parts> Parts for Chain<'a, V, R> {
         self.rest.write_parts(less(size, first), mode, target, why)
     }
 
+    #[inline(always)]
+    fn weight() -> usize {
+        V::weight().saturating_add(R::weight())
+    }
+
     ghost all_lawful = { λ x mode can.
         Then_lawful (V.lawful x.first.now mode can.0) (R.all_lawful x.rest mode can.1) };
 }
@@ -243,6 +288,11 @@ impl<R: Parts> Parts for &'_ R {
     #[inline(always)]
     fn is_none(&self) -> bool {
         (**self).is_none()
+    }
+
+    #[inline(always)]
+    fn weight() -> usize {
+        R::weight()
     }
 
     ghost all_lawful = { λ x mode can. R.all_lawful x.now mode can };
@@ -314,6 +364,16 @@ impl<'a, A: Values, B: Values, C: Values, D: Values, R: Parts> Parts for Four<'a
             rest,
         };
         all.write_parts(size, mode, target, why)
+    }
+
+    #[inline(always)]
+    fn weight() -> usize {
+        let others = B::weight()
+            .saturating_add(C::weight())
+            .saturating_add(D::weight());
+        A::weight()
+            .saturating_add(others)
+            .saturating_add(R::weight())
     }
 
     ghost all_lawful = { λ x mode can. Then_lawful (A.lawful x.a.now mode can.0)

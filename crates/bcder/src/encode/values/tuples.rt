@@ -30,6 +30,14 @@ macro_rules! parts {
     () => { End };
 }
 
+/// What parts weigh together.
+macro_rules! weight {
+    ($first:ident $(, $rest:ident)*) => {
+        $first::weight().saturating_add(weight!($($rest),*))
+    };
+    () => { 0usize };
+}
+
 impl<A: Values> Values for (A,) {
     ghost means = { λ x mode. Joined (Then (A.means x.0 mode) NoValues) };
 
@@ -56,6 +64,11 @@ impl<A: Values> Values for (A,) {
     ) -> Result<(), Failed> {
         let (a,) = self;
         write_known_parts(&parts!(a), size, mode, target, why)
+    }
+
+    #[inline(always)]
+    fn weight() -> usize {
+        weight!(A)
     }
 
     ghost lawful = { λ x mode can. Joined_lawful (Then_lawful (A.lawful x.0 mode can.0)
@@ -90,6 +103,11 @@ impl<A: Values, B: Values> Values for (A, B) {
         write_known_parts(&parts!(a, b), size, mode, target, why)
     }
 
+    #[inline(always)]
+    fn weight() -> usize {
+        weight!(A, B)
+    }
+
     ghost lawful = { λ x mode can. Joined_lawful (Then_lawful (A.lawful x.0 mode can.0)
         (Then_lawful (B.lawful x.1 mode can.1.0) (NoValues_lawful mode))) };
 }
@@ -122,6 +140,11 @@ impl<A: Values, B: Values, C: Values> Values for (A, B, C) {
     ) -> Result<(), Failed> {
         let (a, b, c) = self;
         write_known_parts(&parts!(a, b, c), size, mode, target, why)
+    }
+
+    #[inline(always)]
+    fn weight() -> usize {
+        weight!(A, B, C)
     }
 
     ghost lawful = { λ x mode can. Joined_lawful (Then_lawful (A.lawful x.0 mode can.0)
@@ -160,6 +183,11 @@ impl<A: Values, B: Values, C: Values, D: Values> Values for (A, B, C, D) {
         write_known_parts(&parts!(a, b, c, d), size, mode, target, why)
     }
 
+    #[inline(always)]
+    fn weight() -> usize {
+        weight!(A, B, C, D)
+    }
+
     ghost lawful = { λ x mode can. Joined_lawful (Then_lawful (A.lawful x.0 mode can.0)
         (Then_lawful (B.lawful x.1 mode can.1.0) (Then_lawful (C.lawful x.2 mode can.1.1.0)
         (Then_lawful (D.lawful x.3 mode can.1.1.1.0) (NoValues_lawful mode))))) };
@@ -194,6 +222,11 @@ impl<A: Values, B: Values, C: Values, D: Values, E: Values> Values for (A, B, C,
     ) -> Result<(), Failed> {
         let (a, b, c, d, e) = self;
         write_known_parts(&parts!(a, b, c, d, e), size, mode, target, why)
+    }
+
+    #[inline(always)]
+    fn weight() -> usize {
+        weight!(A, B, C, D, E)
     }
 
     ghost lawful = { λ x mode can. Joined_lawful (Then_lawful (A.lawful x.0 mode can.0)
@@ -236,6 +269,11 @@ impl<A: Values, B: Values, C: Values, D: Values, E: Values, F: Values> Values
         write_known_parts(&parts!(a, b, c, d, e, f), size, mode, target, why)
     }
 
+    #[inline(always)]
+    fn weight() -> usize {
+        weight!(A, B, C, D, E, F)
+    }
+
     ghost lawful = { λ x mode can. Joined_lawful (Then_lawful (A.lawful x.0 mode can.0)
         (Then_lawful (B.lawful x.1 mode can.1.0) (Then_lawful (C.lawful x.2 mode can.1.1.0)
         (Then_lawful (D.lawful x.3 mode can.1.1.1.0)
@@ -275,6 +313,11 @@ impl<A: Values, B: Values, C: Values, D: Values, E: Values, F: Values, G: Values
     ) -> Result<(), Failed> {
         let (a, b, c, d, e, f, g) = self;
         write_known_parts(&parts!(a, b, c, d, e, f, g), size, mode, target, why)
+    }
+
+    #[inline(always)]
+    fn weight() -> usize {
+        weight!(A, B, C, D, E, F, G)
     }
 
     ghost lawful = { λ x mode can. Joined_lawful (Then_lawful (A.lawful x.0 mode can.0)
@@ -319,6 +362,11 @@ impl<A: Values, B: Values, C: Values, D: Values, E: Values, F: Values, G: Values
     ) -> Result<(), Failed> {
         let (a, b, c, d, e, f, g, h) = self;
         write_known_parts(&parts!(a, b, c, d, e, f, g, h), size, mode, target, why)
+    }
+
+    #[inline(always)]
+    fn weight() -> usize {
+        weight!(A, B, C, D, E, F, G, H)
     }
 
     ghost lawful = { λ x mode can. Joined_lawful (Then_lawful (A.lawful x.0 mode can.0)
@@ -374,6 +422,11 @@ impl<
     ) -> Result<(), Failed> {
         let (a, b, c, d, e, f, g, h, i) = self;
         write_known_parts(&parts!(a, b, c, d, e, f, g, h, i), size, mode, target, why)
+    }
+
+    #[inline(always)]
+    fn weight() -> usize {
+        weight!(A, B, C, D, E, F, G, H, I)
     }
 
     ghost lawful = { λ x mode can. Joined_lawful (Then_lawful (A.lawful x.0 mode can.0)
@@ -437,6 +490,11 @@ impl<
             target,
             why,
         )
+    }
+
+    #[inline(always)]
+    fn weight() -> usize {
+        weight!(A, B, C, D, E, F, G, H, I, J)
     }
 
     ghost lawful = { λ x mode can. Joined_lawful (Then_lawful (A.lawful x.0 mode can.0)
@@ -504,6 +562,11 @@ impl<
             target,
             why,
         )
+    }
+
+    #[inline(always)]
+    fn weight() -> usize {
+        weight!(A, B, C, D, E, F, G, H, I, J, K)
     }
 
     ghost lawful = { λ x mode can. Joined_lawful (Then_lawful (A.lawful x.0 mode can.0)
@@ -575,6 +638,11 @@ impl<
             target,
             why,
         )
+    }
+
+    #[inline(always)]
+    fn weight() -> usize {
+        weight!(A, B, C, D, E, F, G, H, I, J, K, L)
     }
 
     ghost lawful = { λ x mode can. Joined_lawful (Then_lawful (A.lawful x.0 mode can.0)

@@ -1,10 +1,12 @@
 //! The octets of an octet string as a source.
-ghost use Rattle.std.specs.Prelude.{◌≡◌, ℕ, ◌+◌, ◌^◌, ◌<◌, ◌≤◌, ◌⊎◌, List, [], ◌∷◌, ◌++◌};
+ghost use Rattle.std.specs.Prelude.{◌≡◌, ℕ, ◌+◌, ◌-◌, ◌^◌, ◌<◌, ◌≤◌, ◌⊎◌, List, [], ◌∷◌, ◌++◌};
 ghost use Rattle.std.specs.Prelude.{length, drop, Some, None, Ok, IfOk, OnOk, OnErr, MatchOption};
 ghost use Rattle.std.specs.List.{concat};
 ghost use Rattle.bcder.specs.Identifier.{AreOctets};
-ghost use Rattle.bcder.specs.OctetString.{whole, cut, AreWithin, segments_at, IsTable};
-ghost use Rattle.bcder.specs.StringSource.{all_behind, string_stream, IsJoined};
+ghost use Rattle.bcder.specs.OctetString.{whole, cut, AreWithin, segment_at, segments_at, IsTable};
+ghost use Rattle.bcder.specs.StringSource.{StandsIn, all_behind, string_stream, IsJoined};
+
+mod front;
 
 use super::{OctetString, OctetStringIter, Octets, Segment};
 use crate::NoMemory;
@@ -12,6 +14,7 @@ use crate::captured::Captured;
 use crate::decode::source::see_octets;
 use crate::decode::{IntoSource, Pos, Source};
 use bytes::Bytes;
+use front::Front;
 use std::alloc::Global;
 use std::marker::Model;
 
@@ -26,14 +29,18 @@ struct Behind {
     next: usize,
 }
 
-/// The clauses see the octets of each.
+/// The clauses see the octets of each, and those that they stand in.
 impl Model for Behind {
-    ghost use Rattle.std.specs.Prelude.{ℕ, ◌≤◌, List, length, drop};
+    ghost use Rattle.std.specs.Prelude.{◌≤◌, length, drop};
     ghost use Rattle.bcder.specs.OctetString.{segments_at, AreWithin};
+    ghost use Rattle.bcder.specs.StringSource.{ToCome};
 
-    ghost Value = { List (List ℕ) };
+    ghost Value = { ToCome };
 
-    ghost view = { λ b. segments_at b.octets (drop b.next b.segments.items) };
+    ghost view = { λ b. record {
+      octets = b.octets;
+      parts = segments_at b.octets (drop b.next b.segments.items);
+    } };
 
     ghost invariant = { λ b. AreWithin b.octets (drop b.next b.segments.items)
         × (b.next ≤ length b.segments.items) };
@@ -43,7 +50,8 @@ impl Behind {
     /// Segments, none of which has come.
     fn new(octets: Bytes, segments: Vec<Segment>) -> Behind
         requires { AreWithin octets segments.items }
-        ensures { result ≡ segments_at octets segments.items }
+        ensures { result
+            ≡ record { octets = octets; parts = segments_at octets segments.items } }
     {
         Behind {
             octets,
@@ -54,33 +62,39 @@ impl Behind {
 
     /// Their octets, in their order.
     fn iter(&self) -> OctetStringIter<'_>
-        ensures { result ≡ self.now }
+        ensures { result ≡ self.now.parts }
     {
         OctetStringIter::of_segments(self.octets.as_slice(), &self.segments[self.next..])
     }
 
-    /// The octets of the next one, shared.
-    fn take_part(&mut self) -> Result<Option<Bytes>, NoMemory>
-        ensures ok { IfOk result (λ part. MatchOption part
-            ((self.old ≡ []) × (self.new ≡ [])) (λ p. self.old ≡ p ∷ self.new)) }
-        ensures err { OnErr result (self.new ≡ self.old) }
+    /// The octets that they stand in, shared.
+    fn share(&self) -> Result<Bytes, NoMemory>
+        ensures { IfOk result (λ octets. octets ≡ self.now.octets) }
+    {
+        Ok(self.octets.clone()?)
+    }
+
+    /// Where the next one stands.
+    fn next(&mut self) -> Option<Segment>
+        ensures { MatchOption result
+            ((self.old.parts ≡ []) × (self.new ≡ self.old))
+            (λ s. (self.old.parts ≡ segment_at self.old.octets s ∷ self.new.parts)
+            × (s.start + s.len ≤ length self.old.octets)
+            × (self.new.octets ≡ self.old.octets)) }
     {
         if self.next == self.segments.len() {
-            return Ok(None);
+            return None;
         }
-        see_octets(self.octets.as_slice());
         let segment = self.segments[self.next];
-        let part = self
-            .octets
-            .slice(segment.start..segment.start + segment.len)?;
         self.next += 1;
-        Ok(Some(part))
+        Some(segment)
     }
 
     /// Passes over the first ones.
     fn pass(&mut self, count: usize)
-        requires { count ≤ length self.old }
-        ensures { self.new ≡ drop count self.old }
+        requires { count ≤ length self.old.parts }
+        ensures { self.new
+            ≡ record { octets = self.old.octets; parts = drop count self.old.parts } }
     {
         self.next += count;
     }
@@ -89,7 +103,7 @@ impl Behind {
     /// segments these are: at least `len` octets, and twice as many as there were, unless fewer are
     /// left. So whoever asks for one octet more each time doesn't copy all of them each time.
     fn join(&self, front: &[u8], len: usize) -> Result<(Bytes, usize), NoMemory>
-        ensures { IfOk result (λ r. IsJoined front.now self.now len r.0 r.1) }
+        ensures { IfOk result (λ r. IsJoined front.now self.now.parts len r.0 r.1) }
     {
         let enough = len.max(front.len().saturating_add(front.len()));
         let mut block = Vec::from_slice(*self.segments.allocator(), front)?;
@@ -107,20 +121,26 @@ impl Behind {
 
 /// Makes at least `len` octets stand in front, or all that there are.
 #[inline(never)]
-fn refill(front: &mut Bytes, behind: &mut Behind, len: usize) -> Result<(), NoMemory>
-    ensures same { front.new ++ concat behind.new ≡ front.old ++ concat behind.old }
-    ensures no_fewer { length front.old ≤ length front.new }
-    ensures enough { OnOk result ((len ≤ length front.new) ⊎ (behind.new ≡ [])) }
+fn refill(front: &mut Front, behind: &mut Behind, len: usize) -> Result<(), NoMemory>
+    requires { StandsIn front.old (Some behind.old) }
+    ensures stands { StandsIn front.new (Some behind.new) }
+    ensures same { front.new.octets ++ concat behind.new.parts
+        ≡ front.old.octets ++ concat behind.old.parts }
+    ensures no_fewer { length front.old.octets ≤ length front.new.octets }
+    ensures enough { OnOk result ((len ≤ length front.new.octets) ⊎ (behind.new.parts ≡ [])) }
 {
+    if front.is_empty() && !front.is_shared() {
+        *front = Front::before_segments(behind.share()?);
+    }
     while front.is_empty() {
-        match behind.take_part()? {
-            Some(part) => *front = part,
+        match behind.next() {
+            Some(segment) => front.move_to(segment),
             None => return Ok(()),
         }
     }
     if front.len() < len {
         let (block, count) = behind.join(front.as_slice(), len)?;
-        *front = block;
+        *front = Front::of_block(block);
         behind.pass(count);
     }
     Ok(())
@@ -132,12 +152,17 @@ fn refill(front: &mut Bytes, behind: &mut Behind, len: usize) -> Result<(), NoMe
 /// one part holds. Only that can fail, for want of memory.
 #[derive(Debug, Drop)]
 pub struct OctetStringSource {
-    front: Bytes,
+    front: Front,
     behind: Option<Behind>,
-    pos: Pos,
+
+    /// How many octets of the string there are up to the end of those in front.
+    reached: usize,
     faults: u64,
-    ghost are_octets: { AreOctets (front ++ all_behind behind) },
-    ghost fit: { length (front ++ all_behind behind) < 2 ^ 64 },
+    ghost stands: { StandsIn front behind },
+    ghost are_octets: { AreOctets (front.octets ++ all_behind behind) },
+    ghost fit: { length (front.octets ++ all_behind behind) < 2 ^ 64 },
+    ghost counted: { length front.octets ≤ reached },
+    ghost bounded: { reached + length (all_behind behind) < 2 ^ 64 },
 }
 
 impl OctetStringSource {
@@ -148,10 +173,11 @@ impl OctetStringSource {
         ensures { source_stream result ≡ string_stream (whole octets) }
     {
         see_octets(octets.as_slice());
+        let reached = octets.len();
         OctetStringSource {
-            front: octets,
+            front: Front::of_block(octets),
             behind: None,
-            pos: Pos::default(),
+            reached,
             faults: 0,
         }
     }
@@ -165,24 +191,27 @@ impl OctetStringSource {
         see_octets(captured.as_slice());
         let behind = Behind::new(captured.into_bytes(), segments);
         OctetStringSource {
-            front: Bytes::new(),
+            front: Front::of_block(Bytes::new()),
             behind: Some(behind),
-            pos: Pos::default(),
+            reached: 0,
             faults: 0,
         }
     }
 
     /// Makes at least `len` octets stand in front, or all that there are.
-    #[inline(always)]
+    #[inline(never)]
     fn fill(&mut self, len: usize) -> Result<(), NoMemory>
         ensures { FillsFront len self result }
     {
-        if self.front.len() < len {
-            if let Some(behind) = &mut self.behind {
-                refill(&mut self.front, behind, len)?;
+        match &mut self.behind {
+            Some(behind) => {
+                let before = self.front.len();
+                let filled = refill(&mut self.front, behind, len);
+                self.reached += self.front.len() - before;
+                filled
             }
+            None => Ok(()),
         }
-        Ok(())
     }
 }
 
@@ -198,15 +227,19 @@ impl Source for OctetStringSource {
     ghost sound = { λ s. record {
       octets = s.are_octets;
       size = s.fit;
-      at_hand = within_front s.front (all_behind s.behind);
+      at_hand = within_front s.front.octets (all_behind s.behind);
     } };
 
     fn pos(&self) -> Pos {
-        self.pos
+        Pos::from(self.reached - self.front.len())
     }
 
     #[inline(always)]
     fn request(&mut self, len: usize) -> Result<usize, NoMemory> {
+        let found = self.front.len();
+        if len <= found {
+            return Ok(found);
+        }
         match self.fill(len) {
             Ok(()) => Ok(self.front.len()),
             Err(error) => {
@@ -222,13 +255,12 @@ impl Source for OctetStringSource {
     }
 
     fn bytes(&self, _alloc: Global, start: usize, end: usize) -> Result<Bytes, NoMemory> {
-        Ok(self.front.slice(start..end)?)
+        self.front.slice(start, end)
     }
 
     #[inline(always)]
     fn advance(&mut self, len: usize) {
         self.front.advance(len);
-        self.pos = self.pos + Pos::from(len);
     }
 }
 

@@ -1,8 +1,8 @@
 //! Encodings inside an octet string (X.690, 8.7, 9.2, 10.2).
-ghost use Rattle.std.specs.Prelude.{◌≡◌, ◌<◌, ◌^◌, ◌⊎◌, Some};
+ghost use Rattle.std.specs.Prelude.{◌≡◌, ◌<◌, ◌^◌, ◌⊎◌, Some, IfOk, IfErr};
 ghost use Rattle.bcder.specs.OctetString.{octet_string_tag};
 ghost use Rattle.bcder.specs.Encoders.{HasEncoding, HasSize, SizeOfValues, WritesParts};
-ghost use Rattle.bcder.specs.Encoders.{WritesValues, told};
+ghost use Rattle.bcder.specs.Encoders.{WritesValues, RefusesBy, told};
 ghost use Rattle.bcder.specs.Segmenting.{InsideSize, WritesInside};
 ghost use Rattle.bcder.specs.StringMeaning.{WrappedMeans, IsGathered};
 ghost use Rattle.bcder.specs.laws.StringMeanings.{WrappedMeans_lawful};
@@ -11,6 +11,7 @@ use super::OctetString;
 use super::write::{is_cut, put_octets, string_len};
 use crate::encode::header::put_header;
 use crate::encode::slot::{Failed, refused, slot, told};
+use crate::encode::values::constructed::contents_size;
 use crate::encode::{EncodeError, Values, WriteError};
 use crate::length::Length;
 use crate::mode::Mode;
@@ -67,6 +68,31 @@ fn inside_len<V: Values>(values: &V, inner: Mode, mode: Mode) -> Result<usize, E
     let len = values.encoded_len(inner)?;
     string_len(Tag::OCTET_STRING, mode, len)?;
     Ok(len)
+}
+
+/// How many octets stand inside a string that is known to have an encoding. `size` is how many the
+/// whole has, where that is known: of a primitive value it tells the rest.
+fn known_len<V: Values>(
+    values: &V,
+    size: Option<usize>,
+    inner: Mode,
+    mode: Mode,
+) -> Result<usize, EncodeError>
+    requires can { V.can_encode values.now }
+    requires known { HasEncoding
+        (WrappedMeans octet_string_tag mode (V.means values.now inner)) }
+    requires sized { HasSize (WrappedMeans octet_string_tag mode (V.means values.now inner)) size }
+    ensures sized { IfOk result (λ n. HasSize (V.means values.now inner) (Some n)) }
+    ensures refused { IfErr result
+        (RefusesBy (V.means values.now inner) (V.may_lack values.now inner)) }
+{
+    match mode {
+        Mode::Cer => values.encoded_len(inner),
+        Mode::Ber | Mode::Der => match size {
+            Some(size) => Ok(contents_size(Tag::OCTET_STRING, size)),
+            None => values.encoded_len(inner),
+        },
+    }
 }
 
 /// Writes a primitive value with the encoding inside, which has `len` octets.
@@ -176,15 +202,20 @@ impl<V: Values> Values for WrappingOctetStringEncoder<V> {
 
     fn write_known<W: io::Write>(
         &self,
-        _size: Option<usize>,
+        size: Option<usize>,
         mode: Mode,
         target: &mut W,
         why: &mut WriteError,
     ) -> Result<(), Failed> {
-        match self.values.encoded_len(self.mode) {
+        match known_len(&self.values, size, self.mode, mode) {
             Ok(len) => put_wrapped(self, len, mode, target, why),
             Err(error) => Err(refused(why, error)),
         }
+    }
+
+    #[inline(always)]
+    fn weight() -> usize {
+        V::weight().saturating_add(1)
     }
 
     ghost lawful = { λ x mode can.

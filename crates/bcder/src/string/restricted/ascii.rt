@@ -1,12 +1,13 @@
 //! Character sets whose characters are one octet each (X.680, 41).
-ghost use Rattle.std.specs.Prelude.{◌≡◌, ◌↔◌, ◌<◌, ℕ, Bool, true, IsTrue};
+ghost use Rattle.std.specs.Prelude.{◌≡◌, ◌↔◌, ◌<◌, ℕ, Bool, true, IsTrue, IfSome, encode_utf8_all};
+ghost use Rattle.bcder.specs.Characters.{characters};
 ghost use Rattle.bcder.specs.CharSet.{Accepts, NextChar, Checks, SpellsText};
 ghost use Rattle.bcder.specs.AsciiSets.{one_octet_step, is_numeric, is_printable, is_ia5};
 ghost use Rattle.bcder.specs.AsciiSets.{numeric_string_tag, printable_string_tag, ia5_string_tag};
 ghost use Rattle.bcder.specs.laws.CharSets.{ascii_lawful, ascii_texts};
 ghost use Rattle.bcder.specs.laws.CharSets.{numeric_ascii, printable_ascii, ia5_ascii};
 
-use super::char_set::{CharSet, CharSetError, StringError, TextCharSet};
+use super::char_set::{CharSet, CharSetError, StringError, TextCharSet, text_of};
 use crate::string::octet::OctetStringOctets;
 use crate::tag::Tag;
 use std::alloc::Global;
@@ -20,22 +21,22 @@ trait AsciiSet {
     fn has(octet: u8) -> bool
         ensures { result ≡ test octet };
 
-    /// Whether each octet is a character of the set.
+    /// Whether each octet is a character of the set. All are looked at, so that many can be at once.
     fn has_all(octets: &[u8]) -> bool
         ensures { IsTrue result ↔ Accepts (one_octet_step test) octets.now }
     {
+        let mut all = true;
         for octet in octets {
-            if !Self::has(*octet) {
-                return false;
-            }
+            all &= Self::has(*octet);
         }
-        true
+        all
     }
 
     ghost ascii: { (b : ℕ) → test b ≡ true → b < 128 };
 }
 
 /// Takes the next octet, which is the character of its number.
+#[inline(always)]
 fn next_char_of<S: AsciiSet>(
     octets: &mut OctetStringOctets<'_>,
 ) -> Result<Option<char>, CharSetError>
@@ -77,6 +78,15 @@ fn from_str_of<S: AsciiSet>(text: &str) -> Result<CowSlice<'_, u8>, StringError>
     }
 }
 
+/// The text that the octets are, where they stand in one piece.
+fn as_text_of<'a, S: AsciiSet>(octets: &OctetStringOctets<'a>) -> Option<&'a str>
+    requires { Accepts (one_octet_step S.test) octets.now }
+    ensures { IfSome result (λ text.
+        text.now ≡ encode_utf8_all (characters (one_octet_step S.test) octets.now)) }
+{
+    text_of(octets)
+}
+
 /// The characters of a NumericString: digits and space (X.680, 41).
 #[derive(Clone, Copy, Debug)]
 pub struct NumericCharSet;
@@ -86,6 +96,7 @@ impl AsciiSet for NumericCharSet {
 
     ghost ascii = { numeric_ascii };
 
+    #[inline(always)]
     fn has(octet: u8) -> bool {
         matches!(octet, b'0'..=b'9' | b' ')
     }
@@ -100,6 +111,7 @@ impl CharSet for NumericCharSet {
 
     ghost lawful = { ascii_lawful is_numeric numeric_ascii };
 
+    #[inline(always)]
     fn next_char(octets: &mut OctetStringOctets<'_>) -> Result<Option<char>, CharSetError> {
         next_char_of::<NumericCharSet>(octets)
     }
@@ -111,11 +123,33 @@ impl CharSet for NumericCharSet {
     fn check(octets: OctetStringOctets<'_>) -> Result<(), CharSetError> {
         check_of::<NumericCharSet>(octets)
     }
+
+    fn as_text<'a>(octets: &OctetStringOctets<'a>) -> Option<&'a str> {
+        as_text_of::<NumericCharSet>(octets)
+    }
 }
 
 impl TextCharSet for NumericCharSet {
     ghost texts = { ascii_texts is_numeric numeric_ascii };
 }
+
+/// An octet is a character.
+const X: bool = true;
+
+/// It is none.
+const O: bool = false;
+
+/// Which octets are characters of a PrintableString, 32 a line.
+static PRINTABLE: [bool; 256] = [
+    O, O, O, O, O, O, O, O, O, O, O, O, O, O, O, O, O, O, O, O, O, O, O, O, O, O, O, O, O, O, O, O,
+    X, O, O, O, O, O, O, X, X, X, O, X, X, X, X, X, X, X, X, X, X, X, X, X, X, X, X, O, O, X, O, X,
+    O, X, X, X, X, X, X, X, X, X, X, X, X, X, X, X, X, X, X, X, X, X, X, X, X, X, X, O, O, O, O, O,
+    O, X, X, X, X, X, X, X, X, X, X, X, X, X, X, X, X, X, X, X, X, X, X, X, X, X, X, O, O, O, O, O,
+    O, O, O, O, O, O, O, O, O, O, O, O, O, O, O, O, O, O, O, O, O, O, O, O, O, O, O, O, O, O, O, O,
+    O, O, O, O, O, O, O, O, O, O, O, O, O, O, O, O, O, O, O, O, O, O, O, O, O, O, O, O, O, O, O, O,
+    O, O, O, O, O, O, O, O, O, O, O, O, O, O, O, O, O, O, O, O, O, O, O, O, O, O, O, O, O, O, O, O,
+    O, O, O, O, O, O, O, O, O, O, O, O, O, O, O, O, O, O, O, O, O, O, O, O, O, O, O, O, O, O, O, O,
+];
 
 /// The characters of a PrintableString: letters, digits, space and `' ( ) + , - . / : = ?`
 /// (X.680, 41).
@@ -127,25 +161,9 @@ impl AsciiSet for PrintableCharSet {
 
     ghost ascii = { printable_ascii };
 
+    #[inline(always)]
     fn has(octet: u8) -> bool {
-        matches!(
-            octet,
-            b'A'..=b'Z'
-                | b'a'..=b'z'
-                | b'0'..=b'9'
-                | b' '
-                | b'\''
-                | b'('
-                | b')'
-                | b'+'
-                | b','
-                | b'-'
-                | b'.'
-                | b'/'
-                | b':'
-                | b'='
-                | b'?'
-        )
+        PRINTABLE[usize::from(octet)]
     }
 }
 
@@ -158,6 +176,7 @@ impl CharSet for PrintableCharSet {
 
     ghost lawful = { ascii_lawful is_printable printable_ascii };
 
+    #[inline(always)]
     fn next_char(octets: &mut OctetStringOctets<'_>) -> Result<Option<char>, CharSetError> {
         next_char_of::<PrintableCharSet>(octets)
     }
@@ -168,6 +187,10 @@ impl CharSet for PrintableCharSet {
 
     fn check(octets: OctetStringOctets<'_>) -> Result<(), CharSetError> {
         check_of::<PrintableCharSet>(octets)
+    }
+
+    fn as_text<'a>(octets: &OctetStringOctets<'a>) -> Option<&'a str> {
+        as_text_of::<PrintableCharSet>(octets)
     }
 }
 
@@ -184,6 +207,7 @@ impl AsciiSet for Ia5CharSet {
 
     ghost ascii = { ia5_ascii };
 
+    #[inline(always)]
     fn has(octet: u8) -> bool {
         octet.is_ascii()
     }
@@ -202,6 +226,7 @@ impl CharSet for Ia5CharSet {
 
     ghost lawful = { ascii_lawful is_ia5 ia5_ascii };
 
+    #[inline(always)]
     fn next_char(octets: &mut OctetStringOctets<'_>) -> Result<Option<char>, CharSetError> {
         next_char_of::<Ia5CharSet>(octets)
     }
@@ -212,6 +237,10 @@ impl CharSet for Ia5CharSet {
 
     fn check(octets: OctetStringOctets<'_>) -> Result<(), CharSetError> {
         check_of::<Ia5CharSet>(octets)
+    }
+
+    fn as_text<'a>(octets: &OctetStringOctets<'a>) -> Option<&'a str> {
+        as_text_of::<Ia5CharSet>(octets)
     }
 }
 

@@ -1,7 +1,9 @@
 //! Character sets.
-ghost use Rattle.std.specs.Prelude.{◌≡◌, List, ℕ};
+ghost use Rattle.std.specs.Prelude.{◌≡◌, List, ℕ, IfSome, encode_utf8_all};
+ghost use Rattle.std.specs.Str.{IsUtf8};
+ghost use Rattle.bcder.specs.Characters.{characters};
 ghost use Rattle.bcder.specs.Identifier.{Tag as TagValue};
-ghost use Rattle.bcder.specs.CharSet.{Step, IsStep, NextChar, Checks, SpellsText};
+ghost use Rattle.bcder.specs.CharSet.{Step, IsStep, Accepts, NextChar, Checks, SpellsText};
 ghost use Rattle.bcder.specs.TextSets.{AreTexts};
 
 use crate::memory::NoMemory;
@@ -10,7 +12,7 @@ use crate::tag::Tag;
 use std::alloc::{AllocError, AllocFailed, Global};
 use std::borrow::CowSlice;
 use std::error::Error;
-use std::fmt;
+use std::{fmt, str};
 
 /// Octets spell no characters of a set.
 #[derive(Clone, Copy, Debug, PartialEq, Eq)]
@@ -137,6 +139,17 @@ pub trait CharSet {
         Ok(())
     }
 
+    /// The text of the characters that octets spell, where it is at hand. A set whose strings are
+    /// text as they stand lends the octets, which are then shown at once.
+    #[doc(hidden)]
+    fn as_text<'a>(_octets: &OctetStringOctets<'a>) -> Option<&'a str>
+        requires { Accepts step _octets.now }
+        ensures { IfSome result (λ text.
+            text.now ≡ encode_utf8_all (characters step _octets.now)) }
+    {
+        None
+    }
+
     /// A character takes at least one octet, and is one of Unicode's.
     ghost lawful: { IsStep step };
 }
@@ -145,4 +158,16 @@ pub trait CharSet {
 /// characters that they spell.
 pub trait TextCharSet: CharSet {
     ghost texts: { AreTexts Self.step };
+}
+
+/// The octets as a text, where they are known to stand in one piece.
+#[inline(always)]
+pub(super) fn text_of<'a>(octets: &OctetStringOctets<'a>) -> Option<&'a str>
+    requires { IsUtf8 octets.now }
+    ensures { IfSome result (λ text. text.now ≡ octets.now) }
+{
+    match octets.as_slice() {
+        Some(octets) => Some(unsafe { str::from_utf8_unchecked(octets) }),
+        None => None,
+    }
 }

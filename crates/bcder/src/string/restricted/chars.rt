@@ -66,6 +66,7 @@ impl<L: CharSet> Iterator for RestrictedStringChars<'_, L> {
 
     ghost remaining = { item_count (λ chars. chars) };
 
+    #[inline(always)]
     fn next(&mut self) -> Option<char> {
         match L::next_char(&mut self.octets) {
             Ok(next) => next,
@@ -81,6 +82,9 @@ impl<L: CharSet> fmt::Display for RestrictedString<L> {
     ghost output = { λ s. Some (encode_utf8_all (characters L.step (octets_of s))) };
 
     fn fmt<W: fmt::Write>(&self, f: &mut fmt::Formatter<W>) -> fmt::Result {
+        if let Some(text) = L::as_text(&self.octets.octets()) {
+            return f.write_str(text);
+        }
         for c in self.chars() {
             f.write_char(c)?;
         }

@@ -6,7 +6,7 @@ ghost use Rattle.bcder.specs.Utf8.{utf8_string_tag, utf8_step, lead, read_behind
 ghost use Rattle.bcder.specs.Utf8Leads.{of_lead};
 ghost use Rattle.bcder.specs.laws.Utf8.{utf8_lawful, utf8_text};
 
-use super::char_set::{CharSet, CharSetError, StringError, TextCharSet};
+use super::char_set::{CharSet, CharSetError, StringError, TextCharSet, text_of};
 use crate::string::octet::OctetStringOctets;
 use crate::tag::Tag;
 use std::alloc::Global;
@@ -155,6 +155,10 @@ impl CharSet for Utf8CharSet {
             },
             None => check_parts(octets),
         }
+    }
+
+    fn as_text<'a>(octets: &OctetStringOctets<'a>) -> Option<&'a str> {
+        text_of(octets)
     }
 }
 

@@ -7,6 +7,9 @@ use Rattle.bcder.proofs.plain.levels.+levels.Goals as goal
 pub value_within-returns-in-Some-clause-read : goal.value_within-returns-in-Some-clause-read
 value_within-returns-in-Some-clause-read t c = whole_read c.args.mode c.args.octets.now c.split_at.result.1.now c.in-Some.size (c.in-Some.ensures.begins c.args.mode) c.split_at.ensures.back
 
+pub any_within-returns-in-Some-clause-read : goal.any_within-returns-in-Some-clause-read
+any_within-returns-in-Some-clause-read t c = whole_read c.args.mode c.args.octets.now c.split_at.result.1.now c.in-Some.size (c.in-Some.ensures.begins c.args.mode) c.split_at.ensures.back
+
 pub any_within-returns-in-Some-true-default-clause-read :
     goal.any_within-returns-in-Some-true-default-clause-read
 any_within-returns-in-Some-true-default-clause-read t c =

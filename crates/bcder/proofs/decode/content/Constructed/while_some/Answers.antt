@@ -30,7 +30,7 @@ returns-then-owes_as_before-clause-repeated g c =
 
 pub loop-turn-preserved : goal.loop-turn-preserved
 loop-turn-preserved g c =
-    went_more _ _ _ _ _ _ _ _ _ c.loop-turn.invariant (rw c.in-Ok-Some.field-0-is at c.in-Ok-Some.ensures)
+    went_more _ _ _ _ _ _ _ tt _ _ c.loop-turn.invariant (rw c.in-Ok-Some.field-0-is at c.in-Ok-Some.ensures)
     (took_some _ _ (of_constructed g.S.Source.stream c.loop-turn.self) (of_constructed g.S.Source.stream c.call.new.cons) _ c.owed-owed.ensures c.owed.ensures c.owes_as_before.ensures c.if-owes_as_before.false)
     (one_moves _ _ _ _ _ _ _ _ c.requires.lawful c.loop-turn.invariant.moves c.call.ensures)
 

@@ -1,4 +1,4 @@
-use Rattle.std.proofs.Common.{subst}
+use Rattle.std.proofs.Common.{subst, true}
 use Rattle.bcder.specs.Meaning.{ValueMeans, constructed_meaning}
 use Rattle.bcder.specs.Encoders.{HasSize}
 use Rattle.bcder.proofs.Joining.{contents_told}
@@ -11,4 +11,4 @@ returns-in-Some g c = λ x meant.
     let M = g.V.Values.means c.args.inner.now mode in
     let one = (g.met.V.Values.lawful c.args.inner.now mode c.requires.can).one in
     let sized = subst (HasSize (ValueMeans t (constructed_meaning t mode) M)) c.in-Some.is c.requires.sized in
-    contents_told t mode M one _ _ c.contents_size.ensures c.requires.known sized c.in-Ber.is x meant
+    contents_told t mode M one _ _ (c.contents_size.ensures true) c.requires.known sized c.in-Ber.is x meant

@@ -1,4 +1,4 @@
-use Rattle.std.proofs.Common.{subst, sym, rules}
+use Rattle.std.proofs.Common.{rules}
 use Rattle.bcder.specs.Cause.{IsRefusal}
 use Rattle.bcder.specs.Views.{of_content}
 use Rattle.bcder.proofs.Accepting.{read_accepted, read_not_accepted, read_refused}

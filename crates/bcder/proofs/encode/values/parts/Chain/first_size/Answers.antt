@@ -7,4 +7,4 @@ returns-then-is_none g c = last_size (g.V.Values.means c.args.self.now.first.now
 pub returns-in-Ok : goal.returns-in-Ok
 returns-in-Ok g c =
     let (a, meant, is) = c.in-Ok.ensures in
-    one_size (g.met.V.Values.lawful c.args.self.now.first.now c.args.mode c.requires.can).one _ a meant is
+    one_size (g.met.V.Values.lawful c.args.self.now.first.now c.args.mode c.requires.can.0).one _ a meant is

@@ -1,11 +1,16 @@
-use Rattle.std.proofs.Common.{List, ℕ, length, append-nil, sym, ◌∙◌, subst, ◌<◌, ◌^◌, arith}
+use Rattle.std.proofs.Common.{List, ℕ, ◌≡◌, ◌++◌, [], length, append-nil, sym, ap, refl, ◌∙◌, subst, ◌<◌, ◌^◌, arith}
 use Rattle.bcder.specs.Identifier.{AreOctets}
+use Rattle.bcder.specs.StringSource.{InBlock}
 use Rattle.bcder.proofs.string.octet.source.OctetStringSource.of_piece.Goals as goal
 
 pub invariant_of-result : goal.invariant_of-result
 invariant_of-result c =
-    let same = c.as_slice.ensures ∙ sym (append-nil c.args.octets) in
+    let is = ap (λ (f : InBlock). f.octets) c.of_block.ensures in
+    let same : c.as_slice.result.now ≡ c.of_block.result.octets ++ [] = c.as_slice.ensures ∙ sym is ∙ sym (append-nil c.of_block.result.octets) in
     record {
+      stands = λ _. refl;
       are_octets = subst AreOctets same c.see_octets.ensures.are_octets;
       fit = subst (λ (w : List ℕ). length w < 2 ^ 64) same c.see_octets.ensures.fit;
+      counted = omega (arith, ap length is, c.len-reached.ensures.value);
+      bounded = omega (arith, c.len-reached.ensures.bound);
     }

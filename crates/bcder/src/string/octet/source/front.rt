@@ -1,0 +1,133 @@
+//! The octets of a string that stand in front of those to come.
+ghost use Rattle.std.specs.Prelude.{◌≡◌, ◌==◌, ◌+◌, ◌≤◌, [], true, false, length, drop};
+ghost use Rattle.std.specs.Prelude.{slice_range, IfOk};
+ghost use Rattle.bcder.specs.OctetString.{segment_at};
+
+use crate::NoMemory;
+use crate::string::octet::Segment;
+use bytes::Bytes;
+use std::marker::Model;
+
+/// Octets that stand in a block. Those that are passed over stay there, so that a step over one is
+/// a step of one number.
+#[derive(Debug, Drop)]
+pub(super) struct Front {
+    block: Bytes,
+
+    /// Where they stand in it.
+    start: usize,
+    end: usize,
+
+    /// Whether the segments to come stand in the same block.
+    is_shared: bool,
+}
+
+/// The clauses see the octets, and the block.
+impl Model for Front {
+    ghost use Rattle.std.specs.Prelude.{length, slice_range, ◌≤◌};
+    ghost use Rattle.bcder.specs.StringSource.{InBlock};
+
+    ghost Value = { InBlock };
+
+    ghost view = { λ f. record {
+      block = f.block;
+      octets = slice_range f.block f.start f.end;
+      is_shared = f.is_shared;
+    } };
+
+    ghost invariant = { λ f. (f.start ≤ f.end) × (f.end ≤ length f.block) };
+}
+
+impl Front {
+    /// All octets of a block of their own.
+    pub(super) fn of_block(block: Bytes) -> Front
+        ensures { result ≡ record { block = block; octets = block; is_shared = false } }
+    {
+        let end = block.len();
+        Front {
+            block,
+            start: 0,
+            end,
+            is_shared: false,
+        }
+    }
+
+    /// None of the octets that segments stand in.
+    pub(super) fn before_segments(block: Bytes) -> Front
+        ensures { result ≡ record { block = block; octets = []; is_shared = true } }
+    {
+        Front {
+            block,
+            start: 0,
+            end: 0,
+            is_shared: true,
+        }
+    }
+
+    /// Whether the segments to come stand in the same block.
+    pub(super) fn is_shared(&self) -> bool
+        ensures { result ≡ self.now.is_shared }
+    {
+        self.is_shared
+    }
+
+    /// How many octets there are.
+    #[inline(always)]
+    pub(super) fn len(&self) -> usize
+        ensures { result ≡ length self.now.octets }
+    {
+        self.end - self.start
+    }
+
+    /// Whether there is none.
+    pub(super) fn is_empty(&self) -> bool
+        ensures { result ≡ (length self.now.octets == 0) }
+    {
+        self.len() == 0
+    }
+
+    /// The octets.
+    #[inline(always)]
+    pub(super) fn as_slice(&self) -> &[u8]
+        ensures { result.now ≡ self.now.octets }
+    {
+        &self.block.as_slice()[self.start..self.end]
+    }
+
+    /// Some of the octets, shared.
+    pub(super) fn slice(&self, start: usize, end: usize) -> Result<Bytes, NoMemory>
+        requires start_le_end { start ≤ end }
+        requires in_bounds { end ≤ length self.now.octets }
+        ensures { IfOk result (λ b. b ≡ slice_range self.now.octets start end) }
+    {
+        let _bound = self.block.len();
+        Ok(self.block.slice(self.start + start..self.start + end)?)
+    }
+
+    /// Passes over the first ones.
+    #[inline(always)]
+    pub(super) fn advance(&mut self, len: usize)
+        requires { len ≤ length self.old.octets }
+        ensures { self.new ≡ record {
+          block = self.old.block;
+          octets = drop len self.old.octets;
+          is_shared = self.old.is_shared;
+        } }
+    {
+        self.start += len;
+    }
+
+    /// Has a segment that stands in the block take their place.
+    pub(super) fn move_to(&mut self, segment: Segment)
+        requires { segment.start + segment.len ≤ length self.old.block }
+        ensures { self.new ≡ record {
+          block = self.old.block;
+          octets = segment_at self.old.block segment;
+          is_shared = self.old.is_shared;
+        } }
+    {
+        let _bound = self.block.len();
+        self.start = segment.start;
+        self.end = segment.start + segment.len;
+    }
+}

@@ -1,0 +1,86 @@
+//! What a revocation list says of each certificate (RFC 5280, section 5.1): lists that are kept.
+ghost use Rattle.bcder.specs.Views.{Moved};
+
+use crate::certificate::Time;
+use bcder::decode::{Constructed, DecodeError, Source};
+use bcder::{Captured, Mode, Tag, Unsigned};
+use std::alloc::Global;
+use std::convert::Infallible;
+
+/// A certificate that was revoked.
+#[derive(Debug, Drop)]
+pub struct Entry {
+    /// Its serial number.
+    pub serial: Unsigned,
+
+    /// When it was revoked.
+    pub date: Time,
+
+    /// What more is said of it, to be read later.
+    pub extensions: Option<Captured>,
+}
+
+impl Entry {
+    /// The next entry, a SEQUENCE, if there is another.
+    pub fn take_opt_from<S: Source>(
+        alloc: Global,
+        cons: &mut Constructed<'_, S>,
+    ) -> Result<Option<Entry>, DecodeError<S::Error>>
+        ensures { Moved S.stream cons }
+    {
+        cons.take_opt_sequence(|cons| Entry::take_parts(alloc, cons))
+    }
+
+    /// What is inside that SEQUENCE.
+    fn take_parts<S: Source>(
+        alloc: Global,
+        cons: &mut Constructed<'_, S>,
+    ) -> Result<Entry, DecodeError<S::Error>>
+        ensures { Moved S.stream cons }
+    {
+        let serial = Unsigned::take_from(alloc, cons)?;
+        let date = Time::take_from(cons)?;
+        let extensions = cons.take_opt_sequence(|cons| cons.capture_all(alloc))?;
+        Ok(Entry {
+            serial,
+            date,
+            extensions,
+        })
+    }
+}
+
+/// The entries of a list: a SEQUENCE OF.
+pub fn take_entries<S: Source>(
+    alloc: Global,
+    cons: &mut Constructed<'_, S>,
+) -> Result<Vec<Entry>, DecodeError<S::Error>>
+    ensures { Moved S.stream cons }
+{
+    cons.take_sequence(|cons| cons.collect_some(alloc, |cons| Entry::take_opt_from(alloc, cons)))
+}
+
+/// The entries of a list in DER.
+pub fn decode_entries(alloc: Global, octets: &[u8]) -> Result<Vec<Entry>, DecodeError<Infallible>> {
+    Mode::Der.decode(octets, |cons| take_entries(alloc, cons))
+}
+
+/// The number of a reason: an ENUMERATED in an OCTET STRING.
+pub fn take_reason<S: Source>(
+    alloc: Global,
+    cons: &mut Constructed<'_, S>,
+) -> Result<u8, DecodeError<S::Error>>
+    ensures { Moved S.stream cons }
+{
+    let octets = cons.take_primitive_if(Tag::OCTET_STRING, |octets| octets.take_all(alloc))?;
+    match Mode::Der.decode(octets, |cons| take_enumerated(cons)) {
+        Ok(reason) => Ok(reason),
+        Err(error) => Err(error.convert()),
+    }
+}
+
+/// An ENUMERATED.
+fn take_enumerated<S: Source>(cons: &mut Constructed<'_, S>) -> Result<u8, DecodeError<S::Error>>
+    ensures { Moved S.stream cons }
+{
+    cons.take_primitive_if(Tag::ENUMERATED, |octets| octets.to_u8())
+}
