@@ -14,6 +14,8 @@ mod opened;
 mod request;
 mod run;
 mod target;
+#[cfg(test)]
+mod tests;
 
 use std::io::{BufWriter, Read};
 use std::process::ExitCode;

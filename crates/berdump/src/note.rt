@@ -84,7 +84,7 @@ pub(crate) fn add_note(
     if holds {
         write!(text, " holds encodings")?;
     }
-    if !tag.is_universal() || tag == Tag::NULL {
+    if !tag.is_universal() || (tag == Tag::NULL && octets.is_empty()) {
         return Ok(());
     }
     if tag == Tag::INTEGER || tag == Tag::ENUMERATED {
@@ -108,11 +108,14 @@ pub(crate) fn add_note(
     }
     if tag == Tag::BIT_STRING {
         if let [unused, bits @ ..] = octets {
-            add_hex(alloc, text, bits)?;
-            if *unused != 0 {
-                write!(text, ", {unused} unused")?;
+            if *unused == 0 {
+                return add_hex(alloc, text, bits);
             }
-            return Ok(());
+            if *unused < 8 && !bits.is_empty() {
+                add_hex(alloc, text, bits)?;
+                write!(text, ", {unused} unused")?;
+                return Ok(());
+            }
         }
     }
     if let Ok(spelled) = str::from_utf8(octets) {
