@@ -1,5 +1,5 @@
 -- The lines that show values.
-use Rattle.std.specs.Prelude.{◌≡◌, ℕ, ◌^◌, ◌-◌, Bool, true, false, List, [], ◌++◌, Option, Some, None, codes, decimal, min}
+use Rattle.std.specs.Prelude.{◌≡◌, ℕ, ◌^◌, ◌-◌, Bool, true, false, List, [], ◌∷◌, ◌++◌, Option, Some, None, codes, decimal, min}
 use Rattle.std.specs.Fmt.{format_spec, padded_integral, styled_text}
 use Rattle.bcder.specs.TagText.{tag_text}
 use Rattle.berdump.specs.declared.heading.Heading.{Heading}
@@ -32,3 +32,12 @@ name_text h = codes "l=" ++ length_text h.len ++ codes " " ++ form_text h.constr
 -- `OFFSET:d=DEPTH hl=HEADER l=LENGTH FORM: TAG`
 abbrev pub heading_text : Heading → List ℕ
 heading_text h = place_text h ++ codes " " ++ name_text h
+
+-- a line of a heading: its text, what may be said of the contents, and a newline
+abbrev pub IsLine : Heading → List ℕ → Type 0
+IsLine h w = (note : List ℕ) × (w ≡ heading_text h ++ note ++ codes "\n")
+
+-- a line for each heading
+abbrev pub AreLines : List Heading → List ℕ → Type 0
+AreLines [] w = w ≡ []
+AreLines (h ∷ hs) w = (first others : List ℕ) × IsLine h first × AreLines hs others × (w ≡ first ++ others)

@@ -1,6 +1,9 @@
 //! Encodings that strings hold.
 #![tactic(auto, using(bcder::proofs::Moving::moves_refl, bcder::proofs::Carrying::carries))]
 
+ghost use Rattle.std.specs.Prelude.{◌≡◌, ◌∷◌, ◌++◌, ℕ, List, IfOk, IfSome};
+ghost use Rattle.berdump.specs.Listing.{IsFront};
+
 use bcder::decode::SliceSource;
 use bcder::{Mode, NoMemory, Tag};
 use std::alloc::Global;
@@ -16,15 +19,28 @@ fn is_list(alloc: Global, mode: Mode, octets: &[u8]) -> Result<bool, NoMemory> {
     }
 }
 
+/// The octets of a bit string without unused bits in contents octets (X.690, 8.6.2.2).
+fn bits_in(contents: &[u8]) -> Option<&[u8]>
+    ensures { IfSome result (λ r. contents.now ≡ 0 ∷ r.now) }
+{
+    match contents {
+        [0, rest @ ..] => Some(rest),
+        _ => None,
+    }
+}
+
 /// The octets of a string in contents octets: all of an OCTET STRING, all but the first of a BIT
 /// STRING without unused bits.
-fn string_in(tag: Tag, contents: &[u8]) -> Option<&[u8]> {
+fn string_in(tag: Tag, contents: &[u8]) -> Option<&[u8]>
+    ensures { IfSome result (λ r. (front : List ℕ) × IsFront tag front
+        × (contents.now ≡ front ++ r.now)) }
+{
     if tag == Tag::OCTET_STRING {
-        return Some(contents);
-    }
-    match contents {
-        [0, rest @ ..] if tag == Tag::BIT_STRING => Some(rest),
-        _ => None,
+        Some(contents)
+    } else if tag == Tag::BIT_STRING {
+        bits_in(contents)
+    } else {
+        None
     }
 }
 
@@ -34,7 +50,10 @@ pub(crate) fn held_in(
     mode: Mode,
     tag: Tag,
     contents: &[u8],
-) -> Result<Option<&[u8]>, NoMemory> {
+) -> Result<Option<&[u8]>, NoMemory>
+    ensures { IfOk result (λ o. IfSome o (λ r. (front : List ℕ) × IsFront tag front
+        × (contents.now ≡ front ++ r.now))) }
+{
     let Some(octets) = string_in(tag, contents) else {
         return Ok(None);
     };
