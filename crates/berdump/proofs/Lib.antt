@@ -1,0 +1,4 @@
+mod Listing
+mod Fitting
+mod Walking
+mod Steps

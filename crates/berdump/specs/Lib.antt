@@ -1,0 +1,6 @@
+pub mod Front
+pub mod Lines
+pub mod Listing
+pub mod Answers
+pub mod Opened
+pub mod Walk

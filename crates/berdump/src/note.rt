@@ -1,0 +1,128 @@
+//! What the contents octets of a primitive value of a universal tag mean, as text.
+#![tactic(auto, using(bcder::proofs::Moving::moves_refl, bcder::proofs::Carrying::carries))]
+
+use bcder::decode::{Primitive, SliceSource};
+use bcder::string::{
+    CharSet, Ia5CharSet, NumericCharSet, PrintableCharSet, RestrictedString, StringError,
+    TextCharSet,
+};
+use bcder::{ConstOid, Mode, NoMemory, Oid, Tag};
+use std::alloc::Global;
+
+/// How many octets are shown in hexadecimal.
+const WIDTH: usize = 32;
+
+/// Adds octets in hexadecimal, the first of them where they are many.
+fn add_hex(alloc: Global, text: &mut String, octets: &[u8]) -> Result<(), NoMemory> {
+    let shown = octets.split_at(octets.len().min(WIDTH)).0;
+    let digits = hex::encode(alloc, shown)?;
+    write!(text, " :0x{}", digits.as_str())?;
+    if octets.len() > WIDTH {
+        write!(text, "...")?;
+    }
+    Ok(())
+}
+
+/// Adds a number in decimal, if it has at most 64 bits.
+fn add_number(alloc: Global, text: &mut String, mode: Mode, octets: &[u8]) -> Result<(), NoMemory> {
+    if let Ok(number) = Primitive::decode_slice(octets, mode, |octets| octets.to_i64()) {
+        write!(text, " :{number}")?;
+        return Ok(());
+    }
+    if let Ok(number) = Primitive::decode_slice(octets, mode, |octets| octets.to_u64()) {
+        write!(text, " :{number}")?;
+        return Ok(());
+    }
+    add_hex(alloc, text, octets)
+}
+
+/// Whether a set accepts a text.
+fn is_of<L: TextCharSet>(alloc: Global, text: &str) -> Result<bool, NoMemory> {
+    match RestrictedString::<L>::from_str(alloc, text) {
+        Ok(_) => Ok(true),
+        Err(StringError::CharSet) => Ok(false),
+        Err(StringError::NoMemory) => Err(NoMemory),
+    }
+}
+
+/// Whether a text is shown as it stands: it has no control characters.
+fn is_shown(text: &str) -> bool {
+    text.as_bytes()
+        .iter()
+        .all(|octet| *octet >= 0x20 && *octet != 0x7F)
+}
+
+/// Whether octets are a text of the set of a tag.
+fn is_text(alloc: Global, tag: Tag, text: &str) -> Result<bool, NoMemory> {
+    if tag == Tag::UTF8_STRING {
+        Ok(true)
+    } else if tag == Tag::NUMERIC_STRING {
+        is_of::<NumericCharSet>(alloc, text)
+    } else if tag == Tag::PRINTABLE_STRING {
+        is_of::<PrintableCharSet>(alloc, text)
+    } else if tag == Tag::IA5_STRING
+        || tag == Tag::VISIBLE_STRING
+        || tag == Tag::UTC_TIME
+        || tag == Tag::GENERALIZED_TIME
+    {
+        is_of::<Ia5CharSet>(alloc, text)
+    } else {
+        Ok(false)
+    }
+}
+
+/// Adds whether the contents octets of a primitive value hold encodings, and what they mean: nothing
+/// where the tag isn't universal.
+pub(crate) fn add_note(
+    alloc: Global,
+    text: &mut String,
+    mode: Mode,
+    tag: Tag,
+    octets: &[u8],
+    holds: bool,
+) -> Result<(), NoMemory> {
+    if holds {
+        write!(text, " holds encodings")?;
+    }
+    if !tag.is_universal() || (tag == Tag::NULL && octets.is_empty()) {
+        return Ok(());
+    }
+    if tag == Tag::INTEGER || tag == Tag::ENUMERATED {
+        return add_number(alloc, text, mode, octets);
+    }
+    if tag == Tag::BOOLEAN {
+        if let Ok(truth) = Primitive::decode_slice(octets, mode, |octets| octets.to_bool()) {
+            write!(text, " :{truth}")?;
+            return Ok(());
+        }
+    }
+    if tag == Tag::OID {
+        if let Ok(oid) = Primitive::decode_slice(
+            octets,
+            mode,
+            |octets| Oid::from_primitive(alloc, octets),
+        ) {
+            write!(text, " :{oid}")?;
+            return Ok(());
+        }
+    }
+    if tag == Tag::BIT_STRING {
+        if let [unused, bits @ ..] = octets {
+            if *unused == 0 {
+                return add_hex(alloc, text, bits);
+            }
+            if *unused < 8 && !bits.is_empty() {
+                add_hex(alloc, text, bits)?;
+                write!(text, ", {unused} unused")?;
+                return Ok(());
+            }
+        }
+    }
+    if let Ok(spelled) = str::from_utf8(octets) {
+        if is_shown(spelled) && is_text(alloc, tag, spelled)? {
+            write!(text, " :{spelled}")?;
+            return Ok(());
+        }
+    }
+    add_hex(alloc, text, octets)
+}
