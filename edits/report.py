@@ -12,7 +12,7 @@ NOTE = re.compile(r"note: src/\S+?:\d+:\d+: it is not proved .*?\(`([^`]+)`\)")
 # Where an answer or an invariant fails so, it names a step of the body that is gone, and says nothing of any clause.
 GONE = re.compile(r"has no field|is not in scope|has no `|is no name|cannot continue")
 # What rests on a declaration that failed.
-RESTS = re.compile(r"depends? on .*, which (?:was|were) not admitted")
+RESTS = re.compile(r"depends? on .*, which (?:was|were) (?:not admitted|rejected)")
 FILES = ("Answers.antt", "Invariants.antt", "Proof.antt")
 
 # How an edit fared.

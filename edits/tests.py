@@ -76,6 +76,9 @@ GONE_BELOW = """./proofs/half/Answers.antt:4:27: error: `returns-clause-ok`: rec
   has no field `three`
 ./proofs/half/Answers.antt:9:5: error: 1 declaration that depends on `returns-clause-ok`, which was not admitted, was not checked: more
 fn toy::half: no proof: expected answers in ./proofs/half/Answers.antt; `search` did not prove `returns-clause-err`"""
+UNFIT_ABOVE = """./proofs/half/Answers.antt:5:25: error: `returns-clause-ok`: computed as far as they go, the two types are `A`
+./proofs/half/Answers.antt:9:5: error: 1 declaration that depends on `returns-clause-ok`, which was rejected, was not checked: returns-clause-err
+fn toy::half: not proved"""
 PROVED = "fn toy::half: proved"
 UNNAMED = """./proofs/half/Answers.antt:6:15: error: `returns`: `goal.returns`: module `Rattle.toy.proofs.half.Goals` has no `returns` that can be named from here
 note: src/lib.rt:7:1: it is not proved that what the function ensures holds when it returns (`returns-then-x-eq7`)
@@ -99,6 +102,8 @@ class Verdicts(unittest.TestCase):
         self.assertEqual(self.fared(OPEN, "overflow_add-result"), REFUSED)
         self.assertEqual(self.fared(UNFIT, "ok"), REFUSED)
         self.assertEqual(self.fared(UNFIT, "err"), REFUSED)
+        self.assertEqual(self.fared(UNFIT_ABOVE, "ok"), REFUSED)
+        self.assertEqual(self.fared(UNFIT_ABOVE, "err"), WRONG)
 
     def test_what_is_gone_says_nothing(self):
         self.assertEqual(self.fared(GONE), ANSWERS)
