@@ -1,5 +1,6 @@
 //! Uses of the library, and tests of it with values from outside that are no lines of data: those
-//! are in `vectors`. There is one module for each subject.
+//! are in `vectors` and `values`. There is one module for each subject. Tests of strings and of
+//! failures that stand on this crate are in `strings` and `failures`.
 //!
 //! [`sip`] is a source that can fail and makes available no more than what was asked for, or all it
 //! has; each module of tests runs over it too. [`encoders`] has values of any size, and [`calls`]
