@@ -1,4 +1,3 @@
 pub mod Counted
 pub mod Sip
 pub mod Taken
-pub mod Latin1

@@ -1,5 +1,6 @@
 //! Uses of the library, and tests of it with values from outside that are no lines of data: those
-//! are in `vectors`. There is one module for each subject.
+//! are in `vectors` and `values`. There is one module for each subject. Tests of strings and of
+//! failures that stand on this crate are in `strings` and `failures`.
 //!
 //! [`sip`] is a source that can fail and makes available no more than what was asked for, or all it
 //! has; each module of tests runs over it too. [`encoders`] has values of any size, and [`calls`]
@@ -8,8 +9,6 @@
 
 #[cfg(test)]
 mod asserts;
-#[cfg(test)]
-mod bits;
 pub mod borrows;
 pub mod calls;
 #[cfg(test)]
@@ -17,47 +16,28 @@ mod captured;
 #[cfg(test)]
 mod captures;
 #[cfg(test)]
-mod char_sets;
-#[cfg(test)]
 mod contents;
 #[cfg(test)]
 mod decodes;
 pub mod decoding;
 #[cfg(test)]
 mod deep;
-#[cfg(test)]
-mod dropped;
 pub mod encoders;
 #[cfg(test)]
 mod encodes;
 #[cfg(test)]
-mod failures;
-#[cfg(test)]
 mod integers;
-pub mod latin_1;
 #[cfg(test)]
 mod loops;
 #[cfg(test)]
 mod octets;
 #[cfg(test)]
 mod over;
-#[cfg(test)]
-mod restricted_strings;
 pub mod sip;
 #[cfg(test)]
 mod skips;
 #[cfg(test)]
 mod sources;
 #[cfg(test)]
-mod string_octets;
-#[cfg(test)]
-mod string_sources;
-#[cfg(test)]
-mod strings;
-#[cfg(test)]
 mod tag_names;
 pub mod tags;
-#[cfg(test)]
-mod targets;
-#[cfg(test)]
-mod written_strings;

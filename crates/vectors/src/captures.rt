@@ -1,18 +1,17 @@
 //! Capturing: what is captured and by which rules, what is refused, and what stands then.
 ghost use Rattle.bcder.specs.Views.{Moved};
 
-use crate::calls::{Answer, answer_of};
-use crate::fields::{find, mode_of, next, number, octets_of};
-use crate::malformed::Malformed;
-use crate::row::{Row, Step, row_of};
-use crate::takes::{OWN, error_kind};
-use crate::tally::{Differing, Tally, differ_in};
 use anyhow::Error;
 use bcder::decode::{
     BytesSource, Constructed, ContentError, DecodeError, IntoSource, SliceSource, Source, walk,
 };
 use bcder::{Captured, Mode, Tag};
 use bytes::Bytes;
+use lines::calls::{Answer, OWN, answer_of, error_kind};
+use lines::fields::{find, mode_of, next, number, octets_of};
+use lines::malformed::Malformed;
+use lines::row::{Row, Step, row_of};
+use lines::tally::{Differing, Tally, differ_in};
 use rows::sip::Sip;
 use std::alloc::{AllocError, Global};
 

@@ -1,8 +1,6 @@
 //! Values that are cut: no reader finds one in a front of a value.
 ghost use Rattle.bcder.specs.Views.{Moved};
 
-use crate::fields::{modes_of, next, octets_of};
-use crate::tally::Tally;
 use anyhow::Error;
 use bcder::decode::{
     BytesSource, Constructed, Content, ContentError, DecodeError, SliceSource, Source, walk,
@@ -10,6 +8,8 @@ use bcder::decode::{
 use bcder::string::{Ia5String, NumericString, PrintableString, Utf8String};
 use bcder::{BitString, Integer, Mode, OctetString, Oid, Tag, Unsigned};
 use bytes::Bytes;
+use lines::fields::{modes_of, next, octets_of};
+use lines::tally::Tally;
 use rows::sip::Sip;
 use std::alloc::{AllocError, Global};
 

@@ -2,12 +2,12 @@
 ghost use Rattle.bcder.specs.Views.{Moved, MovedOctets};
 
 use crate::captures::label_of;
-use crate::fields::{find, mode_of, modes_of, next, octets_of};
-use crate::tally::Tally;
 use anyhow::Error;
 use bcder::decode::{BytesSource, Constructed, DecodeError, Primitive, SliceSource, Source};
 use bcder::{Mode, Tag};
 use bytes::Bytes;
+use lines::fields::{find, mode_of, modes_of, next, octets_of};
+use lines::tally::Tally;
 use rows::sip::Sip;
 use std::alloc::Global;
 

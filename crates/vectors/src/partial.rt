@@ -1,14 +1,14 @@
 //! Decoding captured values in part: what is taken, and what is left of them.
 ghost use Rattle.bcder.specs.Views.{Moved};
 
-use crate::calls::{Answer, TakeStep};
-use crate::fields::{mode_of, next, octets_of};
-use crate::row::Step;
 use crate::takes::perform;
-use crate::tally::Tally;
 use anyhow::Error;
 use bcder::decode::{Constructed, ContentError, DecodeError, SliceSource, Source};
 use bcder::{Captured, Mode};
+use lines::calls::{Answer, TakeStep};
+use lines::fields::{mode_of, next, octets_of};
+use lines::row::Step;
+use lines::tally::Tally;
 use std::alloc::Global;
 
 /// Whether an answer is a value, or that none is there.

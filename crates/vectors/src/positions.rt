@@ -1,10 +1,7 @@
 //! At which position content says that it is refused.
 ghost use Rattle.bcder.specs.Views.{Moved, MovedContent, MovedOctets};
 
-use crate::calls::Use;
-use crate::fields::{find, next, number, octets_of};
 use crate::takes::{use_content, use_octets};
-use crate::tally::Tally;
 use anyhow::Error;
 use bcder::Mode;
 use bcder::decode::{
@@ -12,6 +9,9 @@ use bcder::decode::{
     Source,
 };
 use bytes::Bytes;
+use lines::calls::Use;
+use lines::fields::{find, next, number, octets_of};
+use lines::tally::Tally;
 use rows::sip::Sip;
 use std::alloc::{AllocError, Global};
 

@@ -1,15 +1,14 @@
 //! Skipping: the headings that a closure is told, and the answer.
 ghost use Rattle.bcder.specs.Views.{Moved};
 
-use crate::calls::{Answer, answer_of, tag_of};
-use crate::fields::{modes_of, next, number, octets_of};
-use crate::takes::{OWN, error_kind};
-use crate::tally::{Differing, Tally};
 use crate::walks::{self, compare_ways, compare_whole};
 use anyhow::Error;
 use bcder::decode::{BytesSource, Constructed, ContentError, DecodeError, SliceSource, Source};
 use bcder::{Mode, Tag};
 use bytes::Bytes;
+use lines::calls::{Answer, OWN, answer_of, error_kind, tag_of};
+use lines::fields::{modes_of, next, number, octets_of};
+use lines::tally::{Differing, Tally};
 use rows::sip::Sip;
 use std::alloc::Global;
 

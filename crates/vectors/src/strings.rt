@@ -1,10 +1,10 @@
 //! Octet strings: values that are read, in one piece or in parts.
-use crate::fields::{next, octets_of};
-use crate::tally::Tally;
 use anyhow::Error;
 use bcder::decode::{BytesSource, SliceSource, Source};
 use bcder::{Mode, OctetString};
 use bytes::Bytes;
+use lines::fields::{next, octets_of};
+use lines::tally::Tally;
 use rows::sip::Sip;
 use std::alloc::Global;
 

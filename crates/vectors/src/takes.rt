@@ -1,9 +1,6 @@
 //! Taking values from content: which are taken, which are refused and how, and what stands then.
 ghost use Rattle.bcder.specs.Views.{Moved, MovedOctets, MovedContent};
 
-use crate::calls::{Answer, CALLS, Call, TakeStep, Use};
-use crate::row::{Row, row_of};
-use crate::tally::{Differing, Tally};
 use anyhow::Error;
 use bcder::decode::{
     BytesSource, Constructed, Content, ContentError, DecodeError, Primitive, SliceSource, Source,
@@ -11,11 +8,11 @@ use bcder::decode::{
 };
 use bcder::{Mode, Tag};
 use bytes::Bytes;
+use lines::calls::{Answer, CALLS, Call, OWN, TakeStep, Use, error_kind};
+use lines::row::{Row, row_of};
+use lines::tally::{Differing, Tally};
 use rows::sip::Sip;
 use std::alloc::{AllocError, Global};
-
-/// The refusal of a closure: no call answers it by itself.
-pub const OWN: u8 = 200;
 
 /// Passes over the values, two at most.
 fn pass_values<S: Source>(cons: &mut Constructed<'_, S>) -> Result<(), DecodeError<S::Error>>
@@ -94,22 +91,6 @@ pub fn use_content<S: Source>(
     match content {
         Content::Primitive(inner) => use_octets(inner, told, with),
         Content::Constructed(inner) => use_values(inner, told, with),
-    }
-}
-
-/// What kind of error it is, of a call for this tag.
-pub fn error_kind<E>(error: &DecodeError<E>, tag: Tag) -> Answer {
-    match error.content_error() {
-        Some(ContentError::Static(_)) => Answer::Static,
-        Some(ContentError::ExpectedTag(expected)) => {
-            if *expected == tag {
-                Answer::Expected
-            } else {
-                Answer::Other
-            }
-        }
-        Some(ContentError::ExpectedInteger(OWN)) => Answer::Own,
-        _ => Answer::Other,
     }
 }
 

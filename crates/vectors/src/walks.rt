@@ -1,12 +1,12 @@
 //! Passing over the value at the front, in each way, and the plain reader.
 ghost use Rattle.bcder.specs.Views.{Moved};
 
-use crate::fields::{modes_of, next, number, octets_of};
-use crate::tally::{Differing, Tally, differ_in};
 use anyhow::Error;
 use bcder::Mode;
 use bcder::decode::{BytesSource, Constructed, DecodeError, SliceSource, Source, walk};
 use bytes::Bytes;
+use lines::fields::{modes_of, next, number, octets_of};
+use lines::tally::{Differing, Tally, differ_in};
 use rows::sip::Sip;
 use std::alloc::{AllocError, Global};
 

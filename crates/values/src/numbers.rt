@@ -1,9 +1,9 @@
 //! The number that contents octets are, through every reader of integers.
-use crate::tally::{Differing, Tally, differ_in};
 use anyhow::Error;
 use bcder::decode::{Primitive, SliceSource};
 use bcder::{Integer, Mode, Unsigned};
 use bytes::Bytes;
+use lines::tally::{Differing, Tally, differ_in};
 use std::alloc::Global;
 use std::convert::TryFrom;
 

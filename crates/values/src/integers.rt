@@ -1,13 +1,13 @@
 //! Integers: the numbers that contents octets are, in each type, and values that are read.
-use crate::fields::{find, next, octets_of};
 use crate::numbers::{self, Numbers, Readers, count, found};
-use crate::tally::{Differing, Tally, differ_in};
 use crate::written;
 use anyhow::Error;
 use bcder::decode::{BytesSource, DecodeError, Primitive, SliceSource, Source};
 use bcder::int::{IntegerError, InvalidInteger};
 use bcder::{Integer, Mode, Unsigned};
 use bytes::Bytes;
+use lines::fields::{find, next, octets_of};
+use lines::tally::{Differing, Tally, differ_in};
 use rows::sip::Sip;
 use std::alloc::Global;
 use std::cmp::Ordering;

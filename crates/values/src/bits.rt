@@ -1,10 +1,10 @@
 //! Bit strings: values that are read, and passed over.
-use crate::fields::{next, octets_of};
-use crate::tally::Tally;
 use anyhow::Error;
 use bcder::decode::{BytesSource, SliceSource, Source};
 use bcder::{BitString, Mode};
 use bytes::Bytes;
+use lines::fields::{next, octets_of};
+use lines::tally::Tally;
 use rows::sip::Sip;
 use std::alloc::Global;
 

@@ -2,11 +2,11 @@
 ghost use Rattle.bcder.specs.Views.{Moved, MovedContent};
 
 use crate::asserts::{done, holds, same};
-use crate::calls::{Answer, Call, Take, ask};
 use crate::over::{failing_sip, failing_whole};
-use crate::sip::Sip;
 use bcder::decode::{Constructed, Content, DecodeError, Source};
 use bcder::{Mode, Tag};
+use rows::calls::{Answer, Call, Take, ask};
+use rows::sip::Sip;
 use std::alloc::Global;
 use std::process::Abort;
 

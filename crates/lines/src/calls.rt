@@ -4,6 +4,7 @@ use crate::malformed::Malformed;
 use crate::row::Step;
 use anyhow::Error;
 use bcder::Tag;
+use bcder::decode::{ContentError, DecodeError};
 use std::alloc::Global;
 
 /// A call on content, or on what `enter` entered.
@@ -93,6 +94,9 @@ pub const CALLS: [(&str, Call); 34] = [
     ("enter", Call::Enter),
     ("decode", Call::Decode),
 ];
+
+/// The refusal of a closure: no call answers it by itself.
+pub const OWN: u8 = 200;
 
 /// The words for the tags.
 const TAGS: [(&str, Tag); 7] = [
@@ -190,6 +194,22 @@ pub fn tag_of(word: &str) -> Result<Tag, Malformed> {
 /// The answer that a word stands for.
 pub fn answer_of(word: &str) -> Result<Answer, Malformed> {
     find(&ANSWERS, word)
+}
+
+/// What kind of error it is, of a call for this tag.
+pub fn error_kind<E>(error: &DecodeError<E>, tag: Tag) -> Answer {
+    match error.content_error() {
+        Some(ContentError::Static(_)) => Answer::Static,
+        Some(ContentError::ExpectedTag(expected)) => {
+            if *expected == tag {
+                Answer::Expected
+            } else {
+                Answer::Other
+            }
+        }
+        Some(ContentError::ExpectedInteger(OWN)) => Answer::Own,
+        _ => Answer::Other,
+    }
 }
 
 impl Step for TakeStep {

@@ -3,7 +3,7 @@ ghost use Rattle.std.specs.Prelude.{⊤};
 ghost use Rattle.bcder.specs.Identifier.{universal};
 ghost use Rattle.bcder.specs.AsciiSets.{one_octet_step};
 ghost use Rattle.bcder.specs.laws.CharSets.{one_octet_lawful};
-ghost use Rattle.rows.specs.Latin1.{is_octet, octet_scalar};
+ghost use Rattle.strings.specs.Latin1.{is_octet, octet_scalar};
 
 use bcder::Tag;
 use bcder::string::{CharSet, CharSetError, OctetStringOctets, StringError};

@@ -1,14 +1,13 @@
 //! Identifier octets (X.690, 8.1.2), read over several sources, and how tags are shown.
-use crate::calls::Answer;
-use crate::fields::{find, next, number, octets_of};
-use crate::malformed::Malformed;
-use crate::takes::error_kind;
-use crate::tally::{Differing, Tally, differ_in};
 use crate::written::compare_tag;
 use anyhow::Error;
 use bcder::Tag;
 use bcder::decode::{BytesSource, DecodeError, SliceSource, Source};
 use bytes::Bytes;
+use lines::calls::{Answer, error_kind};
+use lines::fields::{find, next, number, octets_of};
+use lines::malformed::Malformed;
+use lines::tally::{Differing, Tally, differ_in};
 use rows::sip::Sip;
 use std::alloc::Global;
 

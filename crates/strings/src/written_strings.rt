@@ -5,12 +5,12 @@
 ghost use Rattle.std.specs.Prelude.{◌<◌};
 
 use crate::asserts::{done, holds, same};
-use crate::encoders::{Nulls, Zeros};
 use crate::encodes::{refuses, sizes, writes};
 use bcder::decode::{SliceSource, Source};
 use bcder::encode::{EncodeError, PrimitiveContent, Values, write_header};
 use bcder::{Captured, Mode, OctetString, Tag};
 use bytes::Bytes;
+use rows::encoders::{Nulls, Zeros};
 use std::alloc::Global;
 use std::process::Abort;
 

@@ -5,10 +5,10 @@
 mod trial;
 
 use crate::asserts::done;
-use crate::calls::{
+use bcder::Mode;
+use rows::calls::{
     Answer, CAPTURES, CONTENTS, Call, KEPT, Line, OCTETS, PASSES, STRINGS, TAKES, TYPED, Take, Text,
 };
-use bcder::Mode;
 use std::alloc::Global;
 use std::process::Abort;
 use trial::{Place, Trial};

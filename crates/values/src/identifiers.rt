@@ -1,12 +1,12 @@
 //! Object identifiers: their components and texts, reading them, and values that are read.
-use crate::fields::{next, octets_of};
-use crate::malformed::Malformed;
-use crate::tally::{Differing, Tally, differ_in};
 use anyhow::Error;
 use bcder::decode::{BytesSource, Primitive, SliceSource, Source};
 use bcder::oid::OidError;
 use bcder::{Mode, Oid};
 use bytes::Bytes;
+use lines::fields::{next, octets_of};
+use lines::malformed::Malformed;
+use lines::tally::{Differing, Tally, differ_in};
 use rows::sip::Sip;
 use std::alloc::Global;
 

@@ -1,12 +1,12 @@
 //! Encoding: what is written of integers and of headers.
-use crate::calls::tag_of;
-use crate::fields::{find, next, octets_of};
-use crate::tally::Tally;
 use anyhow::Error;
 use bcder::encode::{
     EncodeError, PrimitiveContent, Values, WriteError, total_encoded_len, write_header,
 };
 use bcder::{Mode, Tag};
+use lines::calls::tag_of;
+use lines::fields::{find, next, octets_of};
+use lines::tally::Tally;
 use std::alloc::Global;
 
 /// Whether the value that is written is an INTEGER of these contents octets.

@@ -1,7 +1,6 @@
 //! Restricted character strings: which values are read as one, and their characters (X.690, 8.23).
 use crate::asserts::{done, holds, same, shows};
 use crate::latin_1::Latin1;
-use crate::sip::Sip;
 use bcder::decode::{BytesSource, SliceSource, Source};
 use bcder::encode::Values;
 use bcder::string::{
@@ -10,6 +9,7 @@ use bcder::string::{
 };
 use bcder::{Mode, OctetString, Tag};
 use bytes::Bytes;
+use rows::sip::Sip;
 use std::alloc::Global;
 use std::process::Abort;
 

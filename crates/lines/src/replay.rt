@@ -1,0 +1,40 @@
+//! Files of data, whose lines are compared one by one.
+use crate::tally::{Differing, Tally};
+use anyhow::Error;
+use std::alloc::Global;
+use std::fs::{self, Files};
+
+/// Whether a line of data says nothing.
+fn is_comment(line: &str) -> bool {
+    line.is_empty() || line.starts_with('#')
+}
+
+/// Compares the lines of a file of data one by one, and prints those that differ.
+pub fn replay<
+    R: Print + Files + AllocGlobal,
+    T: Differing,
+    F: Fn(Global, &str, &mut T) -> Result<(), Error>,
+>(rt: &R, file: &str, tallies: &mut T, compare_line: F) -> Result<(), Error>
+    requires { F.IsAlwaysCallable compare_line }
+{
+    let text = fs::read_to_string(rt, file)?;
+    for line in text.lines() {
+        if !is_comment(line) {
+            let before = tallies.differ();
+            compare_line(rt.alloc(), line, tallies)?;
+            if tallies.differ() != before {
+                println!(rt; "differs: {line}")?;
+            }
+        }
+    }
+    Ok(())
+}
+
+/// Prints what was compared.
+pub fn print(rt: &impl Print, what: &str, tally: Tally) -> Result<(), Error> {
+    println!(rt;
+        "{what}: {} answers compared, {} differ",
+        tally.compared, tally.differ
+    )?;
+    Ok(())
+}

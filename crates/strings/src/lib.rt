@@ -1,0 +1,26 @@
+//! Tests of strings over the library, with values from outside that are no lines of data: bit
+//! strings, octet strings and restricted character strings, as they are read and written. There is
+//! one module for each subject. [`latin_1`] is a character set of the tests' own.
+#![tactic(auto)]
+
+#[cfg(test)]
+mod asserts;
+#[cfg(test)]
+mod bits;
+#[cfg(test)]
+mod char_sets;
+#[cfg(test)]
+mod encodes;
+pub mod latin_1;
+#[cfg(test)]
+mod over;
+#[cfg(test)]
+mod restricted_strings;
+#[cfg(test)]
+mod string_octets;
+#[cfg(test)]
+mod string_sources;
+#[cfg(test)]
+mod strings;
+#[cfg(test)]
+mod written_strings;
