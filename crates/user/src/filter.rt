@@ -30,11 +30,11 @@ pub enum Filter {
 }
 
 impl Filter {
-    /// A filter. At most `depth` others stand around each that it holds.
+    /// A filter, which holds filters to this depth: one that may hold none to depth 0.
     ///
     /// # Errors
     ///
-    /// Where it isn't there, isn't one, or holds filters deeper than that.
+    /// Where none is there, or what is there isn't one or holds filters deeper than that.
     pub fn take_from<S: Source>(
         alloc: Global,
         depth: u8,
@@ -42,11 +42,17 @@ impl Filter {
     ) -> Result<Filter, DecodeError<S::Error>>
         ensures { Moved S.stream cons }
     {
-        let found = Filter::take_opt_from(alloc, depth, cons)?;
-        Filter::expect(found, cons)
+        match Filter::take_opt_from(alloc, depth, cons)? {
+            Some(filter) => Ok(filter),
+            None => Err(cons.content_err(ContentError::from_static("expected a filter"))),
+        }
     }
 
-    /// The next filter, if there is another.
+    /// The next filter, if there is another, which holds filters to this depth.
+    ///
+    /// # Errors
+    ///
+    /// Where what is there isn't one, or holds filters deeper than that.
     #[cycle(filter)]
     pub fn take_opt_from<S: Source>(
         alloc: Global,
@@ -61,10 +67,30 @@ impl Filter {
             {
                 match content {
                     Content::Primitive(octets) => Filter::take_name(alloc, tag, octets),
-                    Content::Constructed(cons) => Filter::take_parts(alloc, depth, tag, cons),
+                    Content::Constructed(cons) if tag == Tag::CTX_3 => {
+                        Filter::take_equal(alloc, cons)
+                    }
+                    Content::Constructed(cons) => {
+                        let within = Filter::enter(depth, cons)?;
+                        let inside = cons.collect_some(
+                            alloc,
+                            |cons|
+                                ensures { Moved S.stream cons }
+                            { Filter::take_opt_from(alloc, within, cons) },
+                        )?;
+                        Filter::of_filters(alloc, tag, inside, cons)
+                    }
                 }
             },
         )
+    }
+
+    /// The depth inside a filter that holds others.
+    fn enter<S: Source>(depth: u8, cons: &Constructed<'_, S>) -> Result<u8, DecodeError<S::Error>> {
+        match depth.checked_sub(1) {
+            Some(within) => Ok(within),
+            None => Err(cons.content_err(ContentError::from_static("filters nested too deep"))),
+        }
     }
 
     /// A primitive one: the name of an attribute that is there.
@@ -81,50 +107,25 @@ impl Filter {
         Ok(Filter::Present(octets.take_all(alloc)?))
     }
 
-    /// What is inside a constructed one.
-    #[cycle(filter)]
-    fn take_parts<S: Source>(
+    /// A filter of others, or of one other.
+    fn of_filters<S: Source>(
         alloc: Global,
-        depth: u8,
         tag: Tag,
-        cons: &mut Constructed<'_, S>,
-    ) -> Result<Filter, DecodeError<S::Error>>
-        ensures { Moved S.stream cons }
-    {
-        if tag == Tag::CTX_3 {
-            return Filter::take_equal(alloc, cons);
-        }
-        if depth == 0 {
-            return Err(cons.content_err(ContentError::from_static("filters nested too deep")));
-        }
-        let depth = depth - 1;
-        if tag == Tag::CTX_2 {
-            let inside = Filter::take_opt_from(alloc, depth, cons)?;
-            return Filter::not(alloc, Filter::expect(inside, cons)?);
-        }
-        let inside = cons.collect_some(
-            alloc,
-            |cons|
-                ensures { Moved S.stream cons }
-            { Filter::take_opt_from(alloc, depth, cons) },
-        )?;
-        if tag == Tag::CTX_0 {
-            Ok(Filter::And(inside))
-        } else if tag == Tag::CTX_1 {
-            Ok(Filter::Or(inside))
-        } else {
-            Err(cons.content_err(ContentError::from_static("unknown filter")))
-        }
-    }
-
-    /// One that has to be there.
-    fn expect<S: Source>(
-        found: Option<Filter>,
+        mut inside: Vec<Filter>,
         cons: &Constructed<'_, S>,
     ) -> Result<Filter, DecodeError<S::Error>> {
-        match found {
-            Some(filter) => Ok(filter),
-            None => Err(cons.content_err(ContentError::from_static("expected a filter"))),
+        if tag == Tag::CTX_0 {
+            return Ok(Filter::And(inside));
+        }
+        if tag == Tag::CTX_1 {
+            return Ok(Filter::Or(inside));
+        }
+        if tag != Tag::CTX_2 {
+            return Err(cons.content_err(ContentError::from_static("unknown filter")));
+        }
+        match inside.pop() {
+            Some(filter) if inside.is_empty() => Filter::not(alloc, filter),
+            _ => Err(cons.content_err(ContentError::from_static("expected one filter"))),
         }
     }
 
@@ -149,7 +150,7 @@ impl Filter {
     }
 }
 
-/// A filter at the front of octets.
+/// A filter at the front of octets in BER, which holds filters to this depth.
 pub fn decode_filter(
     alloc: Global,
     depth: u8,
