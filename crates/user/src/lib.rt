@@ -1,11 +1,12 @@
 //! Readers as users of the library write them: a certificate, a signed message, blocks of addresses,
-//! and small ones.
+//! filters that hold filters, and small ones.
 //!
 //! A function that takes from content has one clause, that it moves it: `Moved S.stream cons`. A
 //! closure has none, or that same one where it has more than two steps, a loop, or a choice by the
 //! form of content (`MovedContent S.stream content`). A loop is [`Constructed::while_some`], which
 //! asks for no more, and lists of SEQUENCEs share one (`lists`). [`count_all`] has a loop by
-//! `while let`, with an invariant and a measure in a file.
+//! `while let`, with an invariant and a measure in a file, and [`Filter`] a function that calls
+//! itself, with measures in one.
 #![tactic(auto, using(bcder::proofs::Moving::moves_refl))]
 
 ghost use Rattle.bcder.specs.Views.{Moved, MovedContent, MovedOctets};
@@ -13,6 +14,7 @@ ghost use Rattle.bcder.specs.Views.{Moved, MovedContent, MovedOctets};
 mod addresses;
 mod certificate;
 mod extensions;
+mod filter;
 mod lists;
 mod names;
 mod revoked;
@@ -23,6 +25,7 @@ use bcder::decode::{Constructed, Content, DecodeError, Primitive, Source};
 use bcder::{Captured, Tag};
 pub use certificate::{Certificate, Time, Validity, decode_certificate, decode_two};
 pub use extensions::{Basic, Extensions, decode_extensions};
+pub use filter::{Filter, decode_filter};
 pub use names::{Attribute, Name, Text};
 pub use revoked::{Entry, decode_entries, take_entries, take_reason};
 pub use signed::{Signed, decode_signed};
