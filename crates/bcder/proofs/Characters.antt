@@ -1,8 +1,9 @@
 -- What octets spell is told by the octets.
-use Rattle.std.proofs.Common.{◌≡◌, ◌≤◌, ℕ, zero, suc, List, [], ◌∷◌, ◌++◌, length, Option, Some, None, refl, ap, sym, ◌∙◌, arith, length-append, append-nil, subst, encode_utf8, encode_utf8_all, Bor}
+use Rattle.std.proofs.Common.{◌≡◌, ◌≤◌, ℕ, zero, suc, List, [], ◌∷◌, ◌++◌, length, ◌&&◌, true, Option, Some, None, refl, ap, sym, ◌∙◌, arith, length-append, append-nil, subst, encode_utf8, encode_utf8_all, Bor}
 use Rattle.std.specs.Prelude.{Result, Ok, Err, IfSome}
-use Rattle.std.proofs.lemmas.Str.{encodes-append, encodes-chars}
-use Rattle.std.specs.Str.{IsUtf8}
+use Rattle.std.proofs.lemmas.List.{nil_from_length}
+use Rattle.std.proofs.lemmas.Str.{encodes-append, encodes-chars, chars-nil, chars-encodes, chars_past_char}
+use Rattle.std.specs.Str.{IsUtf8, chars, all_scalars}
 use Rattle.std.specs.Iterator.{YieldsFirst, MakesProgress, item_count}
 use Rattle.bcder.specs.declared.string.restricted.char_set.CharSetError.{CharSetError}
 use Rattle.bcder.specs.CharSet.{Front, Step, IsStep, Spells, Accepts, NextChar}
@@ -86,6 +87,39 @@ module _ (step : Step) (lawful : IsStep step) where
 
   pub never_refused : (w r : List ℕ) (e : CharSetError) → NextChar step w (Err e) r → Accepts step w → ⊥
   never_refused w r e n a = n.0 (none_behind w n.1 a)
+
+  -- ---- octets behind a text, of which one is empty
+
+  are_scalars : (w cs : List ℕ) → Spells step w cs → all_scalars cs ≡ true
+  are_scalars w [] s = refl
+  are_scalars w (c ∷ cs) s =
+      let scalar = lawful.scalar w _ s.1 in
+      let scalars = are_scalars s.0 cs s.2 in
+      λ i. scalar i && scalars i
+
+  -- no text, and octets
+  pub spells_octets : (w t : List ℕ) → Accepts step w → t ≡ [] → Spells step w (chars t ++ characters step w)
+  spells_octets w t a e = subst (λ cs. Spells step w (cs ++ characters step w)) (sym (ap chars e ∙ chars-nil)) (spells_characters w a)
+
+  -- the text of octets, and none behind it
+  pub spells_text : (w t u : List ℕ) → Accepts step w → t ≡ encode_utf8_all (characters step w) → u ≡ [] → Spells step w (chars t ++ characters step u)
+  spells_text w t u a e none =
+      let own = ap chars e ∙ chars-encodes (characters step w) (are_scalars w (characters step w) (spells_characters w a)) in
+      let all = ap (λ cs. cs ++ characters step u) own ∙ ap (λ cs. characters step w ++ cs) (characters_spelled u [] none) ∙ append-nil (characters step w) in
+      subst (Spells step w) (sym all) (spells_characters w a)
+
+  pub is_utf8 : (w t : List ℕ) → Accepts step w → t ≡ encode_utf8_all (characters step w) → IsUtf8 t
+  is_utf8 w t a e = (characters step w, (are_scalars w (characters step w) (spells_characters w a), sym e))
+
+-- a text's next character
+pub yields_text : (t u more : List ℕ) (c : ℕ) → IsUtf8 t → t ≡ encode_utf8 c ++ u → YieldsFirst (λ (cs : List ℕ). cs) (chars t ++ more) (Some c) (chars u ++ more)
+yields_text t u more c is e = ap (λ cs. cs ++ more) (chars_past_char t u c is e)
+
+-- what comes behind a text that has ended
+pub yields_behind : (t v w : List ℕ) (o : Option ℕ) → length t ≡ 0 → YieldsFirst (λ (cs : List ℕ). cs) v o w → YieldsFirst (λ (cs : List ℕ). cs) (chars t ++ v) o (chars t ++ w)
+yields_behind t v w o e y =
+    let none : chars t ≡ [] = ap chars (nil_from_length t e) ∙ chars-nil in
+    subst (λ cs. YieldsFirst (λ (cs : List ℕ). cs) (cs ++ v) o (cs ++ w)) (sym none) y
 
 -- ---- octets that are text as they stand
 

@@ -13,7 +13,10 @@ use std::marker::{Model, PhantomData};
 /// The characters of a restricted string, in their order.
 #[derive(Debug, Drop)]
 pub struct RestrictedStringChars<'a, L: CharSet> {
-    /// What is left of the string.
+    /// What is left of a string that is at hand as a text.
+    text: &'a str,
+
+    /// What is left of any other.
     octets: OctetStringOctets<'a>,
 
     set: PhantomData<L>,
@@ -21,15 +24,16 @@ pub struct RestrictedStringChars<'a, L: CharSet> {
 
 /// The clauses see the characters that are still to come.
 impl<'a, L: CharSet> Model for RestrictedStringChars<'a, L> {
-    ghost use Rattle.std.specs.Prelude.{ℕ, List};
+    ghost use Rattle.std.specs.Prelude.{ℕ, List, ◌++◌};
+    ghost use Rattle.std.specs.Str.{IsUtf8, chars};
     ghost use Rattle.bcder.specs.CharSet.{Accepts};
     ghost use Rattle.bcder.specs.Characters.{characters};
 
     ghost Value = { List ℕ };
 
-    ghost view = { λ i. characters L.step i.octets };
+    ghost view = { λ i. chars i.text.now ++ characters L.step i.octets };
 
-    ghost invariant = { λ i. Accepts L.step i.octets };
+    ghost invariant = { λ i. IsUtf8 i.text.now × Accepts L.step i.octets };
 }
 
 impl<L: CharSet> RestrictedString<L> {
@@ -38,8 +42,14 @@ impl<L: CharSet> RestrictedString<L> {
     pub fn chars(&self) -> RestrictedStringChars<'_, L>
         ensures { Spells L.step (octets_of self.now) result }
     {
+        let octets = self.octets.octets();
+        let (text, octets) = match L::as_text(&octets) {
+            Some(text) => (text, OctetStringOctets::new(&[])),
+            None => ("", octets),
+        };
         RestrictedStringChars {
-            octets: self.octets.octets(),
+            text,
+            octets,
             set: PhantomData,
         }
     }
@@ -51,6 +61,7 @@ impl<L: CharSet> Clone for RestrictedStringChars<'_, L> {
 
     fn clone(&self) -> Result<Self, AllocError> {
         Ok(RestrictedStringChars {
+            text: self.text,
             octets: self.octets.clone()?,
             set: PhantomData,
         })
@@ -68,6 +79,11 @@ impl<L: CharSet> Iterator for RestrictedStringChars<'_, L> {
 
     #[inline(always)]
     fn next(&mut self) -> Option<char> {
+        let mut chars = self.text.chars();
+        if let Some(next) = chars.next() {
+            self.text = chars.as_str();
+            return Some(next);
+        }
         match L::next_char(&mut self.octets) {
             Ok(next) => next,
             Err(_) => None,
