@@ -6,7 +6,7 @@ use bcder::string::{
     CharSet, Ia5CharSet, NumericCharSet, PrintableCharSet, RestrictedString, StringError,
     TextCharSet,
 };
-use bcder::{ConstOid, Mode, NoMemory, Oid, Tag};
+use bcder::{Mode, NoMemory, Oid, Tag};
 use std::alloc::Global;
 
 /// How many octets are shown in hexadecimal.
@@ -97,11 +97,9 @@ pub(crate) fn add_note(
         }
     }
     if tag == Tag::OID {
-        if let Ok(oid) = Primitive::decode_slice(
-            octets,
-            mode,
-            |octets| Oid::from_primitive(alloc, octets),
-        ) {
+        // The octets are shown where they stand, so that want of memory can't pass for a refusal.
+        if Primitive::decode_slice(octets, mode, |octets| Oid::skip_primitive(octets)).is_ok() {
+            let oid = Oid(octets);
             write!(text, " :{oid}")?;
             return Ok(());
         }
