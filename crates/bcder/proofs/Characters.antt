@@ -1,6 +1,6 @@
 -- What octets spell is told by the octets.
 use Rattle.std.proofs.Common.{◌≡◌, ◌≤◌, ℕ, zero, suc, List, [], ◌∷◌, ◌++◌, length, ◌&&◌, true, Option, Some, None, refl, ap, sym, ◌∙◌, arith, length-append, append-nil, subst, encode_utf8, encode_utf8_all, Bor}
-use Rattle.std.specs.Prelude.{Result, Ok, Err, IfSome}
+use Rattle.std.specs.Prelude.{Result, Ok, Err, IfSome, MatchOption}
 use Rattle.std.proofs.lemmas.List.{nil_from_length}
 use Rattle.std.proofs.lemmas.Str.{encodes-append, encodes-chars, chars-nil, chars-encodes, chars_past_char}
 use Rattle.std.specs.Str.{IsUtf8, chars, all_scalars}
@@ -8,7 +8,7 @@ use Rattle.std.specs.Iterator.{YieldsFirst, MakesProgress, item_count}
 use Rattle.bcder.specs.declared.string.restricted.char_set.CharSetError.{CharSetError}
 use Rattle.bcder.specs.CharSet.{Front, Step, IsStep, Spells, Accepts, NextChar}
 use Rattle.bcder.specs.TextSets.{AreTexts}
-use Rattle.bcder.specs.Characters.{and_behind, characters_within, characters}
+use Rattle.bcder.specs.Characters.{and_behind, characters_within, characters, characters_left}
 
 some_front : (x y : Front) → ◌≡◌ {A = Option Front} (Some x) (Some y) → x ≡ y
 some_front x y e = cc
@@ -88,7 +88,7 @@ module _ (step : Step) (lawful : IsStep step) where
   pub never_refused : (w r : List ℕ) (e : CharSetError) → NextChar step w (Err e) r → Accepts step w → ⊥
   never_refused w r e n a = n.0 (none_behind w n.1 a)
 
-  -- ---- octets behind a text, of which one is empty
+  -- ---- of a text, or of octets
 
   are_scalars : (w cs : List ℕ) → Spells step w cs → all_scalars cs ≡ true
   are_scalars w [] s = refl
@@ -97,29 +97,32 @@ module _ (step : Step) (lawful : IsStep step) where
       let scalars = are_scalars s.0 cs s.2 in
       λ i. scalar i && scalars i
 
-  -- no text, and octets
-  pub spells_octets : (w t : List ℕ) → Accepts step w → t ≡ [] → Spells step w (chars t ++ characters step w)
-  spells_octets w t a e = subst (λ cs. Spells step w (cs ++ characters step w)) (sym (ap chars e ∙ chars-nil)) (spells_characters w a)
-
-  -- the text of octets, and none behind it
-  pub spells_text : (w t u : List ℕ) → Accepts step w → t ≡ encode_utf8_all (characters step w) → u ≡ [] → Spells step w (chars t ++ characters step u)
-  spells_text w t u a e none =
+  pub spells_left : (w : List ℕ) (text : Option (Bor (List ℕ))) → Accepts step w → IfSome text (λ t. t.now ≡ encode_utf8_all (characters step w)) → Spells step w (characters_left step text w)
+  spells_left w None a e = spells_characters w a
+  spells_left w (Some t) a e =
       let own = ap chars e ∙ chars-encodes (characters step w) (are_scalars w (characters step w) (spells_characters w a)) in
-      let all = ap (λ cs. cs ++ characters step u) own ∙ ap (λ cs. characters step w ++ cs) (characters_spelled u [] none) ∙ append-nil (characters step w) in
-      subst (Spells step w) (sym all) (spells_characters w a)
+      subst (Spells step w) (sym own) (spells_characters w a)
 
-  pub is_utf8 : (w t : List ℕ) → Accepts step w → t ≡ encode_utf8_all (characters step w) → IsUtf8 t
-  is_utf8 w t a e = (characters step w, (are_scalars w (characters step w) (spells_characters w a), sym e))
+-- a text's next character, or its end
+yields_chars : {C : Type 0} (rest : C → List ℕ) (s t : C) (o : Option ℕ) → IsUtf8 (rest s) → MatchOption o ((length (rest s) ≡ 0) × (t ≡ s)) (λ c. rest s ≡ encode_utf8 c ++ rest t) → YieldsFirst (λ (cs : List ℕ). cs) (chars (rest s)) o (chars (rest t))
+yields_chars rest s t (Some c) is e = chars_past_char (rest s) (rest t) c is e
+yields_chars rest s t None is e =
+    let none : chars (rest s) ≡ [] = ap chars (nil_from_length (rest s) e.0) ∙ chars-nil in
+    (none, ap (λ x. chars (rest x)) e.1 ∙ none)
 
--- a text's next character
-pub yields_text : (t u more : List ℕ) (c : ℕ) → IsUtf8 t → t ≡ encode_utf8 c ++ u → YieldsFirst (λ (cs : List ℕ). cs) (chars t ++ more) (Some c) (chars u ++ more)
-yields_text t u more c is e = ap (λ cs. cs ++ more) (chars_past_char t u c is e)
+module _ (step : Step) where
+  -- of a text that is at hand
+  pub yields_text : {C : Type 0} (rest : C → List ℕ) (s t : C) (text : Option (Bor (List ℕ))) (b : Bor (List ℕ)) (v w u : List ℕ) (o : Option ℕ) → ◌≡◌ {A = Option (Bor (List ℕ))} text (Some b) → IfSome text (λ x. IsUtf8 x.now) → characters_left step text w ≡ v → rest s ≡ b.now → u ≡ rest t → MatchOption o ((length (rest s) ≡ 0) × (t ≡ s)) (λ c. rest s ≡ encode_utf8 c ++ rest t) → YieldsFirst (λ (cs : List ℕ). cs) v o (chars u)
+  yields_text rest s t text b v w u o some is left begins ends e =
+      let utf8 : IsUtf8 b.now = subst (λ (x : Option (Bor (List ℕ))). IfSome x (λ y. IsUtf8 y.now)) some is in
+      let all : chars (rest s) ≡ v = ap chars begins ∙ ap (λ (x : Option (Bor (List ℕ))). characters_left step x w) (sym some) ∙ left in
+      let y = yields_chars rest s t o (subst IsUtf8 (sym begins) utf8) e in
+      subst (λ cs. YieldsFirst (λ (cs : List ℕ). cs) cs o (chars u)) all (subst (λ x. YieldsFirst (λ (cs : List ℕ). cs) (chars (rest s)) o (chars x)) (sym ends) y)
 
--- what comes behind a text that has ended
-pub yields_behind : (t v w : List ℕ) (o : Option ℕ) → length t ≡ 0 → YieldsFirst (λ (cs : List ℕ). cs) v o w → YieldsFirst (λ (cs : List ℕ). cs) (chars t ++ v) o (chars t ++ w)
-yields_behind t v w o e y =
-    let none : chars t ≡ [] = ap chars (nil_from_length t e) ∙ chars-nil in
-    subst (λ cs. YieldsFirst (λ (cs : List ℕ). cs) (cs ++ v) o (cs ++ w)) (sym none) y
+  -- of octets
+  pub yields_octets : (text : Option (Bor (List ℕ))) (v w r : List ℕ) (o : Option ℕ) → ◌≡◌ {A = Option (Bor (List ℕ))} text None → characters_left step text w ≡ v → YieldsFirst (λ (cs : List ℕ). cs) (characters step w) o (characters step r) → YieldsFirst (λ (cs : List ℕ). cs) v o (characters_left step text r)
+  yields_octets None v w r o none left y = subst (λ cs. YieldsFirst (λ (cs : List ℕ). cs) cs o (characters step r)) left y
+  yields_octets (Some t) v w r o none left y = (let x : ◌≡◌ {A = Option (Bor (List ℕ))} (Some t) None = none in cc)
 
 -- ---- octets that are text as they stand
 

@@ -5,9 +5,9 @@ use Rattle.std.proofs.Math.ListN.{take-append-drop}
 use Rattle.std.proofs.lemmas.Bool.{cond-true, cond-false}
 use Rattle.std.proofs.lemmas.Bool.Decides.{nat_tests}
 use Rattle.std.proofs.lemmas.List.{length-append}
-use Rattle.std.proofs.lemmas.Str.{IsUtf8-append, IsUtf8-drop, IsCharBoundary-from_take, scalars-chars, encodes-chars}
+use Rattle.std.proofs.lemmas.Str.{IsUtf8-append, IsUtf8-drop, IsUtf8-from_ascii, IsCharBoundary-from_take, scalars-chars, encodes-chars}
 use Rattle.std.specs.Int.{is_in_range}
-use Rattle.std.specs.Str.{IsUtf8, chars}
+use Rattle.std.specs.Str.{IsAscii, IsUtf8, chars}
 use Rattle.bcder.specs.declared.string.restricted.char_set.CharSetError.{CharSetError}
 use Rattle.bcder.specs.CharSet.{Front, Spells, Accepts, NextChar}
 use Rattle.bcder.specs.Utf8.{Lead, lead, six_more, read_tails, read_behind, read_led, utf8_step}
@@ -87,6 +87,9 @@ not_text w h a = h ((utf8_accepts w).0 a)
 
 pub a_text : (w : List ℕ) → IsUtf8 w → Accepts utf8_step w
 a_text w = (utf8_accepts w).1
+
+pub ascii_text : (w : List ℕ) → IsAscii w → IsUtf8 w
+ascii_text w = IsUtf8-from_ascii w
 
 -- behind a text, the rest is one where all is
 behind_text : (v w : List ℕ) → IsUtf8 v → IsUtf8 (v ++ w) → IsUtf8 w

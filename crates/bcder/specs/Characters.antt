@@ -1,5 +1,7 @@
 -- The characters that octets spell (ITU-T X.690, 8.23).
 use Rattle.std.specs.Prelude.{ℕ, zero, suc, List, [], ◌∷◌, length, Option, Some, None}
+use Rattle.std.specs.Borrow.{Bor}
+use Rattle.std.specs.Str.{chars}
 use Rattle.bcder.specs.CharSet.{Front, Step}
 
 -- a character, and those of the octets behind it
@@ -16,3 +18,8 @@ module _ (step : Step) where
   -- each takes at least one octet
   unfoldable pub characters : List ℕ → List ℕ
   characters w = characters_within (length w) w
+
+  -- those that are still to come: of a text, where one is at hand, or what octets spell
+  abbrev pub characters_left : Option (Bor (List ℕ)) → List ℕ → List ℕ
+  characters_left (Some text) w = chars text.now
+  characters_left None w = characters w

@@ -14,7 +14,7 @@ use std::marker::{Model, PhantomData};
 #[derive(Debug, Drop)]
 pub struct RestrictedStringChars<'a, L: CharSet> {
     /// What is left of a string that is at hand as a text.
-    text: &'a str,
+    text: Option<&'a str>,
 
     /// What is left of any other.
     octets: OctetStringOctets<'a>,
@@ -24,16 +24,16 @@ pub struct RestrictedStringChars<'a, L: CharSet> {
 
 /// The clauses see the characters that are still to come.
 impl<'a, L: CharSet> Model for RestrictedStringChars<'a, L> {
-    ghost use Rattle.std.specs.Prelude.{ℕ, List, ◌++◌};
-    ghost use Rattle.std.specs.Str.{IsUtf8, chars};
+    ghost use Rattle.std.specs.Prelude.{ℕ, List, IfSome};
+    ghost use Rattle.std.specs.Str.{IsUtf8};
     ghost use Rattle.bcder.specs.CharSet.{Accepts};
-    ghost use Rattle.bcder.specs.Characters.{characters};
+    ghost use Rattle.bcder.specs.Characters.{characters_left};
 
     ghost Value = { List ℕ };
 
-    ghost view = { λ i. chars i.text.now ++ characters L.step i.octets };
+    ghost view = { λ i. characters_left L.step i.text i.octets };
 
-    ghost invariant = { λ i. IsUtf8 i.text.now × Accepts L.step i.octets };
+    ghost invariant = { λ i. IfSome i.text (λ t. IsUtf8 t.now) × Accepts L.step i.octets };
 }
 
 impl<L: CharSet> RestrictedString<L> {
@@ -43,12 +43,8 @@ impl<L: CharSet> RestrictedString<L> {
         ensures { Spells L.step (octets_of self.now) result }
     {
         let octets = self.octets.octets();
-        let (text, octets) = match L::as_text(&octets) {
-            Some(text) => (text, OctetStringOctets::new(&[])),
-            None => ("", octets),
-        };
         RestrictedStringChars {
-            text,
+            text: L::as_text(&octets),
             octets,
             set: PhantomData,
         }
@@ -79,14 +75,17 @@ impl<L: CharSet> Iterator for RestrictedStringChars<'_, L> {
 
     #[inline(always)]
     fn next(&mut self) -> Option<char> {
-        let mut chars = self.text.chars();
-        if let Some(next) = chars.next() {
-            self.text = chars.as_str();
-            return Some(next);
-        }
-        match L::next_char(&mut self.octets) {
-            Ok(next) => next,
-            Err(_) => None,
+        match self.text {
+            Some(text) => {
+                let mut chars = text.chars();
+                let next = chars.next();
+                self.text = Some(chars.as_str());
+                next
+            }
+            None => match L::next_char(&mut self.octets) {
+                Ok(next) => next,
+                Err(_) => None,
+            },
         }
     }
 }

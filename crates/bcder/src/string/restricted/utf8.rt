@@ -1,5 +1,5 @@
 //! UTF-8 (RFC 3629).
-ghost use Rattle.std.specs.Prelude.{◌≡◌, ◌+◌, ◌*◌, ◌<◌, ◌≤◌, None, Some, length, take, IfOk, IfSome, MatchOption, MatchResult};
+ghost use Rattle.std.specs.Prelude.{◌≡◌, ◌+◌, ◌*◌, ◌<◌, ◌≤◌, ◌↔◌, IsTrue, None, Some, length, take, IfOk, IfSome, MatchOption, MatchResult};
 ghost use Rattle.std.specs.Str.{IsUtf8};
 ghost use Rattle.bcder.specs.CharSet.{Checks};
 ghost use Rattle.bcder.specs.Utf8.{utf8_string_tag, utf8_step, lead, read_behind};
@@ -113,6 +113,27 @@ fn utf8_len(octets: &[u8]) -> usize
     }
 }
 
+/// Whether many octets are UTF-8. Of those that aren't ASCII, 64 are looked at in a step.
+#[tactic(auto, using(crate::proofs::Utf8::ascii_text))]
+#[inline(never)]
+fn is_long_text(octets: &[u8]) -> bool
+    ensures { IsTrue result ↔ IsUtf8 octets.now }
+{
+    octets.is_ascii() || simdutf8::is_utf8(octets)
+}
+
+/// Whether octets are UTF-8.
+#[inline(always)]
+fn is_text(octets: &[u8]) -> bool
+    ensures { IsTrue result ↔ IsUtf8 octets.now }
+{
+    if octets.len() < 64 {
+        str::from_utf8(octets).is_ok()
+    } else {
+        is_long_text(octets)
+    }
+}
+
 /// The characters of a UTF8String: those of Unicode (X.680, 41), in UTF-8 (RFC 3629).
 #[derive(Clone, Copy, Debug)]
 pub struct Utf8CharSet;
@@ -149,10 +170,13 @@ impl CharSet for Utf8CharSet {
 
     fn check(octets: OctetStringOctets<'_>) -> Result<(), CharSetError> {
         match octets.as_slice() {
-            Some(octets) => match str::from_utf8(octets) {
-                Ok(_) => Ok(()),
-                Err(_) => Err(CharSetError),
-            },
+            Some(octets) => {
+                if is_text(octets) {
+                    Ok(())
+                } else {
+                    Err(CharSetError)
+                }
+            }
             None => check_parts(octets),
         }
     }

@@ -3,8 +3,9 @@ use Rattle.std.specs.Str.{IsUtf8}
 use Rattle.bcder.proofs.Utf8.{a_text, not_text}
 use Rattle.bcder.proofs.string.restricted.utf8.Utf8CharSetCharSet.check.Goals as goal
 
-pub returns-in-Ok : goal.returns-in-Ok
-returns-in-Ok c = a_text c.args.octets (subst IsUtf8 c.in-Some.ensures c.in-Ok.ensures.cases.1)
+pub returns-then-is_text : goal.returns-then-is_text
+returns-then-is_text c = a_text c.args.octets (subst IsUtf8 c.in-Some.ensures (c.is_text.ensures.0 c.if-is_text.true))
 
-pub returns-in-Err : goal.returns-in-Err
-returns-in-Err c = not_text c.args.octets (λ u. c.in-Err.ensures.cases.0 (subst IsUtf8 (sym c.in-Some.ensures) u))
+pub returns-else-is_text : goal.returns-else-is_text
+returns-else-is_text c =
+    not_text c.args.octets (λ u. let t = c.is_text.ensures.1 (subst IsUtf8 (sym c.in-Some.ensures) u) in let f = c.if-is_text.false in cc)
