@@ -1,6 +1,7 @@
 pub use Rattle.std.proofs.lemmas.Bool.Decides.{nat_tests}
 pub use Rattle.bcder.proofs.Moving.{moves_refl, moves_trans, moves}
 pub use Rattle.bcder.proofs.Names.{moves_constructed_name, moves_octets_name, moves_content_name}
+pub mod Lemmas
 pub mod Carrying
 mod rows
 pub mod Steps

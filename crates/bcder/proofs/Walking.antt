@@ -19,6 +19,7 @@ use Rattle.bcder.specs.Walking.{HasValue, NoValue, PassesValue, ClosesBefore, Ha
 use Rattle.bcder.specs.Walking as walking
 use Rattle.bcder.specs.laws.Complete.{one_encoding, two_octets, Same}
 use Rattle.bcder.specs.laws.Lists.{First}
+pub use Rattle.bcder.specs.laws.Moved.{moved_keeps_kind as moves_kind, moved_is_no_longer as moves_shorter}
 use Rattle.bcder.proofs.Moving.{moves_refl, moves_trans, open_not_ended, open_not_failed}
 use Rattle.bcder.proofs.Headers.{header_of, Shape, shape, is_primitive, is_definite, is_indefinite}
 use Rattle.bcder.proofs.Entering.{Within, header_not_at_end}
@@ -161,14 +162,6 @@ walks_value i j k n w m o g one = record {
 pub moves_faults : (c d : Reading) → Moves c d → c.stream.faults ≤ d.stream.faults
 unfolding Moves
 moves_faults c d m = m.faults
-
-pub moves_kind : (c d : Reading) → Moves c d → d.kind ≡ c.kind
-unfolding Moves
-moves_kind c d m = m.kind
-
-pub moves_shorter : (c d : Reading) → Moves c d → length d.stream.rest ≤ length c.stream.rest
-unfolding Moves
-moves_shorter c d m = omega (arith, ap length m.rest, length-append m.passed d.stream.rest)
 
 pub value_shorter : (c d : Reading) → PassesValue c d → length d.stream.rest + 2 ≤ length c.stream.rest
 value_shorter c d p = (let h : 2 ≤ length p.value = two_octets c.mode p.tree p.value p.has.encodes in omega (arith, ap length p.has.rest, length-append p.value d.stream.rest))

@@ -7,6 +7,7 @@ pub mod Sound
 pub mod Stands
 pub mod Octets
 pub mod Lists
+pub mod Moved
 pub mod Preorder
 pub mod Limits
 pub mod Integers

@@ -1,5 +1,5 @@
 //! Encodings that strings hold.
-#![tactic(auto, using(bcder::proofs::Moving::moves_refl, bcder::proofs::Carrying::carries))]
+#![tactic(auto, using(bcder::specs::laws::Moved::steps))]
 
 ghost use Rattle.std.specs.Prelude.{◌≡◌, ◌∷◌, ◌++◌, ℕ, List, IfOk, IfSome};
 ghost use Rattle.berdump.specs.Listing.{IsFront};

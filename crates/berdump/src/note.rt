@@ -1,5 +1,5 @@
 //! What the contents octets of a primitive value of a universal tag mean, as text.
-#![tactic(auto, using(bcder::proofs::Moving::moves_refl, bcder::proofs::Carrying::carries))]
+#![tactic(auto, using(bcder::specs::laws::Moved::steps))]
 
 use bcder::decode::{Primitive, SliceSource};
 use bcder::string::{

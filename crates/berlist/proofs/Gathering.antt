@@ -22,9 +22,8 @@ use Rattle.bcder.specs.Decoding as decoding
 use Rattle.bcder.specs.Stream.{Stream, Grew}
 use Rattle.bcder.specs.Views.{of_constructed}
 use Rattle.bcder.specs.Cause.{Cause, cause_of, of_memory}
-use Rattle.bcder.proofs.Moving.{open_not_ended}
-use Rattle.bcder.proofs.Entering.{Within}
-use Rattle.bcder.proofs.Walking.{values_before, values_before_trees, moves_kind, walks_refused, none_left, none_left_trees, walks_refl, walks_value}
+use Rattle.bcder.specs.laws.Moved.{moved_keeps_kind}
+use Rattle.bcder.proofs.Lemmas.{open_has_not_ended, IsWithinOwed, values_with_one_more, trees_with_one_more, refused_on_the_way, no_values_at_the_end, no_trees_at_the_end, walks_nothing, walks_one_more}
 use Rattle.berlist.specs.Lines.{line, lines}
 use Rattle.berlist.specs.Gather.{IsWant, ListsValue, ListsValues, RefusesNext, RefusesAll}
 use Rattle.berlist.specs.Answers.{IsNoList}
@@ -38,35 +37,35 @@ pub record GoesOn (c d : Reading) (mid : List ℕ) : Type 0 where
   pub more : (h : HasValues d) → (k : HasValues c) × (lines (preorders k.trees 0) ≡ mid ++ lines (preorders h.trees 0))
 
 pub begins : (c : Reading) (mid : List ℕ) → mid ≡ [] → GoesOn c c mid
-begins c mid e = record { walks = walks_refl c; more = λ h. (h, ap (λ w. w ++ lines (preorders h.trees 0)) (sym e)) }
+begins c mid e = record { walks = walks_nothing c; more = λ h. (h, ap (λ w. w ++ lines (preorders h.trees 0)) (sym e)) }
 
 lines_first : (t : Tree) (ts us : Trees) (mid : List ℕ) → us ≡ t ∷ₜ ts → mid ++ lines (preorders us 0) ≡ (mid ++ lines (preorder t 0)) ++ lines (preorders ts 0)
 lines_first t ts us mid e = ap (λ z. mid ++ lines (preorders z 0)) e ∙ ap (λ l. mid ++ l) (lines-list t ts 0) ∙ sym (append_assoc mid (lines (preorder t 0)) (lines (preorders ts 0)))
 
-pub goes_on : (i j k : Reading) (mid new : List ℕ) → Within j → GoesOn i j mid → Moves j k → k.mode ≡ j.mode → k.marked ≡ j.marked → ListsValue j mid new k → GoesOn i k new
+pub goes_on : (i j k : Reading) (mid new : List ℕ) → IsWithinOwed j → GoesOn i j mid → Moves j k → k.mode ≡ j.mode → k.marked ≡ j.marked → ListsValue j mid new k → GoesOn i k new
 unfolding Moves
 goes_on i j k mid new w g m o s v = record {
-  walks = walks_value i j k w g.walks m o s v.passes;
+  walks = walks_one_more i j k w g.walks m o s v.passes;
   more = λ h.
-      let b = values_before j k w v.passes m o h in
+      let b = values_with_one_more j k w v.passes m o h in
       let a = g.more b in
-      (a.0, a.1 ∙ lines_first v.passes.tree h.trees b.trees mid (values_before_trees j k w v.passes m o h) ∙ ap (λ z. z ++ lines (preorders h.trees 0)) (sym v.is));
+      (a.0, a.1 ∙ lines_first v.passes.tree h.trees b.trees mid (trees_with_one_more j k w v.passes m o h) ∙ ap (λ z. z ++ lines (preorders h.trees 0)) (sym v.is));
 }
 
 end_lines : (ts : Trees) (mid : List ℕ) → ts ≡ no_trees → mid ++ lines (preorders ts 0) ≡ mid
 end_lines ts mid e = ap (λ z. mid ++ lines (preorders z 0)) e ∙ append-nil mid
 
 pub ends_here : (i j k : Reading) (mid new : List ℕ) → new ≡ mid → i.kind ≢ Octets → GoesOn i j mid → EndsAt j k → i.state ≡ Open → ListsValues i new
-ends_here i j k mid new same o g (inl e) s = absurd (open_not_ended i.state s (g.walks.ended e))
+ends_here i j k mid new same o g (inl e) s = absurd (open_has_not_ended i.state s (g.walks.ended e))
 ends_here i j k mid new same o g (inr e) s =
-    let q : j.kind ≢ Octets = λ q. o (sym (moves_kind i j g.walks.moves) ∙ q) in
-    let h = none_left j k.stream.rest q e.1 in
+    let q : j.kind ≢ Octets = λ q. o (sym (moved_keeps_kind i j g.walks.moves) ∙ q) in
+    let h = no_values_at_the_end j k.stream.rest q e.1 in
     let a = g.more h in
-    record { values = a.0; is = same ∙ sym (a.1 ∙ end_lines h.trees mid (none_left_trees j k.stream.rest q e.1)) }
+    record { values = a.0; is = same ∙ sym (a.1 ∙ end_lines h.trees mid (no_trees_at_the_end j k.stream.rest q e.1)) }
 
 pub refused_here : {S : Type 0} (e : DecodeError S) (i j k : Reading) → i.kind ≢ Octets → Walks i j → RefusesNext j e k → RefusesAll i e k
 refused_here e i j k o w (inl m) = inl m
-refused_here e i j k o w (inr r) = inr (walks_refused cause_of e i j k o w r)
+refused_here e i j k o w (inr r) = inr (refused_on_the_way cause_of e i j k o w r)
 
 -- ---- the lines of headings
 

@@ -100,7 +100,7 @@ fn all_lines<S: Source>(
 }
 
 /// The lines of all values, if the octets are the encodings of values in the mode.
-#[tactic(auto, using(bcder::proofs::Moving::moves_refl))]
+#[tactic(auto, using(bcder::specs::laws::Moved::untouched_is_moved))]
 pub(crate) fn lines(alloc: Global, mode: Mode, octets: &[u8]) -> Result<Option<String>, NoMemory>
     ensures { IfOk result (IsListOf string_bytes mode octets.now) }
 {

@@ -1,5 +1,5 @@
 //! Refusals that a closure drops, at any depth.
-#![tactic(auto, using(bcder::proofs::Moving::moves_refl, bcder::proofs::Carrying::carries))]
+#![tactic(auto, using(bcder::specs::laws::Moved::steps))]
 
 ghost use Rattle.bcder.specs.Views.{Moved, MovedContent};
 

@@ -1,6 +1,6 @@
 //! Sources that fail: each request in turn, in each call on content that reads, alone and in calls
 //! around it.
-#![tactic(auto, using(bcder::proofs::Moving::moves_refl, bcder::proofs::Carrying::carries))]
+#![tactic(auto, using(bcder::specs::laws::Moved::steps))]
 
 mod trial;
 

@@ -3,7 +3,7 @@
 //!
 //! The last calls want more memory than any machine has. `edits/growths` runs this program with
 //! each allocation refused in turn.
-#![tactic(auto, using(bcder::proofs::Moving::moves_refl, bcder::proofs::Carrying::carries))]
+#![tactic(auto, using(bcder::specs::laws::Moved::steps))]
 
 mod bits;
 mod captured;

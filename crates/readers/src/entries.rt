@@ -1,6 +1,6 @@
 //! Tests that read and write entries of a revocation list, basic constraints, and single octets. What
 //! is expected is what openssl wrote, and what `openssl crl` shows of it.
-#![tactic(auto, using(bcder::proofs::Moving::moves_refl))]
+#![tactic(auto, using(bcder::specs::laws::Moved::untouched_is_moved))]
 
 ghost use Rattle.bcder.specs.Views.{Moved};
 

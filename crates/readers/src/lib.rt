@@ -148,7 +148,7 @@ fn reads_blocks_of_addresses(rt: HostRuntime) -> Result<(), Fail> {
 }
 
 /// Steps without an end, which take nothing, over the content of a SEQUENCE.
-#[tactic(auto, using(bcder::proofs::Moving::moves_refl))]
+#[tactic(auto, using(bcder::specs::laws::Moved::untouched_is_moved))]
 fn stay<S: Source>(cons: &mut Constructed<'_, S>) -> Result<(), DecodeError<S::Error>>
     ensures { Moved S.stream cons }
 {
@@ -156,7 +156,7 @@ fn stay<S: Source>(cons: &mut Constructed<'_, S>) -> Result<(), DecodeError<S::E
 }
 
 #[test]
-#[tactic(auto, using(bcder::proofs::Moving::moves_refl))]
+#[tactic(auto, using(bcder::specs::laws::Moved::untouched_is_moved))]
 fn a_step_that_takes_nothing_is_refused(rt: HostRuntime) -> Result<(), Fail> {
     let octets: &[u8] = &[0x30, 0x02, 0x05, 0x00];
     let found = Constructed::decode(SliceSource::new(octets), Mode::Ber, |cons| stay(cons));

@@ -104,7 +104,7 @@ fn other_basic_constraints_are_refused(rt: HostRuntime) {
 }
 
 /// An integer, one that isn't negative, and an identifier, inside a SEQUENCE.
-#[tactic(auto, using(bcder::proofs::Moving::moves_refl))]
+#[tactic(auto, using(bcder::specs::laws::Moved::untouched_is_moved))]
 fn take_three<S: Source>(
     alloc: Global,
     cons: &mut Constructed<'_, S>,
@@ -124,7 +124,7 @@ fn take_three<S: Source>(
 }
 
 #[test]
-#[tactic(auto, using(bcder::proofs::Moving::moves_refl))]
+#[tactic(auto, using(bcder::specs::laws::Moved::untouched_is_moved))]
 fn numbers_and_identifiers(rt: HostRuntime) -> Result<(), Fail> {
     let alloc = rt.alloc();
     let integer = Integer::from_i16(alloc, -129)?;
@@ -151,7 +151,7 @@ fn numbers_and_identifiers(rt: HostRuntime) -> Result<(), Fail> {
 }
 
 /// How many octets are lent, and how many are left then.
-#[tactic(auto, using(bcder::proofs::Moving::moves_refl))]
+#[tactic(auto, using(bcder::specs::laws::Moved::untouched_is_moved))]
 fn look_and_take<S: Source>(
     octets: &mut Primitive<'_, S>,
 ) -> Result<(usize, usize), DecodeError<S::Error>>
@@ -164,7 +164,7 @@ fn look_and_take<S: Source>(
 }
 
 #[test]
-#[tactic(auto, using(bcder::proofs::Moving::moves_refl))]
+#[tactic(auto, using(bcder::specs::laws::Moved::untouched_is_moved))]
 fn octets_are_lent_and_left(rt: HostRuntime) -> Result<(), Fail> {
     let octets: &[u8] = &[0x01, 0x02, 0x03];
     let found = Primitive::decode_slice(octets, Mode::Der, |octets| look_and_take(octets))?;

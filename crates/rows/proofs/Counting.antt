@@ -12,8 +12,7 @@ use Rattle.bcder.specs.Joined.{nothing, join, Then, NoValues, Joined}
 use Rattle.bcder.specs.Encoders.{WroteOf, Writes, WritesEncoding, SizeOfValues, RefusesBy}
 use Rattle.bcder.specs.laws.Octets.{AreOctets-nil}
 use Rattle.bcder.specs.laws.Meanings.{Exactly_lawful, primitive_lawful}
-use Rattle.bcder.proofs.Enclosing.{primitive_given}
-use Rattle.bcder.proofs.Writing.{wrote_what, follows_on, stops, same_octets}
+use Rattle.bcder.proofs.Lemmas.{primitive_means, wrote_what_is_meant, wrote_after, wrote_no_further, wrote_same}
 use Rattle.rows.specs.Counted.{zeros, NullMeans, NullsMean}
 
 -- ---- zeros
@@ -24,14 +23,14 @@ zeros_join n i h =
     replicate-append-replicate i (suc (n - (i + 1))) 0x00 ∙ ap zeros e
 
 zero_octet : {old new : Option (List ℕ)} {r : Result (Unit {0}) WriteError} → Writes (λ w. w) (Exactly (0x00 ∷ [])) ⊥ old new r → WroteOf ⊥ (0x00 ∷ []) old new r
-zero_octet w = wrote_what (Exactly (0x00 ∷ [])) (λ m n p q. p ∙ sym q) (λ l. l) ⊥ (0x00 ∷ []) _ _ _ refl w
+zero_octet w = wrote_what_is_meant (Exactly (0x00 ∷ [])) (λ m n p q. p ∙ sym q) (λ l. l) ⊥ (0x00 ∷ []) _ _ _ refl w
 
 -- after so many, one was not written
 pub zero_failed : {old mid new : Option (List ℕ)} {r : Result (Unit {0}) WriteError} {e : WriteError} (n i : ℕ) → i < n → Appends old mid (zeros i) → Writes (λ w. w) (Exactly (0x00 ∷ [])) ⊥ mid new r → r ≡ Err e → WroteOf ⊥ (zeros n) old new (Err e)
 zero_failed {old} {mid} {new} {r} {e} n i h s w is =
     let failed : WroteOf ⊥ (0x00 ∷ []) mid new (Err e) = subst (λ x. WroteOf ⊥ (0x00 ∷ []) mid new x) is (zero_octet w) in
     let before : WroteOf ⊥ (zeros i) old mid (Ok tt) = record { done = s } in
-    same_octets (zeros_join n i h) (follows_on before (stops (zeros (n - (i + 1))) failed))
+    wrote_same (zeros_join n i h) (wrote_after before (wrote_no_further (zeros (n - (i + 1))) failed))
 
 -- ---- nulls
 
@@ -50,7 +49,7 @@ null_one = (primitive_lawful null_tag Ber (Exactly_lawful [] AreOctets-nil)).one
 pub null_written : {old new : Option (List ℕ)} {r : Result (Unit {0}) WriteError} (t : Tag) → t ≡ null_tag → Writes octets_of (ValueMeans t (primitive_meaning t) (Exactly [])) ⊥ old new r → WritesEncoding NullMeans ⊥ old new r
 null_written {old} {new} {r} t is w = λ e m.
     let written : Writes octets_of NullMeans ⊥ old new r = subst (λ t. Writes octets_of (ValueMeans t (primitive_meaning t) (Exactly [])) ⊥ old new r) is w in
-    wrote_what NullMeans null_one.same octets_of ⊥ e old new r m written
+    wrote_what_is_meant NullMeans null_one.same octets_of ⊥ e old new r m written
 
 abbrev null : Encoded
 null = primitive_encoded null_tag []
@@ -68,7 +67,7 @@ nulls (suc n) = join null (nulls n)
 
 nulls_mean : (n : ℕ) → NullsMean n (Ok (nulls n))
 nulls_mean zero = refl
-nulls_mean (suc n) = (null, nulls n, primitive_given null_tag (Exactly []) [] refl (omega arith) null_is_value, nulls_mean n, refl)
+nulls_mean (suc n) = (null, nulls n, primitive_means null_tag (Exactly []) [] refl (omega arith) null_is_value, nulls_mean n, refl)
 
 nulls_size : (n : ℕ) → length (nulls n).octets ≡ n * 2
 nulls_size zero = refl

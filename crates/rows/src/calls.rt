@@ -1,6 +1,6 @@
 //! The calls on content that read, one list, and what they answer of octets: for tests of sources
 //! that fail and of memory that is refused.
-#![tactic(auto, using(bcder::proofs::Moving::moves_refl, bcder::proofs::Carrying::carries))]
+#![tactic(auto, using(bcder::specs::laws::Moved::steps))]
 
 mod answer;
 mod call;

@@ -1,5 +1,5 @@
 //! Captured values: what they are written as and where they are refused, and how they are built.
-#![tactic(auto, using(bcder::proofs::Moving::moves_refl))]
+#![tactic(auto, using(bcder::specs::laws::Moved::untouched_is_moved))]
 
 ghost use Rattle.bcder.specs.Views.{Moved};
 
@@ -13,7 +13,7 @@ use std::alloc::Global;
 use std::process::Abort;
 
 /// Captures all values.
-#[tactic(auto, using(bcder::proofs::Moving::moves_refl, bcder::proofs::Carrying::carries))]
+#[tactic(auto, using(bcder::specs::laws::Moved::steps))]
 fn all<S: Source>(
     cons: &mut Content<'_, S>,
     alloc: Global,
@@ -24,7 +24,7 @@ fn all<S: Source>(
 }
 
 /// Passes over a value, and captures the next.
-#[tactic(auto, using(bcder::proofs::Moving::moves_refl, bcder::proofs::Carrying::carries))]
+#[tactic(auto, using(bcder::specs::laws::Moved::steps))]
 fn second<S: Source>(
     cons: &mut Content<'_, S>,
     alloc: Global,
@@ -36,7 +36,7 @@ fn second<S: Source>(
 }
 
 /// Passes over a value in BER.
-#[tactic(auto, using(bcder::proofs::Moving::moves_refl, bcder::proofs::Carrying::carries))]
+#[tactic(auto, using(bcder::specs::laws::Moved::steps))]
 fn pass_in_ber<S: Source>(
     cons: &mut Content<'_, S>,
     alloc: Global,
@@ -49,7 +49,7 @@ fn pass_in_ber<S: Source>(
 }
 
 /// Captures what is passed over in BER.
-#[tactic(auto, using(bcder::proofs::Moving::moves_refl, bcder::proofs::Carrying::carries))]
+#[tactic(auto, using(bcder::specs::laws::Moved::steps))]
 fn passed_in_ber<S: Source>(
     cons: &mut Content<'_, S>,
     alloc: Global,

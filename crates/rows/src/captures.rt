@@ -1,5 +1,5 @@
 //! Captures, and captured values, beside the typed readers.
-#![tactic(auto, using(bcder::proofs::Moving::moves_refl, bcder::proofs::Carrying::carries))]
+#![tactic(auto, using(bcder::specs::laws::Moved::steps))]
 
 ghost use Rattle.bcder.specs.Views.{Moved};
 

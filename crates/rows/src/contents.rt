@@ -1,5 +1,5 @@
 //! Content: what it says of itself, why it refuses, and what stands after its source failed.
-#![tactic(auto, using(bcder::proofs::Moving::moves_refl))]
+#![tactic(auto, using(bcder::specs::laws::Moved::untouched_is_moved))]
 
 ghost use Rattle.bcder.specs.Views.{Moved, MovedContent, MovedOctets};
 
@@ -31,7 +31,7 @@ fn pass_one<S: Source>(values: &mut Constructed<'_, S>) -> Result<(), DecodeErro
 }
 
 /// Three octets are owed, and none once they are passed. Other rules hold from when they are set.
-#[tactic(auto, using(bcder::proofs::Moving::moves_refl, bcder::proofs::Carrying::carries))]
+#[tactic(auto, using(bcder::specs::laws::Moved::steps))]
 fn check_octets<S: Source>(
     rt: &impl Abort,
     octets: &mut Primitive<'_, S>,
@@ -49,7 +49,7 @@ fn check_octets<S: Source>(
 }
 
 /// Other rules hold from when they are set.
-#[tactic(auto, using(bcder::proofs::Moving::moves_refl, bcder::proofs::Carrying::carries))]
+#[tactic(auto, using(bcder::specs::laws::Moved::steps))]
 fn check_values<S: Source>(
     rt: &impl Abort,
     values: &mut Constructed<'_, S>,
@@ -118,7 +118,7 @@ fn content_tells_of_itself(rt: HostRuntime) {
 }
 
 /// Takes a value, and drops the error of a source that failed: then no other one is taken.
-#[tactic(auto, using(bcder::proofs::Moving::moves_refl, bcder::proofs::Carrying::carries))]
+#[tactic(auto, using(bcder::specs::laws::Moved::steps))]
 fn take_failing<S: Source>(rt: &impl Abort, cons: &mut Constructed<'_, S>)
     ensures { Moved S.stream cons }
 {
@@ -133,7 +133,7 @@ fn take_failing<S: Source>(rt: &impl Abort, cons: &mut Constructed<'_, S>)
 }
 
 /// The same of a value in a sequence, which then is refused.
-#[tactic(auto, using(bcder::proofs::Moving::moves_refl, bcder::proofs::Carrying::carries))]
+#[tactic(auto, using(bcder::specs::laws::Moved::steps))]
 fn enter_failing<S: Source>(rt: &impl Abort, cons: &mut Constructed<'_, S>)
     ensures { Moved S.stream cons }
 {

@@ -94,7 +94,7 @@ fn no_octets(rt: HostRuntime) {
     are_two(&rt, sip(&rt, rt.alloc(), &[]), Mode::Ber, false);
 }
 
-#[tactic(auto, using(bcder::proofs::Moving::moves_refl))]
+#[tactic(auto, using(bcder::specs::laws::Moved::untouched_is_moved))]
 #[test]
 fn owned_sources(rt: HostRuntime) {
     are_two(&rt, SliceSource::new(TWO), Mode::Der, true);
@@ -118,7 +118,7 @@ fn a_failed_source(rt: HostRuntime) {
     holds(&rt, done(&rt, two_empty(&mut source, Mode::Der)));
 }
 
-#[tactic(auto, using(bcder::proofs::Moving::moves_refl))]
+#[tactic(auto, using(bcder::specs::laws::Moved::untouched_is_moved))]
 #[test]
 fn the_closure_refuses(rt: HostRuntime) {
     let mut source = SliceSource::new(TWO);

@@ -6,7 +6,7 @@ use bcder::Mode;
 use bcder::decode::{Constructed, DecodeError, Source};
 
 /// Takes the next value, which has to be empty, and says whether there was one.
-#[tactic(auto, using(bcder::proofs::Moving::moves_refl, bcder::proofs::Carrying::carries))]
+#[tactic(auto, using(bcder::specs::laws::Moved::steps))]
 pub fn take_empty<S: Source>(cons: &mut Constructed<'_, S>) -> Result<bool, DecodeError<S::Error>>
     ensures moves { Moved S.stream cons }
 {
@@ -14,7 +14,7 @@ pub fn take_empty<S: Source>(cons: &mut Constructed<'_, S>) -> Result<bool, Deco
 }
 
 /// Takes two empty values, where there are two, and goes on with the source that they stood in.
-#[tactic(auto, using(bcder::proofs::Moving::moves_refl))]
+#[tactic(auto, using(bcder::specs::laws::Moved::untouched_is_moved))]
 pub fn two_empty<S: Source>(source: &mut S, mode: Mode) -> Result<bool, DecodeError<S::Error>>
     ensures passed { (passed : List ℕ)
         × ((S.stream source.old).rest ≡ passed ++ (S.stream source.new).rest) }
@@ -25,7 +25,7 @@ pub fn two_empty<S: Source>(source: &mut S, mode: Mode) -> Result<bool, DecodeEr
 }
 
 /// The same of a source that is handed over.
-#[tactic(auto, using(bcder::proofs::Moving::moves_refl))]
+#[tactic(auto, using(bcder::specs::laws::Moved::untouched_is_moved))]
 pub fn two_empty_of<S: Source + Drop>(
     source: S,
     mode: Mode,
@@ -34,7 +34,7 @@ pub fn two_empty_of<S: Source + Drop>(
 }
 
 /// Takes the next value, which has to be empty, and drops the refusal of one that isn't.
-#[tactic(auto, using(bcder::proofs::Moving::moves_refl))]
+#[tactic(auto, using(bcder::specs::laws::Moved::untouched_is_moved))]
 pub fn drop_refusal<S: Source>(source: &mut S, mode: Mode) -> Result<(), DecodeError<S::Error>>
     ensures passed { (passed : List ℕ)
         × ((S.stream source.old).rest ≡ passed ++ (S.stream source.new).rest) }

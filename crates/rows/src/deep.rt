@@ -1,5 +1,5 @@
 //! Values in values, deeper than calls may be in calls: skipping takes no level of calls for one.
-#![tactic(auto, using(bcder::proofs::Moving::moves_refl))]
+#![tactic(auto, using(bcder::specs::laws::Moved::untouched_is_moved))]
 
 ghost use Rattle.bcder.specs.Views.{Moved};
 

@@ -1,5 +1,5 @@
 //! Integers, booleans and null: worked values.
-#![tactic(auto, using(bcder::proofs::Moving::moves_refl, bcder::proofs::Carrying::carries))]
+#![tactic(auto, using(bcder::specs::laws::Moved::steps))]
 
 ghost use Rattle.bcder.specs.Views.{Moved, MovedOctets};
 

@@ -1,6 +1,6 @@
 //! Contents octets one by one: within a value, at its end and beyond, where fewer come than are owed,
 //! and from a source that fails.
-#![tactic(auto, using(bcder::proofs::Moving::moves_refl, bcder::proofs::Carrying::carries))]
+#![tactic(auto, using(bcder::specs::laws::Moved::steps))]
 
 ghost use Rattle.bcder.specs.Views.{MovedOctets};
 

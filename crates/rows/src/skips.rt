@@ -1,5 +1,5 @@
 //! Skipping: the calls that a closure gets, and how the skip ends.
-#![tactic(auto, using(bcder::proofs::Moving::moves_refl))]
+#![tactic(auto, using(bcder::specs::laws::Moved::untouched_is_moved))]
 
 ghost use Rattle.bcder.specs.Views.{Moved};
 

@@ -2,7 +2,7 @@
 //! sources, and compares the answers, what is left and the headings with one another. Then it makes
 //! structures, has the encoders write them, and reads them back. What differs is printed in
 //! hexadecimal, and the status is then 1.
-#![tactic(auto, using(bcder::proofs::Moving::moves_refl))]
+#![tactic(auto, using(bcder::specs::laws::Moved::untouched_is_moved))]
 
 mod headings;
 mod made;

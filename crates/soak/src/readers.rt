@@ -49,7 +49,7 @@ impl Found<'_> {
 }
 
 /// Skips the next value, and answers whether it has the headings that were found.
-#[tactic(auto, using(bcder::proofs::Moving::moves_refl, bcder::proofs::Carrying::carries))]
+#[tactic(auto, using(bcder::specs::laws::Moved::steps))]
 fn skips<S: Source>(
     cons: &mut Constructed<'_, S>,
     alloc: Global,
@@ -74,7 +74,7 @@ fn skips<S: Source>(
 }
 
 /// Takes the next value, with all that is inside.
-#[tactic(auto, using(bcder::proofs::Moving::moves_refl, bcder::proofs::Carrying::carries))]
+#[tactic(auto, using(bcder::specs::laws::Moved::steps))]
 fn takes<S: Source>(
     cons: &mut Constructed<'_, S>,
     alloc: Global,
@@ -89,7 +89,7 @@ fn takes<S: Source>(
 }
 
 /// Whether a value was passed over as it was found. The refusal of a capture is dropped.
-#[tactic(auto, using(bcder::proofs::Moving::moves_refl, bcder::proofs::Carrying::carries))]
+#[tactic(auto, using(bcder::specs::laws::Moved::steps))]
 fn passes<S: Source>(
     cons: &mut Constructed<'_, S>,
     alloc: Global,

@@ -173,7 +173,7 @@ fn takes<S: Source>(
 }
 
 /// Takes a constructed value out of values, and answers what stands inside.
-#[tactic(auto, using(bcder::proofs::Moving::moves_refl, bcder::proofs::Carrying::carries))]
+#[tactic(auto, using(bcder::specs::laws::Moved::steps))]
 fn open(alloc: Global, values: &mut Captured, kind: Kind) -> Option<Captured> {
     let taken = values.decode_partial(|cons| {
         cons.take_constructed_if(kind.tag(), |inside| inside.capture_all(alloc))
@@ -182,7 +182,7 @@ fn open(alloc: Global, values: &mut Captured, kind: Kind) -> Option<Captured> {
 }
 
 /// Takes the next value, and answers whether it is a part.
-#[tactic(auto, using(bcder::proofs::Moving::moves_refl, bcder::proofs::Carrying::carries))]
+#[tactic(auto, using(bcder::specs::laws::Moved::steps))]
 fn is_next(alloc: Global, values: &mut Captured, part: &Part) -> bool {
     let taken = values.decode_partial(|cons| takes(cons, alloc, part));
     taken.is_ok_and(|same| same)

@@ -14,7 +14,7 @@ use std::alloc::Global;
 use std::process::Abort;
 
 /// The string of a set in front of a source, if there is one.
-#[tactic(auto, using(bcder::proofs::Moving::moves_refl, bcder::proofs::Carrying::carries))]
+#[tactic(auto, using(bcder::specs::laws::Moved::steps))]
 fn read<L: CharSet, S: Source>(
     alloc: Global,
     mode: Mode,

@@ -143,7 +143,7 @@ fn no_hasher_is_called_for_each_octet(rt: HostRuntime) {
 // ---- strings that were cut
 
 /// A string as it is read in BER.
-#[tactic(auto, using(bcder::proofs::Moving::moves_refl, bcder::proofs::Carrying::carries))]
+#[tactic(auto, using(bcder::specs::laws::Moved::steps))]
 pub(crate) fn read(rt: &impl Abort, alloc: Global, encoding: &[u8]) -> OctetString {
     let mut source = SliceSource::new(encoding);
     let read = Mode::Ber.decode_lent(&mut source, |cons| OctetString::take_from(alloc, cons));

@@ -86,7 +86,7 @@ fn a_segment_is_lent(rt: HostRuntime) {
 }
 
 /// The number that the octets of a string are.
-#[tactic(auto, using(bcder::proofs::Moving::moves_refl, bcder::proofs::Carrying::carries))]
+#[tactic(auto, using(bcder::specs::laws::Moved::steps))]
 fn number_in(rt: &impl Abort, mode: Mode, string: OctetString) -> u8 {
     let read = mode.decode(string, |cons| cons.take_u8());
     done(rt, read)

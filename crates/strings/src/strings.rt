@@ -1,6 +1,6 @@
 //! Octet strings that are read: how long their segments may be, how deep they may be nested, and
 //! what stands where none is read. What a row of octets holds is data, in `vectors`.
-#![tactic(auto, using(bcder::proofs::Moving::moves_refl, bcder::proofs::Carrying::carries))]
+#![tactic(auto, using(bcder::specs::laws::Moved::steps))]
 
 ghost use Rattle.bcder.specs.Views.{Moved};
 

@@ -1,6 +1,6 @@
 //! What is written of octet strings: in segments, in one piece, as they came, and of values that
 //! are wrapped into one (X.690, 8.7, 9.2, 10.2).
-#![tactic(auto, using(bcder::proofs::Moving::moves_refl, bcder::proofs::Carrying::carries))]
+#![tactic(auto, using(bcder::specs::laws::Moved::steps))]
 
 ghost use Rattle.std.specs.Prelude.{◌<◌};
 

@@ -1,6 +1,6 @@
 //! Search filters of LDAP (RFC 4511, section 4.5.1.7): values that hold values of their own kind,
 //! to a depth that the caller allows.
-#![tactic(auto, using(bcder::proofs::Moving::moves_refl, bcder::proofs::Walking::moves_shorter))]
+#![tactic(auto, using(bcder::specs::laws::Moved::measures))]
 
 ghost use Rattle.bcder.specs.Views.{Moved, MovedContent, MovedOctets};
 

@@ -7,7 +7,7 @@
 //! asks for no more, and lists of SEQUENCEs share one (`lists`). [`count_all`] has a loop by
 //! `while let`, with an invariant and a measure in a file, and [`Filter`] a function that calls
 //! itself, with measures in one.
-#![tactic(auto, using(bcder::proofs::Moving::moves_refl))]
+#![tactic(auto, using(bcder::specs::laws::Moved::untouched_is_moved))]
 
 ghost use Rattle.bcder.specs.Views.{Moved, MovedContent, MovedOctets};
 

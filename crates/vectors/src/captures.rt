@@ -123,7 +123,7 @@ fn pass<S: Source>(cons: &mut Constructed<'_, S>) -> Result<(), DecodeError<S::E
 }
 
 /// Passes over the next value by other rules.
-#[tactic(auto, using(bcder::proofs::Moving::moves_refl, bcder::proofs::Carrying::carries))]
+#[tactic(auto, using(bcder::specs::laws::Moved::steps))]
 fn pass_ber<S: Source>(cons: &mut Constructed<'_, S>) -> Result<(), DecodeError<S::Error>>
     ensures { Moved S.stream cons }
 {
@@ -137,7 +137,7 @@ fn refuse<S: Source>(cons: &Constructed<'_, S>) -> DecodeError<S::Error> {
 }
 
 /// Passes over the next value, and refuses then.
-#[tactic(auto, using(bcder::proofs::Moving::moves_refl, bcder::proofs::Carrying::carries))]
+#[tactic(auto, using(bcder::specs::laws::Moved::steps))]
 fn pass_and_refuse<S: Source>(
     cons: &mut Constructed<'_, S>,
     other: bool,
@@ -153,7 +153,7 @@ fn pass_and_refuse<S: Source>(
 }
 
 /// Takes a value, whose octets it leaves, and drops the refusal of that.
-#[tactic(auto, using(bcder::proofs::Moving::moves_refl, bcder::proofs::Carrying::carries))]
+#[tactic(auto, using(bcder::specs::laws::Moved::steps))]
 fn drop_refusal<S: Source>(cons: &mut Constructed<'_, S>)
     ensures { Moved S.stream cons }
 {
@@ -161,7 +161,7 @@ fn drop_refusal<S: Source>(cons: &mut Constructed<'_, S>)
 }
 
 /// Captures the next value, and gives it up.
-#[tactic(auto, using(bcder::proofs::Moving::moves_refl, bcder::proofs::Carrying::carries))]
+#[tactic(auto, using(bcder::specs::laws::Moved::steps))]
 fn capture_inside<S: Source>(
     cons: &mut Constructed<'_, S>,
     alloc: Global,
@@ -173,7 +173,7 @@ fn capture_inside<S: Source>(
 }
 
 /// What a capture answers.
-#[tactic(auto, using(bcder::proofs::Moving::moves_refl, bcder::proofs::Carrying::carries))]
+#[tactic(auto, using(bcder::specs::laws::Moved::steps))]
 fn capture<S: Source>(
     cons: &mut Constructed<'_, S>,
     alloc: Global,
@@ -198,7 +198,7 @@ fn capture<S: Source>(
 }
 
 /// The rules by which captured values are decoded.
-#[tactic(auto, using(bcder::proofs::Moving::moves_refl))]
+#[tactic(auto, using(bcder::specs::laws::Moved::untouched_is_moved))]
 pub fn label_of(captured: Captured) -> Option<Mode> {
     captured.decode(|cons| Ok(cons.mode())).ok()
 }
@@ -215,7 +215,7 @@ fn begins_at(captured: &Captured, alloc: Global, start: Option<usize>) -> Result
 }
 
 /// Whether a capture answers as the step says.
-#[tactic(auto, using(bcder::proofs::Moving::moves_refl, bcder::proofs::Carrying::carries))]
+#[tactic(auto, using(bcder::specs::laws::Moved::steps))]
 fn captures<S: Source>(
     cons: &mut Constructed<'_, S>,
     alloc: Global,
@@ -236,7 +236,7 @@ fn captures<S: Source>(
 }
 
 /// What a step answers that captures nothing.
-#[tactic(auto, using(bcder::proofs::Moving::moves_refl, bcder::proofs::Carrying::carries))]
+#[tactic(auto, using(bcder::specs::laws::Moved::steps))]
 fn pass_by<S: Source>(
     cons: &mut Constructed<'_, S>,
     alloc: Global,
@@ -258,7 +258,7 @@ fn pass_by<S: Source>(
 }
 
 /// Whether a step that captures nothing answers as it says.
-#[tactic(auto, using(bcder::proofs::Moving::moves_refl, bcder::proofs::Carrying::carries))]
+#[tactic(auto, using(bcder::specs::laws::Moved::steps))]
 fn passes<S: Source>(cons: &mut Constructed<'_, S>, alloc: Global, step: &CaptureStep) -> bool
     ensures { Moved S.stream cons }
 {
@@ -285,7 +285,7 @@ impl Differing for Tallies {
 }
 
 /// Does a step, and compares its answer. The content keeps its rules.
-#[tactic(auto, using(bcder::proofs::Moving::moves_refl, bcder::proofs::Carrying::carries))]
+#[tactic(auto, using(bcder::specs::laws::Moved::steps))]
 fn compare_step<S: Source>(
     cons: &mut Constructed<'_, S>,
     alloc: Global,

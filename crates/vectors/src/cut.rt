@@ -98,7 +98,7 @@ fn pass<S: Source>(
 }
 
 /// Takes the next value, whatever stands inside.
-#[tactic(auto, using(bcder::proofs::Moving::moves_refl, bcder::proofs::Carrying::carries))]
+#[tactic(auto, using(bcder::specs::laws::Moved::steps))]
 fn take<S: Source>(
     cons: &mut Constructed<'_, S>,
     alloc: Global,
@@ -245,7 +245,7 @@ fn read<S: Source>(
 }
 
 /// Whether a value is read, or none is, for the octets and for nothing else.
-#[tactic(auto, using(bcder::proofs::Moving::moves_refl, bcder::proofs::Carrying::carries))]
+#[tactic(auto, using(bcder::specs::laws::Moved::steps))]
 fn is_read<S: Source>(
     source: &mut S,
     alloc: Global,

@@ -44,7 +44,7 @@ struct Change {
 }
 
 /// Sets the rules of values, if they are the place.
-#[tactic(auto, using(bcder::proofs::Moving::moves_refl, bcder::proofs::Carrying::carries))]
+#[tactic(auto, using(bcder::specs::laws::Moved::steps))]
 fn set_modes<S: Source>(cons: &mut Constructed<'_, S>, change: Change, place: Place)
     ensures { Moved S.stream cons }
 {
@@ -113,7 +113,7 @@ struct Row {
 }
 
 /// Whether all octets are captured by these rules, and the content keeps its own.
-#[tactic(auto, using(bcder::proofs::Moving::moves_refl, bcder::proofs::Carrying::carries))]
+#[tactic(auto, using(bcder::specs::laws::Moved::steps))]
 fn is_labelled<S: Source>(
     cons: &mut Constructed<'_, S>,
     alloc: Global,

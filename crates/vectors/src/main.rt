@@ -9,7 +9,7 @@
 //!
 //! What is printed counts the answers of each kind that were compared, so that a line that is left
 //! out is seen.
-#![tactic(auto, using(bcder::proofs::Moving::moves_refl))]
+#![tactic(auto, using(bcder::specs::laws::Moved::untouched_is_moved))]
 
 mod captures;
 mod cut;

@@ -20,7 +20,7 @@ fn is_taken(answer: Answer) -> bool {
 }
 
 /// Does a step, and refuses where it is refused.
-#[tactic(auto, using(bcder::proofs::Moving::moves_refl, bcder::proofs::Carrying::carries))]
+#[tactic(auto, using(bcder::specs::laws::Moved::steps))]
 fn take<S: Source>(
     cons: &mut Constructed<'_, S>,
     step: TakeStep,

@@ -43,7 +43,7 @@ struct Row<'a> {
 }
 
 /// Skips the next value, and writes down the headings that the closure is told.
-#[tactic(auto, using(bcder::proofs::Moving::moves_refl, bcder::proofs::Carrying::carries))]
+#[tactic(auto, using(bcder::specs::laws::Moved::steps))]
 fn told<S: Source>(
     cons: &mut Constructed<'_, S>,
     alloc: Global,

@@ -110,7 +110,7 @@ fn of_option<T: Drop, E: Drop>(outcome: Result<Option<T>, DecodeError<E>>, tag: 
 }
 
 /// A call that takes a value of either form.
-#[tactic(auto, using(bcder::proofs::Moving::moves_refl, bcder::proofs::Carrying::carries))]
+#[tactic(auto, using(bcder::specs::laws::Moved::steps))]
 fn take_any<S: Source>(cons: &mut Constructed<'_, S>, step: TakeStep) -> Answer
     ensures { Moved S.stream cons }
 {
@@ -208,7 +208,7 @@ fn take_list<S: Source>(cons: &mut Constructed<'_, S>, step: TakeStep) -> Answer
 }
 
 /// A call that takes a truth value or null, or passes over the integer of a number.
-#[tactic(auto, using(bcder::proofs::Moving::moves_refl, bcder::proofs::Carrying::carries))]
+#[tactic(auto, using(bcder::specs::laws::Moved::steps))]
 fn take_known<S: Source>(
     cons: &mut Constructed<'_, S>,
     call: Call,
@@ -239,7 +239,7 @@ fn take_known<S: Source>(
 }
 
 /// A call that takes an integer.
-#[tactic(auto, using(bcder::proofs::Moving::moves_refl, bcder::proofs::Carrying::carries))]
+#[tactic(auto, using(bcder::specs::laws::Moved::steps))]
 fn take_number<S: Source>(
     cons: &mut Constructed<'_, S>,
     call: Call,
@@ -276,7 +276,7 @@ fn of_known<E: Drop>(
 }
 
 /// A call, and what it answered.
-#[tactic(auto, using(bcder::proofs::Moving::moves_refl, bcder::proofs::Carrying::carries))]
+#[tactic(auto, using(bcder::specs::laws::Moved::steps))]
 pub fn perform<S: Source>(cons: &mut Constructed<'_, S>, step: TakeStep) -> Answer
     ensures { Moved S.stream cons }
 {

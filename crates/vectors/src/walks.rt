@@ -52,7 +52,7 @@ fn plainly(mode: Mode, octets: &[u8]) -> Option<usize> {
 
 /// Whether a value was passed over, and in so many octets where it was captured. The refusal of a
 /// capture is dropped.
-#[tactic(auto, using(bcder::proofs::Moving::moves_refl, bcder::proofs::Carrying::carries))]
+#[tactic(auto, using(bcder::specs::laws::Moved::steps))]
 fn passes<S: Source>(
     cons: &mut Constructed<'_, S>,
     alloc: Global,

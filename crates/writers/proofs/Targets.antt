@@ -14,7 +14,7 @@ use Rattle.bcder.specs.declared.mode.Mode.{Mode}
 use Rattle.bcder.specs.declared.encode.primitive.Primitive.{Primitive}
 use Rattle.bcder.specs.Integer.{integer_octets}
 use Rattle.bcder.specs.Meaning.{Encoded, Meaning, Exactly, ValueMeans, primitive_meaning, octets_of}
-use Rattle.bcder.proofs.TakenBack.{written_whole}
+use Rattle.bcder.proofs.Lemmas.{written_as_meant}
 use Rattle.bcder.specs.Encoders.{Writes, RefusesBy}
 use Rattle.writers.specs.Numbers.{IsOfTarget}
 
@@ -43,7 +43,7 @@ module _ (mode : Mode) (p q : Primitive ℕ) (same : p ≡ q) (old new : Option 
   refused_target (Err (Refused e)) (inr n) = absurd (never_refused (number_means mode p) a only_of n.error n.refuses)
 
   pub written : Writes octets_of (number_means mode p) ⊥ old new (Ok tt) → Appends old new a.octets
-  written w = written_whole (number_means mode p) ⊥ old new a only_of w
+  written w = written_as_meant (number_means mode p) ⊥ old new a only_of w
 
 nothing_is_infallible : Infallible → ⊥
 nothing_is_infallible e = elim e [ ]

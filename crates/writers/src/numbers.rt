@@ -1,5 +1,5 @@
 //! Numbers that are written, and read again.
-#![tactic(auto, using(bcder::proofs::Moving::moves_refl))]
+#![tactic(auto, using(bcder::specs::laws::Moved::untouched_is_moved))]
 
 ghost use Rattle.std.specs.Prelude.{◌≡◌, IfOk, IfErr};
 ghost use Rattle.writers.specs.Numbers.{IsOfTarget};

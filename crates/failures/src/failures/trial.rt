@@ -136,7 +136,7 @@ impl Trial<'_> {
     }
 
     /// The refusal is answered: then `decode` answers it. Whether the source failed.
-    #[tactic(auto, using(bcder::proofs::Moving::moves_refl))]
+    #[tactic(auto, using(bcder::specs::laws::Moved::untouched_is_moved))]
     fn check_answered<S: Source + Drop>(&self, rt: &impl Abort, alloc: Global, source: S) -> bool {
         let call = self.call;
         match self.mode.decode(source, |cons| ask(cons, alloc, call)) {

@@ -40,7 +40,7 @@ const CUT: &[u8] = &[
 ];
 
 /// That string.
-#[tactic(auto, using(bcder::proofs::Moving::moves_refl, bcder::proofs::Carrying::carries))]
+#[tactic(auto, using(bcder::specs::laws::Moved::steps))]
 pub fn cut(rt: &impl Abort, alloc: Global, octets: &[u8]) -> OctetString {
     let mut source = SliceSource::new(octets);
     let read = Mode::Ber.decode_lent(&mut source, |cons| OctetString::take_from(alloc, cons));

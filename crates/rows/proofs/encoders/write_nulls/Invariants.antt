@@ -1,6 +1,6 @@
 -- What is written is a front of what is meant, and as many are left as turns.
 use Rattle.std.proofs.Common.{◌-◌}
-use Rattle.bcder.proofs.Joining.{WrittenSoFar}
+use Rattle.bcder.proofs.Lemmas.{WrittenSoFar}
 use Rattle.rows.specs.Counted.{NullsMean}
 use Rattle.rows.proofs.encoders.write_nulls.Given as goal
 

@@ -1,17 +1,16 @@
 use Rattle.std.proofs.Common.{arith, ◌∙◌, ap, ◌≡◌, ◌++◌, Some, rules}
 use Rattle.bcder.specs.Identifier.{integer_tag}
 use Rattle.bcder.specs.Readers.{IsUnsigned}
-use Rattle.bcder.proofs.TakenBack.{decoded_is, decoded}
+use Rattle.bcder.proofs.Lemmas.{decoded_as_written, written_is_not_refused, refused_as_met}
 use Rattle.writers.proofs.Targets.{refused_target, written, no_source_error}
 use Rattle.std.specs.Prelude.{Err}
-use Rattle.bcder.proofs.Refusing.{residual}
 use Rattle.writers.specs.Numbers.{IsOfTarget}
 use Rattle.writers.proofs.numbers.write_and_read.Goals as goal
 
 pub returns-in_err-write_encoded-clause-refused : goal.returns-in_err-write_encoded-clause-refused
 returns-in_err-write_encoded-clause-refused c =
     let back = c.unsigned_integers_are_taken_back.ensures.of_32_bits c.args.mode c.args.number (omega (arith, c.ranges.number.fits)) in
-    residual c.from_residual.result c.in_err-write_encoded.field-0.0 IsOfTarget c.from_residual.ensures.1 (refused_target c.args.mode _ _ c.encode.ensures _ _ back.encoded back.only (Err c.in_err-write_encoded.field-0.0) c.in_err-write_encoded.ensures)
+    refused_as_met c.from_residual.result c.in_err-write_encoded.field-0.0 IsOfTarget c.from_residual.ensures.1 (refused_target c.args.mode _ _ c.encode.ensures _ _ back.encoded back.only (Err c.in_err-write_encoded.field-0.0) c.in_err-write_encoded.ensures)
 
 pub unreachable-requires : goal.unreachable-requires
 unreachable-requires c =
@@ -19,7 +18,7 @@ unreachable-requires c =
     let appends = written c.args.mode _ _ c.encode.ensures (Some c.new-octets.result.items) (Some c.write_encoded.new.target.items) back.encoded back.only c.in_ok-write_encoded.ensures in
     let whole : c.as_slice.result.now ≡ back.encoded.octets = c.as_slice.ensures.value ∙ appends ∙ ap (λ z. z ++ back.encoded.octets) c.new-octets.ensures.items in
     let refused = c.in-Err.ensures.refused in
-    decoded _ _ no_source_error integer_tag (IsUnsigned 32) (λ p r q h. search rules) c.args.mode _ c.args.number back _ whole c.in-Err.field-0 refused.0 refused.1
+    written_is_not_refused _ _ no_source_error integer_tag (IsUnsigned 32) (λ p r q h. search rules) c.args.mode _ c.args.number back _ whole c.in-Err.field-0 refused.0 refused.1
 
 pub returns-clause-number : goal.returns-clause-number
 returns-clause-number c =
@@ -27,4 +26,4 @@ returns-clause-number c =
     let appends = written c.args.mode _ _ c.encode.ensures (Some c.new-octets.result.items) (Some c.write_encoded.new.target.items) back.encoded back.only c.in_ok-write_encoded.ensures in
     let whole : c.as_slice.result.now ≡ back.encoded.octets = c.as_slice.ensures.value ∙ appends ∙ ap (λ z. z ++ back.encoded.octets) c.new-octets.ensures.items in
     let ok = c.in-Ok.ensures.ok in
-    decoded_is _ _ no_source_error integer_tag (IsUnsigned 32) (λ p r q h. search rules) c.args.mode _ c.args.number back _ whole c.in-Ok.read ok.0 ok.1
+    decoded_as_written _ _ no_source_error integer_tag (IsUnsigned 32) (λ p r q h. search rules) c.args.mode _ c.args.number back _ whole c.in-Ok.read ok.0 ok.1

@@ -1,5 +1,5 @@
 use Rattle.std.proofs.Common.{ap}
-use Rattle.bcder.proofs.Writes.{wrote_constructed}
+use Rattle.bcder.proofs.Lemmas.{wrote_constructed}
 use Rattle.writers.proofs.request.write_parts.Goals as goal
 
 pub returns : goal.returns

@@ -1,0 +1,51 @@
+-- What proofs in crates above cite, by what each says. Laws of moved content are in specs/laws/Moved.
+
+-- ---- results
+
+-- `?` answers the error that it met
+pub use Rattle.bcder.proofs.Refusing.{residual as refused_as_met}
+-- what is said of an error, by what was said of it
+pub use Rattle.bcder.proofs.Refusing.{if_err as if_refused}
+-- what holds of an answer that was looked at by `is_some`
+pub use Rattle.bcder.proofs.Walked.{some_value as where_some, none_value as where_none}
+-- ---- content
+
+-- open content has not ended
+pub use Rattle.bcder.proofs.Moving.{open_not_ended as open_has_not_ended}
+-- no more is left than is owed; so it is with what a `Constructed` is, which isn't octets either
+pub use Rattle.bcder.proofs.Entering.{Within as IsWithinOwed}
+pub use Rattle.bcder.proofs.Names.{within_constructed as constructed_is_within_owed, constructed_form as constructed_is_not_octets}
+-- less is left after a value
+pub use Rattle.bcder.proofs.Walking.{value_shorter as shorter_by_a_value}
+-- ---- a loop over the values of content
+
+-- before the first value; one value on; refused at the next
+pub use Rattle.bcder.proofs.Walking.{walks_refl as walks_nothing, walks_value as walks_one_more, walks_refused as refused_on_the_way}
+-- a value and those that remain are those that were there
+pub use Rattle.bcder.proofs.Walking.{values_before as values_with_one_more, values_before_trees as trees_with_one_more}
+-- at the end no values remain
+pub use Rattle.bcder.proofs.Walking.{none_left as no_values_at_the_end, none_left_trees as no_trees_at_the_end}
+-- ---- what was written, and is read back
+
+-- a writer of one constructed value
+pub use Rattle.bcder.proofs.Writes.{wrote_constructed}
+-- memory is wanted only where it may lack
+pub use Rattle.bcder.proofs.Writes.{wants_where_it_lacks}
+-- values that mean one thing alone are written as it
+pub use Rattle.bcder.proofs.TakenBack.{written_whole as written_as_meant}
+-- what was written is decoded as it was, and not refused
+pub use Rattle.bcder.proofs.TakenBack.{decoded_is as decoded_as_written, decoded as written_is_not_refused}
+-- ---- an encoder of one's own
+
+-- what a primitive value of these contents octets means
+pub use Rattle.bcder.proofs.Enclosing.{primitive_given as primitive_means}
+-- a writing of what is meant; after another; that stopped before another; of the same octets; and where `?` passes on its error
+pub use Rattle.bcder.proofs.Writing.{wrote_what as wrote_what_is_meant, follows_on as wrote_after, stops as wrote_no_further, same_octets as wrote_same, passed_on as wrote_what_is_passed_on}
+-- a loop over parts: a front of them is written
+pub use Rattle.bcder.proofs.Joining.{WrittenSoFar}
+-- before the first; one more; not one more; all
+pub use Rattle.bcder.proofs.Joining.{written_start as written_none, written_next as written_one_more, written_failed as written_not_one_more, written_done as written_all}
+-- ---- object identifiers
+
+-- for the octets of an identifier there may be no memory
+pub use Rattle.bcder.proofs.Spelling.{no_memory_for as may_lack_memory_for}
