@@ -65,6 +65,28 @@ fn put_few<W: io::Write>(
     put_all(target, &few_together(identifier, contents)[..end], why)
 }
 
+/// The same. Up to five octets are written as an array, whose size is known where it is copied.
+#[inline(always)]
+fn put_array<W: io::Write>(
+    identifier: u8,
+    contents: &[u8],
+    target: &mut W,
+    why: &mut WriteError,
+) -> Result<(), Failed>
+    requires { length contents.now ≤ 8 }
+    ensures { WroteOctets W.contents target (identifier ∷ length contents.now ∷ contents.now)
+        (told result why.new) }
+{
+    match contents {
+        [a] => put_all(target, &[identifier, 1, *a], why),
+        [a, b] => put_all(target, &[identifier, 2, *a, *b], why),
+        [a, b, c] => put_all(target, &[identifier, 3, *a, *b, *c], why),
+        [a, b, c, d] => put_all(target, &[identifier, 4, *a, *b, *c, *d], why),
+        [a, b, c, d, e] => put_all(target, &[identifier, 5, *a, *b, *c, *d, *e], why),
+        _ => put_few(identifier, contents, target, why),
+    }
+}
+
 /// The octets of a primitive value with one identifier octet and at most 64 contents octets, in
 /// front of others.
 #[inline(always)]
@@ -120,6 +142,28 @@ pub(crate) fn put_contents<W: io::Write>(
         return put_together(identifier, contents, target, why);
     }
     put_few(identifier, contents, target, why)
+}
+
+/// Writes the contents octets of a number as `put_contents`, few of them as an array.
+#[inline(always)]
+pub(crate) fn put_number<W: io::Write>(
+    tag: Tag,
+    contents: &[u8],
+    target: &mut W,
+    why: &mut WriteError,
+) -> Result<(), Failed>
+    requires { length contents.now < 2 ^ 32 }
+    ensures { WroteOctets W.contents target (definite tag false contents.now)
+        (told result why.new) }
+{
+    let len = contents.len();
+    if len > 5 {
+        return put_contents(tag, contents, target, why);
+    }
+    let Some(identifier) = tag.single_octet(false) else {
+        return put_apart(tag, contents, target, why);
+    };
+    put_array(identifier, contents, target, why)
 }
 
 /// Writes a primitive value with few contents octets, where its identifier is one octet by one

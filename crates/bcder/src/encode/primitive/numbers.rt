@@ -9,7 +9,7 @@ ghost use Rattle.bcder.specs.laws.Integers.{integer_octets_are};
 ghost use Rattle.bcder.specs.laws.Meanings.{Exactly_lawful};
 
 use super::PrimitiveContent;
-use crate::encode::short::put_contents;
+use crate::encode::short::put_number;
 use crate::encode::slot::Failed;
 use crate::encode::target::write_all;
 use crate::encode::{EncodeError, WriteError};
@@ -48,7 +48,7 @@ fn put_integer<W: io::Write>(
     ensures { WritesPrimitive W.contents target tag (Exactly (integer_octets x.now)) ⊥
         (told result why.new) }
 {
-    put_contents(tag, AsSlice::as_slice(x), target, why)
+    put_number(tag, AsSlice::as_slice(x), target, why)
 }
 
 /// The octets that it keeps, which are the smallest of the number.

@@ -3,8 +3,8 @@ use Rattle.bcder.specs.Integer.{integer_octets}
 use Rattle.bcder.proofs.Writing.{exactly}
 use Rattle.bcder.proofs.encode.primitive.numbers.put_integer.Goals as goal
 
-pub put_contents-requires : goal.put_contents-requires
-put_contents-requires g c =
+pub put_number-requires : goal.put_number-requires
+put_number-requires g c =
     let (w, is, len_is) = c.requires.contents in
     let same : w ≡ integer_octets c.args.x.now = cc in
     let all : c.as_slice.result.now ≡ integer_octets c.args.x.now = search rules in
@@ -13,4 +13,4 @@ put_contents-requires g c =
 pub returns : goal.returns
 returns g c =
     let all : c.as_slice.result.now ≡ integer_octets c.args.x.now = search rules in
-    λ one. exactly c.args.tag all c.put_contents.ensures
+    λ one. exactly c.args.tag all c.put_number.ensures
