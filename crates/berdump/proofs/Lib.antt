@@ -2,3 +2,4 @@ mod Listing
 mod Fitting
 mod Walking
 mod Steps
+mod Holding
