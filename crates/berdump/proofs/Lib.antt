@@ -3,3 +3,4 @@ mod Fitting
 mod Walking
 mod Steps
 mod Holding
+mod Running
