@@ -12,7 +12,8 @@ use Rattle.bcder.specs.laws.Complete.{one_header, one_end_of_list}
 use Rattle.berdump.specs.declared.opened.Open.{Open}
 use Rattle.berdump.specs.declared.opened.Open.TheVariants as level
 use Rattle.berdump.proofs.Listing.{first_of}
-use Rattle.berdump.specs.Opened.{IsList, Fits, GoesOn}
+use Rattle.berdump.specs.Listing.{IsList}
+use Rattle.berdump.specs.Opened.{Fits, GoesOn}
 
 -- ---- closing
 

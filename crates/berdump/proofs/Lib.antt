@@ -2,3 +2,5 @@ mod Listing
 mod Fitting
 mod Walking
 mod Steps
+mod Holding
+mod Running

@@ -1,5 +1,5 @@
 -- What a step of the listing does, from wherever the listing is.
-use Rattle.std.proofs.Common.{◌≡◌, ◌≢◌, ℕ, ◌+◌, ◌-◌, ◌<◌, ◌≤◌, Bool, true, false, List, [], ◌∷◌, ◌++◌, Option, Some, None, length, take, drop, refl, sym, ap, subst, ◌∙◌, arith, length-append, length-drop, inr, Ok, Err, Result, IfOk, OnOk, IfErr, IfSome}
+use Rattle.std.proofs.Common.{◌≡◌, ◌≢◌, ℕ, ◌+◌, ◌-◌, ◌<◌, ◌≤◌, Bool, true, false, List, [], ◌∷◌, ◌++◌, Option, Some, None, length, take, drop, refl, sym, ap, subst, ◌∙◌, arith, length-append, length-drop, inr, Ok, Err, Result, IfOk, OnOk, IfErr, IfSome, IfNone}
 use Rattle.std.proofs.lemmas.List.{length-take-le}
 use Rattle.std.specs.Borrow.{Bor}
 use Rattle.bcder.specs.declared.mode.Mode.{Mode}
@@ -14,7 +14,7 @@ use Rattle.berdump.specs.declared.opened.Open.TheVariants as level
 use Rattle.berdump.specs.declared.list.ListError.{ListError}
 use Rattle.berdump.specs.declared.list.ListError.TheVariants.{Refused}
 use Rattle.berdump.specs.declared.list.Reason.{Reason}
-use Rattle.berdump.specs.Listing.{heading, IsFront}
+use Rattle.berdump.specs.Listing.{heading, IsFront, Holds, HoldsNone}
 use Rattle.berdump.specs.Opened.{behind_all, Goes, Fits, GoesOn}
 use Rattle.berdump.specs.Answers.{Stands, Written, IsUnwritten, Listed}
 use Rattle.berdump.specs.Walk.{IsAt, PassesContents, Meets, Stops, left}
@@ -40,14 +40,14 @@ module _ (deep : Bool) (mode : Mode) (b c : Option (List ℕ)) (es : List Open) 
   step_definite fs behind v n is_len is_form fits is_behind is_v k e octets a s =
       subst (λ z. IsAt deep mode octets a c z v (at + (length w - length r))) (sym e) (meets_definite deep mode octets a b c es w r at t form len s f open_here some behind v n is_len is_form fits is_behind is_v (line k))
 
-  pub step_primitive : (fs : List Open) (contents behind v : List ℕ) (n d : ℕ) → len ≡ Some n → form ≡ false → n ≤ length r → contents ≡ take n r → behind ≡ drop n r → Written (h ∷ []) b c → PassesContents deep t contents behind (at + (length w - length r)) es fs v d → Meets deep mode es w at b fs v d c
-  step_primitive fs contents behind v n d is_len is_form fits is_contents is_behind k (PassesContents.passed e is_v is_d) octets a s =
+  pub step_primitive : (fs : List Open) (contents behind v : List ℕ) (n d : ℕ) → len ≡ Some n → form ≡ false → n ≤ length r → contents ≡ take n r → behind ≡ drop n r → Written (h ∷ []) b c → PassesContents deep mode t contents behind (at + (length w - length r)) es fs v d → Meets deep mode es w at b fs v d c
+  step_primitive fs contents behind v n d is_len is_form fits is_contents is_behind k (PassesContents.passed none e is_v is_d) octets a s =
       let size : length contents ≡ n = ap length is_contents ∙ length-take-le n r fits in
-      let here : IsAt deep mode octets a c es (drop n r) (at + (length w - length r) + n) = meets_primitive deep mode octets a b c es w r at t form len s f open_here some n is_len is_form fits (line k) in
+      let here : IsAt deep mode octets a c es (drop n r) (at + (length w - length r) + n) = meets_primitive deep mode octets a b c es w r at t form len s f open_here some n is_len is_form fits (λ z. subst (HoldsNone mode t) is_contents (none z)) (line k) in
       subst (λ z. IsAt deep mode octets a c z v d) (sym e) (subst (λ z. IsAt deep mode octets a c es z d) (sym (is_v ∙ is_behind)) (subst (λ z. IsAt deep mode octets a c es (drop n r) z) (ap (λ m. at + (length w - length r) + m) (sym size) ∙ sym is_d) here))
-  step_primitive fs contents behind v n d is_len is_form fits is_contents is_behind k (PassesContents.opened bor front is_deep is_front is_v is_bor e is_d) octets a s =
+  step_primitive fs contents behind v n d is_len is_form fits is_contents is_behind k (PassesContents.opened bor is_deep held is_bor e is_d) octets a s =
       let size : length contents ≡ n = ap length is_contents ∙ length-take-le n r fits in
-      let here : IsAt deep mode octets a c (level.Definite bor ∷ es) v (at + (length w - length r) + (n - length v)) = meets_opened deep mode octets a b c es w r at t form len s f open_here some bor v front n is_deep is_len is_form fits (is_bor ∙ is_behind) is_front (sym is_contents ∙ is_v) (line k) in
+      let here : IsAt deep mode octets a c (level.Definite bor ∷ es) v (at + (length w - length r) + (n - length v)) = meets_opened deep mode octets a b c es w r at t form len s f open_here some bor v n is_deep is_len is_form fits (is_bor ∙ is_behind) (subst (λ z. Holds mode t z v) is_contents held) (line k) in
       subst (λ z. IsAt deep mode octets a c z v d) (sym e) (subst (λ z. IsAt deep mode octets a c (level.Definite bor ∷ es) v z) (ap (λ m. at + (length w - length r) + (m - length v)) (sym size) ∙ sym is_d) here)
 
   pub stops_unwritten : (e : ListError) → IsUnwritten h b c e → Stops deep mode es w at b c e
@@ -63,10 +63,10 @@ module _ (deep : Bool) (mode : Mode) (b c : Option (List ℕ)) (es : List Open) 
   pub less_definite : (fs : List Open) (behind : Bor (List ℕ)) (v : List ℕ) (n : ℕ) → n ≤ length r → behind.now ≡ drop n r → v ≡ take n r → fs ≡ level.Definite behind ∷ es → left fs v < left es w
   less_definite fs behind v n fits is_behind is_v e = rw e (let m = header_long in let x = ap length is_behind ∙ length-drop n r in let y = ap length is_v ∙ length-take-le n r fits in omega (arith, m, x, y, fits, length-append behind.now (behind_all es)))
 
-  pub less_primitive : (fs : List Open) (contents behind v : List ℕ) (n d : ℕ) → n ≤ length r → contents ≡ take n r → behind ≡ drop n r → PassesContents deep t contents behind (at + (length w - length r)) es fs v d → left fs v < left es w
-  less_primitive fs contents behind v n d fits is_contents is_behind (PassesContents.passed e is_v is_d) = rw e (let m = header_long in let x = ap length (is_v ∙ is_behind) ∙ length-drop n r in omega (arith, m, x, fits))
-  less_primitive fs contents behind v n d fits is_contents is_behind (PassesContents.opened bor front is_deep is_front is_v is_bor e is_d) =
-      rw e (let m = header_long in let x = ap length (is_bor ∙ is_behind) ∙ length-drop n r in let y = ap length is_contents ∙ length-take-le n r fits in let z = ap length is_v ∙ length-append front v in omega (arith, m, x, y, z, fits, length-append bor.now (behind_all es)))
+  pub less_primitive : (fs : List Open) (contents behind v : List ℕ) (n d : ℕ) → n ≤ length r → contents ≡ take n r → behind ≡ drop n r → PassesContents deep mode t contents behind (at + (length w - length r)) es fs v d → left fs v < left es w
+  less_primitive fs contents behind v n d fits is_contents is_behind (PassesContents.passed none e is_v is_d) = rw e (let m = header_long in let x = ap length (is_v ∙ is_behind) ∙ length-drop n r in omega (arith, m, x, fits))
+  less_primitive fs contents behind v n d fits is_contents is_behind (PassesContents.opened bor is_deep held is_bor e is_d) =
+      rw e (let m = header_long in let x = ap length (is_bor ∙ is_behind) ∙ length-drop n r in let y = ap length is_contents ∙ length-take-le n r fits in let z = ap length held.are ∙ length-append held.front v in omega (arith, m, x, y, z, fits, length-append bor.now (behind_all es)))
 
 at_most : (deep : Bool) (mode : Mode) (octets w : List ℕ) (a b : Option (List ℕ)) (es : List Open) (at : ℕ) → IsAt deep mode octets a b es w at → at ≤ length octets
 at_most deep mode octets w a b es at s = let k = within deep mode octets w a b es at s in omega (arith, k)
@@ -74,12 +74,12 @@ at_most deep mode octets w a b es at s = let k = within deep mode octets w a b e
 pub stops_at_contents : (deep : Bool) (mode : Mode) (b : Option (List ℕ)) (es : List Open) (w r : List ℕ) (at : ℕ) (t : Tag) (form : Bool) (len : Option ℕ) → Front mode t form len w r → GoesOn mode es w → (es ≡ [] → w ≢ []) → (n : ℕ) → len ≡ Some n → length r < n → (why : Reason)
     → Stops deep mode es w at b b (Refused at why)
 stops_at_contents deep mode b es w r at t form len f open_here some n is_len short why octets a s =
-    (in_part deep mode octets w a b es at s, at_most deep mode octets w a b es at s, λ z ts k. no_list_at_contents deep mode octets a b b es w r at t form len s f open_here some n is_len short z (ts, k))
+    (in_part deep mode octets w a b es at s, at_most deep mode octets w a b es at s, λ ts k. no_list_at_contents deep mode octets a b b es w r at t form len s f open_here some n is_len short (ts, k))
 
 pub stops_at_header : (deep : Bool) (mode : Mode) (b : Option (List ℕ)) (es : List Open) (w : List ℕ) (at : ℕ) → GoesOn mode es w → (es ≡ [] → w ≢ []) → ((t : Tag) (form : Bool) (n : Option ℕ) (h x : List ℕ) → IsHeader mode t form (told n) h → w ≡ h ++ x → ⊥) → (why : Reason)
     → Stops deep mode es w at b b (Refused at why)
 stops_at_header deep mode b es w at open_here some none why octets a s =
-    (in_part deep mode octets w a b es at s, at_most deep mode octets w a b es at s, λ z ts k. no_list_at_header deep mode octets w a b es at s open_here some none z (ts, k))
+    (in_part deep mode octets w a b es at s, at_most deep mode octets w a b es at s, λ ts k. no_list_at_header deep mode octets w a b es at s open_here some none (ts, k))
 
 -- ---- what an answer says
 
@@ -97,11 +97,12 @@ pub string_bits : (t : Tag) (w : List ℕ) (o : Option (Bor (List ℕ))) → t �
 string_bits t w None e h = tt
 string_bits t w (Some r) e h = (0 ∷ [], inr (e, refl), h)
 
-pub passes_opened : (deep : Bool) (t : Tag) (contents : List ℕ) (behind : Bor (List ℕ)) (at : ℕ) (es fs : List Open) (rest : Bor (List ℕ)) (held : Option (Bor (List ℕ))) → deep ≡ true → held ≡ Some rest → IfSome held (λ r. (x : List ℕ) × IsFront t x × (contents ≡ x ++ r.now)) → fs ≡ level.Definite behind ∷ es
-    → PassesContents deep t contents behind.now at es fs rest.now (at + (length contents - length rest.now))
-passes_opened deep t contents behind at es fs rest held d e h k =
-    let f = subst (λ o. IfSome o (λ r. (x : List ℕ) × IsFront t x × (contents ≡ x ++ r.now))) e h in
-    PassesContents.opened behind f.0 d f.1 f.2 refl k refl
+pub passes_opened : (deep : Bool) (mode : Mode) (t : Tag) (contents : List ℕ) (behind : Bor (List ℕ)) (at : ℕ) (es fs : List Open) (rest : Bor (List ℕ)) (held : Option (Bor (List ℕ))) → deep ≡ true → held ≡ Some rest → IfSome held (λ r. Holds mode t contents r.now) → fs ≡ level.Definite behind ∷ es
+    → PassesContents deep mode t contents behind.now at es fs rest.now (at + (length contents - length rest.now))
+passes_opened deep mode t contents behind at es fs rest held d e h k = PassesContents.opened behind d (subst (λ o. IfSome o (λ r. Holds mode t contents r.now)) e h) refl k refl
+
+pub passes_over : (deep : Bool) (mode : Mode) (t : Tag) (contents behind : List ℕ) (at : ℕ) (es fs : List Open) (held : Option (Bor (List ℕ))) → (deep ≡ true → held ≡ None) → IfNone held (HoldsNone mode t contents) → fs ≡ es → PassesContents deep mode t contents behind at es fs behind (at + length contents)
+passes_over deep mode t contents behind at es fs held n h k = PassesContents.passed (λ z. subst (λ o. IfNone o (HoldsNone mode t contents)) (n z) h) k refl refl
 
 -- ---- the loop
 

@@ -12,8 +12,8 @@ use Rattle.berdump.specs.declared.heading.Heading.{Heading}
 use Rattle.berdump.specs.declared.opened.Open.{Open}
 use Rattle.berdump.specs.declared.opened.Open.TheVariants as level
 use Rattle.berdump.specs.Lines.{IsLine, AreLines}
-use Rattle.berdump.specs.Listing.{heading, IsFront, IsListed, AreListed}
-use Rattle.berdump.specs.Opened.{behind_all, Completes, Goes, IsList, Fits, GoesOn}
+use Rattle.berdump.specs.Listing.{heading, IsList, Holds, HoldsNone, IsListed, AreListed}
+use Rattle.berdump.specs.Opened.{behind_all, Completes, Goes, Fits, GoesOn}
 use Rattle.berdump.specs.declared.list.ListError.{ListError}
 use Rattle.berdump.specs.declared.list.ListError.TheVariants.{Refused, NoMemory, Target}
 use Rattle.berdump.specs.Front.{AppendsShorter}
@@ -46,7 +46,7 @@ begins deep mode octets a = record {
   written = record { text = []; lines = refl; appends = Appends-nil a };
   stand = tt;
   goes = λ hs k. k;
-  fits = λ z h. h;
+  fits = λ h. h;
   passed = [];
   offset = refl;
   are = sym (append-nil octets);
@@ -69,7 +69,7 @@ closes deep mode octets a b es fs w v p at n s g m l e = record {
   written = s.written;
   stand = s.stand;
   goes = λ hs k. s.goes hs (g hs k);
-  fits = λ z h. m (s.fits z h);
+  fits = λ h. m (s.fits h);
   passed = s.passed ++ p;
   offset = (let o = s.offset in omega (arith, length-append s.passed p, o, l));
   are = s.are ∙ ap (λ z. s.passed ++ z) e ∙ sym (append_assoc s.passed p (v ++ behind_all fs));
@@ -99,32 +99,32 @@ module _ (deep : Bool) (mode : Mode) (octets : List ℕ) (a b c : Option (List �
     size = sym (header_length w f.header r f.are);
   }
 
-  meets : (fs : List Open) (v p : List ℕ) (d : ℕ) → Written (the_heading ∷ []) b c → ((hs : List Heading) → Completes deep mode fs v d hs → Completes deep mode es w at (the_heading ∷ hs)) → (deep ≡ false → Fits mode es w → Fits mode fs v) → d ≡ at + length p
+  meets : (fs : List Open) (v p : List ℕ) (d : ℕ) → Written (the_heading ∷ []) b c → ((hs : List Heading) → Completes deep mode fs v d hs → Completes deep mode es w at (the_heading ∷ hs)) → (Fits mode es w → Fits mode fs v) → d ≡ at + length p
       → w ++ behind_all es ≡ p ++ (v ++ behind_all fs) → IsAt deep mode octets a c fs v d
   meets fs v p d k g q l e = record {
     headings = s.headings ++ (the_heading ∷ []);
     written = written_join s.headings (the_heading ∷ []) a b c s.written k;
     stand = stand_join mode octets s.headings (the_heading ∷ []) s.stand (stands, tt);
     goes = λ hs m. subst (AreListed deep mode octets 0 0) (sym (append_assoc s.headings (the_heading ∷ []) hs)) (s.goes (the_heading ∷ hs) (g hs m));
-    fits = λ z h. q z (s.fits z h);
+    fits = λ h. q (s.fits h);
     passed = s.passed ++ p;
     offset = (let o = s.offset in omega (arith, length-append s.passed p, o, l));
     are = s.are ∙ ap (λ z. s.passed ++ z) e ∙ sym (append_assoc s.passed p (v ++ behind_all fs));
   }
 
-  pub meets_primitive : (n : ℕ) → len ≡ Some n → form ≡ false → n ≤ length r → Written (the_heading ∷ []) b c → IsAt deep mode octets a c es (drop n r) (at + (length w - length r) + n)
-  meets_primitive n is_len is_form fits k =
+  pub meets_primitive : (n : ℕ) → len ≡ Some n → form ≡ false → n ≤ length r → (deep ≡ true → HoldsNone mode t (take n r)) → Written (the_heading ∷ []) b c → IsAt deep mode octets a c es (drop n r) (at + (length w - length r) + n)
+  meets_primitive n is_len is_form fits none k =
       let contents = take n r in
       let size : length contents ≡ n = length-take-le n r fits in
       let split : r ≡ contents ++ drop n r = sym (take-append-drop n r) in
       let whole : w ≡ (f.header ++ contents) ++ drop n r = f.are ∙ ap (λ z. f.header ++ z) split ∙ sym (append_assoc f.header contents (drop n r)) in
       let hl = header_length w f.header r f.are in
       let same : told len ≡ told (Some (length contents)) = ap told is_len ∙ ap (λ z. told (Some z)) (sym size) in
-      let listed : IsListed deep mode (f.header ++ contents) at (length es) (the_heading ∷ []) = IsListed.primitive t f.header contents (subst (λ g. IsHeader mode t g (told (Some (length contents))) f.header) is_form (subst (λ l. IsHeader mode t form l f.header) same f.is_header)) refl (rw (is_form, is_len, hl, size) refl) in
+      let listed : IsListed deep mode (f.header ++ contents) at (length es) (the_heading ∷ []) = IsListed.primitive t f.header contents (subst (λ g. IsHeader mode t g (told (Some (length contents))) f.header) is_form (subst (λ l. IsHeader mode t form l f.header) same f.is_header)) none refl (rw (is_form, is_len, hl, size) refl) in
       meets es (drop n r) (f.header ++ contents) (at + (length w - length r) + n) k
       (λ hs m. subst (λ z. Completes deep mode es z at (the_heading ∷ hs)) (sym whole) (value_first deep mode es (f.header ++ contents) (drop n r) at (the_heading ∷ []) hs listed
       (subst (λ d. Completes deep mode es (drop n r) d hs) (omega (arith, length-append f.header contents, hl, size)) m)))
-      (λ z h. fits_primitive mode es w r f.header t form len f.is_header f.are open_here some h n is_len is_form)
+      (λ h. fits_primitive mode es w r f.header t form len f.is_header f.are open_here some h n is_len is_form)
       (omega (arith, length-append f.header contents, hl, size))
       (ap (λ z. z ++ behind_all es) whole ∙ append_assoc (f.header ++ contents) (drop n r) (behind_all es))
 
@@ -142,13 +142,15 @@ module _ (deep : Bool) (mode : Mode) (octets : List ℕ) (a b c : Option (List �
       subst (λ gs. Completes deep mode es w at (the_heading ∷ gs)) (sym all) (subst (λ z. Completes deep mode es z at ((the_heading ∷ inside) ++ more)) (sym whole) (value_first deep mode es (f.header ++ v) behind.now at (the_heading ∷ inside) more
       (IsListed.definite t f.header v inside header (subst (λ d. AreListed deep mode v d (length es + 1) inside) (ap (λ d. at + d) hl) listed) refl (rw (is_form, is_len, hl, size) refl))
       (subst (λ d. Completes deep mode es behind.now d more) (omega (arith, length-append f.header v, hl)) completes))))
-      (λ z h. subst (Fits mode (level.Definite behind ∷ es)) (sym is_v) (fits_definite mode es w r f.header t form len f.is_header f.are open_here some h behind n is_len is_form is_behind))
+      (λ h. subst (Fits mode (level.Definite behind ∷ es)) (sym is_v) (fits_definite mode es w r f.header t form len f.is_header f.are open_here some h behind n is_len is_form is_behind))
       (omega (arith, hl))
       (ap (λ z. z ++ behind_all es) f.are ∙ append_assoc f.header r (behind_all es) ∙ ap (λ z. f.header ++ (z ++ behind_all es)) split ∙ ap (λ z. f.header ++ z) (append_assoc v behind.now (behind_all es)))
 
-  pub meets_opened : (behind : Bor (List ℕ)) (v front : List ℕ) (n : ℕ) → deep ≡ true → len ≡ Some n → form ≡ false → n ≤ length r → behind.now ≡ drop n r → IsFront t front → take n r ≡ front ++ v → Written (the_heading ∷ []) b c
+  pub meets_opened : (behind : Bor (List ℕ)) (v : List ℕ) (n : ℕ) → deep ≡ true → len ≡ Some n → form ≡ false → n ≤ length r → behind.now ≡ drop n r → Holds mode t (take n r) v → Written (the_heading ∷ []) b c
       → IsAt deep mode octets a c (level.Definite behind ∷ es) v (at + (length w - length r) + (n - length v))
-  meets_opened behind v front n is_deep is_len is_form fits is_behind is_front is_v k =
+  meets_opened behind v n is_deep is_len is_form fits is_behind held k =
+      let front = held.front in
+      let is_v : take n r ≡ front ++ v = held.are in
       let size : length (front ++ v) ≡ n = ap length (sym is_v) ∙ length-take-le n r fits in
       let split : r ≡ (front ++ v) ++ behind.now = sym (take-append-drop n r) ∙ ap (λ z. z ++ drop n r) is_v ∙ ap (λ z. (front ++ v) ++ z) (sym is_behind) in
       let whole : w ≡ (f.header ++ (front ++ v)) ++ behind.now = f.are ∙ ap (λ z. f.header ++ z) split ∙ sym (append_assoc f.header (front ++ v) behind.now) in
@@ -159,9 +161,9 @@ module _ (deep : Bool) (mode : Mode) (octets : List ℕ) (a b c : Option (List �
       meets (level.Definite behind ∷ es) v (f.header ++ front) (at + (length w - length r) + (n - length v)) k
       (λ hs m. let (inside, more, listed, completes, all) = m in
       subst (λ gs. Completes deep mode es w at (the_heading ∷ gs)) (sym all) (subst (λ z. Completes deep mode es z at ((the_heading ∷ inside) ++ more)) (sym whole) (value_first deep mode es (f.header ++ (front ++ v)) behind.now at (the_heading ∷ inside) more
-      (IsListed.opened t f.header front v inside is_deep header is_front (subst (λ d. AreListed deep mode v d (length es + 1) inside) place listed) refl (rw (is_form, is_len, hl, size) refl))
+      (IsListed.opened t f.header front v inside is_deep header held.is_front held.some (subst (λ d. AreListed deep mode v d (length es + 1) inside) place listed) refl (rw (is_form, is_len, hl, size) refl))
       (subst (λ d. Completes deep mode es behind.now d more) (omega (arith, place, length-append f.header (front ++ v), length-append front v)) completes))))
-      (λ z h. let bad : true ≡ false = sym is_deep ∙ z in cc)
+      (λ h. (held.list, subst (Fits mode es) (sym is_behind) (fits_primitive mode es w r f.header t form len f.is_header f.are open_here some h n is_len is_form)))
       (omega (arith, place, length-append f.header front))
       (ap (λ z. z ++ behind_all es) whole ∙ append_assoc (f.header ++ (front ++ v)) behind.now (behind_all es) ∙ ap (λ z. z ++ (behind.now ++ behind_all es)) (sym (append_assoc f.header front v)) ∙ append_assoc (f.header ++ front) v (behind.now ++ behind_all es))
 
@@ -180,16 +182,16 @@ module _ (deep : Bool) (mode : Mode) (octets : List ℕ) (a b c : Option (List �
       subst (λ gs. Completes deep mode es w at (the_heading ∷ gs)) (sym all) (subst (λ z. Completes deep mode es z at ((the_heading ∷ inside) ++ more)) (sym whole) (value_first deep mode es (f.header ++ (contents ++ end)) others at (the_heading ∷ inside) more
       (IsListed.indefinite t f.header contents end inside (subst (λ g. IsHeader mode t g (told None) f.header) is_form header) (subst (λ d. AreListed deep mode contents d (length es + 1) inside) (ap (λ d. at + d) hl) listed) is_end refl (rw (is_form, is_len, hl) refl))
       (subst (λ d. Completes deep mode es others d more) (omega (arith, length-append f.header (contents ++ end), length-append contents end, hl)) completes))))
-      (λ z h. fits_indefinite mode es w r f.header t form len f.is_header f.are open_here some h is_len)
+      (λ h. fits_indefinite mode es w r f.header t form len f.is_header f.are open_here some h is_len)
       (omega (arith, hl))
       (ap (λ z. z ++ behind_all es) f.are ∙ append_assoc f.header r (behind_all es))
 
-  pub no_list_at_contents : (n : ℕ) → len ≡ Some n → length r < n → deep ≡ false → IsList mode octets → ⊥
-  no_list_at_contents n is_len short z h = let fits = contents_are_here mode es w r f.header t form len f.is_header f.are open_here some (s.fits z h) n is_len in absurd (omega (arith, fits, short))
+  pub no_list_at_contents : (n : ℕ) → len ≡ Some n → length r < n → IsList mode octets → ⊥
+  no_list_at_contents n is_len short h = let fits = contents_are_here mode es w r f.header t form len f.is_header f.are open_here some (s.fits h) n is_len in absurd (omega (arith, fits, short))
 
 pub no_list_at_header : (deep : Bool) (mode : Mode) (octets w : List ℕ) (a b : Option (List ℕ)) (es : List Open) (at : ℕ) → IsAt deep mode octets a b es w at → GoesOn mode es w → (es ≡ [] → w ≢ [])
-    → ((t : Tag) (form : Bool) (n : Option ℕ) (h x : List ℕ) → IsHeader mode t form (told n) h → w ≡ h ++ x → ⊥) → deep ≡ false → IsList mode octets → ⊥
-no_list_at_header deep mode octets w a b es at s g n none z h = no_list_without_header mode es w g n none (s.fits z h)
+    → ((t : Tag) (form : Bool) (n : Option ℕ) (h x : List ℕ) → IsHeader mode t form (told n) h → w ≡ h ++ x → ⊥) → IsList mode octets → ⊥
+no_list_at_header deep mode octets w a b es at s g n none h = no_list_without_header mode es w g n none (s.fits h)
 
 pub within : (deep : Bool) (mode : Mode) (octets w : List ℕ) (a b : Option (List ℕ)) (es : List Open) (at : ℕ) → IsAt deep mode octets a b es w at → at + length w + length (behind_all es) ≡ length octets
 within deep mode octets w a b es at s = let o = s.offset in omega (arith, ap length s.are, length-append s.passed (w ++ behind_all es), length-append w (behind_all es), o)
@@ -212,7 +214,7 @@ keeps_nil None c k = tt
 keeps_nil (Some x) None k = absurd k
 keeps_nil (Some x) (Some y) k = k ∙ sym (append-nil x)
 
-written_kept : (hs : List Heading) (a b c : Option (List ℕ)) → Written hs a b → Keeps b c → Written hs a c
+pub written_kept : (hs : List Heading) (a b c : Option (List ℕ)) → Written hs a b → Keeps b c → Written hs a c
 written_kept hs a b c h k = record { text = h.text; lines = h.lines; appends = subst (Appends a c) (append-nil h.text) (Appends-trans a b c h.text [] h.appends (keeps_nil b c k)) }
 
 pub unlisted_by : (deep : Bool) (mode : Mode) (octets w : List ℕ) (a b c : Option (List ℕ)) (es : List Open) (at : ℕ) (h : Heading) (e : ListError) → IsAt deep mode octets a b es w at → Stands mode octets h → IsUnwritten h b c e → IsUnlisted deep mode octets a c e

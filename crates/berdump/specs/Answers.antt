@@ -1,16 +1,15 @@
 -- What listing answers, and what the target then holds.
-use Rattle.std.specs.Prelude.{◌≡◌, ◌≤◌, ℕ, Bool, false, List, [], ◌∷◌, ◌++◌, Option, length}
+use Rattle.std.specs.Prelude.{◌≡◌, ◌≤◌, ℕ, Bool, List, [], ◌∷◌, ◌++◌, Option, length}
 use Rattle.std.specs.Io.KnownBytes.{Appends, Keeps}
 use Rattle.bcder.specs.declared.mode.Mode.{Mode}
-use Rattle.bcder.specs.Tree.{Trees}
-use Rattle.bcder.specs.Encoding.{IsHeader, AreEncodings}
+use Rattle.bcder.specs.Encoding.{IsHeader}
 use Rattle.bcder.specs.Told.{told}
 use Rattle.berdump.specs.declared.heading.Heading.{Heading}
 use Rattle.berdump.specs.declared.list.ListError.{ListError}
 use Rattle.berdump.specs.declared.list.ListError.TheVariants.{Refused, NoMemory, Target}
 use Rattle.berdump.specs.Front.{AppendsFront, AppendsShorter}
 use Rattle.berdump.specs.Lines.{AreLines}
-use Rattle.berdump.specs.Listing.{AreListed}
+use Rattle.berdump.specs.Listing.{IsNoList, AreListed}
 
 -- a header with the tag, the form and the length stands at the offset
 pub record Stands (mode : Mode) (octets : List ℕ) (h : Heading) : Type 0 where
@@ -54,7 +53,7 @@ pub record CutOff (mode : Mode) (octets : List ℕ) (old new : Option (List ℕ)
 
 -- what an error says of what was written
 abbrev pub IsUnlisted : Bool → Mode → List ℕ → Option (List ℕ) → Option (List ℕ) → ListError → Type 0
-IsUnlisted deep mode octets old new (Refused at why) = ListedInPart mode octets old new × (at ≤ length octets) × (deep ≡ false → (ts : Trees) → AreEncodings mode ts octets → ⊥)
+IsUnlisted deep mode octets old new (Refused at why) = ListedInPart mode octets old new × (at ≤ length octets) × IsNoList mode octets
 IsUnlisted deep mode octets old new NoMemory = ListedInPart mode octets old new
 IsUnlisted deep mode octets old new (Target e) = CutOff mode octets old new
 

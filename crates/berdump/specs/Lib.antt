@@ -4,3 +4,4 @@ pub mod Listing
 pub mod Answers
 pub mod Opened
 pub mod Walk
+pub mod Runs

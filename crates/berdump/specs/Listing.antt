@@ -1,12 +1,13 @@
 -- The headings of the values that octets encode, with the places where they stand (ITU-T X.690, 8.1.1).
-use Rattle.std.specs.Prelude.{◌≡◌, ◌⊎◌, ℕ, ◌+◌, Bool, true, false, List, [], ◌∷◌, ◌++◌, Option, Some, None, length}
+use Rattle.std.specs.Prelude.{◌≡◌, ◌≢◌, ◌⊎◌, ℕ, ◌+◌, Bool, true, false, List, [], ◌∷◌, ◌++◌, Option, Some, None, length}
 use Rattle.bcder.specs.declared.mode.Mode.{Mode}
 use Rattle.bcder.specs.Identifier.{Tag}
 use Rattle.bcder.specs.BitString.{bit_string_tag}
 use Rattle.bcder.specs.OctetString.{octet_string_tag}
 use Rattle.bcder.specs.Length.{IsEndOfContents}
 use Rattle.bcder.specs.Told.{told}
-use Rattle.bcder.specs.Encoding.{IsHeader}
+use Rattle.bcder.specs.Tree.{Trees}
+use Rattle.bcder.specs.Encoding.{IsHeader, AreEncodings}
 use Rattle.berdump.specs.declared.heading.Heading.{Heading}
 
 abbrev pub heading : Tag → Bool → (depth offset header : ℕ) → Option ℕ → Heading
@@ -16,16 +17,34 @@ heading t form depth offset header len = record { tag = t; constructed = form; d
 abbrev pub IsFront : Tag → List ℕ → Type 0
 IsFront t front = (t ≡ octet_string_tag) × (front ≡ []) ⊎ (t ≡ bit_string_tag) × (front ≡ 0 ∷ [])
 
+-- the octets are the encodings of values, and of none
+abbrev pub IsList : Mode → List ℕ → Type 0
+IsList mode w = (ts : Trees) × AreEncodings mode ts w
+
+abbrev pub IsNoList : Mode → List ℕ → Type 0
+IsNoList mode w = (ts : Trees) → AreEncodings mode ts w → ⊥
+
+-- contents octets are those of a string that holds the encodings of values, one or more, and these are the encodings
+pub record Holds (mode : Mode) (t : Tag) (contents inside : List ℕ) : Type 0 where
+  pub front : List ℕ
+  pub is_front : IsFront t front
+  pub are : contents ≡ front ++ inside
+  pub some : inside ≢ []
+  pub list : IsList mode inside
+
+abbrev pub HoldsNone : Mode → Tag → List ℕ → Type 0
+HoldsNone mode t contents = (inside : List ℕ) → Holds mode t contents inside → ⊥
+
 mutual
-  -- w is the encoding of a value, and hs are the headings of it and of the values inside it, each before those inside it, if it stands at an offset and a depth; if deep, strings may be gone into that hold encodings
+  -- w is the encoding of a value, and hs are the headings of it and of the values inside it, each before those inside it, if it stands at an offset and a depth; if deep, the values that a string holds are inside it
   pub data IsListed (deep : Bool) (mode : Mode) : List ℕ → ℕ → ℕ → List Heading → Type 0 where
-    primitive : {w : List ℕ} {at depth : ℕ} {hs : List Heading} (t : Tag) (header contents : List ℕ) → IsHeader mode t false (told (Some (length contents))) header → w ≡ header ++ contents
+    primitive : {w : List ℕ} {at depth : ℕ} {hs : List Heading} (t : Tag) (header contents : List ℕ) → IsHeader mode t false (told (Some (length contents))) header → (deep ≡ true → HoldsNone mode t contents) → w ≡ header ++ contents
         → hs ≡ heading t false depth at (length header) (Some (length contents)) ∷ [] → IsListed deep mode w at depth hs
     definite : {w : List ℕ} {at depth : ℕ} {hs : List Heading} (t : Tag) (header contents : List ℕ) (inside : List Heading) → IsHeader mode t true (told (Some (length contents))) header → AreListed deep mode contents (at + length header) (depth + 1) inside
         → w ≡ header ++ contents → hs ≡ heading t true depth at (length header) (Some (length contents)) ∷ inside → IsListed deep mode w at depth hs
     indefinite : {w : List ℕ} {at depth : ℕ} {hs : List Heading} (t : Tag) (header contents end : List ℕ) (inside : List Heading) → IsHeader mode t true (told None) header → AreListed deep mode contents (at + length header) (depth + 1) inside → IsEndOfContents mode end
         → w ≡ header ++ (contents ++ end) → hs ≡ heading t true depth at (length header) None ∷ inside → IsListed deep mode w at depth hs
-    opened : {w : List ℕ} {at depth : ℕ} {hs : List Heading} (t : Tag) (header front contents : List ℕ) (inside : List Heading) → deep ≡ true → IsHeader mode t false (told (Some (length (front ++ contents)))) header → IsFront t front → AreListed deep mode contents (at + length header + length front) (depth + 1) inside
+    opened : {w : List ℕ} {at depth : ℕ} {hs : List Heading} (t : Tag) (header front contents : List ℕ) (inside : List Heading) → deep ≡ true → IsHeader mode t false (told (Some (length (front ++ contents)))) header → IsFront t front → contents ≢ [] → AreListed deep mode contents (at + length header + length front) (depth + 1) inside
         → w ≡ header ++ (front ++ contents) → hs ≡ heading t false depth at (length header) (Some (length (front ++ contents))) ∷ inside → IsListed deep mode w at depth hs
 
   -- the same of a list of values

@@ -7,7 +7,7 @@ use Rattle.bcder.specs.Encoding.{AreEncodings}
 use Rattle.berdump.specs.declared.heading.Heading.{Heading}
 use Rattle.berdump.specs.declared.opened.Open.{Open}
 use Rattle.berdump.specs.declared.opened.Open.TheVariants.{Definite, Indefinite}
-use Rattle.berdump.specs.Listing.{AreListed}
+use Rattle.berdump.specs.Listing.{AreListed, IsList}
 
 -- the octets behind the values that are open
 abbrev pub behind_all : List Open → List ℕ
@@ -27,10 +27,6 @@ Completes deep mode (Indefinite ∷ es) w at hs =
 -- what completes the one state completes the other
 abbrev pub Goes : Bool → Mode → List Open → List ℕ → ℕ → List Open → List ℕ → ℕ → Type 0
 Goes deep mode es w at fs v behind = (hs : List Heading) → Completes deep mode fs v behind hs → Completes deep mode es w at hs
-
--- the octets are the encodings of values
-abbrev pub IsList : Mode → List ℕ → Type 0
-IsList mode w = (ts : Trees) × AreEncodings mode ts w
 
 -- the octets may end all open values, whatever the headings
 abbrev pub Fits : Mode → List Open → List ℕ → Type 0

@@ -1,5 +1,5 @@
 -- How far a listing is.
-use Rattle.std.specs.Prelude.{◌≡◌, ℕ, ◌+◌, ◌-◌, Bool, true, false, List, ◌∷◌, ◌++◌, Option, length}
+use Rattle.std.specs.Prelude.{◌≡◌, ℕ, ◌+◌, ◌-◌, Bool, true, List, ◌∷◌, ◌++◌, Option, length}
 use Rattle.std.specs.Borrow.{Bor}
 use Rattle.bcder.specs.declared.mode.Mode.{Mode}
 use Rattle.bcder.specs.Identifier.{Tag}
@@ -7,8 +7,8 @@ use Rattle.berdump.specs.declared.heading.Heading.{Heading}
 use Rattle.berdump.specs.declared.list.ListError.{ListError}
 use Rattle.berdump.specs.declared.opened.Open.{Open}
 use Rattle.berdump.specs.declared.opened.Open.TheVariants.{Definite}
-use Rattle.berdump.specs.Listing.{IsFront, AreListed}
-use Rattle.berdump.specs.Opened.{behind_all, Completes, IsList, Fits}
+use Rattle.berdump.specs.Listing.{IsList, HoldsNone, Holds, AreListed}
+use Rattle.berdump.specs.Opened.{behind_all, Completes, Fits}
 use Rattle.berdump.specs.Answers.{AllStand, Written, IsUnlisted}
 
 -- with these values open, and these octets at an offset up to the end of the innermost that has a length
@@ -17,7 +17,7 @@ pub record IsAt (deep : Bool) (mode : Mode) (octets : List ℕ) (old new : Optio
   pub written : Written headings old new
   pub stand : AllStand mode octets headings
   pub goes : (hs : List Heading) → Completes deep mode es w at hs → AreListed deep mode octets 0 0 (headings ++ hs)
-  pub fits : deep ≡ false → IsList mode octets → Fits mode es w
+  pub fits : IsList mode octets → Fits mode es w
   pub passed : List ℕ
   pub offset : length passed ≡ at
   pub are : octets ≡ passed ++ (w ++ behind_all es)
@@ -34,7 +34,7 @@ Meets deep mode es w at b fs v behind c = (octets : List ℕ) (a : Option (List 
 abbrev pub Stops : Bool → Mode → List Open → List ℕ → ℕ → Option (List ℕ) → Option (List ℕ) → ListError → Type 0
 Stops deep mode es w at b c e = (octets : List ℕ) (a : Option (List ℕ)) → IsAt deep mode octets a b es w at → IsUnlisted deep mode octets a c e
 
--- contents octets at an offset are passed, or gone into behind what stands before a string
-pub data PassesContents (deep : Bool) (t : Tag) (contents behind : List ℕ) (at : ℕ) (es fs : List Open) (w : List ℕ) (end : ℕ) : Type 0 where
-  passed : fs ≡ es → w ≡ behind → end ≡ at + length contents → PassesContents deep t contents behind at es fs w end
-  opened : (b : Bor (List ℕ)) (front : List ℕ) → deep ≡ true → IsFront t front → contents ≡ front ++ w → b.now ≡ behind → fs ≡ Definite b ∷ es → end ≡ at + (length contents - length w) → PassesContents deep t contents behind at es fs w end
+-- contents octets at an offset are passed, or gone into where they are those of a string that holds encodings
+pub data PassesContents (deep : Bool) (mode : Mode) (t : Tag) (contents behind : List ℕ) (at : ℕ) (es fs : List Open) (w : List ℕ) (end : ℕ) : Type 0 where
+  passed : (deep ≡ true → HoldsNone mode t contents) → fs ≡ es → w ≡ behind → end ≡ at + length contents → PassesContents deep mode t contents behind at es fs w end
+  opened : (b : Bor (List ℕ)) → deep ≡ true → Holds mode t contents w → b.now ≡ behind → fs ≡ Definite b ∷ es → end ≡ at + (length contents - length w) → PassesContents deep mode t contents behind at es fs w end

@@ -1,16 +1,30 @@
 //! Encodings that strings hold.
 #![tactic(auto, using(bcder::specs::laws::Moved::steps))]
 
-ghost use Rattle.std.specs.Prelude.{◌≡◌, ◌∷◌, ◌++◌, ℕ, List, IfOk, IfSome};
-ghost use Rattle.berdump.specs.Listing.{IsFront};
+ghost use Rattle.std.specs.Prelude.{◌≡◌, ◌∷◌, ◌++◌, ℕ, List, true, false};
+ghost use Rattle.std.specs.Prelude.{Some, None, IfOk, IfSome, IfNone};
+ghost use Rattle.bcder.specs.contracts.decode.source.slice.SliceSourceSource.TheImpl.{ghosts};
+ghost use Rattle.bcder.specs.Skipping.{SkippedAll};
+ghost use Rattle.bcder.specs.Views.{Moved};
+ghost use Rattle.berdump.specs.Listing.{IsFront, IsList, IsNoList, Holds, HoldsNone};
 
 use bcder::decode::SliceSource;
 use bcder::{Mode, NoMemory, Tag};
 use std::alloc::Global;
 
 /// Whether octets are the encodings of values in the mode.
-fn is_list(alloc: Global, mode: Mode, octets: &[u8]) -> Result<bool, NoMemory> {
-    match mode.decode(SliceSource::new(octets), |cons| cons.skip_all(alloc)) {
+fn is_list(alloc: Global, mode: Mode, octets: &[u8]) -> Result<bool, NoMemory>
+    ensures yes { IfOk result (λ answer. answer ≡ true → IsList mode octets.now) }
+    ensures no { IfOk result (λ answer. answer ≡ false → IsNoList mode octets.now) }
+{
+    let passed = mode.decode(
+        SliceSource::new(octets),
+        |cons|
+            ensures moves { Moved ghosts.stream cons }
+            ensures skipped { SkippedAll ghosts.stream cons result }
+        { cons.skip_all(alloc) },
+    );
+    match passed {
         Ok(()) => Ok(true),
         Err(error) => {
             error.into_content()?;
@@ -21,7 +35,8 @@ fn is_list(alloc: Global, mode: Mode, octets: &[u8]) -> Result<bool, NoMemory> {
 
 /// The octets of a bit string without unused bits in contents octets (X.690, 8.6.2.2).
 fn bits_in(contents: &[u8]) -> Option<&[u8]>
-    ensures { IfSome result (λ r. contents.now ≡ 0 ∷ r.now) }
+    ensures some { IfSome result (λ r. contents.now ≡ 0 ∷ r.now) }
+    ensures none { IfNone result ((r : List ℕ) → contents.now ≡ 0 ∷ r → ⊥) }
 {
     match contents {
         [0, rest @ ..] => Some(rest),
@@ -32,8 +47,10 @@ fn bits_in(contents: &[u8]) -> Option<&[u8]>
 /// The octets of a string in contents octets: all of an OCTET STRING, all but the first of a BIT
 /// STRING without unused bits.
 fn string_in(tag: Tag, contents: &[u8]) -> Option<&[u8]>
-    ensures { IfSome result (λ r. (front : List ℕ) × IsFront tag front
+    ensures some { IfSome result (λ r. (front : List ℕ) × IsFront tag front
         × (contents.now ≡ front ++ r.now)) }
+    ensures none { IfNone result ((front r : List ℕ) → IsFront tag front
+        → contents.now ≡ front ++ r → ⊥) }
 {
     if tag == Tag::OCTET_STRING {
         Some(contents)
@@ -51,15 +68,27 @@ pub(crate) fn held_in(
     tag: Tag,
     contents: &[u8],
 ) -> Result<Option<&[u8]>, NoMemory>
-    ensures { IfOk result (λ o. IfSome o (λ r. (front : List ℕ) × IsFront tag front
-        × (contents.now ≡ front ++ r.now))) }
+    ensures some { IfOk result (λ o. IfSome o (λ r. Holds mode tag contents.now r.now)) }
+    ensures none { IfOk result (λ o. IfNone o (HoldsNone mode tag contents.now)) }
 {
     let Some(octets) = string_in(tag, contents) else {
         return Ok(None);
     };
-    if !octets.is_empty() && is_list(alloc, mode, octets)? {
-        Ok(Some(octets))
-    } else {
-        Ok(None)
+    if octets.is_empty() {
+        return Ok(None);
     }
+    match is_list(alloc, mode, octets) {
+        Ok(true) => Ok(Some(octets)),
+        Ok(false) => Ok(None),
+        Err(NoMemory) => Err(NoMemory),
+    }
+}
+
+/// The octets that are gone into: those that a string holds, if `inside`.
+pub(crate) fn gone_into(inside: bool, held: Option<&[u8]>) -> Option<&[u8]>
+    ensures some { IfSome result (λ r. held.entry ≡ Some r) }
+    ensures inside { IfSome result (λ _. inside ≡ true) }
+    ensures none { IfNone result (inside ≡ true → held.entry ≡ None) }
+{
+    if inside { held } else { None }
 }

@@ -7,7 +7,7 @@ ghost use Rattle.berdump.specs.Opened.{GoesOn};
 ghost use Rattle.berdump.specs.Walk.{PassesContents, Meets, Stops, left};
 
 use crate::heading::Heading;
-use crate::held::held_in;
+use crate::held::{gone_into, held_in};
 use crate::note::add_note;
 use crate::opened::{Open, close};
 use crate::target::write_octets;
@@ -167,8 +167,8 @@ fn list_primitive<'a, W: io::Write>(
 ) -> Result<Place<'a>, ListError>
     requires { at + length contents.now < 2 ^ 64 }
     ensures passes { IfOk result
-        (λ p. PassesContents inside heading.tag contents.now behind.now at opened.old.items
-        opened.new.items p.rest.now p.at) }
+        (λ p. PassesContents inside mode heading.tag contents.now behind.now at
+        opened.old.items opened.new.items p.rest.now p.at) }
     ensures written { OnOk result
         (Written (heading ∷ []) (W.contents target.old) (W.contents target.new)) }
     ensures unwritten { IfErr result
@@ -178,23 +178,21 @@ fn list_primitive<'a, W: io::Write>(
         Ok(held) => held,
         Err(NoMemory) => return Err(ListError::NoMemory),
     };
-    if let Some(rest) = held {
-        if inside {
-            let at = at + (contents.len() - rest.len());
-            let value = Open::Definite(behind);
-            if let Err(error) = open_value(alloc, mode, heading, contents, value, opened, target) {
-                return Err(error);
-            }
-            return Ok(Place { rest, at });
+    let Some(rest) = gone_into(inside, held) else {
+        if let Err(error) = write_line(alloc, mode, heading, contents, held.is_some(), target) {
+            return Err(error);
         }
-    }
-    if let Err(error) = write_line(alloc, mode, heading, contents, held.is_some(), target) {
+        return Ok(Place {
+            rest: behind,
+            at: at + contents.len(),
+        });
+    };
+    let at = at + (contents.len() - rest.len());
+    let value = Open::Definite(behind);
+    if let Err(error) = open_value(alloc, mode, heading, contents, value, opened, target) {
         return Err(error);
     }
-    Ok(Place {
-        rest: behind,
-        at: at + contents.len(),
-    })
+    Ok(Place { rest, at })
 }
 
 /// Lists the value at the front of the octets, which stand at an offset, and opens it if values
@@ -263,7 +261,8 @@ fn list_value<'a, W: io::Write>(
 }
 
 /// Writes a line for each value that the octets encode in the mode, and for each value inside it,
-/// before those inside. If `inside`, strings that hold encodings are gone into too.
+/// before those inside. If `inside`, the values whose encodings an OCTET STRING or a BIT STRING holds
+/// are inside it too.
 ///
 /// # Errors
 ///

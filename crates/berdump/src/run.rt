@@ -1,15 +1,44 @@
 //! Listing what was read: octets, or the blocks of a text (RFC 7468).
+ghost use Rattle.std.specs.Prelude.{◌≡◌, ◌≢◌, ◌++◌, [], IfSome, OnOk, OnErr};
+ghost use Rattle.std.specs.Io.KnownBytes.{Appends, Keeps};
+ghost use Rattle.berdump.specs.Front.{AppendsFront};
+ghost use Rattle.berdump.specs.Runs.{MayBegin, Ends, between, AllWritten, WrittenInPart};
+ghost use Rattle.berdump.specs.Runs.{OneWritten, OneInPart};
+
 use crate::list::{ListError, list};
 use crate::request::Request;
+use crate::target::write_octets;
 use base64::DecodeAllocError;
 use base64::engine::general_purpose::STANDARD;
 use std::alloc::Global;
 use std::io;
 
-/// Writes a message, and lets a failure of the target go.
-fn tell<E: io::Write>(err: &mut E, message: &str) -> u8 {
+/// What begins the line before a block.
+const BEGIN: &str = "-----BEGIN ";
+
+/// What is said where the target fails.
+const UNWRITTEN: &str = "the output can't be written";
+
+/// Writes a message, and lets a failure of the target go. Answers the exit status.
+fn tell<E: io::Write>(err: &mut E, message: &str) -> u8
+    ensures { result ≡ 1 }
+{
     let _ = write!(err, "berdump: {message}\n");
     1
+}
+
+/// The same of an error.
+fn tell_error<E: io::Write>(err: &mut E, error: &ListError) -> u8
+    ensures { result ≡ 1 }
+{
+    match error {
+        ListError::Refused(at, reason) => {
+            let _ = write!(err, "berdump: octet {at}: {reason}\n");
+            1
+        }
+        ListError::NoMemory => tell(err, "out of memory"),
+        ListError::Target(_) => tell(err, UNWRITTEN),
+    }
 }
 
 /// Lists octets on `out`. Answers the exit status, and says on `err` why it isn't 0.
@@ -19,18 +48,55 @@ fn run_octets<W: io::Write, E: io::Write>(
     octets: &[u8],
     out: &mut W,
     err: &mut E,
-) -> u8 {
-    let listed = list(alloc, request.mode, request.inside, octets, out);
-    let flushed = out.flush();
-    match listed {
-        Ok(()) if flushed.is_ok() => 0,
-        Ok(()) => tell(err, "the output can't be written"),
-        Err(ListError::Refused(at, reason)) => {
-            let _ = write!(err, "berdump: octet {at}: {reason}\n");
-            1
+) -> u8
+    ensures ends { Ends request.entry.inside request.entry.mode octets.now
+        (W.contents out.old) (W.contents out.new) result }
+    ensures silent { result ≡ 0 → Keeps (E.contents err.old) (E.contents err.new) }
+{
+    match list(alloc, request.mode, request.inside, octets, out) {
+        Ok(()) => match out.flush() {
+            Ok(()) => 0,
+            Err(_) => tell(err, UNWRITTEN),
+        },
+        Err(error) => {
+            let _ = out.flush();
+            tell_error(err, &error)
         }
-        Err(ListError::NoMemory) => tell(err, "out of memory"),
-        Err(ListError::Target(_)) => tell(err, "the output can't be written"),
+    }
+}
+
+/// Writes an empty line, if what follows isn't the first.
+fn set_apart<W: io::Write>(is_first: bool, out: &mut W) -> Result<(), io::Error>
+    ensures ok { OnOk result
+        (Appends (W.contents out.old) (W.contents out.new) (between is_first)) }
+    ensures err { OnErr result
+        (AppendsFront (W.contents out.old) (W.contents out.new) (between is_first)) }
+{
+    if is_first {
+        return Ok(());
+    }
+    write_octets(out, b"\n")
+}
+
+/// Lists the octets of a block, behind an empty line if it isn't the first.
+fn run_block<W: io::Write, E: io::Write>(
+    alloc: Global,
+    request: Request<'_>,
+    is_first: bool,
+    octets: &[u8],
+    out: &mut W,
+    err: &mut E,
+) -> u8
+    ensures listed { result ≡ 0 → OneWritten request.entry.inside request.entry.mode is_first
+        (W.contents out.old) (W.contents out.new) }
+    ensures bound { result ≢ 0 → OneInPart request.entry.inside request.entry.mode is_first
+        (W.contents out.old) (W.contents out.new) }
+    ensures status { result ≢ 0 → result ≡ 1 }
+    ensures silent { result ≡ 0 → Keeps (E.contents err.old) (E.contents err.new) }
+{
+    match set_apart(is_first, out) {
+        Ok(()) => run_octets(alloc, request, octets, out, err),
+        Err(_) => tell(err, UNWRITTEN),
     }
 }
 
@@ -40,14 +106,16 @@ fn label_of<'a>(line: &'a str, front: &str) -> Option<&'a str> {
 }
 
 /// The text that octets are, if it has a line that begins a block.
-fn blocks_in(octets: &[u8]) -> Option<&str> {
+fn blocks_in(octets: &[u8]) -> Option<&str>
+    ensures { IfSome result (λ _. MayBegin octets.now) }
+{
     let Ok(text) = str::from_utf8(octets) else {
         return None;
     };
-    if text
-        .lines()
-        .any(|line| label_of(line, "-----BEGIN ").is_some())
-    {
+    if !text.contains(BEGIN) {
+        return None;
+    }
+    if text.lines().any(|line| label_of(line, BEGIN).is_some()) {
         Some(text)
     } else {
         None
@@ -61,13 +129,20 @@ fn run_blocks<W: io::Write, E: io::Write>(
     text: &str,
     out: &mut W,
     err: &mut E,
-) -> u8 {
+) -> u8
+    ensures listed { result ≡ 0 → AllWritten request.entry.inside request.entry.mode
+        (W.contents out.old) (W.contents out.new) }
+    ensures bound { result ≢ 0 → WrittenInPart request.entry.inside request.entry.mode
+        (W.contents out.old) (W.contents out.new) }
+    ensures status { result ≢ 0 → result ≡ 1 }
+    ensures silent { result ≡ 0 → Keeps (E.contents err.old) (E.contents err.new) }
+{
     let mut begun: Option<&str> = None;
     let mut body = String::new(alloc);
     let mut is_first = true;
     for line in text.lines() {
         let Some(label) = begun else {
-            begun = label_of(line, "-----BEGIN ");
+            begun = label_of(line, BEGIN);
             body.clear();
             continue;
         };
@@ -85,10 +160,7 @@ fn run_blocks<W: io::Write, E: io::Write>(
             Err(DecodeAllocError::OutOfMemory) => return tell(err, "out of memory"),
             Err(_) => return tell(err, "a block isn't in base 64"),
         };
-        if !is_first && write!(out, "\n").is_err() {
-            return tell(err, "the output can't be written");
-        }
-        let status = run_octets(alloc, request, &octets, out, err);
+        let status = run_block(alloc, request, is_first, &octets, out, err);
         if status != 0 {
             return status;
         }
@@ -109,7 +181,17 @@ pub fn run<W: io::Write, E: io::Write>(
     octets: &[u8],
     out: &mut W,
     err: &mut E,
-) -> u8 {
+) -> u8
+    ensures ends { (MayBegin octets.now → ⊥) →
+        Ends request.entry.inside request.entry.mode octets.now
+        (W.contents out.old) (W.contents out.new) result }
+    ensures listed { result ≡ 0 → AllWritten request.entry.inside request.entry.mode
+        (W.contents out.old) (W.contents out.new) }
+    ensures bound { result ≢ 0 → WrittenInPart request.entry.inside request.entry.mode
+        (W.contents out.old) (W.contents out.new) }
+    ensures status { result ≢ 0 → result ≡ 1 }
+    ensures silent { result ≡ 0 → Keeps (E.contents err.old) (E.contents err.new) }
+{
     match blocks_in(octets) {
         Some(text) => run_blocks(alloc, request, text, out, err),
         None => run_octets(alloc, request, octets, out, err),

@@ -39,7 +39,7 @@ returns-then-front-clause-less g c = less_definite c.args.inside c.args.mode (g.
 
 pub returns-clause-meets : goal.returns-clause-meets
 returns-clause-meets g c = ok_step c.list_primitive.result
-    (λ p. PassesContents c.args.inside c.in-Some.front.tag c.split_at.result.0.now c.split_at.result.1.now (c.args.at + (length c.args.rest.now - length c.in-Some.front.rest.now)) c.args.opened.now.items c.list_primitive.new.opened.items p.rest.now p.at)
+    (λ p. PassesContents c.args.inside c.args.mode c.in-Some.front.tag c.split_at.result.0.now c.split_at.result.1.now (c.args.at + (length c.args.rest.now - length c.in-Some.front.rest.now)) c.args.opened.now.items c.list_primitive.new.opened.items p.rest.now p.at)
     (λ p. Meets c.args.inside c.args.mode c.args.opened.now.items c.args.rest.now c.args.at (g.W.Write.contents c.args.target.now) c.list_primitive.new.opened.items p.rest.now p.at (g.W.Write.contents c.list_primitive.new.target))
     (Written (heading c.in-Some.front.tag c.in-Some.front.constructed c.len.result c.args.at (length c.args.rest.now - length c.in-Some.front.rest.now) c.in-Some.front.len ∷ []) (g.W.Write.contents c.args.target.now) (g.W.Write.contents c.list_primitive.new.target))
     c.list_primitive.ensures.passes c.list_primitive.ensures.written
@@ -48,7 +48,7 @@ returns-clause-meets g c = ok_step c.list_primitive.result
 
 pub returns-clause-less : goal.returns-clause-less
 returns-clause-less g c = ok_step c.list_primitive.result
-    (λ p. PassesContents c.args.inside c.in-Some.front.tag c.split_at.result.0.now c.split_at.result.1.now (c.args.at + (length c.args.rest.now - length c.in-Some.front.rest.now)) c.args.opened.now.items c.list_primitive.new.opened.items p.rest.now p.at)
+    (λ p. PassesContents c.args.inside c.args.mode c.in-Some.front.tag c.split_at.result.0.now c.split_at.result.1.now (c.args.at + (length c.args.rest.now - length c.in-Some.front.rest.now)) c.args.opened.now.items c.list_primitive.new.opened.items p.rest.now p.at)
     (λ p. left c.list_primitive.new.opened.items p.rest.now < left c.args.opened.now.items c.args.rest.now)
     (Written (heading c.in-Some.front.tag c.in-Some.front.constructed c.len.result c.args.at (length c.args.rest.now - length c.in-Some.front.rest.now) c.in-Some.front.len ∷ []) (g.W.Write.contents c.args.target.now) (g.W.Write.contents c.list_primitive.new.target))
     c.list_primitive.ensures.passes c.list_primitive.ensures.written
