@@ -11,6 +11,8 @@ mod entries;
 #[cfg(test)]
 mod filters;
 #[cfg(test)]
+mod validity;
+#[cfg(test)]
 mod written;
 
 use bcder::decode::{Constructed, DecodeError, SliceSource, Source};

@@ -1,6 +1,5 @@
 //! Character sets: which octets are strings, and which characters these spell (X.680, 41; RFC 3629).
 use crate::asserts::{done, holds, same};
-use crate::latin_1::Latin1;
 use crate::string_octets::read;
 use bcder::string::{
     CharSet, Ia5CharSet, NumericCharSet, OctetStringOctets, PrintableCharSet, StringError,
@@ -9,6 +8,7 @@ use bcder::string::{
 use std::alloc::Global;
 use std::process::Abort;
 use std::str;
+use user::latin_1::Latin1;
 
 /// The characters of octets, one after the other.
 fn spelled<L: CharSet>(

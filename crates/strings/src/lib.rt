@@ -1,6 +1,6 @@
 //! Tests of strings over the library, with values from outside that are no lines of data: bit
 //! strings, octet strings and restricted character strings, as they are read and written. There is
-//! one module for each subject. [`latin_1`] is a character set of the tests' own.
+//! one module for each subject.
 #![tactic(auto)]
 
 #[cfg(test)]
@@ -11,7 +11,6 @@ mod bits;
 mod char_sets;
 #[cfg(test)]
 mod encodes;
-pub mod latin_1;
 #[cfg(test)]
 mod over;
 #[cfg(test)]

@@ -1,6 +1,5 @@
 //! Restricted character strings: which values are read as one, and their characters (X.690, 8.23).
 use crate::asserts::{done, holds, same, shows};
-use crate::latin_1::Latin1;
 use bcder::decode::{BytesSource, SliceSource, Source};
 use bcder::encode::Values;
 use bcder::string::{
@@ -12,6 +11,7 @@ use bytes::Bytes;
 use rows::sip::Sip;
 use std::alloc::Global;
 use std::process::Abort;
+use user::latin_1::Latin1;
 
 /// The string of a set in front of a source, if there is one.
 #[tactic(auto, using(bcder::specs::laws::Moved::steps))]

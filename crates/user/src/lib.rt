@@ -1,5 +1,6 @@
 //! Readers as users of the library write them: a certificate, a signed message, blocks of addresses,
-//! filters that hold filters, and small ones.
+//! filters that hold filters, and small ones. [`validity`] is a whole one to begin with, and
+//! [`latin_1`] a character set of one's own.
 //!
 //! A function that takes from content has one clause, that it moves it: `Moved S.stream cons`. A
 //! closure has none, or that same one where it has more than two steps, a loop, or a choice by the
@@ -15,10 +16,12 @@ mod addresses;
 mod certificate;
 mod extensions;
 mod filter;
+pub mod latin_1;
 mod lists;
 mod names;
 mod revoked;
 mod signed;
+pub mod validity;
 
 pub use addresses::{Addresses, decode_addresses};
 use bcder::decode::{Constructed, Content, DecodeError, Primitive, Source};

@@ -1,9 +1,12 @@
-//! A character set of the tests' own, Latin-1: each octet is the character of its number.
+//! A character set of one's own, Latin-1, in which each octet is the character of its number. It is
+//! what old certificates have in a TeletexString.
+#![tactic(auto)]
+
 ghost use Rattle.std.specs.Prelude.{⊤};
 ghost use Rattle.bcder.specs.Identifier.{universal};
 ghost use Rattle.bcder.specs.AsciiSets.{one_octet_step};
 ghost use Rattle.bcder.specs.laws.CharSets.{one_octet_lawful};
-ghost use Rattle.strings.specs.Latin1.{is_octet, octet_scalar};
+ghost use Rattle.user.specs.Latin1.{is_octet, octet_scalar};
 
 use bcder::Tag;
 use bcder::string::{CharSet, CharSetError, OctetStringOctets, StringError};

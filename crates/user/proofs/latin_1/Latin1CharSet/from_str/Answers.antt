@@ -7,9 +7,9 @@ use Rattle.std.specs.Str.{chars}
 use Rattle.bcder.specs.AsciiSets.{one_octet_step}
 use Rattle.bcder.specs.CharSet.{Spells}
 use Rattle.bcder.specs.laws.CharSets.{AllHave, self_spelled}
-use Rattle.strings.specs.Latin1.{is_octet}
-use Rattle.strings.proofs.Latin1.{spells_self, have_push, have_at, too_large, small}
-use Rattle.strings.proofs.latin_1.Latin1CharSet.from_str.Goals as goal
+use Rattle.user.specs.Latin1.{is_octet}
+use Rattle.user.proofs.Latin1.{spells_self, have_push, have_at, too_large, small}
+use Rattle.user.proofs.latin_1.Latin1CharSet.from_str.Goals as goal
 
 pub returns-then-character-gt255 : goal.returns-then-character-gt255
 returns-then-character-gt255 c w s =

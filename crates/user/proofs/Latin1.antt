@@ -4,7 +4,7 @@ use Rattle.std.proofs.lemmas.Bool.Decides.{nat_tests}
 use Rattle.bcder.specs.AsciiSets.{one_octet_step}
 use Rattle.bcder.specs.CharSet.{Spells}
 use Rattle.bcder.specs.laws.CharSets.{AllHave}
-use Rattle.strings.specs.Latin1.{is_octet}
+use Rattle.user.specs.Latin1.{is_octet}
 
 module _ (has : ℕ → Bool) where
   pub spells_self : (w : List ℕ) → AllHave has w → Spells (one_octet_step has) w w
