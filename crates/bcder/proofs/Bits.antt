@@ -62,9 +62,6 @@ cleared_length unused [] = refl
 cleared_length unused (b ∷ []) = refl
 cleared_length unused (b ∷ c ∷ w) = ap suc (cleared_length unused (c ∷ w))
 
-last : List ℕ → ℕ
-last w = get_or w (length w - 1) 0
-
 same_tail : (b : ℕ) (v w : List ℕ) → b ∷ v ≡ b ∷ w → v ≡ w
 same_tail b v w e = cc
 

@@ -1,5 +1,5 @@
 -- Character sets: what octets spell, from one step to the next.
-use Rattle.std.proofs.Common.{◌≡◌, ◌≢◌, ◌↔◌, ℕ, ◌<◌, List, [], ◌∷◌, length, Some, None, refl, sym, ap, ◌∙◌, subst, arith}
+use Rattle.std.proofs.Common.{◌≡◌, ◌≢◌, ◌↔◌, ℕ, ◌<◌, List, [], ◌∷◌, length, Some, None, sym, ap, ◌∙◌, subst, arith}
 use Rattle.std.proofs.lemmas.List.{length-append}
 use Rattle.std.specs.Prelude.{Option, true, false, is_some, Result, Ok, Err, IsErrAnd}
 use Rattle.bcder.specs.declared.string.restricted.char_set.CharSetError.{CharSetError}
@@ -18,18 +18,6 @@ module _ (step : Step) (lawful : IsStep step) where
   -- no character stands where no octet is
   pub none_at_end : (x : Front) → step [] ≡ Some x → ⊥
   none_at_end x e = let shorter = rest_shorter [] x e in absurd (omega arith)
-
-  -- octets spell at most one list of characters
-  pub spells_one : (cs ds w : List ℕ) → Spells step w cs → Spells step w ds → cs ≡ ds
-  spells_one [] [] w p q = refl
-  spells_one [] (d ∷ ds) w p q = absurd (none_at_end _ (ap step (sym p) ∙ q.1))
-  spells_one (c ∷ cs) [] w p q = absurd (none_at_end _ (ap step (sym q) ∙ p.1))
-  spells_one (c ∷ cs) (d ∷ ds) w p q =
-      let e : ◌≡◌ {A = Front} (record { char = c; rest = p.0 }) (record { char = d; rest = q.0 }) = same_front _ _ (sym p.1 ∙ q.1) in
-      let rest : p.0 ≡ q.0 = ap (λ (x : Front). x.rest) e in
-      let char : c ≡ d = ap (λ (x : Front). x.char) e in
-      let more = spells_one cs ds q.0 (subst (λ (u : List ℕ). Spells step u cs) rest p.2) q.2 in
-      λ i. char i ∷ more i
 
 -- octets are a string of the set where those behind their first character are
 pub accepts_rest : (step : Step) (w : List ℕ) (x : Front) → step w ≡ Some x → Accepts step w → IsStep step → Accepts step x.rest

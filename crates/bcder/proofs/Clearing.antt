@@ -46,9 +46,6 @@ same_bit unused w i h = elim (cases_lt (suc (i / 8)) (length w)) [
       rw (e, up) refl)
 ]
 
-pub clear : Bits → Bits
-clear x = record { unused = x.unused; octets = cleared x.unused x.octets }
-
 -- the bits stay
 pub same_bits : (x : Bits) → bits (record { unused = x.unused; octets = cleared x.unused x.octets }) ≡ bits x
 same_bits x =

@@ -17,7 +17,8 @@ use Rattle.bcder.specs.Calls.{RefusesEnd, left_failed, source_failed, left_open}
 use Rattle.bcder.specs.laws.Limits.{limit_told_after, limited_sound}
 use Rattle.bcder.specs.laws.Sound.{none_is}
 use Rattle.bcder.specs.laws.Stands.{Headed}
-use Rattle.bcder.proofs.Moving.{Falls-refl, moves_failed, moves_marker, moves_still, open_not_ended}
+use Rattle.bcder.specs.laws.Moved.{Falls-refl}
+use Rattle.bcder.proofs.Moving.{moves_failed, moves_marker, moves_still, open_not_ended}
 use Rattle.bcder.proofs.Headers.{no_header_unread, no_header_empty, header_no_marker, no_marker_unread, no_marker_empty, no_other_front, no_other_unread, other_of, unread_of, header_of_front, marker_of_front, no_header_tag, no_header_form, no_header_long, no_marker_other, size_is}
 
 -- ---- an advance of a limited source
@@ -184,14 +185,6 @@ module _ (c d : Reading) (s : Resembles c d) (f : c.stream.faults ≤ d.stream.f
     fits = x.fits;
   }
 
-  pub looked_marker : (e : Reading) → TakesMarker d e → TakesMarker c e
-  looked_marker e x = record {
-    usable = sym s.state ∙ x.usable;
-    kind = sym s.kind ∙ x.kind;
-    marker = subst (λ m. HasMarker m c.stream.rest e.stream.rest) s.mode (subst (λ z. HasMarker d.mode z e.stream.rest) s.rest x.marker);
-    ended = x.ended;
-  }
-
   looked_header : (asked : Asked) (after : List ℕ) → HasHeader asked c after → HasHeader asked d after
   looked_header asked after x = record {
     tag = x.tag;
@@ -305,9 +298,6 @@ module _ (c d : Reading) (s : Resembles c d) (o : c.state ≡ Open) where
 
   pub if_other_at : (t : Tag) → Within c → HasOtherTag t d.stream.rest → IsAbsent (tagged t) c d.stream.rest × IsLeft t c d
   if_other_at t w u = (inr (o, other (other_of t c.stream.rest w.octets (subst (λ z. HasOtherTag t z) s.rest u)) s.rest), inl (s.state, s.rest))
-
-  pub if_none_at : (t : Tag) → d.stream.rest ≡ [] → IsAbsent (tagged t) c d.stream.rest × IsLeft t c d
-  if_none_at t e = (inr (o, none_left (sym s.rest ∙ e) e), inl (s.state, s.rest))
 
   pub if_front_nothing : (t : Tag) (h : Header) (x : List ℕ) → NoFront c → read_front c.mode d.stream.rest ≡ Some (h, x) → h.tag ≡ t → NothingThere (tagged t) c
   if_front_nothing t h x n r e = if_nothing c t h x o n (subst (λ z. read_front c.mode z ≡ Some (h, x)) s.rest r) e

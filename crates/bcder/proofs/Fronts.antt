@@ -1,6 +1,5 @@
 -- What the plain reader's answers say of the octets.
-use Rattle.std.proofs.Common.{◌≡◌, ℕ, ◌+◌, ◌≤◌, Bool, false, List, ◌++◌, length, Option, Some, None, MatchOption, IfSome, IfNone, IsSome, ◌↔◌, refl, sym, ap, subst, ◌∙◌, arith}
-use Rattle.std.proofs.lemmas.List.{length-append}
+use Rattle.std.proofs.Common.{◌≡◌, ℕ, Bool, false, List, ◌++◌, Option, Some, None, MatchOption, IfSome, IfNone, IsSome, ◌↔◌, refl, sym, ap, subst, ◌∙◌}
 use Rattle.bcder.specs.declared.mode.Mode.{Mode}
 use Rattle.bcder.specs.declared.length.Length.{Length}
 use Rattle.bcder.specs.Identifier.{AreOctets, Tag}
@@ -9,7 +8,7 @@ use Rattle.bcder.specs.Tree.{Trees}
 use Rattle.bcder.specs.Encoding.{IsHeader, AreEncodings}
 use Rattle.bcder.specs.Told.{told}
 use Rattle.bcder.specs.Reading.{read_header, read_end, read_list}
-use Rattle.bcder.specs.laws.Complete.{header_complete, header_size}
+use Rattle.bcder.specs.laws.Complete.{header_complete}
 use Rattle.bcder.specs.laws.Lengths.{read_end-complete}
 use Rattle.bcder.specs.laws.Sound.{end_sound, none_is}
 use Rattle.bcder.specs.laws.Stands.{header_sound, list_sound, list_complete}
@@ -52,8 +51,3 @@ no_end_found (Some x) now mode octets h = tt
 pub list_is_found : {X : Type 0} (r : Option X) (now : X → List ℕ) (mode : Mode) (octets : List ℕ) → AreOctets octets → MatchOption r (read_list mode false octets ≡ None) (λ x. ListRead mode false octets (now x)) → IsSome r ↔ (ts : Trees) × AreEncodings mode ts octets
 list_is_found None now mode octets o h = (λ e. cc, λ l. absurd (none_is _ (sym h ∙ list_complete mode octets l.0 l.1)))
 list_is_found (Some x) now mode octets o h = (λ _. (h.0, list_sound mode octets h.0 (now x) o h.1), λ _. refl)
-
--- ---- what was found is what reading gives
-
-pub rest_shorter : (mode : Mode) (t : Tag) (f : Bool) (len : Length) (octets rest : List ℕ) → HeaderFound mode t f len octets rest → length rest + 2 ≤ length octets
-rest_shorter mode t f len octets rest h = omega (arith, header_size mode t f len h.0 h.1, ap length h.2, length-append h.0 rest)

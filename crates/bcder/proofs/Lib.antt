@@ -1,8 +1,7 @@
 pub use Rattle.std.proofs.lemmas.Bool.Decides.{nat_tests}
-pub use Rattle.bcder.proofs.Moving.{moves_refl, moves_trans, moves}
+pub use Rattle.bcder.proofs.Moving.{moves}
 pub use Rattle.bcder.proofs.Names.{moves_constructed_name, moves_octets_name, moves_content_name}
 pub mod Lemmas
-pub mod Carrying
 mod rows
 pub mod Steps
 pub mod Skip
@@ -28,7 +27,6 @@ pub mod Stepping
 pub mod Passing
 pub mod Levels
 pub mod Decoding
-pub mod Insides
 pub mod Nested
 pub mod Repeating
 pub mod Keeping

@@ -7,9 +7,7 @@ use Rattle.bcder.specs.Tree.{Tree, no_trees, ◌∷ₜ◌}
 use Rattle.bcder.specs.Encoding.{IsEncoding}
 use Rattle.bcder.specs.Content.{Reading, Octets, IndefiniteValues, label, Moves, Advances}
 use Rattle.bcder.specs.laws.Lists.{AreEncodings-one}
-use Rattle.bcder.specs.laws.Moved.{whole_marked, whole_none}
-pub use Rattle.bcder.specs.laws.Moved.{Falls-refl, Falls-trans}
-pub use Rattle.bcder.specs.laws.Moved.{untouched_is_moved as moves_refl, moved_twice_is_moved as moves_trans}
+use Rattle.bcder.specs.laws.Moved.{whole_marked, whole_none, Falls-refl, Falls-trans, untouched_is_moved, moved_twice_is_moved}
 
 -- ---- states and marks
 
@@ -19,7 +17,7 @@ open_not_ended s o e = let y : Open ≡ Ended = sym o ∙ e in cc
 pub open_not_failed : (s : State) → s ≡ Open → s ≢ Failed
 open_not_failed s o e = let y : Open ≡ Failed = sym o ∙ e in cc
 
-pub ruleset moves = (moves_refl, moves_trans)
+pub ruleset moves = (untouched_is_moved, moved_twice_is_moved)
 
 -- ---- single steps
 

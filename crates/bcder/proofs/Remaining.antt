@@ -4,7 +4,8 @@ use Rattle.bcder.specs.declared.decode.content.State.TheVariants.{Open}
 use Rattle.bcder.specs.Stream.{Stream, IsSound, cut, past, limited}
 use Rattle.bcder.specs.Content.{Reading, Octets, Moves, Resembles, Advances}
 use Rattle.bcder.specs.laws.Limits.{limit_told, limit_told_after, first_kept}
-use Rattle.bcder.proofs.Moving.{moves_trans, moves_octets}
+use Rattle.bcder.specs.laws.Moved.{moved_twice_is_moved}
+use Rattle.bcder.proofs.Moving.{moves_octets}
 use Rattle.bcder.proofs.Entering.{advances_by, looked_moves}
 
 -- the limit stays where octets are only asked for
@@ -44,4 +45,4 @@ unfolding over
 passed_moves c d s t u o p q n cs co ds do' so r k f a r' k' f' oc op ki st mo ma na =
     let m = over c (limited p t) p in
     let x : Advances m d (take n m.stream.rest) = advances_by m d t u p q n refl refl ds do' so r' f' k' a ki mo na in
-    moves_trans c m d (asked_moves c m s t o p cs co refl refl r k f refl refl refl refl refl) (moves_octets m d (take n m.stream.rest) x ma oc op st)
+    moved_twice_is_moved c m d (asked_moves c m s t o p cs co refl refl r k f refl refl refl refl refl) (moves_octets m d (take n m.stream.rest) x ma oc op st)

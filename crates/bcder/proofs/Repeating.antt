@@ -11,7 +11,7 @@ use Rattle.bcder.specs.declared.decode.error.ContentError.{ContentError}
 use Rattle.bcder.specs.Cause.{Cause, of_memory, IsOfContent}
 use Rattle.bcder.specs.Content.{Reading, Moves}
 use Rattle.bcder.specs.Repeating.{Answer, OwesAsBefore, TookNothing, Turn, Gift, values, Answers, GoesOn, LastAnswers, Repeats, ended, refused, stalled, endless, Collects, collected, not_answered, not_advanced, not_kept}
-use Rattle.bcder.proofs.Moving.{moves_refl, moves_trans}
+use Rattle.bcder.specs.laws.Moved.{untouched_is_moved, moved_twice_is_moved}
 
 -- what the test tells
 pub took_nothing : (o p : Option ℕ) (d e : Reading) (b : Bool) → o ≡ d.owed → p ≡ e.owed → IsTrue b ↔ OwesAsBefore o p → b ≡ true → TookNothing d e
@@ -44,10 +44,10 @@ module _ {F C T E : Type 0} (view : C → Reading) (step : F → MutBor C → An
       subst (λ x. Moves x e) t.handed_is (subst (λ x. Moves (view o.0.handed.now) x) t.left_is n)
 
   pub then_moves : (c : Reading) (g : F) (d : Reading) (a : Answer T E) (h : F) (e : Reading) → Lawful c → Moves c d → Once g d a h e → Moves c e
-  then_moves c g d a h e l m o = moves_trans c d e m (one_moves c g d a h e l m o)
+  then_moves c g d a h e l m o = moved_twice_is_moved c d e m (one_moves c g d a h e l m o)
 
   pub went_none : (f : F) (c : Reading) → WentOn f c 0 f c
-  went_none f c = record { moves = moves_refl c; gifts = []; count = refl; went_on = refl }
+  went_none f c = record { moves = untouched_is_moved c; gifts = []; count = refl; went_on = refl }
 
   more_gifts : (xs : List (Gift C T)) (x : Gift C T) (n : ℕ) → length xs ≡ n → length (xs ++ (x ∷ [])) ≡ n + 1
   more_gifts xs x n e = simp length-append (omega arith)
@@ -56,7 +56,7 @@ module _ {F C T E : Type 0} (view : C → Reading) (step : F → MutBor C → An
   went_more f c n g d x h e w s t m =
       let y : Gift C T = record { turn = s.0; value = x } in
       record {
-        moves = moves_trans c d e w.moves m;
+        moves = moved_twice_is_moved c d e w.moves m;
         gifts = w.gifts ++ (y ∷ []);
         count = more_gifts w.gifts y n w.count;
         went_on = FoldsTo-push (GoesOn view step) _ w.gifts _ y _ w.went_on (record { answered = s.1; took = t });

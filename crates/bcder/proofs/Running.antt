@@ -26,7 +26,7 @@ use Rattle.bcder.specs.Reading.{Header, read_contents, read_list}
 use Rattle.bcder.specs.Stream.{IsSound, Layer, Stream, Grew, cut, past, limited}
 use Rattle.bcder.specs.Content.{Reading, values, any, Falls, FitsOwed, Enters, EndsAt, Moves, RefusesHeader, failed, source, nothing}
 use Rattle.bcder.specs.Skipping.{Steps, Called}
-use Rattle.bcder.specs.Stacked.{entries, remain, due, heading, halt_cause, unwound, TopIs, Passes, GoesInto, octets, Leaves, Counts, PassesCalls, IsUnderWay, IsBroken, StaysAt, for_memory, by_failure, too_few, GoneBy, IsCounted, framed, StaysOut, refused, wanted, failing, few, VisitedBy, Breaks, by_source, by_content, by_closure, by_memory, RanBy}
+use Rattle.bcder.specs.Stacked.{entries, remain, due, heading, unwound, TopIs, Passes, GoesInto, octets, Leaves, Counts, PassesCalls, IsUnderWay, IsBroken, StaysAt, for_memory, by_failure, too_few, GoneBy, IsCounted, framed, StaysOut, refused, wanted, failing, few, VisitedBy, Breaks, by_source, by_content, by_closure, by_memory, RanBy}
 use Rattle.bcder.specs.Stacked as stacked
 use Rattle.bcder.specs.laws.Complete.{header_size}
 use Rattle.bcder.specs.laws.Limits.{first_kept}

@@ -3,7 +3,7 @@ use Rattle.std.proofs.Common.{◌≡◌, ℕ, zero, suc, ◌+◌, ◌-◌, ◌*�
 use Rattle.std.specs.List.{concat}
 use Rattle.std.specs.Prelude.{IfOk, IfErr}
 use Rattle.std.specs.Io.KnownBytes.{Appends}
-use Rattle.std.proofs.KnownBytes.{Appends-trans, Appends-nil}
+use Rattle.std.proofs.KnownBytes.{Appends-trans}
 use Rattle.std.proofs.lemmas.Bool.{lt-ltb, le-ltb}
 use Rattle.std.proofs.lemmas.List.{length-append, length-take-le, length-drop, take-append-le, drop-append-le, drop-drop}
 use Rattle.std.proofs.Math.Seq.{take-add, take-length}
@@ -162,9 +162,6 @@ part_halts p part (Ok q) is h = absurd is.1
 part_halts p part (Err d) is h = h
 
 -- ---- one step after another
-
-pub stays : {p : Progress} {v : List ℕ} (old : Option (List ℕ)) → IsProgress p v → Advanced p v p v old old
-stays old at = record { written = []; appends = Appends-nil old; is = refl; progress = at }
 
 pub advanced_on : {p q r : Progress} {u v w : List ℕ} {a b c : Option (List ℕ)} → Advanced p u q v a b → Advanced q v r w b c → Advanced p u r w a c
 advanced_on {p} {q} {r} {u} {v} {w} {a} {b} {c} x y = record {

@@ -9,7 +9,7 @@ use Rattle.bcder.specs.declared.decode.content.skip.Halt.{Halt}
 use Rattle.bcder.specs.declared.decode.content.skip.Halt.TheVariants as halt
 use Rattle.bcder.specs.declared.decode.error.ContentError.{ContentError}
 use Rattle.bcder.specs.declared.decode.error.DecodeError.{DecodeError}
-use Rattle.bcder.specs.Cause.{Cause, cause_of, of_source, of_content, of_memory, IsOfContent, IsRefusal}
+use Rattle.bcder.specs.Cause.{Cause, cause_of, of_source, of_content, of_memory, IsOfContent}
 use Rattle.bcder.specs.Identifier.{universal}
 use Rattle.bcder.specs.Tree.{Tree, primitive}
 use Rattle.bcder.specs.Encoding.{IsEncoding}
@@ -24,12 +24,13 @@ use Rattle.bcder.specs.Content.{Accepts, FitsOwed, Reading, Octets, Resembles, a
 use Rattle.bcder.specs.Grammar.{IsOnly}
 use Rattle.bcder.specs.Walking.{HasValue, NoValue, PassesValue, RefusesWalk, AnswersNext, HasValues, Walks}
 use Rattle.bcder.specs.Walking as walking
-use Rattle.bcder.specs.Skipping.{IsPast, Steps, Called, Refused, WereCalls, SkipsValue, RefusesSkip, SkippedBy, AnswersAll, IsShallow, FindsMemory, AnswersSkip, AnswersValue, SkippedValueBy, GoesDeep, RefusesOne, SkippedOneBy, RefusesAll, SkippedAllBy, FoundMemory}
+use Rattle.bcder.specs.Skipping.{IsPast, Steps, Called, WereCalls, SkipsValue, RefusesSkip, SkippedBy, AnswersAll, IsShallow, AnswersSkip, AnswersValue, SkippedValueBy, RefusesOne, SkippedOneBy, RefusesAll, SkippedAllBy, FoundMemory}
 use Rattle.bcder.specs.Skipping as skipping
 use Rattle.bcder.specs.Stacked.{heading, halt_cause, PassesCalls, IsUnderWay, IsBroken, RanBy, Breaks, by_source, by_content, by_closure, by_memory}
 use Rattle.bcder.specs.laws.Complete.{header_complete, header_size, tree_complete, only_at_front}
 use Rattle.bcder.specs.laws.Sound.{none_is, some_inj}
 use Rattle.bcder.specs.laws.Stands.{Stands, tree_sound}
+use Rattle.bcder.specs.laws.Moved.{moved_is_no_longer}
 use Rattle.bcder.proofs.Ends.{from_header}
 use Rattle.bcder.proofs.Entering.{Within, header_not_at_end, header_entered}
 use Rattle.bcder.proofs.Inner.{layers_eq}
@@ -37,7 +38,7 @@ use Rattle.bcder.proofs.Moving.{moves_value, moves_failed, advances_trans, open_
 use Rattle.bcder.proofs.Skips.{cut_falls, past_falls, finished}
 use Rattle.bcder.proofs.Passing.{looked_passes, looked_ends, looked_open, looked_refused}
 use Rattle.bcder.proofs.Walked.{answers_next}
-use Rattle.bcder.proofs.Walking.{value_not_at_end, value_once, moves_shorter, walks_refused}
+use Rattle.bcder.proofs.Walking.{value_not_at_end, value_once, walks_refused}
 
 -- ---- calls that were made
 
@@ -249,7 +250,7 @@ module _ {F X : Type 0} (why : X → Cause ContentError) (step : Steps F Content
   skipped_end a b n = record { value = tt; end = a; done = b; uncalled = refl; no_fault = n; refused = tt; failed = tt; mode = mode; marked = marked }
 
   pub skipped_none : {T : Type 0} (e : X) → Moves c d → RefusesWalk why c e d → d.state ≡ Failed → SkippedBy {T = T} why step c f (Err e) f d
-  skipped_none e m r a = record { value = tt; end = tt; done = tt; uncalled = tt; no_fault = tt; refused = skipping.RefusesSkip.by_content [] refl (no_calls c d (moves_shorter c d m)) r; failed = a; mode = mode; marked = marked }
+  skipped_none e m r a = record { value = tt; end = tt; done = tt; uncalled = tt; no_fault = tt; refused = skipping.RefusesSkip.by_content [] refl (no_calls c d (moved_is_no_longer c d m)) r; failed = a; mode = mode; marked = marked }
 
 -- ---- exactly where a value stands in front
 
@@ -300,12 +301,6 @@ module _ {F X : Type 0} (why : X → Cause ContentError) (step : Steps F Content
 -- ---- a value that has to be there
 
 module _ {F S : Type 0} (step : Steps F ContentError) (c : Reading) (f g : F) (d : Reading) where
-  pub value_some : {T U : Type 0} (x : T) (y : U) → SkippedBy {T = T} {X = DecodeError S} cause_of step c f (Ok (Some x)) g d → SkippedValueBy {S = S} step c f (Ok y) g d
-  value_some x y s = record { value = s.value; no_fault = s.no_fault; refused = tt; mode = s.mode; marked = s.marked }
-
-  pub value_none : {T U : Type 0} (e : DecodeError S) → IsRefusal e → SkippedBy {T = T} {X = DecodeError S} cause_of step c f (Ok None) g d → SkippedValueBy {T = U} {S = S} step c f (Err e) g d
-  value_none e r s = record { value = tt; no_fault = tt; refused = inl (record { missing = (s.end, s.done); marked = s.marked; no_fault = s.no_fault }, r, s.uncalled); mode = s.mode; marked = s.marked }
-
   pub value_refused : {T U : Type 0} (e : DecodeError S) → SkippedBy {T = T} {X = DecodeError S} cause_of step c f (Err e) g d → SkippedValueBy {T = U} {S = S} step c f (Err e) g d
   value_refused e s = record { value = tt; no_fault = tt; refused = inr (s.failed, s.refused); mode = s.mode; marked = s.marked }
 
@@ -322,25 +317,10 @@ module _ {F S T U : Type 0} (step : Steps F ContentError) (c : Reading) (f : F) 
 
 -- ---- without a closure
 
-module _ {F X : Type 0} (why : X → Cause ContentError) (step : Steps F ContentError) (c : Reading) (f g : F) (d : Reading) where
-  refused_one : ((q : F) (h : Heading) (x : ContentError) (p : F) → Refused step q h x p → ⊥) → (e : X) → RefusesSkip why step c f e g d → RefusesOne why c e d
-  refused_one n e (skipping.RefusesSkip.by_content calls called were r) = skipping.RefusesOne.by_walk r
-  refused_one n e (skipping.RefusesSkip.by_closure calls h q x called r were j) = absurd (n q h x g r)
-  refused_one n e (skipping.RefusesSkip.by_memory calls h called were b l j) = skipping.RefusesOne.by_depth (record { calls = calls; last = h; were = were; constructed = b; deep = l }) j
-
-  -- a closure that never refuses
-  pub skipped_one : {T : Type 0} (r : Result (Option T) X) → ((q : F) (h : Heading) (x : ContentError) (p : F) → Refused step q h x p → ⊥) → SkippedBy why step c f r g d → SkippedOneBy why c r d
-  skipped_one (Ok None) n s = record { value = tt; end = s.end; done = s.done; no_fault = s.no_fault; refused = tt; failed = tt; mode = s.mode; marked = s.marked }
-  skipped_one (Ok (Some x)) n s = record { value = s.value.passes; end = tt; done = tt; no_fault = s.no_fault; refused = tt; failed = tt; mode = s.mode; marked = s.marked }
-  skipped_one (Err e) n s = record { value = tt; end = tt; done = tt; no_fault = tt; refused = refused_one n e s.refused; failed = s.failed; mode = s.mode; marked = s.marked }
-
 module _ {X : Type 0} (why : X → Cause ContentError) (c d e : Reading) where
   -- a value that was passed at once
   pub one_at_once : {T : Type 0} (x : T) → PassesValue c d → d.stream.faults ≡ c.stream.faults → d.mode ≡ c.mode → d.marked ≡ c.marked → SkippedOneBy {X = X} why c (Ok (Some x)) d
   one_at_once x p n m k = record { value = p; end = tt; done = tt; no_fault = n; refused = tt; failed = tt; mode = m; marked = k }
-
-  pub one_failing : {T : Type 0} (y : X) → why y ≡ of_source → Grew c.stream.faults d.stream.faults → d.state ≡ Failed → d.mode ≡ c.mode → d.marked ≡ c.marked → SkippedOneBy {T = T} why c (Err y) d
-  one_failing y j n s m k = record { value = tt; end = tt; done = tt; no_fault = tt; refused = skipping.RefusesOne.by_walk (walking.RefusesWalk.source j n); failed = s; mode = m; marked = k }
 
   -- content that was only looked at before
   looked_calls : Resembles c d → (calls : List Heading) → WereCalls d calls e → WereCalls c calls e

@@ -32,8 +32,9 @@ use Rattle.bcder.specs.laws.Lengths.{read_end-complete}
 use Rattle.bcder.specs.laws.Limits.{cut_past, rest_told_behind, first_kept, rest_kept}
 use Rattle.bcder.specs.laws.Sound.{none_is, some_inj, end_sound}
 use Rattle.bcder.specs.laws.Stands.{tree_sound}
+use Rattle.bcder.specs.laws.Moved.{Falls-refl, Falls-trans}
 use Rattle.bcder.proofs.Inner.{layer_is}
-use Rattle.bcder.proofs.Moving.{Falls-refl, Falls-trans, open_not_ended}
+use Rattle.bcder.proofs.Moving.{open_not_ended}
 use Rattle.bcder.proofs.Ends.{from_header, drop_front, two_calls, definite_ends, indefinite_ends, too_few, goes_on, too_long, octets_there, Restores, definite_there, definite_short, indefinite_there, FirstIs, first_heading, heads, Restores-none, Restores-all, Restores-short}
 use Rattle.bcder.proofs.Growing.{preorders-grown, AreOpen-grown, AreOpen-new}
 

@@ -1,7 +1,7 @@
 -- Octets put together for the components of a text.
 use Rattle.std.proofs.Common.{◌≡◌, ℕ, List, [], ◌∷◌, ◌++◌, refl, ap, ◌∙◌, append_assoc, inl, inr}
 use Rattle.bcder.specs.ObjectIdentifier.{IsSubidentifier}
-use Rattle.bcder.specs.IdentifierText.{between_dots, IsComponentText, IsNoComponent, AreTextsOf, IsTextOf, MayBegin, RefusesTexts, RefusesText, ReadsParts, RefusesParts}
+use Rattle.bcder.specs.IdentifierText.{between_dots, IsComponentText, IsNoComponent, IsTextOf, MayBegin, RefusesTexts, RefusesText, ReadsParts, RefusesParts}
 use Rattle.bcder.specs.IdentifierText.RefusesTexts.{other_is_none, no_memory}
 use Rattle.bcder.specs.declared.oid.text.OidError.{OidError}
 use Rattle.bcder.specs.declared.oid.text.OidError.TheVariants.{NotInteger, NoMemory}
@@ -50,9 +50,6 @@ module _ (text a b : List ℕ) (us ts : List (List ℕ)) (split : between_dots t
 
   pub refuses : (e : OidError) → RefusesTexts a b ts e → RefusesText text e
   refuses e r = rw whole r
-
-  pub spells : (w : List ℕ) → AreTextsOf a b ts w → IsTextOf text w
-  spells w r = rw whole r
 
 no_memory_of : (parts : List (List ℕ)) (w : List ℕ) → ReadsParts parts w → RefusesParts parts NoMemory
 no_memory_of [] w h = absurd h

@@ -18,10 +18,11 @@ use Rattle.bcder.specs.Calls.{IsFormOf, Answered, AnswersDone, RefusesContent, b
 use Rattle.bcder.specs.Walking.{WalksBy, itself, walked}
 use Rattle.bcder.specs.Walking as walking
 use Rattle.bcder.specs.laws.Limits.{limited_sound}
-use Rattle.bcder.proofs.Moving.{moves_refl, moves_still, moves_octets}
+use Rattle.bcder.specs.laws.Moved.{untouched_is_moved, moved_keeps_kind}
+use Rattle.bcder.proofs.Moving.{moves_still, moves_octets}
 use Rattle.bcder.specs.laws.Complete.{header_size}
 use Rattle.bcder.proofs.Entering.{Within}
-use Rattle.bcder.proofs.Walking.{moves_kind, done_here}
+use Rattle.bcder.proofs.Walking.{done_here}
 use Rattle.bcder.proofs.Walked.{refuses_walk}
 use Rattle.bcder.proofs.Taking.{value_refused}
 use Rattle.bcder.proofs.Inner.{layer_is, layers_eq, takes_definite, encodes_primitive}
@@ -36,7 +37,7 @@ module _ {T E : Type 0} (why : E → Cause ContentError) where
   answered t i j r w = record { handed = held i; left = held j; handed_is = refl; left_is = refl; called = w }
 
   answers_walked : (t : Tag) (i j : Reading) (r : Result T E) (f : Form) → j.kind ≡ f → WalksBy why i r j → IfOk r (λ x. AnswersDone {R = Result T E} itself (walked why) t i (Ok x) j)
-  answers_walked t i j (Ok x) f k w = record { left = j; answered = answered t i j (Ok x) w; finishes = moves_refl j; marked = refl; no_fault = refl; ends = done_here j f k w.done; done = w.done }
+  answers_walked t i j (Ok x) f k w = record { left = j; answered = answered t i j (Ok x) w; finishes = untouched_is_moved j; marked = refl; no_fault = refl; ends = done_here j f k w.done; done = w.done }
   answers_walked t i j (Err e) f k w = tt
 
   refuses_walked : (t : Tag) (i j : Reading) (r : Result T E) → WalksBy why i r j → IfErr r (λ e. RefusesContent {T = T} why itself (walked why) t i e j)
@@ -59,7 +60,7 @@ module _ {T E : Type 0} (why : E → Cause ContentError) where
   always P (Err x) p = tt
 
   pub ran_values : (i j : Reading) (r : Result T E) → Moves i j → j.marked ≡ i.marked → OnOk r (IsDone j) → IfErr r (λ e. walking.RefusesValues why i e j) → (s s' : Stream) (o o' : Option ℕ) (f : Form) (m : Mode) (t : Tag) → i.stream ≡ s → i.owed ≡ o → i.kind ≡ f → i.state ≡ Open → i.mode ≡ m → i.marked ≡ false → j.stream ≡ s' → j.owed ≡ o' → RanOver why itself (walked why) s o f m t r false s' o'
-  ran_values i j r mv mk d h s s' o o' f m t is io ik it im ia js jo = ran_walked i j r (record { moves = mv; marked = always _ r mk; done = d; refused = h }) s s' o o' f m t is io ik it im ia js jo (moves_kind i j mv ∙ ik) (mk ∙ ia)
+  ran_values i j r mv mk d h s s' o o' f m t is io ik it im ia js jo = ran_walked i j r (record { moves = mv; marked = always _ r mk; done = d; refused = h }) s s' o o' f m t is io ik it im ia js jo (moved_keeps_kind i j mv ∙ ik) (mk ∙ ia)
 
 -- ---- why a step was refused
 

@@ -1,10 +1,10 @@
 -- Segments that come one after the other, and octets that are joined in front of them.
-use Rattle.std.proofs.Common.{◌≡◌, ℕ, zero, suc, ◌+◌, ◌-◌, ◌<◌, ◌≤◌, ◌^◌, List, [], ◌∷◌, ◌++◌, length, drop, slice_range, get_or, refl, sym, ap, ◌∙◌, subst, append_assoc, add-one, drop-cons, length-take-le, arith}
+use Rattle.std.proofs.Common.{◌≡◌, ℕ, zero, suc, ◌+◌, ◌-◌, ◌<◌, ◌≤◌, ◌^◌, List, [], ◌∷◌, ◌++◌, length, drop, slice_range, refl, sym, ap, ◌∙◌, subst, append_assoc, length-take-le, arith}
 use Rattle.std.specs.List.{concat}
 use Rattle.std.proofs.lemmas.List.{length-append, length-drop, drop-append-le}
 use Rattle.bcder.specs.declared.string.octet.Segment.{Segment}
 use Rattle.bcder.specs.Identifier.{AreOctets}
-use Rattle.bcder.specs.OctetString.{AreWithin, segment_at, segments_at}
+use Rattle.bcder.specs.OctetString.{AreWithin, segments_at}
 use Rattle.bcder.specs.laws.Limits.{AreOctets-drop}
 
 pub AreWithin-drop : (w : List ℕ) (ss : List Segment) (n : ℕ) → AreWithin w ss → AreWithin w (drop n ss)
@@ -20,18 +20,6 @@ segments_at-drop w (s ∷ ss) (suc n) = segments_at-drop w ss n
 pub segments_at-length : (w : List ℕ) (ss : List Segment) → length (segments_at w ss) ≡ length ss
 segments_at-length w [] = refl
 segments_at-length w (s ∷ ss) = ap suc (segments_at-length w ss)
-
-module _ (w : List ℕ) (ss : List Segment) (n : ℕ) (s : Segment) (some : n < length ss) (is : s ≡ get_or ss n s) where
-  next_is : drop n ss ≡ s ∷ drop (n + 1) ss
-  next_is = drop-cons ss n s some ∙ ap (λ x. x ∷ drop (suc n) ss) (sym is) ∙ ap (λ k. s ∷ drop k ss) (sym (add-one n))
-
-  -- the next segment stands within the octets
-  pub next_within : AreWithin w (drop n ss) → (s.start + s.len ≤ length w) × AreWithin w (drop (n + 1) ss)
-  next_within h = subst (AreWithin w) next_is h
-
-  -- and is the first of those to come
-  pub next_of : segments_at w (drop n ss) ≡ segment_at w s ∷ segments_at w (drop (n + 1) ss)
-  next_of = ap (segments_at w) next_is
 
 -- ---- octets that stand in a block
 

@@ -11,17 +11,17 @@ use Rattle.bcder.specs.declared.string.octet.Segment.{Segment}
 use Rattle.bcder.specs.Identifier.{Tag}
 use Rattle.bcder.specs.Tree.{Tree, primitive, constructed, Trees}
 use Rattle.bcder.specs.Encoding.{AreEncodings}
-use Rattle.bcder.specs.Cause.{cause_of, of_memory, IsRefusal}
+use Rattle.bcder.specs.Cause.{IsRefusal}
 use Rattle.bcder.specs.Stream.{limit_or}
 use Rattle.bcder.specs.Captured.{Kept}
 use Rattle.bcder.specs.Content.{Reading, Octets, Closes, IsDone, IsUsedUp}
 use Rattle.bcder.specs.Walking.{HasValues, IsShort}
-use Rattle.bcder.specs.Readers.{HasAll, Reads, RefusesReading, RefusesAll, FindNoMemory}
+use Rattle.bcder.specs.Readers.{Reads, RefusesReading, FindNoMemory}
 use Rattle.bcder.specs.Readers as readers
 use Rattle.bcder.specs.CapturingValues.{CapturesBy, CapturesValues, HasOthers, RefusesWhere}
 use Rattle.bcder.specs.CapturingValues as capturing
-use Rattle.bcder.specs.OctetString.{StringOctets, whole, cut, segments_of, AreSegmentsIn, MayBeWhole, AreSegmented, AreCut, segments_at, IsTable, MeansString}
-use Rattle.bcder.specs.Valued.{HoldsOctets, HoldsThese, HoldsValues, HoldsTree, HoldsNone, ReadsTree, RefusesToRead, ReadsContent}
+use Rattle.bcder.specs.OctetString.{StringOctets, whole, cut, segments_of, AreSegmentsIn, MayBeWhole, AreCut, segments_at, IsTable, MeansString}
+use Rattle.bcder.specs.Valued.{HoldsValues, HoldsNone, ReadsTree, RefusesToRead, ReadsContent}
 use Rattle.bcder.specs.Valued as valued
 use Rattle.bcder.specs.laws.Lists.{empty_list}
 use Rattle.bcder.proofs.Moving.{open_not_ended, open_not_failed}
@@ -124,9 +124,6 @@ captured_held c k d h ts a = elim (state_of c k d h) [
   | inr e ↦ inr (e, empty_list c.mode ts (subst (AreEncodings c.mode ts) (h.are_none e) a))
 ]
 
-cut_in : (m n : Mode) (w : List ℕ) (parts : List (List ℕ)) → m ≡ n → AreSegmented m w parts → AreSegmented n w parts
-cut_in m n w parts e h = subst (λ z. AreSegmented z w parts) e h
-
 read_cut : (tag : Tag) (c d : Reading) (k : Kept) (ss : List Segment) → CapturesValues c k d → IsTable c.mode k.octets ss → ReadsTree tag (MeansString c.mode) c (cut k (segments_at k.octets ss))
 read_cut tag c d k ss h t =
     let s = t.segmented in
@@ -176,9 +173,6 @@ module _ {X : Type 0} (tag : Tag) (c d : Reading) where
 
   pub refuse_segments : (k : Kept) (e : DecodeError X) → CapturesBy {X = X} CapturesValues HasOthers c (Ok k) d → c.kind ≢ Octets → (AreCut c.mode k.octets → ⊥) → IsRefusal e → ReadsContent tag (MeansString c.mode) c (Err e) d
   refuse_segments k e r o none a = record { value = tt; done = tt; no_fault = tt; refused = valued.RefusesToRead.nothing (not_cut tag c d k r.captured o none) a; mode = r.mode; marked = r.marked }
-
-  pub want_table : (k : Kept) (e : DecodeError X) → CapturesBy {X = X} CapturesValues HasOthers c (Ok k) d → cause_of e ≡ of_memory → ReadsContent tag (MeansString c.mode) c (Err e) d
-  want_table k e r s = record { value = tt; done = tt; no_fault = tt; refused = valued.RefusesToRead.memory s; mode = r.mode; marked = r.marked }
 
   pub refuse_values : (e : DecodeError X) → CapturesBy {X = X} CapturesValues HasOthers c (Err e) d → c.kind ≢ Octets → ReadsContent tag (MeansString c.mode) c (Err e) d
   refuse_values e r o = record { value = tt; done = tt; no_fault = tt; refused = not_captured tag c d e o r.refused; mode = r.mode; marked = r.marked }

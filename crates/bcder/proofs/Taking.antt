@@ -1,5 +1,5 @@
 -- A value is its header, and then its content.
-use Rattle.std.proofs.Common.{◌≡◌, ◌≢◌, ℕ, ◌+◌, ◌≤◌, Bool, true, false, List, ◌++◌, length, take, refl, ap, sym, ◌∙◌, arith, length-append, subst, inl, inr}
+use Rattle.std.proofs.Common.{◌≡◌, ◌≢◌, ℕ, ◌+◌, ◌≤◌, Bool, true, false, List, ◌++◌, length, take, refl, ap, sym, ◌∙◌, arith, length-append, subst}
 use Rattle.std.proofs.lemmas.Grind.{common_steps}
 use Rattle.std.specs.Borrow.{MutBor}
 use Rattle.std.specs.Prelude.{Option, Some, None, Result, Ok, Err, ◌||◌, IfOk, IfErr}
@@ -13,13 +13,13 @@ use Rattle.bcder.specs.Cause.{Cause, cause_of}
 use Rattle.bcder.specs.Tree.{Tree}
 use Rattle.bcder.specs.Encoding.{may_have, IsHeader, IsEncoding}
 use Rattle.bcder.specs.Reading.{Header}
-use Rattle.bcder.specs.Content.{Reading, Form, Octets, DefiniteValues, IndefiniteValues, UnboundedValues, label, Moves, Advances, Asked, any, tagged, IsAsked, HasHeader, Enters, RefusesHeader}
+use Rattle.bcder.specs.Content.{Reading, Form, Octets, DefiniteValues, IndefiniteValues, UnboundedValues, label, Moves, Advances, Asked, IsAsked, HasHeader, Enters, RefusesHeader}
 use Rattle.bcder.specs.Content as content
 use Rattle.bcder.specs.Decoding.{AnsweredOn}
 use Rattle.bcder.specs.Calls.{IsFormOf, ContentOf, Hands, Untagged, Answered, AnswersDone, RefusesContent, by_closure, unfinished, TakesContent, TakesValue, RefusesFront, RefusesValue, IsInside}
 use Rattle.bcder.specs.Calls as calls
 use Rattle.bcder.specs.Inside.{TakesBehind, of_form, refused, taken}
-use Rattle.bcder.specs.Takes.{HasNone, TellsNone, HasRefusedForm, by_header, by_form, by_content, TakesNext, Takes}
+use Rattle.bcder.specs.Takes.{HasNone, HasRefusedForm, by_header, by_form, by_content, TakesNext}
 use Rattle.bcder.specs.laws.Complete.{header_size}
 use Rattle.bcder.proofs.Moving.{moves_value, moves_failed, advances_trans, open_not_ended}
 use Rattle.bcder.proofs.Entering.{advances_to, header_entered}
@@ -190,17 +190,6 @@ module _ {C T X : Type 0} (view : C → Reading) (post : Tag → MutBor C → Re
 
     pub next_refused : (e : DecodeError X) → RefusesHeader cause_of asked c e d → d.marked ≡ c.marked → d.state ≡ Failed → TakesNext view post form asked c (Err e) d
     next_refused e h m f = record { value = tt; shorter = tt; none = tt; refused = by_header h m; failed = f; mode = mo }
-
-  module _ (c d : Reading) where
-    -- a call that needs a value
-    pub needs_value : (v : T) → TakesNext view post form asked c (Ok (Some v)) d → Takes view post form asked c (Ok v) d
-    needs_value v n = record { value = n.value; shorter = n.shorter; refused = tt; mode = n.mode }
-
-    pub needs_none : (e : DecodeError X) → TellsNone asked e → TakesNext view post form asked c (Ok None) d → Takes view post form asked c (Err e) d
-    needs_none e q n = record { value = tt; shorter = tt; refused = inl (n.none, q); mode = n.mode }
-
-    pub needs_refused : (e : DecodeError X) → TakesNext view post form asked c (Err e) d → Takes view post form asked c (Err e) d
-    needs_refused e n = record { value = tt; shorter = tt; refused = inr (n.failed, n.refused); mode = n.mode }
 
 -- a closure that hands on what it is handed to one of content alone
 module _ {C R : Type 0} (view : C → Reading) (post : MutBor C → R → MutBor C → Type 0) where

@@ -50,8 +50,6 @@ pub leads_both : (w : List ℕ) → Leads true w → Leads false w → ⊥
 leads_both [] a b = a
 leads_both (c ∷ w) a b = omega (arith, a, b)
 
--- ---- zeros in front
-
 -- ---- the same of unsigned numbers
 
 pub int_eq_pos : (x y : ℕ) → int_eq (pos x) (pos y) ≡ nat_eq x y

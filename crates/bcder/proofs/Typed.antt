@@ -15,12 +15,12 @@ use Rattle.bcder.specs.Stream.{Stream}
 use Rattle.bcder.specs.declared.decode.content.Primitive.{Primitive}
 use Rattle.bcder.specs.Views.{of_primitive}
 use Rattle.bcder.specs.Cause.{cause_of}
-use Rattle.bcder.specs.Content.{Reading, Form, Octets, DefiniteValues, IndefiniteValues, any, tagged, label, HasHeader, IsAbsent, IsElsewhere, none_left, other, marker, NotAtEnd, of_octets, Moves}
+use Rattle.bcder.specs.Content.{Reading, Form, Octets, DefiniteValues, IndefiniteValues, any, tagged, label, HasHeader, IsAbsent, IsElsewhere, none_left, other, marker, of_octets}
 use Rattle.bcder.specs.Content as content
 use Rattle.bcder.specs.Calls.{Hands, IsFormOf, ContentOf, Answered, TakesValue, RefusesFront, RefusesContent, by_closure, unfinished, RefusesEnd, left_failed, source_failed, left_open, HasForm}
 use Rattle.bcder.specs.Takes.{HasNone, TakesNext, Takes, RefusesTake, by_header, by_form, by_content}
 use Rattle.bcder.specs.Walking.{IsShort}
-use Rattle.bcder.specs.Readers.{HasAll, Reads, RefusesReading, RefusesAll}
+use Rattle.bcder.specs.Readers.{HasAll, Reads, RefusesReading}
 use Rattle.bcder.specs.Readers as readers
 use Rattle.bcder.specs.Typed.{HasPrimitive, HasBroken, TakesAs, RefusesAs, TakesNextAs, PassesNextAs, TakesOneAs}
 use Rattle.bcder.specs.Typed as typed

@@ -20,10 +20,6 @@ popped_last xs ys top e = ap reverse e ∙ reverse-append ys (top ∷ [])
 
 -- ---- values of indefinite length
 
-pub one_more : (n m : ℕ) (es : List Entry) → m ≡ n + 1 → indefinites m es ≡ Indefinite ∷ indefinites n es
-one_more n zero es e = absurd (omega arith)
-one_more n (suc m) es e = ap (λ k. Indefinite ∷ indefinites k es) (let x : m ≡ n = omega arith in x)
-
 pub unwound_indefinites : (n : ℕ) (es : List Entry) (o : Option ℕ) → unwound (indefinites n es) o ≡ unwound es o
 unwound_indefinites zero es o = refl
 unwound_indefinites (suc n) es o = unwound_indefinites n es o

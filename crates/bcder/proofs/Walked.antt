@@ -1,20 +1,18 @@
 -- What a call that walks its content says of the value.
-use Rattle.std.proofs.Common.{◌≡◌, ℕ, Bool, true, false, ◌||◌, List, ◌++◌, Option, Some, None, refl, sym, ◌∙◌, append_assoc, subst, inl, inr}
-use Rattle.std.specs.Prelude.{◌⊎◌, Result, Ok, Err, IfOk, IfErr, OnOk, IfSome, IfNone, is_some}
+use Rattle.std.proofs.Common.{◌≡◌, ℕ, true, false, List, ◌++◌, Option, Some, None, refl, sym, ◌∙◌, append_assoc, subst, inl, inr}
+use Rattle.std.specs.Prelude.{◌⊎◌, Result, Ok, Err, IfOk, IfErr, IfSome, IfNone, is_some}
 use Rattle.std.specs.Borrow.{MutBor}
-use Rattle.bcder.specs.declared.decode.content.Primitive.{Primitive}
 use Rattle.bcder.specs.declared.decode.content.State.TheVariants.{Ended, Failed}
 use Rattle.bcder.specs.Identifier.{Tag}
 use Rattle.bcder.specs.Tree.{Tree}
 use Rattle.bcder.specs.Encoding.{IsEncoding}
 use Rattle.bcder.specs.Grammar.{IsOnly}
-use Rattle.bcder.specs.Stream.{Stream, Grew}
+use Rattle.bcder.specs.Stream.{Grew}
 use Rattle.bcder.specs.declared.decode.error.ContentError.{ContentError}
 use Rattle.bcder.specs.Cause.{Cause, of_source, IsOfContent}
-use Rattle.bcder.specs.Content.{Reading, any, label, Moves, IsDone, EndsBefore, EndsAt}
-use Rattle.bcder.specs.Calls.{Answered, AnswersDone, TakesValue, RefusesContent, by_closure, unfinished, RefusesFront, RefusesValue}
+use Rattle.bcder.specs.Content.{Reading, any, label, EndsBefore, EndsAt}
+use Rattle.bcder.specs.Calls.{Answered, TakesValue, RefusesContent, by_closure, unfinished, RefusesFront, RefusesValue}
 use Rattle.bcder.specs.Calls as calls
-use Rattle.bcder.specs.Views.{of_primitive}
 use Rattle.bcder.specs.Walking.{HasValue, NoValue, PassesValue, AnswersNext, WalksBy}
 use Rattle.bcder.specs.Walking as walking
 use Rattle.bcder.specs.laws.Complete.{only_at_front}
@@ -52,15 +50,8 @@ module _ {C T E : Type 0} (why : E → Cause ContentError) (view : C → Reading
 
   -- ---- taken
 
-  or_false : (a b : Bool) → b ≡ false → (a || b) ≡ a
-  or_false true b e = refl
-  or_false false b e = e
-
   unmarked_inside : (c d : Reading) (x : T) (v : TakesValue view post any c x d) → v.left.marked ≡ false
   unmarked_inside c d x v = v.answers.marked ∙ (walks_by v.front.tag v.handed v.answers.left (Ok x) v.answers.answered).marked ∙ v.hands.marked
-
-  takes_marked : (c d : Reading) (x : T) → TakesValue view post any c x d → d.marked ≡ c.marked
-  takes_marked c d x v = v.marked ∙ or_false c.marked v.left.marked (unmarked_inside c d x v)
 
   takes_value : (c d : Reading) (x : T) → TakesValue view post any c x d → PassesValue c d
   takes_value c d x v =
@@ -78,11 +69,6 @@ module _ {C T E : Type 0} (why : E → Cause ContentError) (view : C → Reading
   walks_one c d (Ok None) h = tt
   walks_one c d (Ok (Some x)) h = takes_value c d x h
   walks_one c d (Err e) h = tt
-
-  pub walks_marked : (c d : Reading) (r : Result (Option T) E) → IfOk r (λ o. IfSome o (λ x. TakesValue view post any c x d)) → IfOk r (λ o. IfNone o (d.marked ≡ c.marked)) → OnOk r (d.marked ≡ c.marked)
-  walks_marked c d (Ok None) h n = n
-  walks_marked c d (Ok (Some x)) h n = takes_marked c d x h
-  walks_marked c d (Err e) h n = tt
 
 -- ---- exactly where a value stands in front
 
@@ -102,30 +88,6 @@ module _ {E : Type 0} (why : E → Cause ContentError) (c d : Reading) where
   answers_next (Ok None) w a b f n = record { found = λ t v after h. absurd (let z = value_not_at_end c w t v after h in z.none d.stream.rest b); ended = λ after h. refl }
   answers_next (Ok (Some x)) w a b f n = record { found = λ t v after h. (refl, (let s = value_once c a.tree t a.value v d.stream.rest after a.has h in s.rest)); ended = λ after h. absurd (let z = value_not_at_end c w a.tree a.value d.stream.rest a.has in z.none after h) }
   answers_next (Err e) w a b f n = record { found = λ t v after h. absurd (refused_value e t v after h n f); ended = λ after h. absurd (refused_end e after h n f) }
-
--- ---- the octets of a primitive value
-
-module _ {S E : Type 0} (why : E → Cause ContentError) (stream : S → Stream) (a b : Primitive S) where
-  octets_refused : (e : E) → walking.RefusesOctets why (of_primitive stream a) e (of_primitive stream b) → walking.RefusesValues why (of_primitive stream a) e (of_primitive stream b)
-  unfolding of_primitive
-  octets_refused e (walking.RefusesOctets.failing k x) = walking.RefusesValues.source k x
-  octets_refused e (walking.RefusesOctets.few x o) = walking.RefusesValues.short refl x o
-
-  octets_done : {T : Type 0} (r : Result T E) → OnOk r ((of_primitive stream b).owed ≡ Some 0) → OnOk r (IsDone (of_primitive stream b))
-  unfolding of_primitive
-  octets_done (Ok x) e = inr (refl, e)
-  octets_done (Err x) e = tt
-
-  octets_refuse : {T : Type 0} (r : Result T E) → IfErr r (λ e. walking.RefusesOctets why (of_primitive stream a) e (of_primitive stream b)) → IfErr r (λ e. walking.RefusesValues why (of_primitive stream a) e (of_primitive stream b))
-  octets_refuse (Ok x) h = tt
-  octets_refuse (Err x) h = octets_refused x h
-
-  always : {T : Type 0} (P : Type 0) (r : Result T E) → P → OnOk r P
-  always P (Ok x) p = p
-  always P (Err x) p = tt
-
-  pub walks_octets : {T : Type 0} (r : Result T E) → Moves (of_primitive stream a) (of_primitive stream b) → OnOk r ((of_primitive stream b).owed ≡ Some 0) → IfErr r (λ e. walking.RefusesOctets why (of_primitive stream a) e (of_primitive stream b)) → (of_primitive stream b).marked ≡ (of_primitive stream a).marked → WalksBy why (of_primitive stream a) r (of_primitive stream b)
-  walks_octets r m o e g = record { moves = m; done = octets_done r o; refused = octets_refuse r e; marked = always _ r g }
 
 -- ---- what a call answered
 

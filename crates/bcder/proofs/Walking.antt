@@ -15,12 +15,12 @@ use Rattle.bcder.specs.declared.decode.error.ContentError.{ContentError}
 use Rattle.bcder.specs.Cause.{Cause, of_source, IsOfContent}
 use Rattle.bcder.specs.Content.{Reading, Form, octets, values, Octets, DefiniteValues, IndefiniteValues, any, HasHeader, HasMarker, Moves, MovesBy, Falls, FitsOwed, IsDone, IsUsedUp, IsAtEnd, of_octets, of_definite, of_indefinite, of_unbounded, EndsBefore, EndsAt, NotAtEnd, NothingThere}
 use Rattle.bcder.specs.Calls.{Hands, IsFormOf, ContentOf, RefusesEnd, left_failed, source_failed, left_open}
-use Rattle.bcder.specs.Walking.{HasValue, NoValue, PassesValue, ClosesBefore, HasValues, IsShort, AllBy, Walks, broken, short}
+use Rattle.bcder.specs.Walking.{HasValue, NoValue, PassesValue, ClosesBefore, HasValues, IsShort, AllBy, Walks}
 use Rattle.bcder.specs.Walking as walking
 use Rattle.bcder.specs.laws.Complete.{one_encoding, two_octets, Same}
 use Rattle.bcder.specs.laws.Lists.{First}
-pub use Rattle.bcder.specs.laws.Moved.{moved_keeps_kind as moves_kind, moved_is_no_longer as moves_shorter}
-use Rattle.bcder.proofs.Moving.{moves_refl, moves_trans, open_not_ended, open_not_failed}
+use Rattle.bcder.specs.laws.Moved.{moved_keeps_kind, untouched_is_moved, moved_twice_is_moved}
+use Rattle.bcder.proofs.Moving.{open_not_ended, open_not_failed}
 use Rattle.bcder.proofs.Headers.{header_of, Shape, shape, is_primitive, is_definite, is_indefinite}
 use Rattle.bcder.proofs.Entering.{Within, header_not_at_end}
 
@@ -145,12 +145,12 @@ module _ (j k : Reading) (w : Within j) (one : PassesValue j k) (m : MovesBy j k
 -- ---- a loop over the values
 
 pub walks_refl : (c : Reading) → Walks c c
-walks_refl c = record { moves = moves_refl c; mode = refl; marked = refl; ended = λ f. f; failed = λ f. f; remain = λ h. h; were = λ h. h }
+walks_refl c = record { moves = untouched_is_moved c; mode = refl; marked = refl; ended = λ f. f; failed = λ f. f; remain = λ h. h; were = λ h. h }
 
 pub walks_value : (i j k : Reading) → Within j → Walks i j → Moves j k → k.mode ≡ j.mode → k.marked ≡ j.marked → PassesValue j k → Walks i k
 unfolding Moves
 walks_value i j k n w m o g one = record {
-  moves = moves_trans i j k w.moves m;
+  moves = moved_twice_is_moved i j k w.moves m;
   mode = o ∙ w.mode;
   marked = g ∙ w.marked;
   ended = λ f. absurd (open_not_ended k.state one.stays f);
@@ -197,7 +197,7 @@ none_left_trees c after o (of_unbounded q e) = refl
 -- the loop stops at the end
 pub walks_all : (i j k : Reading) → i.kind ≢ Octets → Walks i j → EndsAt j k → i.state ≡ Open → HasValues i
 walks_all i j k o w (inl e) s = absurd (open_not_ended i.state s (w.ended e))
-walks_all i j k o w (inr e) s = w.were (none_left j k.stream.rest (λ q. o (sym (moves_kind i j w.moves) ∙ q)) e.1)
+walks_all i j k o w (inr e) s = w.were (none_left j k.stream.rest (λ q. o (sym (moved_keeps_kind i j w.moves) ∙ q)) e.1)
 
 -- ---- a value that was refused in its content
 
@@ -285,4 +285,4 @@ module _ {E : Type 0} (why : E → Cause ContentError) (e : E) (c d i j : Readin
   pub refused_end : (l : Reading) → IsDone l → Moves i l → RefusesEnd why l e j → (why e ≡ of_source) × Grew c.stream.faults d.stream.faults
   refused_end l q m (left_failed x a) = absurd (not_failed_done l q x)
   refused_end l q m (source_failed k x) = (k, let y : i.stream.faults ≤ l.stream.faults = moves_faults i l m in let z : c.stream.faults ≤ l.stream.faults = omega arith in grew_between _ _ _ _ z x s)
-  refused_end l q m (left_open x a) = absurd (x.none l.stream.rest (done_here l i.kind (moves_kind i l m) q))
+  refused_end l q m (left_open x a) = absurd (x.none l.stream.rest (done_here l i.kind (moved_keeps_kind i l m) q))

@@ -98,7 +98,7 @@ impl Integer {
     ///
     /// Those of [`Constructed::take_primitive_if`]; where the contents octets are no integer's; and
     /// where there is no memory for them.
-    #[tactic(auto, using(crate::proofs::moves_refl))]
+    #[tactic(auto, using(crate::specs::laws::Moved::untouched_is_moved))]
     pub fn take_from<S: Source>(
         alloc: Global,
         cons: &mut Constructed<'_, S>,

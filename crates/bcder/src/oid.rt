@@ -46,7 +46,7 @@ impl<T: AsSlice<u8>> Oid<T> {
     /// `ContentError::ExpectedTag` at the end and at a value of another tag: the content then stays
     /// usable. Where the value is another identifier, where octets are no value, where an earlier
     /// value was refused, and where the source fails: the content has then failed.
-    #[tactic(auto, using(crate::proofs::moves_refl))]
+    #[tactic(auto, using(crate::specs::laws::Moved::untouched_is_moved))]
     pub fn skip_if<S: Source>(
         &self,
         cons: &mut Constructed<'_, S>,
@@ -73,7 +73,7 @@ impl<T: AsSlice<u8>> Oid<T> {
     }
 }
 
-#[tactic(auto, using(crate::proofs::moves_refl))]
+#[tactic(auto, using(crate::specs::laws::Moved::untouched_is_moved))]
 impl Oid<Bytes> {
     /// Passes over the next value, which has to be an OBJECT IDENTIFIER.
     ///

@@ -25,9 +25,6 @@ record IsNumber (w : List ℕ) (n : ℕ) (x : List ℕ) : Type 0 where
 pub none_is : {A : Type 0} (y : A) → ◌≡◌ {A = Option A} None (Some y) → ⊥
 none_is y e = cc
 
-indefinite≢definite : {n : ℕ} {x y : List ℕ} → ◌≡◌ {A = Option (Length × List ℕ)} (Some (Indefinite, x)) (Some (Definite n, y)) → ⊥
-indefinite≢definite {n} {x} {y} e = let p : ◌≡◌ {A = Length × List ℕ} (Indefinite, x) (Definite n, y) = cc in let q : Indefinite ≡ Definite n = ap (λ r. r.0) p in cc
-
 pair_is : {A B : Type 0} (a a' : A) (b b' : B) → ◌≡◌ {A = Option (A × B)} (Some (a, b)) (Some (a', b')) → (a ≡ a') × (b ≡ b')
 pair_is {A} {B} a a' b b' e = let p : ◌≡◌ {A = A × B} (a, b) (a', b') = cc in (ap (λ r. r.0) p, ap (λ r. r.1) p)
 

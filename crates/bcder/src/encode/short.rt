@@ -1,5 +1,6 @@
 //! Primitive values, written from their contents octets (X.690, 8.1.1.2, 10.1).
-ghost use Rattle.std.specs.Prelude.{◌≡◌, ◌<◌, ◌≤◌, ◌+◌, ◌^◌, ◌∷◌, length, take, drop, false};
+ghost use Rattle.std.specs.Prelude.{◌≡◌, ◌<◌, ◌≤◌, ◌+◌, ◌-◌, ◌^◌, ◌∷◌, [], length, take, drop};
+ghost use Rattle.std.specs.Prelude.{false};
 ghost use Rattle.bcder.specs.Octets.{definite};
 ghost use Rattle.bcder.specs.Encoders.{WroteOctets, told};
 
@@ -168,7 +169,6 @@ pub(crate) fn put_number<W: io::Write>(
 
 /// Writes a primitive value with few contents octets, where its identifier is one octet by one
 /// call of the target's `write`, if that takes all of it.
-#[inline(always)]
 pub(crate) fn put_short<W: io::Write>(
     tag: Tag,
     contents: Octets,
@@ -187,4 +187,92 @@ pub(crate) fn put_short<W: io::Write>(
     value.put_before(len as u8);
     value.put_before(identifier);
     put_all(target, value.as_slice(), why)
+}
+
+/// Writes a primitive value with one identifier octet and the last `len` of these as its contents
+/// octets, for each number of them as an array.
+#[inline(always)]
+fn put_last<W: io::Write>(
+    identifier: u8,
+    octets: [u8; 5],
+    len: usize,
+    target: &mut W,
+    why: &mut WriteError,
+) -> Result<(), Failed>
+    requires { len ≤ 5 }
+    ensures { WroteOctets W.contents target (identifier ∷ len ∷ drop (5 - len) octets)
+        (told result why.new) }
+{
+    let [a, b, c, d, e] = octets;
+    match len {
+        0 => put_all(target, &[identifier, 0], why),
+        1 => put_all(target, &[identifier, 1, e], why),
+        2 => put_all(target, &[identifier, 2, d, e], why),
+        3 => put_all(target, &[identifier, 3, c, d, e], why),
+        4 => put_all(target, &[identifier, 4, b, c, d, e], why),
+        _ => put_all(target, &[identifier, 5, a, b, c, d, e], why),
+    }
+}
+
+/// Writes a primitive value with one identifier octet and at most five contents octets, which
+/// need not stand in memory.
+#[inline(always)]
+pub(crate) fn put_five<W: io::Write>(
+    identifier: u8,
+    contents: Octets,
+    target: &mut W,
+    why: &mut WriteError,
+) -> Result<(), Failed>
+    requires { 19 ≤ contents.start }
+    ensures { WroteOctets W.contents target (identifier
+        ∷ length (drop contents.start contents.buffer) ∷ drop contents.start contents.buffer)
+        (told result why.new) }
+{
+    let len = contents.len();
+    put_last(identifier, contents.last_five(), len, target, why)
+}
+
+/// Writes a primitive value with one contents octet, apart.
+fn put_octet_apart<W: io::Write>(
+    tag: Tag,
+    octet: u8,
+    target: &mut W,
+    why: &mut WriteError,
+) -> Result<(), Failed>
+    ensures { WroteOctets W.contents target (definite tag false (octet ∷ []))
+        (told result why.new) }
+{
+    put_apart(tag, &[octet], target, why)
+}
+
+/// Writes a primitive value with one contents octet, where its identifier is one octet as an array.
+#[inline(always)]
+pub(crate) fn put_octet<W: io::Write>(
+    tag: Tag,
+    octet: u8,
+    target: &mut W,
+    why: &mut WriteError,
+) -> Result<(), Failed>
+    ensures { WroteOctets W.contents target (definite tag false (octet ∷ []))
+        (told result why.new) }
+{
+    let Some(identifier) = tag.single_octet(false) else {
+        return put_octet_apart(tag, octet, target, why);
+    };
+    put_all(target, &[identifier, 1, octet], why)
+}
+
+/// Writes a primitive value without contents octets, where its identifier is one octet as an array.
+#[inline(always)]
+pub(crate) fn put_empty<W: io::Write>(
+    tag: Tag,
+    target: &mut W,
+    why: &mut WriteError,
+) -> Result<(), Failed>
+    ensures { WroteOctets W.contents target (definite tag false []) (told result why.new) }
+{
+    let Some(identifier) = tag.single_octet(false) else {
+        return put_apart(tag, &[], target, why);
+    };
+    put_all(target, &[identifier, 0], why)
 }

@@ -69,18 +69,6 @@ impl Octets {
         }
     }
 
-    /// None.
-    #[inline(always)]
-    pub(crate) fn none() -> Octets
-        ensures octets { drop result.start result.buffer ≡ [] }
-        ensures room { 7 ≤ result.start }
-    {
-        Octets {
-            buffer: [0; 24],
-            start: 24,
-        }
-    }
-
     /// Puts an octet before them.
     #[inline(always)]
     pub(crate) fn put_before(&mut self, octet: u8)
@@ -92,6 +80,15 @@ impl Octets {
         let before = self.start - 1;
         self.buffer[before] = octet;
         self.start = before;
+    }
+
+    /// The last five octets of the buffer.
+    #[inline(always)]
+    pub(crate) fn last_five(&self) -> [u8; 5]
+        ensures { result ≡ drop 19 self.now.buffer }
+    {
+        let [.., a, b, c, d, e] = self.buffer;
+        [a, b, c, d, e]
     }
 
     /// How many there are.

@@ -153,7 +153,7 @@ impl BitString {
     }
 }
 
-#[tactic(auto, using(crate::proofs::moves_refl))]
+#[tactic(auto, using(crate::specs::laws::Moved::untouched_is_moved))]
 impl BitString {
     /// Takes the next value, which has to be a BIT STRING, primitive (8.6.2). Its octets are shared
     /// with the source where that shares them.

@@ -27,7 +27,7 @@ impl<'a, S: Source> Primitive<'a, S> {
 }
 
 /// Calls the closure on contents octets, of which then none are left.
-#[tactic(auto, using(crate::proofs::moves_refl))]
+#[tactic(auto, using(crate::specs::laws::Moved::untouched_is_moved))]
 fn run<S: Source, F, T: Drop>(
     octets: &mut Primitive<'_, S>,
     op: F,

@@ -11,7 +11,7 @@ use crate::decode::source::Source;
 use std::alloc::Global;
 
 /// Passes over the next value, which has to be there.
-#[tactic(auto, using(crate::proofs::moves_refl, crate::proofs::Carrying::carries))]
+#[tactic(auto, using(crate::specs::laws::Moved::untouched_is_moved, crate::specs::laws::Moved::moved_carries))]
 fn pass_one<S: Source>(
     cons: &mut Constructed<'_, S>,
     alloc: Global,
@@ -27,7 +27,7 @@ fn pass_one<S: Source>(
 }
 
 /// Passes over all values up to the end of the content, whose marker it takes.
-#[tactic(auto, using(crate::proofs::moves_refl, crate::proofs::Carrying::carries))]
+#[tactic(auto, using(crate::specs::laws::Moved::untouched_is_moved, crate::specs::laws::Moved::moved_carries))]
 fn pass_all<S: Source>(
     cons: &mut Constructed<'_, S>,
     alloc: Global,
@@ -39,7 +39,7 @@ fn pass_all<S: Source>(
     Ok(())
 }
 
-#[tactic(auto, using(crate::proofs::moves_refl))]
+#[tactic(auto, using(crate::specs::laws::Moved::untouched_is_moved))]
 impl<'a, S: Source> Constructed<'a, S> {
     /// Captures the next value, which has to be there.
     ///

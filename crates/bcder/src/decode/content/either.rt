@@ -14,7 +14,7 @@ use crate::int::number::Number;
 use crate::string::BitString;
 use std::alloc::Global;
 
-#[tactic(auto, using(crate::proofs::moves_refl))]
+#[tactic(auto, using(crate::specs::laws::Moved::untouched_is_moved))]
 impl<'a, S: Source> Content<'a, S> {
     /// Reads all octets as the number of a type, and takes them.
     #[inline(always)]

@@ -70,7 +70,7 @@ pub(super) fn either(one: bool, other: bool) -> bool
 
 impl<'a, S: Source> Primitive<'a, S> {
     /// Makes sure that no octets are left.
-    #[tactic(auto, using(crate::proofs::moves_refl), unfolding(crate::specs::Views::of_primitive))]
+    #[tactic(auto, using(crate::specs::laws::Moved::untouched_is_moved), unfolding(crate::specs::Views::of_primitive))]
     #[inline(always)]
     fn finish(&mut self) -> Result<(), DecodeError<S::Error>>
         ensures same { self.new ≡ self.old }
@@ -89,7 +89,7 @@ impl<'a, S: Source> Primitive<'a, S> {
 
 impl<'a, S: Source> Constructed<'a, S> {
     /// Makes sure that the content is at its end, and takes its marker.
-    #[tactic(auto, using(crate::proofs::moves_refl), unfolding(crate::specs::Views::views))]
+    #[tactic(auto, using(crate::specs::laws::Moved::untouched_is_moved), unfolding(crate::specs::Views::views))]
     #[inline(always)]
     fn finish(&mut self) -> Result<(), DecodeError<S::Error>>
         ensures moves { Moves (before S.stream self) (after S.stream self) }
@@ -135,7 +135,7 @@ impl<'a, S: Source> Constructed<'a, S> {
 
 impl<'a, S: Source> Content<'a, S> {
     /// Makes sure that the content is at its end, and takes its marker.
-    #[tactic(auto, using(crate::proofs::moves_refl), unfolding(crate::specs::Views::views))]
+    #[tactic(auto, using(crate::specs::laws::Moved::untouched_is_moved), unfolding(crate::specs::Views::views))]
     #[inline(always)]
     fn finish(&mut self) -> Result<(), DecodeError<S::Error>>
         ensures moves { Moves (content_before S.stream self) (content_after S.stream self) }
@@ -179,7 +179,7 @@ impl<'a, S: Source> Content<'a, S> {
 }
 
 /// Calls the closure on contents octets, of which then none are left.
-#[tactic(auto, using(crate::proofs::moves_trans, crate::proofs::moves_octets_name))]
+#[tactic(auto, using(crate::specs::laws::Moved::moved_twice_is_moved, crate::proofs::moves_octets_name))]
 #[inline(always)]
 fn run_octets<S: Source, F, T: Drop>(
     octets: &mut Primitive<'_, S>,
@@ -213,7 +213,7 @@ where
 }
 
 /// Calls the closure on values, which then are at their end.
-#[tactic(auto, using(crate::proofs::moves_trans, crate::proofs::moves_constructed_name))]
+#[tactic(auto, using(crate::specs::laws::Moved::moved_twice_is_moved, crate::proofs::moves_constructed_name))]
 #[inline(always)]
 fn run_values<S: Source, F, T: Drop>(
     cons: &mut Constructed<'_, S>,
@@ -245,7 +245,7 @@ where
 }
 
 /// Calls the closure on content, which then is at its end.
-#[tactic(auto, using(crate::proofs::moves_trans, crate::proofs::moves_content_name))]
+#[tactic(auto, using(crate::specs::laws::Moved::moved_twice_is_moved, crate::proofs::moves_content_name))]
 #[inline(always)]
 fn run<S: Source, F, T: Drop>(
     content: &mut Content<'_, S>,

@@ -542,7 +542,7 @@ impl<'a, S: Source> Constructed<'a, S> {
 
     /// Passes over the header of the next value, if it is primitive, has a header of two octets,
     /// and all of its octets are at hand. Else nothing is taken. The source is asked once at most.
-    #[tactic(auto, using(crate::proofs::moves_refl), unfolding(crate::specs::Views::views))]
+    #[tactic(auto, using(crate::specs::laws::Moved::untouched_is_moved), unfolding(crate::specs::Views::views))]
     #[inline(always)]
     fn enter_at_hand(&mut self) -> Result<Option<Header>, Stop<S::Error>>
         ensures moves { Between S.stream self Moves }

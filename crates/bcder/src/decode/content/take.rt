@@ -297,7 +297,7 @@ impl<'a, S: Source> Constructed<'a, S> {
 
     /// Looks at the next header and takes nothing, or answers `None` where the content is at its
     /// end and has no marker there.
-    #[tactic(auto, using(crate::proofs::moves_refl), unfolding(crate::specs::Views::views))]
+    #[tactic(auto, using(crate::specs::laws::Moved::untouched_is_moved), unfolding(crate::specs::Views::views))]
     #[inline(always)]
     pub(super) fn front(&mut self) -> Result<Option<Front>, Stop<S::Error>>
         ensures moves { Moves (before S.stream self) (after S.stream self) }
@@ -346,7 +346,7 @@ impl<'a, S: Source> Constructed<'a, S> {
 
     /// Passes over the next header, or answers `None` at the end, whose marker it takes. The
     /// content has failed until the value is taken.
-    #[tactic(auto, using(crate::proofs::moves_refl), unfolding(crate::specs::Views::views))]
+    #[tactic(auto, using(crate::specs::laws::Moved::untouched_is_moved), unfolding(crate::specs::Views::views))]
     #[inline(always)]
     pub(super) fn next_header(&mut self) -> Result<Option<Header>, Stop<S::Error>>
         ensures moves { Moves (before S.stream self) (after S.stream self) }
@@ -368,7 +368,7 @@ impl<'a, S: Source> Constructed<'a, S> {
 
     /// Passes over the next header if it has this tag. The content has then failed until the value
     /// is taken.
-    #[tactic(auto, using(crate::proofs::moves_refl), unfolding(crate::specs::Views::views))]
+    #[tactic(auto, using(crate::specs::laws::Moved::untouched_is_moved), unfolding(crate::specs::Views::views))]
     #[inline(always)]
     pub(super) fn next_header_if(&mut self, tag: Tag) -> Result<Option<Header>, Stop<S::Error>>
         ensures moves { Moves (before S.stream self) (after S.stream self) }
@@ -441,7 +441,7 @@ impl<'a, S: Source> Constructed<'a, S> {
     /// Passes over the header of the next value if it has this tag, and answers how many contents
     /// octets it has. The value has to be primitive. The content has then failed until the value is
     /// taken.
-    #[tactic(auto, using(crate::proofs::moves_refl), unfolding(crate::specs::Views::views))]
+    #[tactic(auto, using(crate::specs::laws::Moved::untouched_is_moved), unfolding(crate::specs::Views::views))]
     #[inline(always)]
     pub(super) fn next_octets_if(&mut self, tag: Tag) -> Result<Option<usize>, Stop<S::Error>>
         ensures moves { Moves (before S.stream self) (after S.stream self) }

@@ -11,7 +11,7 @@ use crate::decode::source::Source;
 use crate::int::number::Number;
 use crate::tag::Tag;
 
-#[tactic(auto, using(crate::proofs::moves_refl))]
+#[tactic(auto, using(crate::specs::laws::Moved::untouched_is_moved))]
 impl<'a, S: Source> Constructed<'a, S> {
     /// Takes the next value, which has to be an INTEGER, as a number of a type.
     #[inline(always)]

@@ -35,7 +35,7 @@ use crate::plain::short_size;
 ///
 /// Where neither the encoding of a value nor the end stands in front, where an earlier value was
 /// refused or where the source fails. The content has then failed.
-#[tactic(auto, using(crate::proofs::Moving::moves_trans))]
+#[tactic(auto, using(crate::specs::laws::Moved::moved_twice_is_moved))]
 #[inline(always)]
 pub fn walk<S: Source>(cons: &mut Constructed<'_, S>) -> Result<Option<()>, DecodeError<S::Error>>
     ensures moves { Moved S.stream cons }

@@ -8,7 +8,7 @@ ghost use Rattle.bcder.specs.laws.Integers.{integer_octets_are};
 ghost use Rattle.bcder.specs.laws.Meanings.{Exactly_lawful};
 
 use super::PrimitiveContent;
-use crate::encode::short::put_short;
+use crate::encode::short::{put_five, put_short};
 use crate::encode::slot::Failed;
 use crate::encode::target::write_all;
 use crate::encode::{EncodeError, WriteError};
@@ -49,9 +49,8 @@ fn write_signed<W: io::Write>(x: i128, target: &mut W) -> Result<(), WriteError>
     write_all(target, Octets::of_signed(x).as_slice())
 }
 
-/// Writes an unsigned integer as a value.
-#[inline(always)]
-fn put_unsigned<W: io::Write>(
+/// Writes an unsigned integer of any size as a value.
+fn put_any_unsigned<W: io::Write>(
     x: u128,
     tag: Tag,
     target: &mut W,
@@ -63,7 +62,43 @@ fn put_unsigned<W: io::Write>(
     put_short(tag, Octets::of(false, x), target, why)
 }
 
-/// Writes an integer as a value.
+/// Writes an unsigned integer as a value. The octets of a larger one are put together anew, so that
+/// those of a small one need not stand in memory.
+#[inline(always)]
+fn put_unsigned<W: io::Write>(
+    x: u128,
+    tag: Tag,
+    target: &mut W,
+    why: &mut WriteError,
+) -> Result<(), Failed>
+    ensures { WritesPrimitive W.contents target tag (Exactly (integer_octets (pos x))) ⊥
+        (told result why.new) }
+{
+    let contents = Octets::of(false, x);
+    let len = contents.len();
+    if len > 5 {
+        return put_any_unsigned(x, tag, target, why);
+    }
+    let Some(identifier) = tag.single_octet(false) else {
+        return put_any_unsigned(x, tag, target, why);
+    };
+    put_five(identifier, contents, target, why)
+}
+
+/// Writes an integer of any size as a value.
+fn put_any_signed<W: io::Write>(
+    x: i128,
+    tag: Tag,
+    target: &mut W,
+    why: &mut WriteError,
+) -> Result<(), Failed>
+    ensures { WritesPrimitive W.contents target tag (Exactly (integer_octets x)) ⊥
+        (told result why.new) }
+{
+    put_short(tag, Octets::of_signed(x), target, why)
+}
+
+/// Writes an integer as a value, as `put_unsigned`.
 #[inline(always)]
 fn put_signed<W: io::Write>(
     x: i128,
@@ -74,7 +109,15 @@ fn put_signed<W: io::Write>(
     ensures { WritesPrimitive W.contents target tag (Exactly (integer_octets x)) ⊥
         (told result why.new) }
 {
-    put_short(tag, Octets::of_signed(x), target, why)
+    let contents = Octets::of_signed(x);
+    let len = contents.len();
+    if len > 5 {
+        return put_any_signed(x, tag, target, why);
+    }
+    let Some(identifier) = tag.single_octet(false) else {
+        return put_any_signed(x, tag, target, why);
+    };
+    put_five(identifier, contents, target, why)
 }
 
 impl PrimitiveContent for u8 {

@@ -11,11 +11,10 @@ ghost use Rattle.bcder.specs.laws.Meanings.{Exactly_lawful, PieceMeans_lawful};
 ghost use Rattle.bcder.specs.laws.Meanings.{truth_octets_are};
 
 use super::PrimitiveContent;
-use crate::encode::short::{put_contents, put_short};
+use crate::encode::short::{put_contents, put_empty, put_octet};
 use crate::encode::slot::Failed;
 use crate::encode::target::write_all;
 use crate::encode::{EncodeError, WriteError};
-use crate::int::octets::Octets;
 use crate::mode::Mode;
 use crate::tag::Tag;
 use std::io;
@@ -48,7 +47,7 @@ impl PrimitiveContent for () {
         target: &mut W,
         why: &mut WriteError,
     ) -> Result<(), Failed> {
-        put_short(tag, Octets::none(), target, why)
+        put_empty(tag, target, why)
     }
 
     ghost lawful = { λ _ _. Exactly_lawful [] AreOctets-nil };
@@ -86,9 +85,7 @@ impl PrimitiveContent for bool {
         target: &mut W,
         why: &mut WriteError,
     ) -> Result<(), Failed> {
-        let mut octets = Octets::none();
-        octets.put_before(if *self { 0xFF } else { 0x00 });
-        put_short(tag, octets, target, why)
+        put_octet(tag, if *self { 0xFF } else { 0x00 }, target, why)
     }
 
     ghost lawful = { λ x _. Exactly_lawful (truth_octets x) (truth_octets_are x) };

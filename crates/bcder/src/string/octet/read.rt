@@ -68,7 +68,7 @@ fn from_constructed<S: Source>(
     }
 }
 
-#[tactic(auto, using(crate::proofs::moves_refl))]
+#[tactic(auto, using(crate::specs::laws::Moved::untouched_is_moved))]
 impl OctetString {
     /// Takes the next value, which has to be an OCTET STRING.
     ///

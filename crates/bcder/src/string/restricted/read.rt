@@ -8,7 +8,7 @@ use crate::decode::{Constructed, Content, ContentError, DecodeError, Source};
 use crate::string::octet::OctetString;
 use std::alloc::Global;
 
-#[tactic(auto, using(crate::proofs::moves_refl))]
+#[tactic(auto, using(crate::specs::laws::Moved::untouched_is_moved))]
 impl<L: CharSet> RestrictedString<L> {
     /// Takes the next value, which has to be a string of the set, with the set's tag.
     ///

@@ -1,7 +1,7 @@
 use Rattle.std.proofs.Common.{refl, ◌∙◌}
 use Rattle.bcder.specs.Content.{Reading, values}
 use Rattle.bcder.specs.Views.{of_constructed, limited_stream}
-use Rattle.bcder.proofs.Carrying.{carries}
+use Rattle.bcder.specs.laws.Moved.{moved_carries}
 use Rattle.bcder.proofs.Capturing.{captured_hands, captured_moves, captured_ends, captured_what, refused_moves, refused_what}
 use Rattle.bcder.proofs.decode.content.Constructed.capture.Goals as goal
 
@@ -27,7 +27,7 @@ unfolding of_constructed
 returns-in-Ok-clause-moves g c =
     let old = c.args.self.now in let new = c.capture_over-result.new.source in let r = c.capture_over-result.result in
     let d : Reading = record { stream = limited_stream g.S.Source.stream new; owed = new.limit; kind = values old.kind; state = r.1; mode = old.mode; marked = c.either-self.result; name = old.source.ghost_name } in
-    carries _ _ (captured_moves _ _ (of_constructed g.S.Source.stream old) d (g.S.Source.stream old.source.now.source) (g.S.Source.stream new.source) old.source.now.limit new.limit _ old.kind old.state r.1 old.mode r.2 refl refl refl refl refl refl refl refl refl refl c.either-self.ensures c.owed-limit.ensures _ _ c.in-Ok.is c.capture_over-result.ensures refl)
+    moved_carries _ _ (captured_moves _ _ (of_constructed g.S.Source.stream old) d (g.S.Source.stream old.source.now.source) (g.S.Source.stream new.source) old.source.now.limit new.limit _ old.kind old.state r.1 old.mode r.2 refl refl refl refl refl refl refl refl refl refl c.either-self.ensures c.owed-limit.ensures _ _ c.in-Ok.is c.capture_over-result.ensures refl)
 
 pub returns-in-Ok-clause-captured : goal.returns-in-Ok-clause-captured
 unfolding of_constructed
@@ -41,7 +41,7 @@ unfolding of_constructed
 returns-in-Err-clause-moves g c =
     let old = c.args.self.now in let new = c.capture_over-result.new.source in let r = c.capture_over-result.result in
     let d : Reading = record { stream = limited_stream g.S.Source.stream new; owed = new.limit; kind = values old.kind; state = old.state; mode = old.mode; marked = c.either-self.result; name = old.source.ghost_name } in
-    carries _ _ (refused_moves _ _ (of_constructed g.S.Source.stream old) d (g.S.Source.stream old.source.now.source) (g.S.Source.stream new.source) old.source.now.limit new.limit _ old.kind old.state r.1 old.mode r.2 refl refl refl refl refl refl refl refl refl refl c.either-self.ensures c.owed-limit.ensures _ _ c.in-Err.is c.capture_over-result.ensures refl)
+    moved_carries _ _ (refused_moves _ _ (of_constructed g.S.Source.stream old) d (g.S.Source.stream old.source.now.source) (g.S.Source.stream new.source) old.source.now.limit new.limit _ old.kind old.state r.1 old.mode r.2 refl refl refl refl refl refl refl refl refl refl c.either-self.ensures c.owed-limit.ensures _ _ c.in-Err.is c.capture_over-result.ensures refl)
 
 pub returns-in-Err-clause-refused : goal.returns-in-Err-clause-refused
 unfolding of_constructed

@@ -1,8 +1,9 @@
 use Rattle.std.proofs.Common.{◌∙◌, refl, arith}
 use Rattle.bcder.specs.Peek.{header}
 use Rattle.bcder.specs.Views.{of_constructed, limited_stream}
+use Rattle.bcder.specs.laws.Moved.{moved_twice_is_moved}
 use Rattle.bcder.proofs.Entering.{enters, within, looked_enters, looked_moves, looked_failed, no_fewer, grew_least}
-use Rattle.bcder.proofs.Moving.{moves_trans, moves_failed, open_not_ended}
+use Rattle.bcder.proofs.Moving.{moves_failed, open_not_ended}
 use Rattle.bcder.proofs.Names.{within_constructed}
 use Rattle.bcder.proofs.Skipped.{whole_accepted, behind_at_hand}
 use Rattle.bcder.proofs.decode.content.Constructed.enter_at_hand.Goals as goal
@@ -11,7 +12,7 @@ pub returns-in-Ok-Some-clause-moves : goal.returns-in-Ok-Some-clause-moves
 unfolding of_constructed
 returns-in-Ok-Some-clause-moves g c =
     let s = c.look_at_octets.ensures.same in
-    moves_trans (of_constructed g.S.Source.stream c.args.self.now) (of_constructed g.S.Source.stream c.look_at_octets.new.self) _ (looked_moves _ _ s (no_fewer _ _ c.in-Ok-Some.ensures.no_fault)) (moves_failed (of_constructed g.S.Source.stream c.look_at_octets.new.self) _ _ c.pass.ensures.advances (λ x. c.pass.ensures.marked ∙ x) (open_not_ended _ (s.state ∙ c.in-Open.is)) c.pass.ensures.state)
+    moved_twice_is_moved (of_constructed g.S.Source.stream c.args.self.now) (of_constructed g.S.Source.stream c.look_at_octets.new.self) _ (looked_moves _ _ s (no_fewer _ _ c.in-Ok-Some.ensures.no_fault)) (moves_failed (of_constructed g.S.Source.stream c.look_at_octets.new.self) _ _ c.pass.ensures.advances (λ x. c.pass.ensures.marked ∙ x) (open_not_ended _ (s.state ∙ c.in-Open.is)) c.pass.ensures.state)
 
 pub returns-in-Ok-Some-clause-entered : goal.returns-in-Ok-Some-clause-entered
 unfolding of_constructed

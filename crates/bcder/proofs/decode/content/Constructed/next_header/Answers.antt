@@ -1,14 +1,14 @@
 use Rattle.std.proofs.Common.{◌∙◌, sym}
 use Rattle.bcder.specs.Content.{nothing}
 use Rattle.bcder.specs.Views.{of_constructed}
-use Rattle.bcder.proofs.Moving.{moves_trans}
+use Rattle.bcder.specs.laws.Moved.{moved_twice_is_moved}
 use Rattle.bcder.proofs.Entering.{looked_front, front_nothing, no_fewer}
 use Rattle.bcder.proofs.Names.{within_constructed, constructed_form}
 use Rattle.bcder.proofs.Refusing.{if_err}
 use Rattle.bcder.proofs.decode.content.Constructed.next_header.Goals as goal
 
 pub returns-in-Ok-Some-clause-moves : goal.returns-in-Ok-Some-clause-moves
-returns-in-Ok-Some-clause-moves g c = moves_trans _ _ _ c.front.ensures.moves c.enter.ensures.moves
+returns-in-Ok-Some-clause-moves g c = moved_twice_is_moved _ _ _ c.front.ensures.moves c.enter.ensures.moves
 
 pub returns-in-Ok-Some-clause-refused : goal.returns-in-Ok-Some-clause-refused
 unfolding of_constructed

@@ -1,14 +1,14 @@
 use Rattle.std.proofs.Common.{refl}
 use Rattle.bcder.specs.Content.{nothing}
 use Rattle.bcder.specs.Views.{of_constructed}
-use Rattle.bcder.proofs.Moving.{moves_trans}
+use Rattle.bcder.specs.laws.Moved.{moved_twice_is_moved}
 use Rattle.bcder.proofs.Entering.{looked_moves, looked_failed, looked_front, if_unread_at, if_other_at, if_front_nothing, no_fewer, grew_least}
 use Rattle.bcder.proofs.Names.{within_constructed}
 use Rattle.bcder.proofs.Refusing.{if_err}
 use Rattle.bcder.proofs.decode.content.Constructed.next_header_if.Goals as goal
 
 pub returns-in-Ok-Front-clause-moves : goal.returns-in-Ok-Front-clause-moves
-returns-in-Ok-Front-clause-moves g c = moves_trans _ _ _ (looked_moves _ _ c.look_for.ensures.same (no_fewer _ _ c.in-Ok-Front.ensures.no_fault)) c.enter.ensures.moves
+returns-in-Ok-Front-clause-moves g c = moved_twice_is_moved _ _ _ (looked_moves _ _ c.look_for.ensures.same (no_fewer _ _ c.in-Ok-Front.ensures.no_fault)) c.enter.ensures.moves
 
 pub returns-in-Ok-Front-clause-refused : goal.returns-in-Ok-Front-clause-refused
 unfolding of_constructed

@@ -2,7 +2,7 @@ use Rattle.std.proofs.Common.{refl, inl, rules}
 use Rattle.bcder.specs.Cause.{stop_cause}
 use Rattle.bcder.specs.Content.{failed, source}
 use Rattle.bcder.specs.Views.{of_constructed}
-use Rattle.bcder.proofs.Moving.{moves_trans}
+use Rattle.bcder.specs.laws.Moved.{moved_twice_is_moved}
 use Rattle.bcder.proofs.Ahead.{ahead}
 use Rattle.bcder.proofs.Entering.{looked_moves, looked_failed, no_fewer, grew_least}
 use Rattle.bcder.proofs.decode.content.Constructed.next_octets_if.Goals as goal
@@ -20,7 +20,7 @@ unfolding of_constructed
 returns-then-is_used_up-clause-entered g c = record { entered = tt; none = search rules; refused = tt; failed = tt; mode = refl; marked = refl }
 
 pub returns-in-Ok-Some-clause-moves : goal.returns-in-Ok-Some-clause-moves
-returns-in-Ok-Some-clause-moves g c = moves_trans _ _ _ (looked_moves _ _ c.look_short.ensures.same (no_fewer _ _ c.in-Ok-Some.ensures.no_fault)) c.enter_octets.ensures.moves
+returns-in-Ok-Some-clause-moves g c = moved_twice_is_moved _ _ _ (looked_moves _ _ c.look_short.ensures.same (no_fewer _ _ c.in-Ok-Some.ensures.no_fault)) c.enter_octets.ensures.moves
 
 pub returns-in-Ok-Some-clause-entered : goal.returns-in-Ok-Some-clause-entered
 unfolding of_constructed
@@ -29,7 +29,7 @@ returns-in-Ok-Some-clause-entered g c =
     c.look_short.ensures.same c.in-Ok-Some.ensures.no_fault c.args.tag stop_cause c.enter_octets.result c.enter_octets.ensures.entered
 
 pub returns-in-Ok-None-clause-moves : goal.returns-in-Ok-None-clause-moves
-returns-in-Ok-None-clause-moves g c = moves_trans _ _ _ (looked_moves _ _ c.look_short.ensures.same (no_fewer _ _ c.in-Ok-None.ensures.no_fault)) c.next_long_if.ensures.moves
+returns-in-Ok-None-clause-moves g c = moved_twice_is_moved _ _ _ (looked_moves _ _ c.look_short.ensures.same (no_fewer _ _ c.in-Ok-None.ensures.no_fault)) c.next_long_if.ensures.moves
 
 pub returns-in-Ok-None-clause-entered : goal.returns-in-Ok-None-clause-entered
 unfolding of_constructed

@@ -1,7 +1,7 @@
 use Rattle.std.proofs.Common.{◌∙◌, take, refl, sym, rules, subst}
 use Rattle.bcder.specs.Encoding.{IsEncoding}
 use Rattle.bcder.specs.Views.{of_constructed}
-use Rattle.bcder.proofs.Moving.{moves_trans}
+use Rattle.bcder.specs.laws.Moved.{moved_twice_is_moved}
 use Rattle.bcder.proofs.Entering.{looked_moves, looked_failed, no_fewer, grew_least}
 use Rattle.bcder.proofs.Passing.{passes_encoding, moves_encoding, looked_passes}
 use Rattle.bcder.proofs.decode.content.Constructed.pass_looked.Goals as goal
@@ -16,7 +16,7 @@ returns-in-Ok-Some-clause-moves g c =
     let j = of_constructed g.S.Source.stream c.look_at_whole.new.self in
     let s = c.look_at_whole.ensures.same in
     let b = rw c.in-Ok-Some.field-0-is at c.in-Ok-Some.ensures.whole in
-    moves_trans _ _ _ (looked_moves i j s (no_fewer _ _ c.in-Ok-Some.ensures.no_fault))
+    moved_twice_is_moved _ _ _ (looked_moves i j s (no_fewer _ _ c.in-Ok-Some.ensures.no_fault))
     (moves_encoding j _ c.in-Ok-Some.size b.tree (subst (λ m. IsEncoding m b.tree (take c.in-Ok-Some.size j.stream.rest)) (sym s.mode) b.encodes) c.pass_over.ensures.advances (s.state ∙ c.requires) (c.pass_over.ensures.state ∙ s.state ∙ c.requires) c.pass_over.ensures.marked)
 
 pub returns-in-Ok-Some-clause-passed : goal.returns-in-Ok-Some-clause-passed

@@ -1,7 +1,7 @@
 use Rattle.std.proofs.Common.{◌∙◌, refl, rules}
 use Rattle.bcder.specs.Peek.{header}
 use Rattle.bcder.specs.Views.{of_constructed}
-use Rattle.bcder.proofs.Moving.{moves_refl, moves_trans}
+use Rattle.bcder.specs.laws.Moved.{untouched_is_moved, moved_twice_is_moved}
 use Rattle.bcder.proofs.Entering.{looked_moves, looked_failed, no_fewer, grew_least}
 use Rattle.bcder.proofs.Passing.{passes_primitive, moves_primitive, looked_read, looked_passes}
 use Rattle.bcder.proofs.decode.content.Constructed.pass_primitive.Goals as goal
@@ -15,7 +15,7 @@ returns-else-found-all-clause-moves g c =
     let i = of_constructed g.S.Source.stream c.args.self.now in
     let j = of_constructed g.S.Source.stream c.ask.new.self in
     let s = c.ask.ensures.same in
-    moves_trans _ _ _ (looked_moves i j s (no_fewer _ _ c.in-Ok.ensures.no_fault))
+    moved_twice_is_moved _ _ _ (looked_moves i j s (no_fewer _ _ c.in-Ok.ensures.no_fault))
     (moves_primitive j _ (header c.args.header) c.args.size c.in-Some.all c.in-Some.ensures (looked_read i j _ _ s c.requires.read.1) c.pass_over.ensures.octets c.pass_over.ensures.within c.pass_over.ensures.advances (s.state ∙ c.requires.usable) (c.pass_over.ensures.state ∙ s.state ∙ c.requires.usable) c.pass_over.ensures.marked)
 
 pub returns-else-found-all-clause-passed : goal.returns-else-found-all-clause-passed
@@ -39,4 +39,4 @@ unfolding of_constructed
 returns-in-Err-clause-moves g c = looked_failed _ _ c.ask.ensures.same (grew_least _ _ c.in-Err.ensures.fault) _ c.requires.usable refl refl refl refl refl refl refl
 
 pub returns-in_default-clause-moves : goal.returns-in_default-clause-moves
-returns-in_default-clause-moves g c = moves_refl _
+returns-in_default-clause-moves g c = untouched_is_moved _

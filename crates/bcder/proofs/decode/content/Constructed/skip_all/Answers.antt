@@ -3,8 +3,7 @@ use Rattle.bcder.specs.Cause.{cause_of}
 use Rattle.bcder.specs.Content.{EndsAt, IsDone}
 use Rattle.bcder.specs.Walking.{PassesValue}
 use Rattle.bcder.specs.Views.{of_constructed}
-use Rattle.bcder.proofs.Carrying.{carries}
-use Rattle.bcder.proofs.Moving.{moves_refl, moves_trans}
+use Rattle.bcder.specs.laws.Moved.{moved_carries, untouched_is_moved, moved_twice_is_moved}
 use Rattle.bcder.proofs.Names.{within_constructed, constructed_form}
 use Rattle.bcder.proofs.Skipped.{all_refused, all_err, all_exact}
 use Rattle.bcder.proofs.Walked.{some_value, none_value}
@@ -19,7 +18,7 @@ returns-in_err-skip_one-clause-moves g c =
     let i = of_constructed g.S.Source.stream c.args.self.now in
     let j = of_constructed g.S.Source.stream c.loop.self in
     let k = of_constructed g.S.Source.stream c.skip_one.new.self in
-    carries i k (moves_trans i j k c.loop.invariant.walks.moves (c.skip_one.ensures.moves j (moves_refl j)))
+    moved_carries i k (moved_twice_is_moved i j k c.loop.invariant.walks.moves (c.skip_one.ensures.moves j (untouched_is_moved j)))
 
 pub returns-in_err-skip_one-clause-skipped : goal.returns-in_err-skip_one-clause-skipped
 returns-in_err-skip_one-clause-skipped g c =
@@ -56,7 +55,7 @@ loop-preserved g c =
     let k = of_constructed g.S.Source.stream c.skip_one.new.self in
     record {
       walks =
-          walks_value i j k (within_constructed g.S.Source.stream g.met.S.Source.sound c.loop.self) c.loop.invariant.walks (c.skip_one.ensures.moves j (moves_refl j)) c.skip_one.ensures.skipped.mode c.skip_one.ensures.skipped.marked
+          walks_value i j k (within_constructed g.S.Source.stream g.met.S.Source.sound c.loop.self) c.loop.invariant.walks (c.skip_one.ensures.moves j (untouched_is_moved j)) c.skip_one.ensures.skipped.mode c.skip_one.ensures.skipped.marked
           (some_value (PassesValue j k) _ c.if-is_some.ensures c.in_ok-skip_one.ensures.skipped.value);
       no_fault = c.in_ok-skip_one.ensures.skipped.no_fault ∙ c.loop.invariant.no_fault;
     }
@@ -66,7 +65,7 @@ returns-clause-moves g c =
     let i = of_constructed g.S.Source.stream c.args.self.now in
     let j = of_constructed g.S.Source.stream c.loop.self in
     let k = of_constructed g.S.Source.stream c.skip_one.new.self in
-    carries i k (moves_trans i j k c.loop.invariant.walks.moves (c.skip_one.ensures.moves j (moves_refl j)))
+    moved_carries i k (moved_twice_is_moved i j k c.loop.invariant.walks.moves (c.skip_one.ensures.moves j (untouched_is_moved j)))
 
 pub returns-clause-skipped : goal.returns-clause-skipped
 returns-clause-skipped g c =

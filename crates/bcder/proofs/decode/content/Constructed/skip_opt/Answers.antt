@@ -1,8 +1,7 @@
 use Rattle.bcder.specs.Cause.{cause_of}
 use Rattle.bcder.specs.Views.{of_constructed}
 use Rattle.bcder.specs.Walking.{source}
-use Rattle.bcder.proofs.Carrying.{carries}
-use Rattle.bcder.proofs.Moving.{moves_trans}
+use Rattle.bcder.specs.laws.Moved.{moved_carries, moved_twice_is_moved}
 use Rattle.bcder.proofs.Names.{within_constructed}
 use Rattle.bcder.proofs.Skipped.{skipped_none, answers_skip, looked_told}
 use Rattle.bcder.proofs.decode.content.Constructed.skip_opt.Goals as goal
@@ -21,7 +20,7 @@ skip_octets_at_hand-requires-clause-fits g c = (rw c.in-Ok-Some.field-0-is at c.
 
 pub returns-in-Ok-Some-clause-moves : goal.returns-in-Ok-Some-clause-moves
 unfolding of_constructed
-returns-in-Ok-Some-clause-moves g c = carries _ _ (c.skip_octets_at_hand.ensures.moves (of_constructed g.S.Source.stream c.args.self.now) (rw c.in-Ok-Some.field-0-is at c.in-Ok-Some.ensures.entered))
+returns-in-Ok-Some-clause-moves g c = moved_carries _ _ (c.skip_octets_at_hand.ensures.moves (of_constructed g.S.Source.stream c.args.self.now) (rw c.in-Ok-Some.field-0-is at c.in-Ok-Some.ensures.entered))
 
 pub returns-in-Ok-Some-clause-skipped : goal.returns-in-Ok-Some-clause-skipped
 unfolding of_constructed
@@ -33,7 +32,7 @@ returns-in-Ok-Some-clause-exact g c = λ n. answers_skip cause_of _ _ _ _ _ (wit
 
 pub returns-in-Ok-None-clause-moves : goal.returns-in-Ok-None-clause-moves
 unfolding of_constructed
-returns-in-Ok-None-clause-moves g c = carries _ _ (moves_trans _ _ _ c.enter_at_hand.ensures.moves c.skip_next_on.ensures.moves)
+returns-in-Ok-None-clause-moves g c = moved_carries _ _ (moved_twice_is_moved _ _ _ c.enter_at_hand.ensures.moves c.skip_next_on.ensures.moves)
 
 pub returns-in-Ok-None-clause-skipped : goal.returns-in-Ok-None-clause-skipped
 unfolding of_constructed
@@ -45,7 +44,7 @@ returns-in-Ok-None-clause-exact g c = λ n. answers_skip cause_of _ _ _ _ _ (wit
 
 pub returns-in-Err-clause-moves : goal.returns-in-Err-clause-moves
 unfolding of_constructed
-returns-in-Err-clause-moves g c = carries _ _ c.enter_at_hand.ensures.moves
+returns-in-Err-clause-moves g c = moved_carries _ _ c.enter_at_hand.ensures.moves
 
 pub returns-in-Err-clause-skipped : goal.returns-in-Err-clause-skipped
 unfolding of_constructed

@@ -4,7 +4,7 @@ use Rattle.bcder.specs.Cause.{cause_of, stop_cause}
 use Rattle.bcder.specs.Content.{any}
 use Rattle.bcder.specs.Peek.{header}
 use Rattle.bcder.specs.Views.{of_constructed}
-use Rattle.bcder.proofs.Carrying.{carries}
+use Rattle.bcder.specs.laws.Moved.{moved_carries}
 use Rattle.bcder.proofs.Stopping.{header_stopped}
 use Rattle.bcder.proofs.Taking.{takes_next, moves_next, next_none, next_refused, inside_entered}
 use Rattle.bcder.proofs.decode.content.Constructed.take_opt_constructed.Goals as goal
@@ -28,7 +28,7 @@ values_behind-requires-clause-fits g c =
 pub returns-in-Ok-Some-clause-moves : goal.returns-in-Ok-Some-clause-moves
 returns-in-Ok-Some-clause-moves g c =
     let e = rw c.in-Ok-Some.field-0-is at c.in-Ok-Some.ensures.entered in
-    carries _ _ (moves_next (of_constructed g.S.Source.stream) _ (Some false) any (of_constructed g.S.Source.stream c.args.self.now) _ _ (header c.in-Ok-Some.header) e.0 e.1 _ c.values_behind.ensures)
+    moved_carries _ _ (moves_next (of_constructed g.S.Source.stream) _ (Some false) any (of_constructed g.S.Source.stream c.args.self.now) _ _ (header c.in-Ok-Some.header) e.0 e.1 _ c.values_behind.ensures)
 
 pub returns-in-Ok-Some-clause-took : goal.returns-in-Ok-Some-clause-took
 returns-in-Ok-Some-clause-took g c =
@@ -36,14 +36,14 @@ returns-in-Ok-Some-clause-took g c =
     takes_next (of_constructed g.S.Source.stream) _ (Some false) any (of_constructed g.S.Source.stream c.args.self.now) _ _ (header c.in-Ok-Some.header) e.0 e.1 _ c.values_behind.ensures
 
 pub returns-in-Ok-None-clause-moves : goal.returns-in-Ok-None-clause-moves
-returns-in-Ok-None-clause-moves g c = carries _ _ c.next_header.ensures.moves
+returns-in-Ok-None-clause-moves g c = moved_carries _ _ c.next_header.ensures.moves
 
 pub returns-in-Ok-None-clause-took : goal.returns-in-Ok-None-clause-took
 unfolding of_constructed
 returns-in-Ok-None-clause-took g c = next_none (of_constructed g.S.Source.stream) _ (Some false) any _ (of_constructed g.S.Source.stream c.next_header.new.self) c.next_header.ensures.mode (rw c.in-Ok-None.field-0-is at c.in-Ok-None.ensures.none)
 
 pub returns-in-Err-clause-moves : goal.returns-in-Err-clause-moves
-returns-in-Err-clause-moves g c = carries _ _ c.next_header.ensures.moves
+returns-in-Err-clause-moves g c = moved_carries _ _ c.next_header.ensures.moves
 
 pub returns-in-Err-clause-took : goal.returns-in-Err-clause-took
 unfolding of_constructed

@@ -6,7 +6,7 @@ use Rattle.bcder.specs.Cause.{stop_cause}
 use Rattle.bcder.specs.Content.{tagged, Enters}
 use Rattle.bcder.specs.Peek.{header}
 use Rattle.bcder.specs.Views.{of_constructed, of_primitive}
-use Rattle.bcder.proofs.Carrying.{carries}
+use Rattle.bcder.specs.laws.Moved.{moved_carries}
 use Rattle.bcder.proofs.Ahead.{next_stops}
 use Rattle.bcder.proofs.Taking.{takes_next, moves_next, next_none, inside_entered, allowed_entered, said_behind, moves_on}
 use Rattle.bcder.proofs.decode.content.Constructed.take_opt_primitive_if.Goals as goal
@@ -46,7 +46,7 @@ returns-clause-moves g c =
     let h = c.octets_header.ensures in
     let t = ap (λ (k : Kept). k.tag) h in
     let e = subst (λ k. Enters (of_constructed g.S.Source.stream c.args.self.now) (header k) (of_constructed g.S.Source.stream c.next_octets_if.new.self)) (sym h) (rw c.in-Ok-Some.field-0-is at c.in-Ok-Some.ensures.entered.entered) in
-    carries _ _ (moves_next (of_primitive g.S.Source.stream) _ (Some true) (tagged c.args.tag) (of_constructed g.S.Source.stream c.args.self.now) _ _ (header c.octets_header.result) t e _ c.octets_behind.ensures)
+    moved_carries _ _ (moves_next (of_primitive g.S.Source.stream) _ (Some true) (tagged c.args.tag) (of_constructed g.S.Source.stream c.args.self.now) _ _ (header c.octets_header.result) t e _ c.octets_behind.ensures)
 
 pub returns-clause-took : goal.returns-clause-took
 returns-clause-took g c =
@@ -56,14 +56,14 @@ returns-clause-took g c =
     takes_next (of_primitive g.S.Source.stream) _ (Some true) (tagged c.args.tag) (of_constructed g.S.Source.stream c.args.self.now) _ _ (header c.octets_header.result) t e _ (said_behind (of_primitive g.S.Source.stream) _ _ (λ t p r q h. search rules) (Some true) _ _ _ _ c.octets_behind.ensures)
 
 pub returns-in-Ok-None-clause-moves : goal.returns-in-Ok-None-clause-moves
-returns-in-Ok-None-clause-moves g c = carries _ _ c.next_octets_if.ensures.moves
+returns-in-Ok-None-clause-moves g c = moved_carries _ _ c.next_octets_if.ensures.moves
 
 pub returns-in-Ok-None-clause-took : goal.returns-in-Ok-None-clause-took
 unfolding of_constructed
 returns-in-Ok-None-clause-took g c = next_none (of_primitive g.S.Source.stream) _ (Some true) (tagged c.args.tag) _ (of_constructed g.S.Source.stream c.next_octets_if.new.self) c.next_octets_if.ensures.entered.mode (rw c.in-Ok-None.field-0-is at c.in-Ok-None.ensures.entered.none)
 
 pub returns-in-Err-clause-moves : goal.returns-in-Err-clause-moves
-returns-in-Err-clause-moves g c = carries _ _ c.next_octets_if.ensures.moves
+returns-in-Err-clause-moves g c = moved_carries _ _ c.next_octets_if.ensures.moves
 
 pub returns-in-Err-clause-took : goal.returns-in-Err-clause-took
 unfolding of_constructed

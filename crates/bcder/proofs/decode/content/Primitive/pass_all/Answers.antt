@@ -2,8 +2,8 @@ use Rattle.std.proofs.Common.{◌≤◌, length, take, refl, arith}
 use Rattle.bcder.specs.Stream.{limited}
 use Rattle.bcder.specs.laws.Limits.{limited_sound}
 use Rattle.bcder.specs.Views.{of_primitive}
+use Rattle.bcder.specs.laws.Moved.{moved_carries}
 use Rattle.bcder.proofs.Moving.{moves_octets}
-use Rattle.bcder.proofs.Carrying.{carries}
 use Rattle.bcder.proofs.Entering.{advances_by}
 use Rattle.bcder.proofs.Remaining.{limit_used}
 use Rattle.bcder.proofs.decode.content.Primitive.pass_all.Goals as goal
@@ -13,7 +13,7 @@ unfolding of_primitive
 returns-clause-moves g c =
     let s = g.S.Source.stream c.args.self.now.source.now.source in
     let t = g.S.Source.stream c.advance.new.self.source in
-    carries _ _ (moves_octets _ _ (take c.args.len (limited c.args.self.now.source.now.limit s).rest) (advances_by _ _ s t c.args.self.now.source.now.limit c.advance.new.self.limit c.args.len refl refl refl refl (g.met.S.Source.sound c.args.self.now.source.now.source) c.advance.ensures.rest c.advance.ensures.faults c.advance.ensures.kept c.requires.at_hand refl refl refl) refl refl refl refl)
+    moved_carries _ _ (moves_octets _ _ (take c.args.len (limited c.args.self.now.source.now.limit s).rest) (advances_by _ _ s t c.args.self.now.source.now.limit c.advance.new.self.limit c.args.len refl refl refl refl (g.met.S.Source.sound c.args.self.now.source.now.source) c.advance.ensures.rest c.advance.ensures.faults c.advance.ensures.kept c.requires.at_hand refl refl refl) refl refl refl refl)
 
 pub returns-clause-none_owed : goal.returns-clause-none_owed
 unfolding of_primitive

@@ -1,9 +1,9 @@
 use Rattle.std.proofs.Common.{refl}
 use Rattle.bcder.specs.Views.{of_primitive}
-use Rattle.bcder.proofs.Carrying.{carries}
+use Rattle.bcder.specs.laws.Moved.{moved_carries}
 use Rattle.bcder.proofs.Moving.{moves_changed}
 use Rattle.bcder.proofs.decode.content.Primitive.set_mode.Goals as goal
 
 pub returns-then-ne-clause-moves : goal.returns-then-ne-clause-moves
 unfolding of_primitive
-returns-then-ne-clause-moves g c = carries _ _ (moves_changed _ _ refl refl refl refl refl refl)
+returns-then-ne-clause-moves g c = moved_carries _ _ (moves_changed _ _ refl refl refl refl refl refl)

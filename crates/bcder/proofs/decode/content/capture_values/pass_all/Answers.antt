@@ -2,9 +2,8 @@ use Rattle.std.proofs.Common.{◌∙◌, arith, refl}
 use Rattle.bcder.specs.Content.{IsDone}
 use Rattle.bcder.specs.Walking.{PassesValue}
 use Rattle.bcder.specs.Views.{of_constructed}
-use Rattle.bcder.proofs.Moving.{moves_refl, moves_trans}
+use Rattle.bcder.specs.laws.Moved.{untouched_is_moved, moved_twice_is_moved, moved_carries}
 use Rattle.bcder.proofs.Names.{within_constructed, constructed_form}
-use Rattle.bcder.proofs.Carrying.{carries}
 use Rattle.bcder.proofs.Walking.{walks_refl, walks_value, value_shorter}
 use Rattle.bcder.proofs.Walked.{some_value, none_value}
 use Rattle.bcder.proofs.CapturingValues.{loop_refused_one, pass_refused}
@@ -20,7 +19,7 @@ loop-preserved g c =
     let k = of_constructed g.S.Source.stream c.skip_one.new.self in
     let p = c.in_ok-skip_one.ensures.skipped in
     record {
-      walks = walks_value i j k (within_constructed g.S.Source.stream g.met.S.Source.sound c.loop.cons) c.loop.invariant.walks (c.skip_one.ensures.moves j (moves_refl j)) p.mode p.marked (some_value (PassesValue j k) _ c.if-is_some.ensures p.value);
+      walks = walks_value i j k (within_constructed g.S.Source.stream g.met.S.Source.sound c.loop.cons) c.loop.invariant.walks (c.skip_one.ensures.moves j (untouched_is_moved j)) p.mode p.marked (some_value (PassesValue j k) _ c.if-is_some.ensures p.value);
       no_fault = p.no_fault ∙ c.loop.invariant.no_fault;
     }
 
@@ -33,7 +32,7 @@ loop-smaller g c =
 pub returns-in_err-skip_one-clause-moves : goal.returns-in_err-skip_one-clause-moves
 returns-in_err-skip_one-clause-moves g c =
     let j = of_constructed g.S.Source.stream c.loop.cons in
-    carries _ _ (moves_trans _ _ _ c.loop.invariant.walks.moves (c.skip_one.ensures.moves j (moves_refl j)))
+    moved_carries _ _ (moved_twice_is_moved _ _ _ c.loop.invariant.walks.moves (c.skip_one.ensures.moves j (untouched_is_moved j)))
 
 pub returns-in_err-skip_one-clause-passed : goal.returns-in_err-skip_one-clause-passed
 returns-in_err-skip_one-clause-passed g c =
@@ -45,7 +44,7 @@ returns-in_err-skip_one-clause-passed g c =
 pub returns-clause-moves : goal.returns-clause-moves
 returns-clause-moves g c =
     let j = of_constructed g.S.Source.stream c.loop.cons in
-    carries _ _ (moves_trans _ _ _ c.loop.invariant.walks.moves (c.skip_one.ensures.moves j (moves_refl j)))
+    moved_carries _ _ (moved_twice_is_moved _ _ _ c.loop.invariant.walks.moves (c.skip_one.ensures.moves j (untouched_is_moved j)))
 
 pub returns-clause-passed : goal.returns-clause-passed
 returns-clause-passed g c =

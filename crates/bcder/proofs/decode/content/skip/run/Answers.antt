@@ -1,8 +1,8 @@
 use Rattle.std.proofs.Common.{◌∙◌, sym, ap, refl, arith, length, subst, []}
 use denote.Param.Always.{mut_next}
 use Rattle.bcder.specs.Peek.{header}
+use Rattle.bcder.specs.laws.Moved.{moved_keeps_kind}
 use Rattle.bcder.proofs.Entering.{kind_of}
-use Rattle.bcder.proofs.Walking.{moves_kind}
 use Rattle.bcder.specs.Stacked.{TopIs, entries, source_of, limit_in}
 use Rattle.bcder.specs.Views.{of_constructed}
 use Rattle.bcder.proofs.Names.{within_constructed, moves_constructed_name}
@@ -105,7 +105,7 @@ loop-opened-preserved-in_default-go_into-2 g c =
       callable = mut_next _ _ _ _ _ _ c.op-in-Ok-Some.ensures refl i.callable;
       counted = c.go_into-in-Ok-Some.ensures.counted;
       went = (w.calls, w.called, w.under);
-      top = c.in_default-go_into-2.ensures.kind (subst (TopIs (entries c.loop-opened.opened)) (sym (kind_of _ _ (moves_kind _ _ c.next_header.ensures.moves))) i.top);
+      top = c.in_default-go_into-2.ensures.kind (subst (TopIs (entries c.loop-opened.opened)) (sym (kind_of _ _ (moved_keeps_kind _ _ c.next_header.ensures.moves))) i.top);
       state = c.in_default-go_into-2.ensures.state;
       mode = c.go_into-in-Ok-Some.ensures.mode ∙ c.next_header.ensures.mode ∙ i.mode;
       name = c.go_into-in-Ok-Some.ensures.name ∙ moves_constructed_name g.S.Source.stream c.loop-opened.cons c.next_header.new.self c.next_header.ensures.moves ∙ i.name;

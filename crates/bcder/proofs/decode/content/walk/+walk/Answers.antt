@@ -6,13 +6,13 @@ use Rattle.bcder.specs.Calls.{content}
 use Rattle.bcder.specs.Peek.{header}
 use Rattle.bcder.specs.Walking.{PassesValue, itself, walked}
 use Rattle.bcder.specs.Views.{of_constructed, limited_stream}
-use Rattle.bcder.proofs.Moving.{moves_trans}
+use Rattle.bcder.specs.laws.Moved.{moved_twice_is_moved, moved_is_no_longer}
 use Rattle.bcder.proofs.Names.{within_constructed, constructed_form, moves_constructed_name}
 use Rattle.bcder.proofs.Refusing.{if_err}
 use Rattle.bcder.proofs.Inner.{takes_values, takes_marked}
 use Rattle.bcder.proofs.Taking.{taken_value, taken_moves, refused_front, refused_moves}
 use Rattle.bcder.proofs.Stepping.{step_refused, next_refused, entered_shorter, stop_reason, or_none, ran_values, skips}
-use Rattle.bcder.proofs.Walking.{walks_refl, walks_value, walks_refused, all_refused, walks_all, moves_shorter, value_shorter}
+use Rattle.bcder.proofs.Walking.{walks_refl, walks_value, walks_refused, all_refused, walks_all, value_shorter}
 use Rattle.bcder.proofs.Walked.{walks_one, some_value, none_value}
 use Rattle.bcder.proofs.decode.content.walk.+walk.Goals as goal
 
@@ -112,10 +112,10 @@ walk_all-loop-init g t c = record { walks = walks_refl _; no_fault = refl }
 
 pub walk_all-step-requires : goal.walk_all-step-requires
 walk_all-step-requires g t c κs within =
-    let h : length (of_constructed g.S.Source.stream c.loop.cons).stream.rest ≤ length (of_constructed g.S.Source.stream c.args.cons.now).stream.rest = moves_shorter _ _ c.loop.invariant.walks.moves in search rules
+    let h : length (of_constructed g.S.Source.stream c.loop.cons).stream.rest ≤ length (of_constructed g.S.Source.stream c.args.cons.now).stream.rest = moved_is_no_longer _ _ c.loop.invariant.walks.moves in search rules
 
 pub walk_all-returns-in_err-step-clause-moves : goal.walk_all-returns-in_err-step-clause-moves
-walk_all-returns-in_err-step-clause-moves g t c = moves_trans _ _ _ c.loop.invariant.walks.moves c.in_err-step.ensures.moves
+walk_all-returns-in_err-step-clause-moves g t c = moved_twice_is_moved _ _ _ c.loop.invariant.walks.moves c.in_err-step.ensures.moves
 
 pub walk_all-returns-in_err-step-clause-passed : goal.walk_all-returns-in_err-step-clause-passed
 walk_all-returns-in_err-step-clause-passed g t c =
@@ -147,7 +147,7 @@ walk_all-loop-preserved g t c =
     }
 
 pub walk_all-returns-clause-moves : goal.walk_all-returns-clause-moves
-walk_all-returns-clause-moves g t c = moves_trans _ _ _ c.loop.invariant.walks.moves c.in_ok-step.ensures.moves
+walk_all-returns-clause-moves g t c = moved_twice_is_moved _ _ _ c.loop.invariant.walks.moves c.in_ok-step.ensures.moves
 
 pub walk_all-returns-clause-passed : goal.walk_all-returns-clause-passed
 walk_all-returns-clause-passed g t c =
@@ -165,7 +165,7 @@ walk_all-returns-clause-passed g t c =
     }
 
 pub walk_all-returns-in_err-step-clause-name : goal.walk_all-returns-in_err-step-clause-name
-walk_all-returns-in_err-step-clause-name g t c = moves_constructed_name g.S.Source.stream c.args.cons.now c.step.new.cons (moves_trans _ _ _ c.loop.invariant.walks.moves c.in_err-step.ensures.moves)
+walk_all-returns-in_err-step-clause-name g t c = moves_constructed_name g.S.Source.stream c.args.cons.now c.step.new.cons (moved_twice_is_moved _ _ _ c.loop.invariant.walks.moves c.in_err-step.ensures.moves)
 
 pub walk_all-returns-clause-name : goal.walk_all-returns-clause-name
-walk_all-returns-clause-name g t c = moves_constructed_name g.S.Source.stream c.args.cons.now c.step.new.cons (moves_trans _ _ _ c.loop.invariant.walks.moves c.in_ok-step.ensures.moves)
+walk_all-returns-clause-name g t c = moves_constructed_name g.S.Source.stream c.args.cons.now c.step.new.cons (moved_twice_is_moved _ _ _ c.loop.invariant.walks.moves c.in_ok-step.ensures.moves)

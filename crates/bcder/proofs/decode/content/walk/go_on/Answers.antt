@@ -1,22 +1,22 @@
 use Rattle.std.proofs.Common.{◌∙◌, sym}
 use Rattle.bcder.specs.Content.{nothing}
 use Rattle.bcder.specs.Views.{of_constructed}
-use Rattle.bcder.proofs.Moving.{moves_trans}
+use Rattle.bcder.specs.laws.Moved.{moved_twice_is_moved}
 use Rattle.bcder.proofs.Entering.{looked_front, front_nothing, no_fewer}
 use Rattle.bcder.proofs.Names.{within_constructed, constructed_form}
 use Rattle.bcder.proofs.decode.content.walk.go_on.Goals as goal
 
 pub returns-in-Ok-true-clause-moves : goal.returns-in-Ok-true-clause-moves
-returns-in-Ok-true-clause-moves g c = moves_trans _ _ _ c.front.ensures.moves c.pass_primitive.ensures.moves
+returns-in-Ok-true-clause-moves g c = moved_twice_is_moved _ _ _ c.front.ensures.moves c.pass_primitive.ensures.moves
 
 pub returns-in-Ok-Some-enter-clause-moves : goal.returns-in-Ok-Some-enter-clause-moves
-returns-in-Ok-Some-enter-clause-moves g c = moves_trans _ _ _ c.front.ensures.moves (moves_trans _ _ _ c.pass_primitive.ensures.moves c.enter.ensures.moves)
+returns-in-Ok-Some-enter-clause-moves g c = moved_twice_is_moved _ _ _ c.front.ensures.moves (moved_twice_is_moved _ _ _ c.pass_primitive.ensures.moves c.enter.ensures.moves)
 
 pub returns-in-Ok-None-enter-clause-moves : goal.returns-in-Ok-None-enter-clause-moves
-returns-in-Ok-None-enter-clause-moves g c = moves_trans _ _ _ c.front.ensures.moves (moves_trans _ _ _ c.pass_primitive.ensures.moves c.enter.ensures.moves)
+returns-in-Ok-None-enter-clause-moves g c = moved_twice_is_moved _ _ _ c.front.ensures.moves (moved_twice_is_moved _ _ _ c.pass_primitive.ensures.moves c.enter.ensures.moves)
 
 pub returns-in-Err-enter-clause-moves : goal.returns-in-Err-enter-clause-moves
-returns-in-Err-enter-clause-moves g c = moves_trans _ _ _ c.front.ensures.moves (moves_trans _ _ _ c.pass_primitive.ensures.moves c.enter.ensures.moves)
+returns-in-Err-enter-clause-moves g c = moved_twice_is_moved _ _ _ c.front.ensures.moves (moved_twice_is_moved _ _ _ c.pass_primitive.ensures.moves c.enter.ensures.moves)
 
 pub returns-in-Err-enter-clause-stepped : goal.returns-in-Err-enter-clause-stepped
 unfolding of_constructed
@@ -38,4 +38,4 @@ returns-in-Err-enter-clause-stepped g c =
     }
 
 pub returns-in-Err-pass_primitive-clause-moves : goal.returns-in-Err-pass_primitive-clause-moves
-returns-in-Err-pass_primitive-clause-moves g c = moves_trans _ _ _ c.front.ensures.moves c.pass_primitive.ensures.moves
+returns-in-Err-pass_primitive-clause-moves g c = moved_twice_is_moved _ _ _ c.front.ensures.moves c.pass_primitive.ensures.moves

@@ -1,11 +1,11 @@
 use Rattle.bcder.specs.Cause.{stop_cause}
 use Rattle.bcder.specs.Views.{of_constructed}
-use Rattle.bcder.proofs.Moving.{moves_trans}
+use Rattle.bcder.specs.laws.Moved.{moved_twice_is_moved}
 use Rattle.bcder.proofs.Passing.{looked_next}
 use Rattle.bcder.proofs.decode.content.walk.walk_next.Goals as goal
 
 pub returns-in-Ok-false-clause-moves : goal.returns-in-Ok-false-clause-moves
-returns-in-Ok-false-clause-moves g c = moves_trans _ _ _ c.pass_at_hand.ensures.moves c.walk_apart.ensures.moves
+returns-in-Ok-false-clause-moves g c = moved_twice_is_moved _ _ _ c.pass_at_hand.ensures.moves c.walk_apart.ensures.moves
 
 pub returns-in-Ok-false-clause-passed : goal.returns-in-Ok-false-clause-passed
 returns-in-Ok-false-clause-passed g c =

@@ -1,5 +1,11 @@
-use Rattle.bcder.proofs.Writing.{exactly}
+use Rattle.std.proofs.Common.{◌<◌, length, drop, sym, arith}
+use Rattle.bcder.proofs.Enclosing.{short_definite}
+use Rattle.bcder.proofs.Writing.{exactly, same_octets}
 use Rattle.bcder.proofs.encode.primitive.integers.put_unsigned.Goals as goal
 
 pub returns : goal.returns
-returns g c = λ one. exactly c.args.tag c.of.ensures.octets c.put_short.ensures
+returns g c =
+    let w = drop c.of-contents.result.start c.of-contents.result.buffer in
+    let few : length w < 128 = omega (arith, c.len-len.ensures.value, c.len-len.ensures.limit) in
+    let all = same_octets (sym (short_definite c.args.tag c.in-Some.identifier w c.in-Some.ensures few)) c.put_five.ensures in
+    λ one. exactly c.args.tag c.of-contents.ensures.octets all

@@ -1,2 +1,0 @@
--- What moved to content moves on.
-pub use Rattle.bcder.specs.laws.Moved.{moved_carries as carries}
