@@ -1,5 +1,5 @@
 -- The meaning of a value, from what is inside.
-use Rattle.std.proofs.Common.{◌≡◌, ℕ, suc, ◌+◌, ◌-◌, ◌<◌, arith, ◌^◌, List, [], ◌∷◌, ◌++◌, Bool, true, false, length, nat_lt, Ok, Err, refl, ap, ◌∙◌, inl, inr, length-append, if◌then◌else◌}
+use Rattle.std.proofs.Common.{◌≡◌, ◌≢◌, ℕ, suc, ◌+◌, ◌-◌, ◌<◌, arith, ◌^◌, List, [], ◌∷◌, ◌++◌, Bool, true, false, length, nat_lt, Ok, Err, refl, ap, ◌∙◌, inl, inr, length-append, if◌then◌else◌}
 use Rattle.std.proofs.lemmas.Bool.{cases_lt, lt-ltb, le-ltb, le-leb, lt-leb}
 use Rattle.bcder.specs.declared.mode.Mode.{Mode}
 use Rattle.bcder.specs.declared.mode.Mode.TheVariants.{Ber, Cer, Der}
@@ -9,6 +9,7 @@ use Rattle.bcder.specs.Identifier.{Tag, identifier, IsValueTag}
 use Rattle.bcder.specs.Octets.{definite_length, length_octets, fits_length, header, definite, constructed_length, closing, enclosed, enclosed_size}
 use Rattle.bcder.specs.Enclosing.{length_size}
 use Rattle.bcder.specs.Meaning.{Encoded, Meaning, ContentsMeaning, ValueMeans, primitive_encoded, primitive_meaning, constructed_encoded, constructed_meaning, fits_enclosed, enclosed_refusal}
+use Rattle.bcder.proofs.Writing.{append_not_nil}
 
 pub primitive_given : (t : Tag) (M : ContentsMeaning → Type 0) (c : List ℕ) → M (Ok c) → length c < 2 ^ 32 → IsValueTag t → ValueMeans t (primitive_meaning t) M (Ok (primitive_encoded t c))
 primitive_given t M c m fits v =
@@ -23,6 +24,18 @@ header-length t f len = length-append (identifier t f) (length_octets len)
 
 pub definite-length : (t : Tag) (f : Bool) (c : List ℕ) → length (definite t f c) ≡ length (identifier t f) + length (length_octets (Definite (length c))) + length c
 definite-length t f c = length-append (header t f (Definite (length c))) c ∙ ap (λ n. n + length c) (header-length t f (Definite (length c)))
+
+identifier_some : (t : Tag) (f : Bool) → identifier t f ≢ []
+unfolding identifier
+identifier_some t f =
+    elim (cases_lt t.number 31) [
+      | inl lt ↦ rw (lt-ltb t.number 31 lt) (λ e. cc)
+      | inr le ↦ rw (le-ltb t.number 31 le) (λ e. cc)
+    ]
+
+-- a value has octets
+pub definite_some : (t : Tag) (f : Bool) (c : List ℕ) → definite t f c ≢ []
+definite_some t f c = append_not_nil _ c (append_not_nil _ (length_octets (Definite (length c))) (identifier_some t f))
 
 pub enclosed-length : (mode : Mode) (t : Tag) (b : List ℕ) → length (enclosed mode t b) ≡ enclosed_size mode t (length b)
 enclosed-length mode t b =

@@ -33,6 +33,14 @@ follows_at lacks v w a b c (Err (Refused e)) p h = let f = h.2 in (h.0, h.1, rec
 pub follows_on : {l lacks : Type 0} {v w : List ℕ} {a b c : Option (List ℕ)} {u : Unit {0}} {r : Result (Unit {0}) WriteError} → WroteOf l v a b (Ok u) → WroteOf lacks w b c r → WroteOf lacks (v ++ w) a c r
 follows_on p h = record { done = follows_at _ _ _ _ _ _ _ p.done h.done }
 
+elsewhere_at : (lacks : Type 0) (v w : List ℕ) (a b c : Option (List ℕ)) (e : WriteError) → w ≢ [] → DoneOf lacks v a b (Err e) → DoneOf lacks w c c (Err e)
+elsewhere_at lacks v w a b c (Target e) some h = record { front = []; rest = w; appends = Appends-nil c; whole = refl; shorter = some }
+elsewhere_at lacks v w a b c (Refused e) some h = (h.0, h.1, record { front = []; rest = w; appends = Appends-nil c; whole = refl })
+
+-- an error of what is gathered first is one of w, of which nothing was written yet
+pub elsewhere : {lacks : Type 0} {v : List ℕ} (w : List ℕ) {a b : Option (List ℕ)} (c : Option (List ℕ)) {e : WriteError} → w ≢ [] → WroteOf lacks v a b (Err e) → WroteOf lacks w c c (Err e)
+elsewhere w c some h = record { done = elsewhere_at _ _ w _ _ c _ some h.done }
+
 lacks_at : (P Q : Type 0) (w : List ℕ) (a b : Option (List ℕ)) (r : Result (Unit {0}) WriteError) → (P → Q) → DoneOf P w a b r → DoneOf Q w a b r
 lacks_at P Q w a b (Ok u) f h = h
 lacks_at P Q w a b (Err (Target e)) f h = h

@@ -10,11 +10,12 @@ mod strings;
 mod tuples;
 
 use crate::asserts::{done, holds, same};
-use bcder::Mode;
-use bcder::encode::WriteError;
+use bcder::encode::{PrimitiveContent, Values, WriteError};
+use bcder::{Mode, Tag};
 use encoders::{Encoder, write};
 use lines::{CONTENTS, FRONTS, LISTS, Line, ONE_OF, PRIMITIVES, STRINGS};
 use long::{LONG, Long, octets_of, spelled, write_long};
+use rows::encoders::Zeros;
 use std::alloc::Global;
 use std::io;
 use std::io::{Error, ErrorKind, Write};
@@ -196,6 +197,41 @@ fn one_of_several(rt: HostRuntime) {
 #[test]
 fn lists_of_values(rt: HostRuntime) {
     run_lines(&rt, rt.alloc(), &LISTS);
+}
+
+/// Each primitive value of the lines, of up to 64 contents octets, is one call of the target's.
+fn at_once(rt: &impl Abort, alloc: Global, lines: &[Line]) {
+    for (encoder, mode, wanted) in lines {
+        if wanted.first().is_some_and(|leading| leading & 0x20 == 0) {
+            let mut target = Target::new(alloc, false, 0, Failure::Nothing);
+            done(rt, write(rt, alloc, *encoder, *mode, &mut target));
+            same(rt, target.calls, 1);
+        }
+    }
+}
+
+#[test]
+fn small_values_at_once(rt: HostRuntime) {
+    at_once(&rt, rt.alloc(), &PRIMITIVES);
+    at_once(&rt, rt.alloc(), &STRINGS);
+}
+
+/// So are values under a tag of several octets, and those of a type of one's own.
+#[test]
+fn small_values_of_other_kinds_at_once(rt: HostRuntime) {
+    let mut target = Target::new(rt.alloc(), false, 0, Failure::Nothing);
+    let outcome = 5u8
+        .encode_as(Tag::ctx(31))
+        .write_encoded(Mode::Der, &mut target);
+    target.check_whole(&rt, &outcome, &[0x9F, 0x1F, 0x01, 0x05]);
+    same(&rt, target.calls, 1);
+    let outcome = Zeros(2).encode().write_encoded(Mode::Der, &mut target);
+    target.check_whole(
+        &rt,
+        &outcome,
+        &[0x9F, 0x1F, 0x01, 0x05, 0x04, 0x02, 0x00, 0x00],
+    );
+    same(&rt, target.calls, 2);
 }
 
 /// Over 1000 octets, in CER: in segments.

@@ -1,13 +1,16 @@
-//! The octets of a header, put together so that they are written at once, with one contents octet
-//! behind them where that is known.
-ghost use Rattle.std.specs.Prelude.{◌≡◌, ◌+◌, ◌≤◌, ◌<◌, [], ◌++◌, length};
+//! The octets of a header, put together so that they are written at once, with contents octets
+//! behind them where these are few.
+ghost use Rattle.std.specs.Prelude.{◌≡◌, ◌+◌, ◌≤◌, ◌<◌, [], ◌++◌, length, Some};
 
-/// The first octets of a header, which has at most nine, and one more.
+use std::io;
+use std::io::Write;
+
+/// The first octets of a value: of its header, which has at most nine, and up to 64 more.
 #[derive(Clone, Copy)]
 pub(crate) struct Front {
-    octets: [u8; 10],
+    octets: [u8; 73],
     len: usize,
-    ghost within: { len ≤ 10 },
+    ghost within: { len ≤ 73 },
 }
 
 impl Front {
@@ -20,7 +23,7 @@ impl Front {
         ensures len { result.len ≡ 0 }
     {
         Front {
-            octets: [0; 10],
+            octets: [0; 73],
             len: 0,
         }
     }
@@ -28,7 +31,7 @@ impl Front {
     /// Adds octets behind those that there are.
     #[inline(always)]
     pub(crate) fn add(&mut self, octets: &[u8])
-        requires { self.old.len + length octets.now ≤ 10 }
+        requires { self.old.len + length octets.now ≤ 73 }
         ensures octets { front_of self.new ≡ front_of self.old ++ octets.now }
         ensures len { self.new.len ≡ self.old.len + length octets.now }
     {
@@ -44,5 +47,22 @@ impl Front {
         ensures { result.now ≡ front_of self.now }
     {
         &self.octets[..self.len]
+    }
+}
+
+/// What is written is added while there is room.
+impl Write for Front {
+    ghost use Rattle.bcder.specs.Front.{front_of};
+
+    ghost contents = { λ front. Some (front_of front) };
+
+    fn write(&mut self, octets: &[u8]) -> io::Result<usize> {
+        let count = octets.len().min(73 - self.len);
+        self.add(&octets[..count]);
+        Ok(count)
+    }
+
+    fn flush(&mut self) -> io::Result<()> {
+        Ok(())
     }
 }

@@ -14,9 +14,11 @@ mod integers;
 mod numbers;
 pub(crate) mod plain;
 
+use crate::encode::front::Front;
 use crate::encode::gather::gather_contents;
 use crate::encode::header::put_header;
 use crate::encode::slot::{Failed, kept, refused, slot, told};
+use crate::encode::target::put_all;
 use crate::encode::values::Values;
 use crate::encode::{EncodeError, WriteError};
 use crate::length::Length;
@@ -63,7 +65,9 @@ pub trait PrimitiveContent: Sized {
         ensures { WritesContents W.contents target
             (means self.now mode) (may_lack self.now mode) result };
 
-    /// Writes a primitive value with these contents octets, `len` of them.
+    /// Writes a primitive value with these contents octets, `len` of them. Up to 64 are gathered
+    /// first, and written with their header by one call of the target's `write`, if that takes all
+    /// of it.
     ///
     /// # Errors
     ///
@@ -83,8 +87,15 @@ pub trait PrimitiveContent: Sized {
         ensures { WritesPrimitive W.contents target tag
             (means self.now mode) (may_lack self.now mode) (told result why.new) }
     {
-        put_header(target, tag, false, Length::Definite(len), why)?;
-        kept(self.write_encoded(mode, target), why)
+        if len > 64 {
+            put_header(target, tag, false, Length::Definite(len), why)?;
+            return kept(self.write_encoded(mode, target), why);
+        }
+        let mut front = Front::new();
+        tag.spell(false, &mut front);
+        Length::Definite(len).spell(&mut front);
+        kept(self.write_encoded(mode, &mut front), why)?;
+        put_all(target, front.as_slice(), why)
     }
 
     /// There is one meaning at most, and it is a refusal or octets.

@@ -5,6 +5,7 @@ ghost use Rattle.bcder.specs.Octets.{definite};
 ghost use Rattle.bcder.specs.Encoders.{WroteOctets, told};
 
 use crate::encode::WriteError;
+use crate::encode::front::Front;
 use crate::encode::header::put_header;
 use crate::encode::slot::Failed;
 use crate::encode::target::put_all;
@@ -13,8 +14,27 @@ use crate::length::Length;
 use crate::tag::Tag;
 use std::io;
 
+/// Writes a primitive value with at most 64 contents octets, under any tag, by one call of the
+/// target's `write`, if that takes all of it.
+fn put_any_few<W: io::Write>(
+    tag: Tag,
+    contents: &[u8],
+    target: &mut W,
+    why: &mut WriteError,
+) -> Result<(), Failed>
+    requires { length contents.now ≤ 64 }
+    ensures { WroteOctets W.contents target (definite tag false contents.now)
+        (told result why.new) }
+{
+    let mut front = Front::new();
+    tag.spell(false, &mut front);
+    Length::Definite(contents.len()).spell(&mut front);
+    front.add(contents);
+    put_all(target, front.as_slice(), why)
+}
+
 /// Writes a primitive value, its header first.
-pub(crate) fn put_apart<W: io::Write>(
+fn put_apart<W: io::Write>(
     tag: Tag,
     contents: &[u8],
     target: &mut W,
@@ -137,7 +157,7 @@ pub(crate) fn put_contents<W: io::Write>(
         return put_apart(tag, contents, target, why);
     }
     let Some(identifier) = tag.single_octet(false) else {
-        return put_apart(tag, contents, target, why);
+        return put_any_few(tag, contents, target, why);
     };
     if len > 8 {
         return put_together(identifier, contents, target, why);
@@ -162,7 +182,7 @@ pub(crate) fn put_number<W: io::Write>(
         return put_contents(tag, contents, target, why);
     }
     let Some(identifier) = tag.single_octet(false) else {
-        return put_apart(tag, contents, target, why);
+        return put_any_few(tag, contents, target, why);
     };
     put_array(identifier, contents, target, why)
 }
@@ -180,7 +200,7 @@ pub(crate) fn put_short<W: io::Write>(
         (definite tag false (drop contents.start contents.buffer)) (told result why.new) }
 {
     let Some(identifier) = tag.single_octet(false) else {
-        return put_apart(tag, contents.as_slice(), target, why);
+        return put_any_few(tag, contents.as_slice(), target, why);
     };
     let len = contents.len();
     let mut value = contents;
@@ -242,7 +262,7 @@ fn put_octet_apart<W: io::Write>(
     ensures { WroteOctets W.contents target (definite tag false (octet ∷ []))
         (told result why.new) }
 {
-    put_apart(tag, &[octet], target, why)
+    put_any_few(tag, &[octet], target, why)
 }
 
 /// Writes a primitive value with one contents octet, where its identifier is one octet as an array.
@@ -272,7 +292,7 @@ pub(crate) fn put_empty<W: io::Write>(
     ensures { WroteOctets W.contents target (definite tag false []) (told result why.new) }
 {
     let Some(identifier) = tag.single_octet(false) else {
-        return put_apart(tag, &[], target, why);
+        return put_any_few(tag, &[], target, why);
     };
     put_all(target, &[identifier, 0], why)
 }

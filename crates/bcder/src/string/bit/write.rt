@@ -1,11 +1,12 @@
 //! Writing bit strings (X.690, 8.6.2, 9.2, 11.2.1).
-ghost use Rattle.std.specs.Prelude.{◌≡◌, ◌≢◌, ◌+◌, ◌<◌, ◌^◌, ◌++◌, ◌∷◌, [], List, ℕ};
+ghost use Rattle.std.specs.Prelude.{◌≡◌, ◌≢◌, ◌+◌, ◌<◌, ◌≤◌, ◌^◌, ◌++◌, ◌∷◌, [], List, ℕ};
 ghost use Rattle.std.specs.Prelude.{length, false};
 ghost use Rattle.bcder.specs.declared.encode.error.EncodeError.TheVariants.{LongCerPrimitive};
 ghost use Rattle.bcder.specs.declared.encode.error.EncodeError.TheVariants.{NoMemory};
 ghost use Rattle.bcder.specs.BitString.{as_written, contents_octets};
 ghost use Rattle.bcder.specs.Encoders.{HasContents, SizeOfContents, WritesContents};
 ghost use Rattle.bcder.specs.Encoders.{WritesPrimitive, WroteOctets, told};
+ghost use Rattle.bcder.specs.Front.{front_of};
 ghost use Rattle.bcder.specs.Identifier.{universal};
 ghost use Rattle.bcder.specs.Meaning.{BitsMean};
 ghost use Rattle.bcder.specs.Octets.{definite};
@@ -13,11 +14,13 @@ ghost use Rattle.bcder.specs.laws.Meanings.{BitsMean_lawful};
 
 use super::BitString;
 use super::contents::cleared_octet;
+use crate::encode::front::Front;
 use crate::encode::header::put_header_and;
 use crate::encode::primitive::plain::fits_primitive;
 use crate::encode::slot::{Failed, refused, slot, told};
 use crate::encode::target::put_all;
 use crate::encode::{EncodeError, PrimitiveContent, WriteError};
+use crate::length::Length;
 use crate::mode::Mode;
 use crate::tag::Tag;
 use std::io;
@@ -131,7 +134,43 @@ fn put_contents<W: io::Write>(
     put_octets(unused, octets, mode, target, why)
 }
 
-/// Writes a bit string as a primitive value.
+/// Adds the octets with the bits to those of a value.
+fn add_octets(unused: u8, octets: &[u8], mode: Mode, front: &mut Front)
+    requires { front.old.len + length octets.now ≤ 73 }
+    ensures { front_of front.new ≡ front_of front.old
+        ++ (as_written mode (record { unused = unused; octets = octets.now })).octets }
+{
+    if let [before @ .., last] = octets {
+        front.add(before);
+        front.add(&[written_octet(mode, unused, *last)]);
+    }
+}
+
+/// Writes a bit string with at most 64 contents octets as a primitive value, by one call of the
+/// target's `write`, if that takes all of it.
+fn put_few<W: io::Write>(
+    unused: u8,
+    octets: &[u8],
+    tag: Tag,
+    mode: Mode,
+    target: &mut W,
+    why: &mut WriteError,
+) -> Result<(), Failed>
+    requires { length octets.now < 64 }
+    ensures { WroteOctets W.contents target (definite tag false
+        (contents_octets (as_written mode (record { unused = unused; octets = octets.now }))))
+        (told result why.new) }
+{
+    let mut front = Front::new();
+    tag.spell(false, &mut front);
+    Length::Definite(octets.len() + 1).spell(&mut front);
+    front.add(&[unused]);
+    add_octets(unused, octets, mode, &mut front);
+    put_all(target, front.as_slice(), why)
+}
+
+/// Writes a bit string as a primitive value, by one call of the target's `write` or by two or
+/// three, where it takes all of each.
 pub(super) fn put_value<W: io::Write>(
     unused: u8,
     octets: &[u8],
@@ -147,6 +186,9 @@ pub(super) fn put_value<W: io::Write>(
         (contents_octets (as_written mode (record { unused = unused; octets = octets.now }))))
         (told result why.new) }
 {
+    if len <= 64 {
+        return put_few(unused, octets, tag, mode, target, why);
+    }
     put_header_and(target, tag, len, unused, why)?;
     put_octets(unused, octets, mode, target, why)
 }

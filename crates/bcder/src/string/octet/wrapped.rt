@@ -9,8 +9,10 @@ ghost use Rattle.bcder.specs.laws.StringMeanings.{WrappedMeans_lawful};
 
 use super::OctetString;
 use super::write::{is_cut, put_octets, string_len};
+use crate::encode::front::Front;
 use crate::encode::header::put_header;
 use crate::encode::slot::{Failed, refused, slot, told};
+use crate::encode::target::put_all;
 use crate::encode::values::constructed::contents_size;
 use crate::encode::{EncodeError, Values, WriteError};
 use crate::length::Length;
@@ -95,7 +97,8 @@ fn known_len<V: Values>(
     }
 }
 
-/// Writes a primitive value with the encoding inside, which has `len` octets.
+/// Writes a primitive value with the encoding inside, which has `len` octets: up to 64 by one call
+/// of the target's `write`, if that takes all of it.
 fn put_straight<V: Values, W: io::Write>(
     values: &V,
     inner: Mode,
@@ -110,8 +113,15 @@ fn put_straight<V: Values, W: io::Write>(
     ensures { WritesInside W.contents target
         (V.means values.now inner) (V.may_lack values.now inner) (told result why.new) }
 {
-    put_header(target, Tag::OCTET_STRING, false, Length::Definite(len), why)?;
-    values.write_known(Some(len), inner, target, why)
+    if len > 64 {
+        put_header(target, Tag::OCTET_STRING, false, Length::Definite(len), why)?;
+        return values.write_known(Some(len), inner, target, why);
+    }
+    let mut front = Front::new();
+    Tag::OCTET_STRING.spell(false, &mut front);
+    Length::Definite(len).spell(&mut front);
+    values.write_known(Some(len), inner, &mut front, why)?;
+    put_all(target, front.as_slice(), why)
 }
 
 /// Writes the string from octets that are gathered first.

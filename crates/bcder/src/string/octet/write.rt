@@ -1,17 +1,19 @@
 //! Octets written as an octet string (X.690, 8.7, 9.2, 10.2).
-ghost use Rattle.std.specs.Prelude.{◌≡◌, ◌<◌, ◌≤◌, ◌+◌, ◌^◌, ℕ, List, length, false};
+ghost use Rattle.std.specs.Prelude.{◌≡◌, ◌<◌, ◌≤◌, ◌+◌, ◌^◌, ◌++◌, ℕ, List, length, false};
 ghost use Rattle.std.specs.List.{concat};
 ghost use Rattle.bcder.specs.Identifier.{AreOctets};
 ghost use Rattle.bcder.specs.Octets.{definite, enclosed};
 ghost use Rattle.bcder.specs.declared.mode.Mode.TheVariants.{Cer};
 ghost use Rattle.bcder.specs.Encoders.{HasEncoding, SizeOfValues, WritesValues, WritesParts};
 ghost use Rattle.bcder.specs.Encoders.{WroteOctets, told};
+ghost use Rattle.bcder.specs.Front.{front_of};
 ghost use Rattle.bcder.specs.Joined.{IsSum};
 ghost use Rattle.bcder.specs.StringMeaning.{is_cut, OctetsMean, segments_in_cer};
 ghost use Rattle.bcder.specs.Segmenting.{BeginsSegment, CutSize, segments_size, WritesPart};
 
 use super::OctetStringIter;
 use super::segments::FULL;
+use crate::encode::front::Front;
 use crate::encode::header::put_header;
 use crate::encode::slot::{Failed, slot, told};
 use crate::encode::target::put_all;
@@ -186,7 +188,38 @@ fn put_parts<W: io::Write>(
     Ok(())
 }
 
-/// Writes a primitive value, each part by itself.
+/// Adds the octets of the parts to those of a value.
+fn add_parts(parts: OctetStringIter<'_>, front: &mut Front)
+    requires { front.old.len + length (concat parts) ≤ 73 }
+    ensures { front_of front.new ≡ front_of front.old ++ concat parts.entry }
+{
+    for part in parts {
+        front.add(part);
+    }
+}
+
+/// Writes a primitive value with at most 64 contents octets, by one call of the target's `write`,
+/// if that takes all of it.
+fn put_few<W: io::Write>(
+    tag: Tag,
+    len: usize,
+    parts: OctetStringIter<'_>,
+    target: &mut W,
+    why: &mut WriteError,
+) -> Result<(), Failed>
+    requires few { len ≤ 64 }
+    requires all { len ≡ length (concat parts) }
+    ensures { WroteOctets W.contents target (definite tag false (concat parts.entry))
+        (told result why.new) }
+{
+    let mut front = Front::new();
+    tag.spell(false, &mut front);
+    Length::Definite(len).spell(&mut front);
+    add_parts(parts, &mut front);
+    put_all(target, front.as_slice(), why)
+}
+
+/// Writes a primitive value: one of more than 64 contents octets each part by itself.
 fn put_whole<W: io::Write>(
     tag: Tag,
     len: usize,
@@ -199,6 +232,9 @@ fn put_whole<W: io::Write>(
     ensures { WroteOctets W.contents target (definite tag false (concat parts.entry))
         (told result why.new) }
 {
+    if len <= 64 {
+        return put_few(tag, len, parts, target, why);
+    }
     put_header(target, tag, false, Length::Definite(len), why)?;
     put_parts(parts, target, why)
 }
