@@ -1,8 +1,9 @@
 -- The meaning of a value, from what is inside.
 use Rattle.std.proofs.Common.{◌≡◌, ◌≢◌, ℕ, suc, ◌+◌, ◌-◌, ◌<◌, arith, ◌^◌, List, [], ◌∷◌, ◌++◌, Bool, true, false, length, nat_lt, Ok, Err, refl, ap, ◌∙◌, inl, inr, length-append, if◌then◌else◌}
-use Rattle.std.proofs.lemmas.Bool.{cases_lt, lt-ltb, le-ltb, le-leb, lt-leb}
+use Rattle.std.proofs.lemmas.Bool.{cases_lt, lt-ltb, le-ltb, le-leb, lt-leb, ltb-true}
 use Rattle.bcder.specs.declared.mode.Mode.{Mode}
 use Rattle.bcder.specs.declared.mode.Mode.TheVariants.{Ber, Cer, Der}
+use Rattle.bcder.specs.declared.encode.error.EncodeError.TheVariants.{LengthTooLarge}
 use Rattle.bcder.specs.declared.length.Length.{Length}
 use Rattle.bcder.specs.declared.length.Length.TheVariants.{Definite}
 use Rattle.bcder.specs.Identifier.{Tag, identifier, IsValueTag}
@@ -41,6 +42,25 @@ pub enclosed-length : (mode : Mode) (t : Tag) (b : List ℕ) → length (enclose
 enclosed-length mode t b =
     length-append (header t true (constructed_length mode (length b)) ++ b) (closing mode)
     ∙ ap (λ n. n + length (closing mode)) (length-append (header t true (constructed_length mode (length b))) b)
+
+-- ---- a primitive value that has an encoding
+
+-- its contents octets
+pub record Contents (t : Tag) (M : ContentsMeaning → Type 0) (e : Encoded) : Type 0 where
+  pub octets : List ℕ
+  pub meant : M (Ok octets)
+  pub is : e ≡ primitive_encoded t octets
+  pub fits : length octets < 2 ^ 32
+
+contents_at : (t : Tag) (M : ContentsMeaning → Type 0) (w : List ℕ) (e : Encoded) (b : Bool) → M (Ok w) → nat_lt (length w) (2 ^ 32) ≡ b
+    → Ok e ≡ (if b then Ok (primitive_encoded t w) else Err LengthTooLarge) → Contents t M e
+contents_at t M w e false meant fits eq = cc
+contents_at t M w e true meant fits eq = record { octets = w; meant = meant; is = cc; fits = ltb-true _ _ fits }
+
+pub contents_of : (t : Tag) (M : ContentsMeaning → Type 0) (e : Encoded) → ValueMeans t (primitive_meaning t) M (Ok e) → Contents t M e
+contents_of t M e (inl p) = cc
+contents_of t M e (inr (v, (Err d, _, eq))) = cc
+contents_of t M e (inr (v, (Ok w, m, eq))) = contents_at t M w e (nat_lt (length w) (2 ^ 32)) m refl eq
 
 -- ---- a constructed value that has an encoding
 

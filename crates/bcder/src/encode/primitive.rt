@@ -6,7 +6,8 @@ ghost use Rattle.bcder.specs.Meaning.{ContentsMeaning, IsLawfulContents, ValueMe
 ghost use Rattle.bcder.specs.Meaning.{primitive_meaning};
 ghost use Rattle.bcder.specs.Enclosing.{ContentsSize};
 ghost use Rattle.bcder.specs.Encoders.{SizeOfContents, WritesContents, GathersContents};
-ghost use Rattle.bcder.specs.Encoders.{WritesValues, HasContents, WritesPrimitive, told};
+ghost use Rattle.bcder.specs.Encoders.{SizeOfValues, WritesValues, HasContents};
+ghost use Rattle.bcder.specs.Encoders.{WritesPrimitive, told};
 ghost use Rattle.bcder.specs.laws.Meanings.{primitive_lawful};
 
 mod identifier;
@@ -199,6 +200,22 @@ fn contents_len<P: PrimitiveContent>(tag: Tag, prim: &P, mode: Mode) -> Result<u
     Ok(len)
 }
 
+/// How many octets the value has, or why it has no encoding.
+#[inline(always)]
+fn value_len<P: PrimitiveContent>(tag: Tag, prim: &P, mode: Mode) -> Result<usize, EncodeError>
+    ensures { SizeOfValues (ValueMeans tag (primitive_meaning tag) (P.means prim.now mode))
+        (P.may_lack prim.now mode) result }
+{
+    let Some(identifier) = tag.value_len() else {
+        return Err(EncodeError::EndOfValueTag);
+    };
+    let len = prim.encoded_len(mode)?;
+    if len > 0xFFFF_FFFF {
+        return Err(EncodeError::LengthTooLarge);
+    }
+    Ok(identifier + Length::Definite(len).octet_count() + len)
+}
+
 /// Writes the value, if it has an encoding.
 #[inline(always)]
 fn put_value<P: PrimitiveContent, W: io::Write>(
@@ -225,8 +242,7 @@ impl<P: PrimitiveContent> Values for Primitive<P> {
 
     #[inline(always)]
     fn encoded_len(&self, mode: Mode) -> Result<usize, EncodeError> {
-        let len = contents_len(self.tag, &self.prim, mode)?;
-        Ok(self.tag.encoded_len() + Length::Definite(len).octet_count() + len)
+        value_len(self.tag, &self.prim, mode)
     }
 
     #[inline(always)]
@@ -244,7 +260,10 @@ impl<P: PrimitiveContent> Values for Primitive<P> {
         target: &mut W,
         why: &mut WriteError,
     ) -> Result<(), Failed> {
-        put_value(self.tag, &self.prim, mode, target, why)
+        match self.prim.encoded_len(mode) {
+            Ok(len) => self.prim.write_value(self.tag, len, mode, target, why),
+            Err(error) => Err(refused(why, error)),
+        }
     }
 
     #[inline(always)]

@@ -2,10 +2,11 @@
 #![tactic(auto, using(crate::proofs::nat_tests), unfolding(crate::specs::Identifier::identifier))]
 
 ghost use Rattle.std.specs.Prelude.{◌≡◌, ◌<◌, ◌+◌, ◌++◌, Bool, length, OnOk, OnErr};
-ghost use Rattle.std.specs.Prelude.{IfSome, [], ◌∷◌};
+ghost use Rattle.std.specs.Prelude.{IfSome, IfNone, [], ◌∷◌};
 ghost use Rattle.bcder.specs.Classes.{class_meant};
 ghost use Rattle.bcder.specs.Front.{front_of};
 ghost use Rattle.bcder.specs.Identifier.{class_bits, form_bit, identifier};
+ghost use Rattle.bcder.specs.Identifier.{IsValueTag, end_of_contents};
 ghost use Rattle.bcder.specs.Target.{Appended, AppendedShorter};
 
 use super::{Class, Tag};
@@ -42,6 +43,24 @@ impl Tag {
             3
         } else {
             4
+        }
+    }
+
+    /// How many identifier octets a value with the tag has, or `None` for the tag of the
+    /// end-of-contents octets, which no value has. Of most tags one test tells both.
+    #[inline(always)]
+    pub(crate) fn value_len(self) -> Option<usize>
+        ensures some { IfSome result (λ n. IsValueTag self
+            × ((form : Bool) → n ≡ length (identifier self form)) × (n < 5)) }
+        ensures none { IfNone result (self ≡ end_of_contents) }
+    {
+        if self.number.wrapping_sub(1) < 30 {
+            return Some(1);
+        }
+        if self.is_value() {
+            Some(self.encoded_len())
+        } else {
+            None
         }
     }
 

@@ -1,0 +1,15 @@
+use Rattle.std.proofs.Common.{◌<◌, ◌^◌, length, ap, arith, false}
+use Rattle.bcder.specs.Octets.{definite_length}
+use Rattle.bcder.specs.Meaning.{primitive_encoded}
+use Rattle.bcder.proofs.Enclosing.{primitive_given, definite-length}
+use Rattle.bcder.proofs.encode.primitive.value_len.Goals as goal
+
+pub returns : goal.returns
+returns g c =
+    let (contents, meant, len_is) = c.in_ok-len.ensures in
+    let (value, size, few) = c.in-Some.ensures.some in
+    let t = c.args.tag in
+    let fits : length contents < 2 ^ 32 = omega (arith, len_is) in
+    let d = definite-length t false contents in
+    let same = ap (λ n. length (definite_length n)) len_is in
+    (primitive_encoded t contents, primitive_given t _ contents meant fits value, omega (arith, d, same, len_is, size false))
