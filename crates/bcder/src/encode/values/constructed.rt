@@ -1,7 +1,7 @@
 //! Encoders of constructed values.
 ghost use Rattle.std.specs.Prelude.{◌≡◌, ◌<◌, ◌+◌, ◌^◌, ℕ, Bool, length, true};
 ghost use Rattle.bcder.specs.declared.length.Length.TheVariants.{Definite};
-ghost use Rattle.bcder.specs.Identifier.{sequence_tag, set_tag};
+ghost use Rattle.bcder.specs.Identifier.{sequence_tag, set_tag, identifier as identifier_of};
 ghost use Rattle.bcder.specs.Octets.{header, fits_length, constructed_length, closing};
 ghost use Rattle.bcder.specs.Meaning.{ValueMeans, constructed_meaning};
 ghost use Rattle.bcder.specs.Encoders.{HasEncoding, HasSize, WroteOctets, told};
@@ -75,7 +75,16 @@ struct Sizes {
 pub(crate) fn enclosed_size(tag: Tag, mode: Mode, len: usize) -> Result<usize, EncodeError>
     ensures { EnclosedSize mode tag len result }
 {
-    let identifier = tag.encoded_len();
+    size_behind(tag.encoded_len(), tag, mode, len)
+}
+
+/// The same, where it is known how many octets the identifier has.
+#[inline(always)]
+fn size_behind(identifier: usize, _tag: Tag, mode: Mode, len: usize) -> Result<usize, EncodeError>
+    requires small { identifier < 5 }
+    requires known { identifier ≡ length (identifier_of _tag true) }
+    ensures { EnclosedSize mode _tag len result }
+{
     match mode {
         Mode::Cer => {
             if len > usize::MAX - 3 - identifier {
@@ -97,11 +106,11 @@ fn find_sizes<V: Values>(tag: Tag, inner: &V, mode: Mode) -> Result<Sizes, Encod
     requires { V.can_encode inner.now }
     ensures { InsideSizes tag mode (V.means inner.now mode) (V.may_lack inner.now mode) result }
 {
-    if !tag.is_value() {
+    let Some(identifier) = tag.value_len() else {
         return Err(EncodeError::EndOfValueTag);
-    }
+    };
     let contents = inner.encoded_len(mode)?;
-    let whole = enclosed_size(tag, mode, contents)?;
+    let whole = size_behind(identifier, tag, mode, contents)?;
     Ok(Sizes { contents, whole })
 }
 
