@@ -8,18 +8,20 @@ use Rattle.bcder.specs.declared.decode.content.State.TheVariants.{Open, Ended, F
 use Rattle.bcder.specs.Identifier.{AreOctets, Tag, end_of_contents}
 use Rattle.bcder.specs.Reading.{Header, is_value_tag, read_identifier, read_front}
 use Rattle.bcder.specs.Encoding.{may_have, IsHeader}
-use Rattle.bcder.specs.Peek.{HasOtherTag, HasNoLength}
+use Rattle.bcder.specs.declared.decode.header.Wanted.{Wanted}
+use Rattle.bcder.specs.declared.decode.header.Wanted.TheVariants.{Any, Tagged}
+use Rattle.bcder.specs.Peek.{asked, HasOtherTag, HasNoHeader}
 use Rattle.bcder.specs.Stream.{Layer, Stream, IsSound, Grew, cut, past, limited}
 use Rattle.bcder.specs.declared.decode.error.ContentError.{ContentError}
 use Rattle.bcder.specs.Cause.{Cause}
-use Rattle.bcder.specs.Content.{Reading, Asked, any, tagged, IsAsked, HasHeader, HasMarker, IndefiniteValues, Falls, Advances, Moves, Accepts, Enters, TakesMarker, NoFront, Resembles, end_header, values, Octets, DefiniteValues, UnboundedValues, IsAtEnd, of_octets, of_definite, of_indefinite, of_unbounded, NotAtEnd, IsElsewhere, none_left, other, marker, IsAbsent, IsLeft, NothingThere, RefusesHeader, failed, source, nothing}
+use Rattle.bcder.specs.Content.{Reading, Asked, any, tagged, IsAsked, HasHeader, HasMarker, IndefiniteValues, Falls, Advances, Moves, Accepts, Enters, TakesMarker, NoFront, Resembles, end_header, values, Octets, DefiniteValues, UnboundedValues, IsAtEnd, of_octets, of_definite, of_indefinite, of_unbounded, NotAtEnd, IsElsewhere, none_left, other, marker, IsAbsent, IsLeft, IsMissing, IsUsedUp, NothingThere, RefusesHeader, failed, source, nothing}
 use Rattle.bcder.specs.Calls.{RefusesEnd, left_failed, source_failed, left_open}
 use Rattle.bcder.specs.laws.Limits.{limit_told_after, limited_sound}
 use Rattle.bcder.specs.laws.Sound.{none_is}
 use Rattle.bcder.specs.laws.Stands.{Headed}
 use Rattle.bcder.specs.laws.Moved.{Falls-refl}
 use Rattle.bcder.proofs.Moving.{moves_failed, moves_marker, moves_still, open_not_ended}
-use Rattle.bcder.proofs.Headers.{no_header_unread, no_header_empty, header_no_marker, no_marker_unread, no_marker_empty, no_other_front, no_other_unread, other_of, unread_of, header_of_front, marker_of_front, no_header_tag, no_header_form, no_header_long, no_marker_other, size_is}
+use Rattle.bcder.proofs.Headers.{no_header_unread, no_header_empty, header_no_marker, no_marker_unread, no_marker_empty, no_other_front, no_other_unread, other_of, header_of_front, marker_of_front, no_header_tag, no_header_form, no_header_long, no_marker_other, size_is}
 
 -- ---- an advance of a limited source
 
@@ -268,9 +270,9 @@ if_nothing c t h x o n r e = record {
     elsewhere after (other z s) = no_other_front c.mode t c.stream.rest h x r e z
     elsewhere after (marker z k m) = n.marker k after m
 
-pub if_unread : (c : Reading) (t : Tag) → c.state ≡ Open → 1 ≤ length c.stream.rest → HasNoLength c.mode t c.stream.rest → NothingThere (tagged t) c
+pub if_unread : (c : Reading) (t : Tag) → c.state ≡ Open → 1 ≤ length c.stream.rest → HasNoHeader c.mode (tagged t) c.stream.rest → NothingThere (tagged t) c
 if_unread c t o l u =
-    let n : NoFront c = unread_front c l (unread_of c.mode t c.stream.rest u) in
+    let n : NoFront c = unread_front c l u.0 in
     record {
       usable = o;
       header = n.header (tagged t);
@@ -288,22 +290,46 @@ no_fewer a b e = omega arith
 pub grew_least : (a b : ℕ) → Grew a b → a ≤ b
 grew_least a b g = g.no_smaller
 
--- what was looked at is no header
+-- ---- whichever headers are looked for
+
+-- content is at its end, its marker taken
+pub ended_missing : (c : Reading) (w : Wanted) → c.state ≡ Ended → IsMissing (asked w) c c
+ended_missing c Any e = (inl e, inl e)
+ended_missing c (Tagged t) e = (inl (e, refl), inl (refl, refl))
+
+-- or its promised octets are used up
+pub used_missing : (c : Reading) (w : Wanted) → Within c → c.state ≡ Open → c.kind ≡ DefiniteValues → c.owed ≡ Some 0 → IsMissing (asked w) c c
+used_missing c Any i o k e = (inr (o, of_definite k e), inr (o, subst (λ f. IsUsedUp f c.owed c.stream.rest) (sym k) e))
+used_missing c (Tagged t) i o k e = let z = used_rest c i e in (inr (o, none_left z z), inl (refl, refl))
+
+-- what was looked at
 module _ (c d : Reading) (s : Resembles c d) (o : c.state ≡ Open) where
-  pub unread_at : 1 ≤ length d.stream.rest → read_front c.mode d.stream.rest ≡ None → NoFront c
-  unread_at l e = unread_front c (subst (λ z. 1 ≤ length z) s.rest l) (subst (λ z. read_front c.mode z ≡ None) s.rest e)
+  pub other_missing : (w : Wanted) → Within c → HasOtherTag (asked w) d.stream.rest → IsMissing (asked w) c d
+  other_missing Any i u = absurd (u.4 refl)
+  other_missing (Tagged t) i u = (inr (o, other (other_of t c.stream.rest i.octets (subst (λ z. HasOtherTag (tagged t) z) s.rest u)) s.rest), inl (s.state, s.rest))
 
-  pub if_unread_at : (t : Tag) → 1 ≤ length d.stream.rest → HasNoLength c.mode t d.stream.rest → NothingThere (tagged t) c
-  if_unread_at t l u = if_unread c t o (subst (λ z. 1 ≤ length z) s.rest l) (subst (λ z. HasNoLength c.mode t z) s.rest u)
+  pub none_missing : (w : Wanted) → (w ≡ Any → c.kind ≡ UnboundedValues) → d.stream.rest ≡ [] → IsMissing (asked w) c d
+  none_missing Any k e = (inr (o, of_unbounded (k refl) (sym s.rest ∙ e)), inr (s.state ∙ o, subst (λ f. IsUsedUp f d.owed d.stream.rest) (sym (s.kind ∙ k refl)) e))
+  none_missing (Tagged t) k e = (inr (o, none_left (sym s.rest ∙ e) e), inl (s.state, s.rest))
 
-  pub if_other_at : (t : Tag) → Within c → HasOtherTag t d.stream.rest → IsAbsent (tagged t) c d.stream.rest × IsLeft t c d
-  if_other_at t w u = (inr (o, other (other_of t c.stream.rest w.octets (subst (λ z. HasOtherTag t z) s.rest u)) s.rest), inl (s.state, s.rest))
+  pub none_nothing : (w : Wanted) → (w ≡ Any) → c.kind ≢ Octets → (c.kind ≡ DefiniteValues → c.owed ≡ Some 0 → ⊥) → (c.kind ≡ UnboundedValues → ⊥) → d.stream.rest ≡ [] → NothingThere (asked w) c
+  none_nothing Any a k n u e = empty_nothing c k n u o (sym s.rest ∙ e)
+  none_nothing (Tagged t) a k n u e = absurd cc
 
-  pub if_front_nothing : (t : Tag) (h : Header) (x : List ℕ) → NoFront c → read_front c.mode d.stream.rest ≡ Some (h, x) → h.tag ≡ t → NothingThere (tagged t) c
-  if_front_nothing t h x n r e = if_nothing c t h x o n (subst (λ z. read_front c.mode z ≡ Some (h, x)) s.rest r) e
+  pub unread_nothing : (w : Wanted) → Within c → c.kind ≢ Octets → 1 ≤ length d.stream.rest → HasNoHeader c.mode (asked w) d.stream.rest → NothingThere (asked w) c
+  unread_nothing Any i k l u = front_nothing c i k o (unread_front c (subst (λ z. 1 ≤ length z) s.rest l) (subst (λ z. read_front c.mode z ≡ None) s.rest u.0))
+  unread_nothing (Tagged t) i k l u = if_unread c t o (subst (λ z. 1 ≤ length z) s.rest l) (subst (λ z. HasNoHeader c.mode (tagged t) z) s.rest u)
+
+  pub header_nothing : (w : Wanted) → Within c → c.kind ≢ Octets → NoFront c → (h : Header) (x : List ℕ) → read_front d.mode d.stream.rest ≡ Some (h, x) → IsAsked (asked w) h.tag → NothingThere (asked w) c
+  header_nothing Any i k n h x r e = front_nothing c i k o n
+  header_nothing (Tagged t) i k n h x r e = if_nothing c t h x o n (subst (λ m. read_front m c.stream.rest ≡ Some (h, x)) s.mode (subst (λ z. read_front d.mode z ≡ Some (h, x)) s.rest r)) e
 
 pub if_marker : (c d : Reading) (t u : Tag) → u ≡ t → u ≡ end_of_contents → TakesMarker c d → IsAbsent (tagged t) c d.stream.rest × IsLeft t c d
 if_marker c d t u e f x = (inr (x.usable, marker (sym e ∙ f) x.kind x.marker), inr (sym e ∙ f, x.usable, x.ended))
+
+pub marker_missing : (c d : Reading) (w : Wanted) (u : Tag) → IsAsked (asked w) u → u ≡ end_of_contents → TakesMarker c d → IsMissing (asked w) c d
+marker_missing c d Any u a e x = (inr (x.usable, of_indefinite x.kind x.marker), inl x.ended)
+marker_missing c d (Tagged t) u a e x = if_marker c d t u a e x
 
 -- ---- why content is not left at its end
 

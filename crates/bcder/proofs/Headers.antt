@@ -9,8 +9,8 @@ use Rattle.bcder.specs.Length.{IsEndOfContents}
 use Rattle.bcder.specs.Tree.{Tree, primitive, constructed, Trees}
 use Rattle.bcder.specs.Encoding.{may_have, IsHeader, IsDefinite, IsFramed, IsEncoding, AreEncodings}
 use Rattle.bcder.specs.Reading.{is_value_tag, Header, read_identifier, read_length, read_front, read_header}
-use Rattle.bcder.specs.Peek.{HasOtherTag, HasNoLength}
-use Rattle.bcder.specs.Content.{Reading, Asked, IsAsked, HasHeader, HasMarker, HasOther, Falls, FitsOwed, end_header}
+use Rattle.bcder.specs.Peek.{HasOtherTag, HasNoHeader}
+use Rattle.bcder.specs.Content.{Reading, Asked, tagged, IsAsked, HasHeader, HasMarker, HasOther, Falls, FitsOwed, end_header}
 use Rattle.bcder.specs.laws.Identifiers.{read_identifier-identifier}
 use Rattle.bcder.specs.laws.Lengths.{read_length-tells}
 use Rattle.bcder.specs.laws.Sound.{none_is, mapped, chained, some_inj, identifier_sound, length_sound}
@@ -64,8 +64,8 @@ parts mode w h x e =
     parts_at mode w h x a.0.2 a.0.0 a.0.1 b.0.0 b.0.1 a.1 b.1 p.0 p.1
 
 -- a header with another tag is the identifier octets of that one
-pub other_of_front : (mode : Mode) (t : Tag) (w : List ℕ) (h : Header) (x : List ℕ) → read_front mode w ≡ Some (h, x) → (h.tag ≡ t → ⊥) → HasOtherTag t w
-other_of_front mode t w h x e d = let p = parts mode w h x e in (h.tag, h.form, p.after, p.identified, d)
+pub other_of_front : (mode : Mode) (asked : Asked) (w : List ℕ) (h : Header) (x : List ℕ) → read_front mode w ≡ Some (h, x) → (IsAsked asked h.tag → ⊥) → HasOtherTag asked w
+other_of_front mode asked w h x e d = let p = parts mode w h x e in (h.tag, h.form, p.after, p.identified, d)
 
 header_read : (mode : Mode) (w : List ℕ) (h : Header) (x : List ℕ) → Parts mode w h x → is_value_tag h.tag ≡ true → may_have mode h.form h.len ≡ true → read_header mode w ≡ Some (h, x)
 unfolding read_header
@@ -89,7 +89,7 @@ marker_of_front mode w h x o e is =
       rest = identifier_end p.after w l.octets x i.is l.is;
     }
 
-pub other_of : (t : Tag) (w : List ℕ) → AreOctets w → HasOtherTag t w → HasOther t w
+pub other_of : (t : Tag) (w : List ℕ) → AreOctets w → HasOtherTag (tagged t) w → HasOther t w
 other_of t w o h = let i = identifier_sound w h.0 h.1 h.2 o h.3 in record { tag = h.0; form = h.1; after = h.2; is_tag = i.fits; differs = h.4; rest = i.is }
 
 -- ---- what does not stand in front
@@ -175,17 +175,8 @@ tag_inj a b f g x y e = let p : ◌≡◌ {A = Tag × Bool × List ℕ} (a, f, x
 pub no_other_front : (mode : Mode) (t : Tag) (w : List ℕ) (h : Header) (x : List ℕ) → read_front mode w ≡ Some (h, x) → h.tag ≡ t → HasOther t w → ⊥
 no_other_front mode t w h x e s o = let p = parts mode w h x e in o.differs (tag_inj o.tag h.tag o.form h.form o.after p.after (sym (identified_of t w o) ∙ p.identified) ∙ s)
 
-none_triple : (y : Tag × Bool × List ℕ) → ◌≡◌ {A = Option (Tag × Bool × List ℕ)} None (Some y) → ⊥
-none_triple y e = cc
-
-pub no_other_unread : (mode : Mode) (t : Tag) (w : List ℕ) → HasNoLength mode t w → HasOther t w → ⊥
-no_other_unread mode t w (inl e) o = none_triple _ (sym e ∙ identified_of t w o)
-no_other_unread mode t w (inr h) o = o.differs (tag_inj o.tag t o.form h.0 o.after h.1 (sym (identified_of t w o) ∙ h.2))
-
-pub unread_of : (mode : Mode) (t : Tag) (w : List ℕ) → HasNoLength mode t w → read_front mode w ≡ None
-unfolding read_front
-unread_of mode t w (inl e) = rw e refl
-unread_of mode t w (inr h) = rw (h.2, h.3) refl
+pub no_other_unread : (mode : Mode) (t : Tag) (w : List ℕ) → HasNoHeader mode (tagged t) w → HasOther t w → ⊥
+no_other_unread mode t w n o = n.1 (o.tag, o.form, o.after, identified_of t w o, o.differs)
 
 -- ---- an encoding behind a header
 

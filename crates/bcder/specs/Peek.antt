@@ -1,17 +1,16 @@
 -- What stands at the front of a source, and what can be told of it from the octets at hand.
-use Rattle.std.specs.Prelude.{◌≡◌, ◌≢◌, ◌⊎◌, ℕ, ◌+◌, ◌<◌, ◌≤◌, Bool, true, false, List, [], ◌++◌, length, drop, Option, Some, None}
+use Rattle.std.specs.Prelude.{◌≡◌, ℕ, ◌+◌, ◌<◌, ◌≤◌, Bool, true, false, List, [], ◌++◌, length, drop, Option, Some, None}
 use Rattle.bcder.specs.declared.mode.Mode.{Mode}
 use Rattle.bcder.specs.declared.decode.header.Header.{Header as Kept}
+use Rattle.bcder.specs.declared.decode.header.Wanted.{Wanted}
+use Rattle.bcder.specs.declared.decode.header.Wanted.TheVariants as wanted
 use Rattle.bcder.specs.declared.decode.header.Peeked.{Peeked}
 use Rattle.bcder.specs.declared.decode.header.Peeked.TheVariants as peeked
-use Rattle.bcder.specs.declared.decode.header.PeekedIf.{PeekedIf}
-use Rattle.bcder.specs.declared.decode.header.PeekedIf.TheVariants as peeked_if
-use Rattle.bcder.specs.declared.decode.header.Seen.{Seen}
-use Rattle.bcder.specs.declared.decode.header.Seen.TheVariants as seen
 use Rattle.bcder.specs.declared.length.Length.{Length}
 use Rattle.bcder.specs.declared.length.Length.TheVariants.{Definite}
 use Rattle.bcder.specs.Identifier.{Tag}
-use Rattle.bcder.specs.Reading.{Header, is_value_tag, read_identifier, read_length, read_front}
+use Rattle.bcder.specs.Reading.{Header, is_value_tag, read_identifier, read_front}
+use Rattle.bcder.specs.Content.{Asked, any, tagged, IsAsked}
 use Rattle.bcder.specs.Stream.{Stream}
 
 -- a header as the program keeps it
@@ -22,47 +21,48 @@ header h = record { tag = h.tag; form = h.constructed; len = h.len }
 abbrev pub octets_header : Tag → ℕ → Kept
 octets_header t n = record { tag = t; constructed = false; len = Definite n }
 
--- the identifier octets of another tag stand in front
-abbrev pub HasOtherTag : Tag → List ℕ → Type 0
-HasOtherTag t w = (u : Tag) × (f : Bool) × (x : List ℕ) × (read_identifier w ≡ Some (u, f, x)) × (u ≢ t)
+-- which headers are looked for, as the clauses of content say it
+abbrev pub asked : Wanted → Asked
+asked wanted.Any = any
+asked (wanted.Tagged t) = tagged t
 
--- neither the identifier octets of another tag stand in front, nor those of this one with length octets behind them
-abbrev pub HasNoLength : Mode → Tag → List ℕ → Type 0
-HasNoLength mode t w = (read_identifier w ≡ None) ⊎ ((f : Bool) × (x : List ℕ) × (read_identifier w ≡ Some (t, f, x)) × (read_length mode x ≡ None))
+-- the identifier octets of a tag that isn't asked for stand in front
+abbrev pub HasOtherTag : Asked → List ℕ → Type 0
+HasOtherTag asked w = (u : Tag) × (f : Bool) × (x : List ℕ) × (read_identifier w ≡ Some (u, f, x)) × (IsAsked asked u → ⊥)
+
+-- neither those stand in front, nor others with length octets behind them
+abbrev pub HasNoHeader : Mode → Asked → List ℕ → Type 0
+HasNoHeader mode asked w = (read_front mode w ≡ None) × (HasOtherTag asked w → ⊥)
+
+-- ---- octets, of which so many are at hand
+
+-- this header stands in front, in k octets that are at hand
+abbrev pub IsFront : Mode → Kept → ℕ → ℕ → List ℕ → Type 0
+IsFront mode h k n w = (k ≤ n) × (read_front mode w ≡ Some (header h, drop k w))
+
+abbrev pub IsPeeked : Mode → Asked → Peeked → ℕ → List ℕ → Type 0
+IsPeeked mode asked peeked.Nothing n w = w ≡ []
+IsPeeked mode asked peeked.Other n w = HasOtherTag asked w
+IsPeeked mode asked (peeked.Front h k) n w = IsFront mode h k n w × IsAsked asked h.tag
+IsPeeked mode asked peeked.Refused n w = (1 ≤ length w) × HasNoHeader mode asked w
 
 -- ---- sources
 
-abbrev pub Peeks : Mode → Peeked → Stream → Type 0
-Peeks mode peeked.Nothing s = s.rest ≡ []
-Peeks mode (peeked.Front h n) s = (n ≤ s.avail) × (read_front mode s.rest ≡ Some (header h, drop n s.rest))
-Peeks mode peeked.Refused s = (1 ≤ length s.rest) × (read_front mode s.rest ≡ None)
+abbrev pub Fronts : Mode → Kept → ℕ → Stream → Type 0
+Fronts mode h k s = IsFront mode h k s.avail s.rest
 
-abbrev pub PeeksIf : Mode → Tag → PeekedIf → Stream → Type 0
-PeeksIf mode t peeked_if.Nothing s = s.rest ≡ []
-PeeksIf mode t peeked_if.Other s = HasOtherTag t s.rest
-PeeksIf mode t (peeked_if.Front h n) s = (n ≤ s.avail) × (h.tag ≡ t) × (read_front mode s.rest ≡ Some (header h, drop n s.rest))
-PeeksIf mode t peeked_if.Refused s = (1 ≤ length s.rest) × HasNoLength mode t s.rest
+abbrev pub Peeks : Mode → Asked → Peeked → Stream → Type 0
+Peeks mode asked p s = IsPeeked mode asked p s.avail s.rest
 
 -- ---- octets at hand, whatever follows them
 
-abbrev pub Sees : Mode → Seen → List ℕ → Type 0
-Sees mode (seen.Front h n) w = (n ≤ length w) × ((x : List ℕ) → read_front mode (w ++ x) ≡ Some (header h, drop n (w ++ x)))
-Sees mode seen.More w = (length w < 9) × (read_front mode w ≡ None)
-Sees mode seen.Refused w = (1 ≤ length w) × ((x : List ℕ) → read_front mode (w ++ x) ≡ None)
+abbrev pub Sees : Mode → Asked → Option Peeked → List ℕ → Type 0
+Sees mode asked None w = (length w < 9) × HasNoHeader mode asked w
+Sees mode asked (Some p) w = (x : List ℕ) → IsPeeked mode asked p (length w) (w ++ x)
 
--- where another tag is of no use
-abbrev pub SeesOf : Mode → Tag → Seen → List ℕ → Type 0
-SeesOf mode t (seen.Front h n) w = (n ≤ length w) × (h.tag ≡ t) × ((x : List ℕ) → read_front mode (w ++ x) ≡ Some (header h, drop n (w ++ x)))
-SeesOf mode t seen.More w = (length w < 9) × HasNoLength mode t w
-SeesOf mode t seen.Refused w = (1 ≤ length w) × ((x : List ℕ) → HasNoLength mode t (w ++ x))
-
-abbrev pub SeesIf : Mode → Tag → Option Seen → List ℕ → Type 0
-SeesIf mode t None w = (x : List ℕ) → HasOtherTag t (w ++ x)
-SeesIf mode t (Some s) w = SeesOf mode t s w
-
--- a header of two octets, in every mode and whatever follows them
-abbrev pub StandsShort : Kept → List ℕ → Type 0
-StandsShort h w = (2 ≤ length w) × ((mode : Mode) (x : List ℕ) → read_front mode (w ++ x) ≡ Some (header h, drop 2 (w ++ x)))
+-- a header of two octets, in every mode
+abbrev pub IsShort : Kept → List ℕ → Type 0
+IsShort h w = (mode : Mode) (x : List ℕ) → IsFront mode h 2 (length w) (w ++ x)
 
 -- the contents octets of this length are among so many
 abbrev pub IsAtHand : Length → ℕ → Type 0

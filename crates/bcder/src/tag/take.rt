@@ -28,20 +28,6 @@ enum PeekedTag {
     Refused,
 }
 
-/// What octets tell of the identifier octets at their front, whatever follows them.
-enum SeenTag {
-    Front {
-        tag: Tag,
-        constructed: bool,
-        size: usize,
-    },
-
-    /// It depends on the octets behind these.
-    More,
-
-    Refused,
-}
-
 /// Whether octets that hold no identifier octets may begin some.
 #[tactic(auto, using(crate::proofs::Beginnings::identifier_decides))]
 pub(crate) fn identifier_goes_on(octets: &[u8]) -> bool
@@ -56,21 +42,22 @@ pub(crate) fn identifier_goes_on(octets: &[u8]) -> bool
     }
 }
 
-/// What the octets at hand tell of the identifier octets at their front.
-fn look(octets: &[u8]) -> SeenTag
+/// What the octets at hand tell of the identifier octets at their front, whatever follows them.
+/// `None` is where it depends on what follows.
+fn look(octets: &[u8]) -> Option<PeekedTag>
     ensures { SeesTag result octets.now }
 {
     match identifier_at(octets) {
-        Some(front) => SeenTag::Front {
+        Some(front) => Some(PeekedTag::Front {
             tag: front.0,
             constructed: front.1,
             size: octets.len() - front.2.len(),
-        },
+        }),
         None => {
             if identifier_goes_on(octets) {
-                SeenTag::More
+                None
             } else {
-                SeenTag::Refused
+                Some(PeekedTag::Refused)
             }
         }
     }
@@ -89,29 +76,16 @@ fn peek<S: Source>(source: &mut S) -> Result<PeekedTag, S::Error>
     let mut wanted = 1;
     loop {
         let found = source.request(wanted)?;
-        match look(&source.slice()[..found]) {
-            SeenTag::Front {
-                tag,
-                constructed,
-                size,
-            } => {
-                return Ok(PeekedTag::Front {
-                    tag,
-                    constructed,
-                    size,
-                });
-            }
-            SeenTag::Refused => return Ok(PeekedTag::Refused),
-            SeenTag::More => {
-                if found == 0 {
-                    return Ok(PeekedTag::Nothing);
-                }
-                if found < wanted {
-                    return Ok(PeekedTag::Refused);
-                }
-                wanted = found + 1;
-            }
+        if let Some(seen) = look(&source.slice()[..found]) {
+            return Ok(seen);
         }
+        if found == 0 {
+            return Ok(PeekedTag::Nothing);
+        }
+        if found < wanted {
+            return Ok(PeekedTag::Refused);
+        }
+        wanted = found + 1;
     }
 }
 

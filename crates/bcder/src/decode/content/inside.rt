@@ -17,7 +17,7 @@ ghost use Rattle.bcder.specs.Views.{octets_before, octets_after, content_before,
 use super::take::{pop, push};
 use super::{Constructed, Content, Kind, Primitive, State};
 use crate::decode::error::DecodeError;
-use crate::decode::header::Header;
+use crate::decode::header::{Header, Wanted};
 use crate::decode::source::{LimitedSource, Source};
 use crate::decode::stop::{Stop, Why};
 use crate::length::Length;
@@ -125,7 +125,7 @@ impl<'a, S: Source> Constructed<'a, S> {
         ensures refused { IfErr result (λ e.
             RefusesEnd stop_cause (before S.stream self) e (after S.stream self)) }
     {
-        match self.next_header() {
+        match self.next_header(Wanted::Any) {
             Ok(None) => Ok(()),
             Ok(Some(_)) => Err(Stop::Refused(Why::ValuesLeft)),
             Err(stop) => Err(stop),

@@ -9,6 +9,7 @@ ghost use Rattle.bcder.specs.Views.{of_primitive, octets_before, octets_after, M
 use super::take::octets_header;
 use super::{Constructed, Primitive};
 use crate::decode::error::DecodeError;
+use crate::decode::header::Wanted;
 use crate::decode::source::Source;
 use crate::tag::Tag;
 
@@ -34,7 +35,7 @@ impl<'a, S: Source> Constructed<'a, S> {
         ensures moves { Moved S.stream self }
         ensures took { TookNextOctets S.stream self any (F.post op) result }
     {
-        match self.next_header() {
+        match self.next_header(Wanted::Any) {
             Ok(Some(header)) => self.octets_behind(header, op),
             Ok(None) => Ok(None),
             Err(stop) => Err(self.stopped(stop)),

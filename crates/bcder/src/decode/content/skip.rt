@@ -1,7 +1,6 @@
 //! Passing over values with a stack of limits, and a closure that is told of each.
 ghost use Rattle.std.specs.Prelude.{◌≡◌, ◌+◌, ◌^◌, ◌<◌, ◌≤◌, [], ◌∷◌, true, false, IfSome, OnOk};
 ghost use Rattle.std.specs.Prelude.{ℕ, Option, IfErr, IfNone, IfOk, OnErr};
-ghost use Rattle.bcder.specs.declared.decode.header.Peeked.{Peeked};
 ghost use Rattle.bcder.specs.declared.mode.Mode.{Mode as ModeValue};
 ghost use Rattle.bcder.specs.Cause.{cause_of, of_content, of_memory, of_source, stop_cause};
 ghost use Rattle.bcder.specs.Cause.{IsOfContent};
@@ -12,7 +11,7 @@ ghost use Rattle.bcder.specs.Inside.{kind_behind, limit_inside};
 ghost use Rattle.bcder.specs.Stacked.{Counts, Gone, IsCounted, Leaves, Ran, RanOverSource, TopIs};
 ghost use Rattle.bcder.specs.Skipping.{ExactlyAll, ExactlySkipped, ExactlyValue, FoundMemory};
 ghost use Rattle.bcder.specs.Skipping.{IsPast, MovedBehind, SkippedBehind};
-ghost use Rattle.bcder.specs.Peek.{header as header_of, IsAllHere, IsAtHand, Peeks};
+ghost use Rattle.bcder.specs.Peek.{header as header_of, Fronts, IsAllHere, IsAtHand};
 ghost use Rattle.bcder.specs.Skipping.{SkippedAll, SkippedNext, SkippedOne, SkippedValue};
 ghost use Rattle.bcder.specs.Stacked.{entries, entry_of, framed, halt_cause, joined, limit_in};
 ghost use Rattle.bcder.specs.Stacked.{limit_behind, source_of, unwound};
@@ -24,7 +23,7 @@ use super::inside::{go_inside, kind_behind};
 use super::walk::Looked;
 use super::{Constructed, Kind, State};
 use crate::decode::error::{ContentError, DecodeError};
-use crate::decode::header::{Header, peek_whole};
+use crate::decode::header::{Header, Wanted, peek_whole};
 use crate::decode::source::{LimitedSource, Source};
 use crate::decode::stop::Stop;
 use crate::length::Length;
@@ -334,7 +333,7 @@ where
         return Err(Halt::Barred(bar));
     }
     while opened.depth > 0 {
-        match cons.next_header() {
+        match cons.next_header(Wanted::Any) {
             Ok(Some(header)) => {
                 if let Err(error) = op(header.tag, header.constructed, opened.depth) {
                     unwind(cons.source, opened.frames, outer);
@@ -531,7 +530,7 @@ impl<'a, S: Source> Constructed<'a, S> {
     fn look_at_octets(&mut self) -> Result<Option<Header>, S::Error>
         ensures same { Between S.stream self Resembles }
         ensures peeked { IfOk result (λ o. IfSome o (λ h.
-            Peeks self.old.mode (Peeked.Front h 2) (limited_stream S.stream self.new.source.now))) }
+            Fronts self.old.mode h 2 (limited_stream S.stream self.new.source.now))) }
         ensures whole { IfOk result (λ o. IfSome o (λ h.
             IsAllHere h (limited_stream S.stream self.new.source.now).avail)) }
         ensures no_fault { OnOk result (NoFault S.stream self) }
@@ -591,7 +590,7 @@ impl<'a, S: Source> Constructed<'a, S> {
         ensures moves { Moves (before S.stream self) (after S.stream self) }
         ensures skipped { SkippedNext S.stream F.step self op result }
     {
-        match self.next_header() {
+        match self.next_header(Wanted::Any) {
             Ok(Some(header)) => self.skip_behind(alloc, header, op),
             Ok(None) => Ok(None),
             Err(stop) => Err(self.stopped(stop)),

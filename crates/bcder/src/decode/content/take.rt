@@ -4,13 +4,14 @@ ghost use Rattle.std.specs.Prelude.{IfOk, IfErr, IfSome, IfNone, IsErrAnd, OnOk,
 ghost use Rattle.bcder.specs.Calls.{popped};
 ghost use Rattle.bcder.specs.Cause.{cause_of, stop_cause, of_source, IsOfContent, IsRefusal};
 ghost use Rattle.bcder.specs.Cause.{NamesTag};
-ghost use Rattle.bcder.specs.Content.{Moves, Advances, FitsOwed, Accepts, any, tagged, end_header};
-ghost use Rattle.bcder.specs.Content.{Enters, TakesMarker, NoFront, Resembles, EndsAt, IsDone};
+ghost use Rattle.bcder.specs.Content.{Moves, Advances, FitsOwed, Accepts, end_header};
+ghost use Rattle.bcder.specs.Content.{Enters, TakesMarker, NoFront, Resembles};
 ghost use Rattle.bcder.specs.Entering.{EntersNext, EntersOctets, FindsNone, RefusesNext};
 ghost use Rattle.bcder.specs.Entering.{MeetsNoFault, MeetsFault};
 ghost use Rattle.bcder.specs.Identifier.{AreOctets, end_of_contents};
-ghost use Rattle.bcder.specs.Peek.{header as header_of, octets_header, Peeks, PeeksIf};
-ghost use Rattle.bcder.specs.Peek.{StandsShort};
+ghost use Rattle.bcder.specs.Content.{IsAsked};
+ghost use Rattle.bcder.specs.Peek.{header as header_of, octets_header, asked, Fronts, Peeks};
+ghost use Rattle.bcder.specs.Peek.{IsShort};
 ghost use Rattle.bcder.specs.Reading.{Header as HeaderRead};
 ghost use Rattle.bcder.specs.Stream.{Grew};
 ghost use Rattle.bcder.specs.declared.mode.Mode.{Mode as ModeValue};
@@ -18,7 +19,7 @@ ghost use Rattle.bcder.specs.Views.{before, after, limited_stream};
 
 use super::{Constructed, Kind, Primitive, State};
 use crate::decode::error::{ContentError, DecodeError};
-use crate::decode::header::{Front, Header, Peeked, PeekedIf, peek, peek_if};
+use crate::decode::header::{Front, Header, Peeked, Wanted, peek};
 use crate::decode::source::{LimitedSource, Source};
 use crate::decode::stop::{Stop, Why};
 use crate::length::Length;
@@ -61,16 +62,19 @@ fn is_end(tag: Tag, constructed: bool, len: Length) -> bool
     tag == Tag::END_OF_VALUE && !constructed && len == Length::Definite(0)
 }
 
-/// A header whose tag is known: where it is a constant, so is what is asked of it.
+/// The same header: where the tag that is looked for is a constant, so is what is asked of it.
 #[inline(always)]
-fn with_tag(tag: Tag, header: Header) -> Header
-    requires { header.tag ≡ tag }
+fn with_tag(wanted: &Wanted, header: Header) -> Header
+    requires { IsAsked (asked wanted.now) header.tag }
     ensures { result ≡ header }
 {
-    Header {
-        tag,
-        constructed: header.constructed,
-        len: header.len,
+    match wanted {
+        Wanted::Tagged(tag) => Header {
+            tag: *tag,
+            constructed: header.constructed,
+            len: header.len,
+        },
+        Wanted::Any => header,
     }
 }
 
@@ -102,7 +106,7 @@ fn primitive_len(constructed: bool, len: Length) -> Option<usize>
 /// header of two octets.
 #[inline(always)]
 fn short_octets(tag: Tag, octets: &[u8]) -> Option<usize>
-    ensures { IfSome result (λ n. StandsShort (octets_header tag n) octets.now) }
+    ensures { IfSome result (λ n. IsShort (octets_header tag n) octets.now) }
 {
     match octets {
         [leading, len, ..] if leads_primitive(tag, *leading) && *len < 0x80 => {
@@ -117,7 +121,7 @@ fn short_octets(tag: Tag, octets: &[u8]) -> Option<usize>
 #[inline(always)]
 fn peek_short<S: Source>(source: &mut S, tag: Tag) -> Result<Option<usize>, S::Error>
     ensures peeked { IfOk result (λ o. IfSome o (λ n. (mode : ModeValue)
-        → Peeks mode (Peeked.Front (octets_header tag n) 2) (S.stream source.new))) }
+        → Fronts mode (octets_header tag n) 2 (S.stream source.new))) }
     ensures no_fault { OnOk result ((S.stream source.new).faults ≡ (S.stream source.old).faults) }
     ensures fault { OnErr result (Grew (S.stream source.old).faults (S.stream source.new).faults) }
     ensures rest { (S.stream source.new).rest ≡ (S.stream source.old).rest }
@@ -176,30 +180,17 @@ impl<'a, S: Source> Constructed<'a, S> {
         self.source.content_err(ContentError::ExpectedTag(tag))
     }
 
-    /// Looks at the front, and takes nothing.
+    /// Looks at the front, where a header is looked for, and takes nothing.
     #[tactic(auto, unfolding(crate::specs::Views::of_constructed))]
     #[inline(always)]
-    fn look(&mut self) -> Result<Peeked, S::Error>
+    fn look(&mut self, wanted: &Wanted) -> Result<Peeked, S::Error>
         ensures same { Resembles (before S.stream self) (after S.stream self) }
-        ensures peeked { IfOk result (λ p.
-            Peeks self.old.mode p (limited_stream S.stream self.new.source.now)) }
+        ensures peeked { IfOk result (λ p. Peeks self.old.mode (asked wanted.now) p
+            (limited_stream S.stream self.new.source.now)) }
         ensures no_fault { MeetsNoFault (before S.stream self) (after S.stream self) result }
         ensures fault { MeetsFault (before S.stream self) (after S.stream self) result }
     {
-        peek(self.source, self.mode)
-    }
-
-    /// Looks for a tag at the front, and takes nothing.
-    #[tactic(auto, unfolding(crate::specs::Views::of_constructed))]
-    #[inline(always)]
-    fn look_for(&mut self, tag: Tag) -> Result<PeekedIf, S::Error>
-        ensures same { Resembles (before S.stream self) (after S.stream self) }
-        ensures peeked { IfOk result (λ p.
-            PeeksIf self.old.mode tag p (limited_stream S.stream self.new.source.now)) }
-        ensures no_fault { MeetsNoFault (before S.stream self) (after S.stream self) result }
-        ensures fault { MeetsFault (before S.stream self) (after S.stream self) result }
-    {
-        peek_if(self.source, self.mode, tag)
+        peek(self.source, self.mode, *wanted)
     }
 
     /// Looks for a primitive value of a tag with a header of two octets, and takes nothing.
@@ -208,7 +199,7 @@ impl<'a, S: Source> Constructed<'a, S> {
     fn look_short(&mut self, tag: Tag) -> Result<Option<usize>, S::Error>
         ensures same { Resembles (before S.stream self) (after S.stream self) }
         ensures peeked { IfOk result (λ o. IfSome o (λ n. (mode : ModeValue)
-            → Peeks mode (Peeked.Front (octets_header tag n) 2)
+            → Fronts mode (octets_header tag n) 2
             (limited_stream S.stream self.new.source.now))) }
         ensures no_fault { MeetsNoFault (before S.stream self) (after S.stream self) result }
         ensures fault { MeetsFault (before S.stream self) (after S.stream self) result }
@@ -247,7 +238,7 @@ impl<'a, S: Source> Constructed<'a, S> {
         header: Header,
         size: usize,
     ) -> Result<Option<Header>, Stop<S::Error>>
-        requires read { Peeks self.old.mode (Peeked.Front header size)
+        requires read { Fronts self.old.mode header size
             (limited_stream S.stream self.old.source.now) }
         requires usable { self.old.state ≡ State.Open }
         ensures moves { Moves (before S.stream self) (after S.stream self) }
@@ -295,23 +286,24 @@ impl<'a, S: Source> Constructed<'a, S> {
         }
     }
 
-    /// Looks at the next header and takes nothing, or answers `None` where the content is at its
-    /// end and has no marker there.
+    /// Looks at the next header, if it is one of those that are looked for, and takes nothing.
+    /// `None` is for another tag, and for the end of the content where no marker stands there.
     #[tactic(auto, using(crate::specs::laws::Moved::untouched_is_moved), unfolding(crate::specs::Views::views))]
     #[inline(always)]
-    pub(super) fn front(&mut self) -> Result<Option<Front>, Stop<S::Error>>
+    pub(super) fn front(&mut self, wanted: &Wanted) -> Result<Option<Front>, Stop<S::Error>>
         ensures moves { Moves (before S.stream self) (after S.stream self) }
         ensures same { IfOk result (λ o. IfSome o (λ _.
             Resembles (before S.stream self) (after S.stream self))) }
         ensures usable { IfOk result (λ o. IfSome o (λ _. self.new.state ≡ State.Open)) }
         ensures peeked { IfOk result (λ o. IfSome o (λ f.
-            Peeks self.new.mode (Peeked.Front f.header f.size)
+            Fronts self.new.mode f.header f.size
             (limited_stream S.stream self.new.source.now))) }
+        ensures wanted { IfOk result (λ o. IfSome o (λ f. IsAsked (asked wanted.now) f.header.tag)) }
         ensures no_fault { MeetsNoFault (before S.stream self) (after S.stream self) result }
-        ensures end { IfOk result (λ o. IfNone o (
-            EndsAt (before S.stream self) (after S.stream self) × IsDone (after S.stream self))) }
+        ensures none { FindsNone (before S.stream self) (after S.stream self)
+            (asked wanted.now) result }
         ensures refused { RefusesNext (before S.stream self) (after S.stream self)
-            stop_cause any result }
+            stop_cause (asked wanted.now) result }
         ensures failed { OnErr result (self.new.state ≡ State.Failed) }
         ensures mode { self.new.mode ≡ self.old.mode }
         ensures marked { self.new.marked ≡ self.old.marked }
@@ -324,9 +316,14 @@ impl<'a, S: Source> Constructed<'a, S> {
         if self.is_used_up() {
             return Ok(None);
         }
-        match self.look() {
+        match self.look(wanted) {
             Ok(Peeked::Front { header, size }) => Ok(Some(Front { header, size })),
+            Ok(Peeked::Other) => Ok(None),
             Ok(Peeked::Nothing) => {
+                match wanted {
+                    Wanted::Tagged(_) => return Ok(None),
+                    Wanted::Any => {}
+                }
                 if let Kind::Unbounded = self.kind {
                     return Ok(None);
                 }
@@ -344,70 +341,35 @@ impl<'a, S: Source> Constructed<'a, S> {
         }
     }
 
-    /// Passes over the next header, or answers `None` at the end, whose marker it takes. The
-    /// content has failed until the value is taken.
+    /// Passes over the next header, if it is one of those that are looked for. `None` is for
+    /// another tag, and for the end of the content, whose marker is taken where any header is
+    /// looked for. After a header the content has failed until the value is taken.
     #[tactic(auto, using(crate::specs::laws::Moved::untouched_is_moved), unfolding(crate::specs::Views::views))]
     #[inline(always)]
-    pub(super) fn next_header(&mut self) -> Result<Option<Header>, Stop<S::Error>>
+    pub(super) fn next_header(&mut self, wanted: Wanted) -> Result<Option<Header>, Stop<S::Error>>
         ensures moves { Moves (before S.stream self) (after S.stream self) }
-        ensures entered { EntersNext (before S.stream self) (after S.stream self) any result }
-        ensures none { FindsNone (before S.stream self) (after S.stream self) any result }
+        ensures entered { EntersNext (before S.stream self) (after S.stream self)
+            (asked wanted) result }
+        ensures none { FindsNone (before S.stream self) (after S.stream self)
+            (asked wanted) result }
         ensures refused { RefusesNext (before S.stream self) (after S.stream self)
-            stop_cause any result }
+            stop_cause (asked wanted) result }
         ensures no_fault { MeetsNoFault (before S.stream self) (after S.stream self) result }
         ensures failed { OnErr result (self.new.state ≡ State.Failed) }
         ensures mode { self.new.mode ≡ self.old.mode }
         ensures marked { self.new.marked ≡ self.old.marked }
     {
-        match self.front() {
-            Ok(Some(front)) => self.enter(front.header, front.size),
+        match self.front(&wanted) {
+            Ok(Some(front)) => self.enter(with_tag(&wanted, front.header), front.size),
             Ok(None) => Ok(None),
             Err(stop) => Err(stop),
-        }
-    }
-
-    /// Passes over the next header if it has this tag. The content has then failed until the value
-    /// is taken.
-    #[tactic(auto, using(crate::specs::laws::Moved::untouched_is_moved), unfolding(crate::specs::Views::views))]
-    #[inline(always)]
-    pub(super) fn next_header_if(&mut self, tag: Tag) -> Result<Option<Header>, Stop<S::Error>>
-        ensures moves { Moves (before S.stream self) (after S.stream self) }
-        ensures entered { EntersNext (before S.stream self) (after S.stream self)
-            (tagged tag) result }
-        ensures none { FindsNone (before S.stream self) (after S.stream self) (tagged tag) result }
-        ensures refused { RefusesNext (before S.stream self) (after S.stream self)
-            stop_cause (tagged tag) result }
-        ensures failed { OnErr result (self.new.state ≡ State.Failed) }
-        ensures mode { self.new.mode ≡ self.old.mode }
-        ensures marked { self.new.marked ≡ self.old.marked }
-    {
-        match self.state {
-            State::Failed => return Err(Stop::Refused(Why::Earlier)),
-            State::Ended => return Ok(None),
-            State::Open => {}
-        }
-        if self.is_used_up() {
-            return Ok(None);
-        }
-        match self.look_for(tag) {
-            Ok(PeekedIf::Front { header, size }) => self.enter(with_tag(tag, header), size),
-            Ok(PeekedIf::Nothing) => Ok(None),
-            Ok(PeekedIf::Other) => Ok(None),
-            Ok(PeekedIf::Refused) => {
-                self.state = State::Failed;
-                Err(Stop::Refused(Why::Header))
-            }
-            Err(error) => {
-                self.state = State::Failed;
-                Err(Stop::Source(error))
-            }
         }
     }
 
     /// Passes over the header of a primitive value that has two octets.
     #[inline(always)]
     fn enter_octets(&mut self, tag: Tag, len: usize) -> Result<Option<usize>, Stop<S::Error>>
-        requires read { Peeks self.old.mode (Peeked.Front (octets_header tag len) 2)
+        requires read { Fronts self.old.mode (octets_header tag len) 2
             (limited_stream S.stream self.old.source.now) }
         requires usable { self.old.state ≡ State.Open }
         ensures moves { Moves (before S.stream self) (after S.stream self) }
@@ -428,7 +390,7 @@ impl<'a, S: Source> Constructed<'a, S> {
         ensures entered { EntersOctets stop_cause tag
             (before S.stream self) result (after S.stream self) }
     {
-        match self.next_header_if(tag) {
+        match self.next_header(Wanted::Tagged(tag)) {
             Ok(Some(header)) => match primitive_len(header.constructed, header.len) {
                 Some(len) => Ok(Some(len)),
                 None => Err(Stop::Refused(Why::Constructed)),

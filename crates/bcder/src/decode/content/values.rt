@@ -9,6 +9,7 @@ ghost use Rattle.bcder.specs.Views.{of_content, content_before, content_after, M
 
 use super::{Constructed, Content};
 use crate::decode::error::DecodeError;
+use crate::decode::header::Wanted;
 use crate::decode::source::Source;
 use crate::tag::Tag;
 
@@ -42,7 +43,7 @@ impl<'a, S: Source> Constructed<'a, S> {
         ensures moves { Moved S.stream self }
         ensures took { TookNextContent S.stream self any (F.post op) result }
     {
-        match self.next_header() {
+        match self.next_header(Wanted::Any) {
             Ok(Some(header)) => self.content_behind(header, op),
             Ok(None) => Ok(None),
             Err(stop) => Err(self.stopped(stop)),
@@ -100,7 +101,7 @@ impl<'a, S: Source> Constructed<'a, S> {
         ensures moves { Moved S.stream self }
         ensures took { TookNextContent S.stream self (tagged tag) (Untagged (F.post op)) result }
     {
-        match self.next_header_if(tag) {
+        match self.next_header(Wanted::Tagged(tag)) {
             Ok(Some(header)) => self.content_behind(
                 header,
                 |_tag, content|

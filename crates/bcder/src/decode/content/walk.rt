@@ -3,7 +3,7 @@ ghost use Rattle.std.specs.Prelude.{◌≡◌, ◌≢◌, ◌≤◌, false, IsTr
 ghost use Rattle.bcder.specs.Cause.{stop_cause};
 ghost use Rattle.bcder.specs.Stream.{Grew, Provides};
 ghost use Rattle.bcder.specs.Identifier.{Tag as TagValue};
-ghost use Rattle.bcder.specs.Peek.{header as header_of, Peeks};
+ghost use Rattle.bcder.specs.Peek.{header as header_of, Fronts};
 ghost use Rattle.bcder.specs.Content.{Moves, FitsOwed, values, Resembles};
 ghost use Rattle.bcder.specs.Calls.{RanOver};
 ghost use Rattle.bcder.specs.Walking.{Between, PassedNext, ExactlyNext, NoFault, Fault, PassedStep};
@@ -16,7 +16,7 @@ ghost use Rattle.bcder.specs.Views.{Moved, of_constructed, limited_stream};
 use super::take::{pop, push};
 use super::{Constructed, Kind, State};
 use crate::decode::error::DecodeError;
-use crate::decode::header::{Front, Header, Peeked};
+use crate::decode::header::{Front, Header, Wanted};
 use crate::decode::source::{LimitedSource, Source};
 use crate::decode::stop::Stop;
 use crate::length::Length;
@@ -218,12 +218,12 @@ impl<'a, S: Source> Constructed<'a, S> {
     #[tactic(auto, unfolding(crate::specs::Views::of_constructed))]
     #[inline(always)]
     fn pass_primitive(&mut self, header: Header, size: usize) -> Result<bool, Stop<S::Error>>
-        requires read { Peeks self.old.mode (Peeked.Front header size)
+        requires read { Fronts self.old.mode header size
             (limited_stream S.stream self.old.source.now) }
         requires usable { self.old.state ≡ State.Open }
         ensures moves { Between S.stream self Moves }
         ensures passed { PassedAtOnce S.stream self result }
-        ensures read { IfOk result (λ b. b ≡ false → Peeks self.new.mode (Peeked.Front header size)
+        ensures read { IfOk result (λ b. b ≡ false → Fronts self.new.mode header size
             (limited_stream S.stream self.new.source.now)) }
     {
         let Some(all) = primitive_size(header, size) else {
@@ -253,7 +253,7 @@ fn go_on<S: Source>(cons: &mut Constructed<'_, S>) -> Result<Next, Stop<S::Error
     ensures moves { Between S.stream cons Moves }
     ensures stepped { Stepped S.stream cons result }
 {
-    match cons.front() {
+    match cons.front(&Wanted::Any) {
         Ok(Some(front)) => match cons.pass_primitive(front.header, front.size) {
             Ok(true) => Ok(Next::Passed),
             Ok(false) => match cons.enter(front.header, front.size) {

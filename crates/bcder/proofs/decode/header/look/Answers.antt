@@ -1,15 +1,43 @@
-use Rattle.std.proofs.Common.{refl, arith}
-use Rattle.bcder.proofs.Beginnings.{no_identifier}
-use Rattle.bcder.proofs.Peeking.{sees_any}
+use Rattle.std.proofs.Common.{◌++◌, refl, arith}
+use Rattle.bcder.specs.Identifier.{AreOctets}
+use Rattle.bcder.proofs.Beginnings.{has_identifier, has_front}
+use Rattle.bcder.proofs.Peeking.{unidentified, unmeasured, some_followed}
 use Rattle.bcder.proofs.decode.header.look.Goals as goal
-
-pub returns-in-Some : goal.returns-in-Some
-returns-in-Some c = sees_any _ _ _ _ c.look_behind.ensures
 
 pub returns-then-identifier_goes_on : goal.returns-then-identifier_goes_on
 returns-then-identifier_goes_on c =
     let l = c.if-identifier_goes_on.ensures.short refl in
-    (omega arith, no_identifier _ _ c.in-None.ensures)
+    (omega arith, unidentified _ _ _ c.in_default.ensures)
 
-pub returns-else-identifier_goes_on : goal.returns-else-identifier_goes_on
-returns-else-identifier_goes_on c = (c.if-identifier_goes_on.ensures.some refl, λ x. no_identifier _ _ (c.if-identifier_goes_on.ensures.refused refl x c.in-None.ensures))
+pub returns-in_default : goal.returns-in_default
+returns-in_default c = λ x. (some_followed _ x (c.if-identifier_goes_on.ensures.some refl), unidentified _ _ _ (c.if-identifier_goes_on.ensures.refused refl x c.in_default.ensures))
+
+pub returns-then-not-is_wanted : goal.returns-then-not-is_wanted
+returns-then-not-is_wanted c = λ x.
+    let o : AreOctets c.args.octets.now = λ i. omega (arith, c.type_inv.octets i) in
+    let i = has_identifier c.args.octets.now c.in-Some.found.0 c.in-Some.found.1 c.in-Some.found.2.now o c.in-Some.ensures in
+    (c.in-Some.found.0, c.in-Some.found.1, c.in-Some.found.2.now ++ x, i.read x, c.if-not-is_wanted.ensures.no refl)
+
+pub overflow_sub-result : goal.overflow_sub-result
+overflow_sub-result c =
+    let o : AreOctets c.args.octets.now = λ i. omega (arith, c.type_inv.octets i) in
+    (has_front c.args.mode c.args.octets.now c.in-Some.found.0 c.in-Some.found.1 c.in-Some.found.2.now c.in-Some-length_at.len c.in-Some-length_at.rest.now o c.in-Some.ensures c.in-Some-length_at.ensures).size
+
+pub returns-in-Some-length_at : goal.returns-in-Some-length_at
+returns-in-Some-length_at c = λ x.
+    let o : AreOctets c.args.octets.now = λ i. omega (arith, c.type_inv.octets i) in
+    let f = has_front c.args.mode c.args.octets.now c.in-Some.found.0 c.in-Some.found.1 c.in-Some.found.2.now c.in-Some-length_at.len c.in-Some-length_at.rest.now o c.in-Some.ensures c.in-Some-length_at.ensures in
+    ((omega arith, f.read x), c.if-not-is_wanted.ensures.yes refl)
+
+pub returns-then-length_goes_on : goal.returns-then-length_goes_on
+returns-then-length_goes_on c =
+    let o : AreOctets c.args.octets.now = λ i. omega (arith, c.type_inv.octets i) in
+    let i = has_identifier c.args.octets.now c.in-Some.found.0 c.in-Some.found.1 c.in-Some.found.2.now o c.in-Some.ensures in
+    let l = c.if-length_goes_on.ensures.short refl in
+    (omega (arith, i.size), unmeasured _ _ _ _ _ _ c.in-Some.ensures (c.if-not-is_wanted.ensures.yes refl) c.in-None.ensures)
+
+pub returns-else-length_goes_on : goal.returns-else-length_goes_on
+returns-else-length_goes_on c = λ x.
+    let o : AreOctets c.args.octets.now = λ i. omega (arith, c.type_inv.octets i) in
+    let i = has_identifier c.args.octets.now c.in-Some.found.0 c.in-Some.found.1 c.in-Some.found.2.now o c.in-Some.ensures in
+    (some_followed _ x i.some, unmeasured _ _ _ _ _ _ (i.read x) (c.if-not-is_wanted.ensures.yes refl) (c.if-length_goes_on.ensures.refused refl c.args.mode x c.in-None.ensures))

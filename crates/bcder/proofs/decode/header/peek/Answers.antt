@@ -1,18 +1,16 @@
-use Rattle.std.proofs.Common.{◌≤◌, length, arith}
-use Rattle.bcder.proofs.Peeking.{short_at_hand}
+use Rattle.std.proofs.Common.{◌≤◌, length, arith, refl}
+use Rattle.bcder.specs.Peek.{header, asked, IsFront}
+use Rattle.bcder.proofs.Headers.{other_of_front}
+use Rattle.bcder.proofs.Peeking.{at_hand}
 use Rattle.bcder.proofs.decode.header.peek.Goals as goal
 
-pub returns-in-Some-clause-peeked : goal.returns-in-Some-clause-peeked
-returns-in-Some-clause-peeked g c =
+pub returns-then-is_wanted-clause-peeked : goal.returns-then-is_wanted-clause-peeked
+returns-then-is_wanted-clause-peeked g c =
     let enough : c.in_ok-found.found ≤ length c.slice.result.now = omega (arith, c.in_ok-found.ensures.ok.count, c.slice.ensures.enough) in
-    short_at_hand c.args.mode c.in-Some.header _ _ _ _ c.slice.ensures.front enough c.in_ok-found.ensures.ok.count c.in-Some.ensures
+    (at_hand (IsFront c.args.mode c.in-Some.header 2) _ _ _ _ c.slice.ensures.front enough c.in_ok-found.ensures.ok.count (c.in-Some.ensures c.args.mode), c.if-is_wanted.ensures.yes refl)
 
-pub returns-in-Some-short_indefinite-clause-peeked : goal.returns-in-Some-short_indefinite-clause-peeked
-returns-in-Some-short_indefinite-clause-peeked g c =
+pub returns-clause-peeked : goal.returns-clause-peeked
+returns-clause-peeked g c =
     let enough : c.in_ok-found.found ≤ length c.slice.result.now = omega (arith, c.in_ok-found.ensures.ok.count, c.slice.ensures.enough) in
-    short_at_hand c.args.mode c.in-Some-short_indefinite.header _ _ _ _ c.slice.ensures.front enough c.in_ok-found.ensures.ok.count c.in-Some-short_indefinite.ensures
-
-pub returns-in-Some-short_header-clause-peeked : goal.returns-in-Some-short_header-clause-peeked
-returns-in-Some-short_header-clause-peeked g c =
-    let enough : c.in_ok-found.found ≤ length c.slice.result.now = omega (arith, c.in_ok-found.ensures.ok.count, c.slice.ensures.enough) in
-    short_at_hand c.args.mode c.in-Some-short_header.header _ _ _ _ c.slice.ensures.front enough c.in_ok-found.ensures.ok.count c.in-Some-short_header.ensures
+    let front = at_hand (IsFront c.args.mode c.in-Some.header 2) _ _ _ _ c.slice.ensures.front enough c.in_ok-found.ensures.ok.count (c.in-Some.ensures c.args.mode) in
+    other_of_front c.args.mode (asked c.args.wanted) _ (header c.in-Some.header) _ front.1 (c.if-is_wanted.ensures.no refl)

@@ -1,6 +1,7 @@
 use Rattle.std.proofs.Common.{refl, arith}
 use Rattle.bcder.specs.Identifier.{AreOctets}
 use Rattle.bcder.proofs.Beginnings.{has_identifier, identifier_stands, begins_no_identifier}
+use Rattle.bcder.proofs.Peeking.{some_followed}
 use Rattle.bcder.proofs.tag.take.look.Goals as goal
 
 pub overflow_sub-result : goal.overflow_sub-result
@@ -9,13 +10,13 @@ overflow_sub-result c =
     (has_identifier c.args.octets.now c.in-Some.front.0 c.in-Some.front.1 c.in-Some.front.2.now o c.in-Some.ensures).no_more
 
 pub returns-in-Some : goal.returns-in-Some
-returns-in-Some c =
+returns-in-Some c = λ x.
     let o : AreOctets c.args.octets.now = λ i. omega (arith, c.type_inv.octets i) in
     let i = has_identifier c.args.octets.now c.in-Some.front.0 c.in-Some.front.1 c.in-Some.front.2.now o c.in-Some.ensures in
-    (omega arith, i.fits, identifier_stands _ _ _ _ i)
+    (omega arith, i.fits, identifier_stands _ _ _ _ i x)
 
 pub returns-then-identifier_goes_on : goal.returns-then-identifier_goes_on
 returns-then-identifier_goes_on c = (c.if-identifier_goes_on.ensures.short refl, begins_no_identifier _ c.in-None.ensures)
 
 pub returns-else-identifier_goes_on : goal.returns-else-identifier_goes_on
-returns-else-identifier_goes_on c = (c.if-identifier_goes_on.ensures.some refl, λ x. begins_no_identifier _ (c.if-identifier_goes_on.ensures.refused refl x c.in-None.ensures))
+returns-else-identifier_goes_on c = λ x. (some_followed _ x (c.if-identifier_goes_on.ensures.some refl), begins_no_identifier _ (c.if-identifier_goes_on.ensures.refused refl x c.in-None.ensures))

@@ -1,15 +1,32 @@
-use Rattle.std.proofs.Common.{◌∙◌, refl, sym}
+use Rattle.std.proofs.Common.{◌∙◌, refl}
 use Rattle.bcder.specs.Content.{nothing}
 use Rattle.bcder.specs.Views.{of_constructed}
-use Rattle.bcder.proofs.Entering.{looked_moves, looked_failed, front_nothing, unread_at, empty_nothing, no_fewer, grew_least, kind_of}
+use Rattle.bcder.proofs.Entering.{looked_moves, looked_failed, other_missing, none_nothing, unread_nothing, no_fewer, grew_least, kind_of}
 use Rattle.bcder.proofs.Names.{within_constructed, constructed_form}
 use Rattle.bcder.proofs.decode.content.Constructed.front.Goals as goal
+
+pub returns-in-Tagged-clause-moves : goal.returns-in-Tagged-clause-moves
+returns-in-Tagged-clause-moves g c = looked_moves _ _ c.look.ensures.same (no_fewer _ _ c.in-Ok-Nothing.ensures.no_fault)
 
 pub returns-in-Unbounded-clause-moves : goal.returns-in-Unbounded-clause-moves
 returns-in-Unbounded-clause-moves g c = looked_moves _ _ c.look.ensures.same (no_fewer _ _ c.in-Ok-Nothing.ensures.no_fault)
 
 pub returns-in-Ok-Front-clause-moves : goal.returns-in-Ok-Front-clause-moves
 returns-in-Ok-Front-clause-moves g c = looked_moves _ _ c.look.ensures.same (no_fewer _ _ c.in-Ok-Front.ensures.no_fault)
+
+pub returns-in-Ok-Other-clause-moves : goal.returns-in-Ok-Other-clause-moves
+returns-in-Ok-Other-clause-moves g c = looked_moves _ _ c.look.ensures.same (no_fewer _ _ c.in-Ok-Other.ensures.no_fault)
+
+pub returns-in-Ok-Other-clause-none : goal.returns-in-Ok-Other-clause-none
+unfolding of_constructed
+returns-in-Ok-Other-clause-none g c =
+    let i = of_constructed g.S.Source.stream c.args.self.now in
+    let p = rw c.in-Ok-Other.field-0-is at c.in-Ok-Other.ensures.peeked in
+    record {
+      missing = other_missing i (of_constructed g.S.Source.stream c.look.new.self) c.look.ensures.same c.in-Open.is c.args.wanted.now (within_constructed g.S.Source.stream g.met.S.Source.sound c.args.self.now) p;
+      marked = c.look.ensures.same.marked;
+      no_fault = c.in-Ok-Other.ensures.no_fault;
+    }
 
 pub returns-in_default-clause-moves : goal.returns-in_default-clause-moves
 unfolding of_constructed
@@ -19,7 +36,7 @@ pub returns-in_default-clause-refused : goal.returns-in_default-clause-refused
 unfolding of_constructed
 returns-in_default-clause-refused g c =
     let i = of_constructed g.S.Source.stream c.args.self.now in
-    nothing (empty_nothing i (constructed_form g.S.Source.stream c.args.self.now) (λ k o. c.is_used_up.ensures.no c.if-is_used_up.false (kind_of _ _ k) o) (λ k. c.in_default.not-Unbounded (kind_of _ _ (c.look.ensures.same.kind ∙ k))) c.in-Open.is (sym c.look.ensures.same.rest ∙ (rw c.in-Ok-Nothing.field-0-is at c.in-Ok-Nothing.ensures.peeked))) tt
+    nothing (none_nothing i (of_constructed g.S.Source.stream c.look.new.self) c.look.ensures.same c.in-Open.is c.args.wanted.now c.in-Any.is (constructed_form g.S.Source.stream c.args.self.now) (λ k o. c.is_used_up.ensures.no c.if-is_used_up.false (kind_of _ _ k) o) (λ k. c.in_default.not-Unbounded (kind_of _ _ (c.look.ensures.same.kind ∙ k))) (rw c.in-Ok-Nothing.field-0-is at c.in-Ok-Nothing.ensures.peeked)) tt
 
 pub returns-in-Ok-Refused-clause-moves : goal.returns-in-Ok-Refused-clause-moves
 unfolding of_constructed
@@ -30,7 +47,7 @@ unfolding of_constructed
 returns-in-Ok-Refused-clause-refused g c =
     let i = of_constructed g.S.Source.stream c.args.self.now in
     let p = rw c.in-Ok-Refused.field-0-is at c.in-Ok-Refused.ensures.peeked in
-    nothing (front_nothing i (within_constructed g.S.Source.stream g.met.S.Source.sound c.args.self.now) (constructed_form g.S.Source.stream c.args.self.now) c.in-Open.is (unread_at i (of_constructed g.S.Source.stream c.look.new.self) c.look.ensures.same c.in-Open.is p.0 p.1)) tt
+    nothing (unread_nothing i (of_constructed g.S.Source.stream c.look.new.self) c.look.ensures.same c.in-Open.is c.args.wanted.now (within_constructed g.S.Source.stream g.met.S.Source.sound c.args.self.now) (constructed_form g.S.Source.stream c.args.self.now) p.0 p.1) tt
 
 pub returns-in-Err-clause-moves : goal.returns-in-Err-clause-moves
 unfolding of_constructed

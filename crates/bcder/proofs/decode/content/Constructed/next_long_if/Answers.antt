@@ -12,8 +12,8 @@ returns-in-None-clause-entered g c =
       none = tt;
       refused = inr (constructed_there (of_constructed g.S.Source.stream c.args.self.now) _ c.args.tag c.in-Ok-Some.header e.0 e.1 c.in-None.ensures.none, tt);
       failed = e.1.opened;
-      mode = c.next_header_if.ensures.mode;
-      marked = c.next_header_if.ensures.marked;
+      mode = c.next_header.ensures.mode;
+      marked = c.next_header.ensures.marked;
     }
 
 pub returns-in-Some-clause-entered : goal.returns-in-Some-clause-entered
@@ -25,8 +25,8 @@ returns-in-Some-clause-entered g c =
       none = tt;
       refused = tt;
       failed = tt;
-      mode = c.next_header_if.ensures.mode;
-      marked = c.next_header_if.ensures.marked;
+      mode = c.next_header.ensures.mode;
+      marked = c.next_header.ensures.marked;
     }
 
 pub returns-in-Ok-None-clause-entered : goal.returns-in-Ok-None-clause-entered
@@ -36,8 +36,8 @@ returns-in-Ok-None-clause-entered g c = record {
   none = rw c.in-Ok-None.field-0-is at c.in-Ok-None.ensures.none;
   refused = tt;
   failed = tt;
-  mode = c.next_header_if.ensures.mode;
-  marked = c.next_header_if.ensures.marked;
+  mode = c.next_header.ensures.mode;
+  marked = c.next_header.ensures.marked;
 }
 
 pub returns-in-Err-clause-entered : goal.returns-in-Err-clause-entered
@@ -47,6 +47,6 @@ returns-in-Err-clause-entered g c = record {
   none = tt;
   refused = inl c.in-Err.ensures.refused;
   failed = c.in-Err.ensures.failed;
-  mode = c.next_header_if.ensures.mode;
-  marked = c.next_header_if.ensures.marked;
+  mode = c.next_header.ensures.mode;
+  marked = c.next_header.ensures.marked;
 }

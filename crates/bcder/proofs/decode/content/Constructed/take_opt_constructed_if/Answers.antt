@@ -37,15 +37,15 @@ returns-in-Ok-Some-clause-took g c =
     takes_next (of_constructed g.S.Source.stream) _ (Some false) (tagged c.args.tag) (of_constructed g.S.Source.stream c.args.self.now) _ _ (header c.in-Ok-Some.header) e.0 e.1 _ (said_behind (of_constructed g.S.Source.stream) _ _ (λ t p r q h. search rules) (Some false) _ _ _ _ c.values_behind.ensures)
 
 pub returns-in-Ok-None-clause-moves : goal.returns-in-Ok-None-clause-moves
-returns-in-Ok-None-clause-moves g c = moved_carries _ _ c.next_header_if.ensures.moves
+returns-in-Ok-None-clause-moves g c = moved_carries _ _ c.next_header.ensures.moves
 
 pub returns-in-Ok-None-clause-took : goal.returns-in-Ok-None-clause-took
 unfolding of_constructed
-returns-in-Ok-None-clause-took g c = next_none (of_constructed g.S.Source.stream) _ (Some false) (tagged c.args.tag) _ (of_constructed g.S.Source.stream c.next_header_if.new.self) c.next_header_if.ensures.mode (rw c.in-Ok-None.field-0-is at c.in-Ok-None.ensures.none)
+returns-in-Ok-None-clause-took g c = next_none (of_constructed g.S.Source.stream) _ (Some false) (tagged c.args.tag) _ (of_constructed g.S.Source.stream c.next_header.new.self) c.next_header.ensures.mode (rw c.in-Ok-None.field-0-is at c.in-Ok-None.ensures.none)
 
 pub returns-in-Err-clause-moves : goal.returns-in-Err-clause-moves
-returns-in-Err-clause-moves g c = moved_carries _ _ c.next_header_if.ensures.moves
+returns-in-Err-clause-moves g c = moved_carries _ _ c.next_header.ensures.moves
 
 pub returns-in-Err-clause-took : goal.returns-in-Err-clause-took
 unfolding of_constructed
-returns-in-Err-clause-took g c = next_refused (of_constructed g.S.Source.stream) _ (Some false) (tagged c.args.tag) _ (of_constructed g.S.Source.stream c.next_header_if.new.self) c.next_header_if.ensures.mode _ (header_stopped stop_cause cause_of _ _ c.stopped.ensures.refused c.stopped.ensures.source _ _ (tagged c.args.tag) c.in-Err.ensures.refused) c.next_header_if.ensures.marked c.in-Err.ensures.failed
+returns-in-Err-clause-took g c = next_refused (of_constructed g.S.Source.stream) _ (Some false) (tagged c.args.tag) _ (of_constructed g.S.Source.stream c.next_header.new.self) c.next_header.ensures.mode _ (header_stopped stop_cause cause_of _ _ c.stopped.ensures.refused c.stopped.ensures.source _ _ (tagged c.args.tag) c.in-Err.ensures.refused) c.next_header.ensures.marked c.in-Err.ensures.failed
