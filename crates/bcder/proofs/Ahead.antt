@@ -1,6 +1,6 @@
 -- What a call that looks ahead for a primitive value says of the content before it looked.
-use Rattle.std.proofs.Common.{◌≡◌, ◌⊎◌, ℕ, ◌≤◌, Bool, true, false, refl, List, length, take, Option, Some, None, Ok, Err, sym, ◌∙◌, subst, inl, inr}
-use Rattle.std.specs.Prelude.{Result, IfSome, IsErrAnd}
+use Rattle.std.proofs.Common.{◌≡◌, ◌⊎◌, ℕ, Bool, true, false, refl, List, length, Option, Some, None, Ok, Err, sym, ◌∙◌, subst, inl, inr}
+use Rattle.std.specs.Prelude.{Result, IsErrAnd}
 use Rattle.std.specs.Borrow.{MutBor}
 use Rattle.bcder.specs.declared.mode.Mode.{Mode}
 use Rattle.bcder.specs.declared.length.Length.TheVariants.{Definite, Indefinite}
@@ -12,20 +12,14 @@ use Rattle.bcder.specs.Calls.{HasForm}
 use Rattle.bcder.specs.Cause.{Cause, cause_of, of_source, IsOfContent, IsRefusal}
 use Rattle.bcder.specs.Encoding.{IsHeader, may_have}
 use Rattle.bcder.specs.Identifier.{Tag}
-use Rattle.bcder.specs.Peek.{header, octets_header, IsFront, IsShort}
+use Rattle.bcder.specs.Peek.{header, octets_header}
 use Rattle.bcder.specs.Stream.{Grew}
 use Rattle.bcder.specs.Content.{Reading, Asked, tagged, Enters, HasHeader, HasMarker, HasOther, Falls, Resembles, IsElsewhere, none_left, other, marker, IsAbsent, IsLeft, RefusesHeader, failed, source, nothing}
 use Rattle.bcder.specs.Entering.{EntersOctets}
 use Rattle.bcder.specs.Takes.{HasNone, TakesNext, by_form}
 use Rattle.bcder.proofs.Entering.{looked_enters, header_entered, no_fewer}
-use Rattle.bcder.proofs.Peeking.{at_hand}
 use Rattle.bcder.proofs.Stopping.{header_stopped}
 use Rattle.bcder.proofs.Taking.{next_refused}
-
--- a short header that was found in what is at hand stands in front
-pub short_found : (t : Tag) (o : Option ℕ) (rest slice : List ℕ) (found avail : ℕ) → take (length slice) rest ≡ slice → found ≤ length slice → avail ≡ found → IfSome o (λ n. IsShort (octets_header t n) (take found slice)) → IfSome o (λ n. (mode : Mode) → IsFront mode (octets_header t n) 2 avail rest)
-short_found t None rest slice found avail front enough e s = tt
-short_found t (Some n) rest slice found avail front enough e s = λ mode. at_hand (IsFront mode (octets_header t n) 2) rest slice found avail front enough e (s mode)
 
 alike : (c d : Reading) → Resembles c d → Resembles d c
 alike c d s = record { rest = sym s.rest; kept = sym s.kept; owed = sym s.owed; kind = sym s.kind; state = sym s.state; mode = sym s.mode; marked = sym s.marked; name = sym s.name }

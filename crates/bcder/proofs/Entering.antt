@@ -14,7 +14,7 @@ use Rattle.bcder.specs.Peek.{asked, HasOtherTag, HasNoHeader}
 use Rattle.bcder.specs.Stream.{Layer, Stream, IsSound, Grew, cut, past, limited}
 use Rattle.bcder.specs.declared.decode.error.ContentError.{ContentError}
 use Rattle.bcder.specs.Cause.{Cause}
-use Rattle.bcder.specs.Content.{Reading, Asked, any, tagged, IsAsked, HasHeader, HasMarker, IndefiniteValues, Falls, Advances, Moves, Accepts, Enters, TakesMarker, NoFront, Resembles, end_header, values, Octets, DefiniteValues, UnboundedValues, IsAtEnd, of_octets, of_definite, of_indefinite, of_unbounded, NotAtEnd, IsElsewhere, none_left, other, marker, IsAbsent, IsLeft, IsMissing, IsUsedUp, NothingThere, RefusesHeader, failed, source, nothing}
+use Rattle.bcder.specs.Content.{Reading, Asked, any, tagged, IsAsked, HasHeader, HasMarker, IndefiniteValues, Falls, Advances, Moves, Accepts, Enters, TakesMarker, NoFront, Resembles, end_header, values, Octets, DefiniteValues, UnboundedValues, IsAtEnd, of_octets, of_definite, of_indefinite, of_unbounded, NotAtEnd, IsElsewhere, none_left, other, marker, IsAbsent, IsLeft, IsMissing, NothingThere, RefusesHeader, failed, source, nothing}
 use Rattle.bcder.specs.Calls.{RefusesEnd, left_failed, source_failed, left_open}
 use Rattle.bcder.specs.laws.Limits.{limit_told_after, limited_sound}
 use Rattle.bcder.specs.laws.Sound.{none_is}
@@ -292,25 +292,11 @@ grew_least a b g = g.no_smaller
 
 -- ---- whichever headers are looked for
 
--- content is at its end, its marker taken
-pub ended_missing : (c : Reading) (w : Wanted) → c.state ≡ Ended → IsMissing (asked w) c c
-ended_missing c Any e = (inl e, inl e)
-ended_missing c (Tagged t) e = (inl (e, refl), inl (refl, refl))
-
--- or its promised octets are used up
-pub used_missing : (c : Reading) (w : Wanted) → Within c → c.state ≡ Open → c.kind ≡ DefiniteValues → c.owed ≡ Some 0 → IsMissing (asked w) c c
-used_missing c Any i o k e = (inr (o, of_definite k e), inr (o, subst (λ f. IsUsedUp f c.owed c.stream.rest) (sym k) e))
-used_missing c (Tagged t) i o k e = let z = used_rest c i e in (inr (o, none_left z z), inl (refl, refl))
-
 -- what was looked at
 module _ (c d : Reading) (s : Resembles c d) (o : c.state ≡ Open) where
   pub other_missing : (w : Wanted) → Within c → HasOtherTag (asked w) d.stream.rest → IsMissing (asked w) c d
   other_missing Any i u = absurd (u.4 refl)
   other_missing (Tagged t) i u = (inr (o, other (other_of t c.stream.rest i.octets (subst (λ z. HasOtherTag (tagged t) z) s.rest u)) s.rest), inl (s.state, s.rest))
-
-  pub none_missing : (w : Wanted) → (w ≡ Any → c.kind ≡ UnboundedValues) → d.stream.rest ≡ [] → IsMissing (asked w) c d
-  none_missing Any k e = (inr (o, of_unbounded (k refl) (sym s.rest ∙ e)), inr (s.state ∙ o, subst (λ f. IsUsedUp f d.owed d.stream.rest) (sym (s.kind ∙ k refl)) e))
-  none_missing (Tagged t) k e = (inr (o, none_left (sym s.rest ∙ e) e), inl (s.state, s.rest))
 
   pub none_nothing : (w : Wanted) → (w ≡ Any) → c.kind ≢ Octets → (c.kind ≡ DefiniteValues → c.owed ≡ Some 0 → ⊥) → (c.kind ≡ UnboundedValues → ⊥) → d.stream.rest ≡ [] → NothingThere (asked w) c
   none_nothing Any a k n u e = empty_nothing c k n u o (sym s.rest ∙ e)
@@ -326,10 +312,6 @@ module _ (c d : Reading) (s : Resembles c d) (o : c.state ≡ Open) where
 
 pub if_marker : (c d : Reading) (t u : Tag) → u ≡ t → u ≡ end_of_contents → TakesMarker c d → IsAbsent (tagged t) c d.stream.rest × IsLeft t c d
 if_marker c d t u e f x = (inr (x.usable, marker (sym e ∙ f) x.kind x.marker), inr (sym e ∙ f, x.usable, x.ended))
-
-pub marker_missing : (c d : Reading) (w : Wanted) (u : Tag) → IsAsked (asked w) u → u ≡ end_of_contents → TakesMarker c d → IsMissing (asked w) c d
-marker_missing c d Any u a e x = (inr (x.usable, of_indefinite x.kind x.marker), inl x.ended)
-marker_missing c d (Tagged t) u a e x = if_marker c d t u a e x
 
 -- ---- why content is not left at its end
 

@@ -2,6 +2,7 @@
 ghost use Rattle.std.specs.Prelude.{◌≡◌, ◌⊎◌, ◌+◌, ◌≤◌, true, false, length, take, IsTrue, Some};
 ghost use Rattle.std.specs.Prelude.{IfOk, IfErr, IfSome, IfNone, IsErrAnd, OnOk, OnErr};
 ghost use Rattle.bcder.specs.Calls.{popped};
+ghost use Rattle.bcder.specs.Changed.{SameFaults, MoreFaults, SameRest, SameKept};
 ghost use Rattle.bcder.specs.Cause.{cause_of, stop_cause, of_source, IsOfContent, IsRefusal};
 ghost use Rattle.bcder.specs.Cause.{NamesTag};
 ghost use Rattle.bcder.specs.Content.{Moves, Advances, FitsOwed, Accepts, end_header};
@@ -11,9 +12,7 @@ ghost use Rattle.bcder.specs.Entering.{MeetsNoFault, MeetsFault};
 ghost use Rattle.bcder.specs.Identifier.{AreOctets, end_of_contents};
 ghost use Rattle.bcder.specs.Content.{IsAsked};
 ghost use Rattle.bcder.specs.Peek.{header as header_of, octets_header, asked, Fronts, Peeks};
-ghost use Rattle.bcder.specs.Peek.{IsShort};
 ghost use Rattle.bcder.specs.Reading.{Header as HeaderRead};
-ghost use Rattle.bcder.specs.Stream.{Grew};
 ghost use Rattle.bcder.specs.declared.mode.Mode.{Mode as ModeValue};
 ghost use Rattle.bcder.specs.Views.{before, after, limited_stream};
 
@@ -102,33 +101,25 @@ fn primitive_len(constructed: bool, len: Length) -> Option<usize>
     }
 }
 
-/// How many contents octets the value at the front has, if it is primitive, has this tag and has a
-/// header of two octets.
-#[inline(always)]
-fn short_octets(tag: Tag, octets: &[u8]) -> Option<usize>
-    ensures { IfSome result (λ n. IsShort (octets_header tag n) octets.now) }
-{
-    match octets {
-        [leading, len, ..] if leads_primitive(tag, *leading) && *len < 0x80 => {
-            Some(usize::from(*len))
-        }
-        _ => None,
-    }
-}
-
-/// The same of the value at the front of a source, of which nothing is taken. It asks for two
-/// octets, as the header of a value has at least. An error is the source's own.
+/// How many contents octets the value at the front of a source has, if it is primitive, has this
+/// tag and has a header of two octets. It asks for two octets, as the header of a value has at
+/// least, and takes none. An error is the source's own.
 #[inline(always)]
 fn peek_short<S: Source>(source: &mut S, tag: Tag) -> Result<Option<usize>, S::Error>
     ensures peeked { IfOk result (λ o. IfSome o (λ n. (mode : ModeValue)
         → Fronts mode (octets_header tag n) 2 (S.stream source.new))) }
-    ensures no_fault { OnOk result ((S.stream source.new).faults ≡ (S.stream source.old).faults) }
-    ensures fault { OnErr result (Grew (S.stream source.old).faults (S.stream source.new).faults) }
-    ensures rest { (S.stream source.new).rest ≡ (S.stream source.old).rest }
-    ensures kept { (S.stream source.new).kept ≡ (S.stream source.old).kept }
+    ensures no_fault { OnOk result (SameFaults S.stream source) }
+    ensures fault { OnErr result (MoreFaults S.stream source) }
+    ensures rest { SameRest S.stream source }
+    ensures kept { SameKept S.stream source }
 {
     let found = source.request(2)?;
-    Ok(short_octets(tag, &source.slice()[..found]))
+    match &source.slice()[..found] {
+        [leading, len, ..] if leads_primitive(tag, *leading) && *len < 0x80 => {
+            Ok(Some(usize::from(*len)))
+        }
+        _ => Ok(None),
+    }
 }
 
 impl<'a, S: Source> Primitive<'a, S> {
