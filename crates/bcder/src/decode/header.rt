@@ -104,8 +104,8 @@ fn look(mode: Mode, wanted: &Wanted, octets: &[u8]) -> Option<Peeked>
 }
 
 /// The header of two octets at the front, if there is one: a tag that the leading octet tells
-/// alone, and a definite length below 128. Where `all` says so also the indefinite length; and
-/// end-of-contents octets then are constants.
+/// alone, and a definite length below 128. With `all` the length may be indefinite too, and
+/// end-of-contents octets are told first, so that what they are is a constant.
 #[tactic(auto, using(crate::proofs::nat_tests))]
 #[inline(always)]
 fn short_header(all: bool, octets: &[u8]) -> Option<Header>

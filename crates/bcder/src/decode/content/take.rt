@@ -6,11 +6,10 @@ ghost use Rattle.bcder.specs.Changed.{SameFaults, MoreFaults, SameRest, SameKept
 ghost use Rattle.bcder.specs.Cause.{cause_of, stop_cause, of_source, IsOfContent, IsRefusal};
 ghost use Rattle.bcder.specs.Cause.{NamesTag};
 ghost use Rattle.bcder.specs.Content.{Moves, Advances, FitsOwed, Accepts, end_header};
-ghost use Rattle.bcder.specs.Content.{Enters, TakesMarker, NoFront, Resembles};
+ghost use Rattle.bcder.specs.Content.{IsAsked, Enters, TakesMarker, NoFront, Resembles};
 ghost use Rattle.bcder.specs.Entering.{EntersNext, EntersOctets, FindsNone, RefusesNext};
 ghost use Rattle.bcder.specs.Entering.{MeetsNoFault, MeetsFault};
 ghost use Rattle.bcder.specs.Identifier.{AreOctets, end_of_contents};
-ghost use Rattle.bcder.specs.Content.{IsAsked};
 ghost use Rattle.bcder.specs.Peek.{header as header_of, octets_header, asked, Fronts, Peeks};
 ghost use Rattle.bcder.specs.Reading.{Header as HeaderRead};
 ghost use Rattle.bcder.specs.declared.mode.Mode.{Mode as ModeValue};
@@ -289,7 +288,8 @@ impl<'a, S: Source> Constructed<'a, S> {
         ensures peeked { IfOk result (λ o. IfSome o (λ f.
             Fronts self.new.mode f.header f.size
             (limited_stream S.stream self.new.source.now))) }
-        ensures wanted { IfOk result (λ o. IfSome o (λ f. IsAsked (asked wanted.now) f.header.tag)) }
+        ensures wanted { IfOk result (λ o. IfSome o (λ f.
+            IsAsked (asked wanted.now) f.header.tag)) }
         ensures no_fault { MeetsNoFault (before S.stream self) (after S.stream self) result }
         ensures none { FindsNone (before S.stream self) (after S.stream self)
             (asked wanted.now) result }
