@@ -66,22 +66,16 @@ struct Opened<'f> {
     frames: &'f mut SmallVec<Frame, 4>,
 }
 
-/// Why the content of a value wasn't gone into.
-enum Bar<E> {
-    /// A step over content stopped.
-    Stopped(Stop<E>),
-
-    /// There was no memory for another open value.
-    NoMemory,
-}
-
 /// Why passing over a value halted.
 enum Halt<E> {
     /// The closure refused a header.
     Refused(ContentError),
 
-    /// The content of a value wasn't gone into.
-    Barred(Bar<E>),
+    /// A step over content stopped.
+    Stopped(Stop<E>),
+
+    /// There was no memory for another open value.
+    NoMemory,
 }
 
 /// What is owed behind a value of so many octets.
@@ -275,7 +269,7 @@ fn go_into<S: Source>(
     cons: &mut Constructed<'_, S>,
     opened: &mut Opened<'_>,
     header: Header,
-) -> Result<(), Bar<S::Error>>
+) -> Result<(), Halt<S::Error>>
     requires counted { IsCounted opened.old }
     requires few { opened.old.depth + 1 < 2 ^ 64 }
     requires allowed { may_have cons.old.mode header.constructed header.len ≡ true }
@@ -293,7 +287,7 @@ fn go_into<S: Source>(
         if open(cons, opened, header.len) {
             return Ok(());
         }
-        return Err(Bar::NoMemory);
+        return Err(Halt::NoMemory);
     }
     match header.len {
         Length::Definite(len) => match cons.source.skip_owed(len) {
@@ -301,10 +295,10 @@ fn go_into<S: Source>(
                 cons.state = State::Open;
                 Ok(())
             }
-            Err(stop) => Err(Bar::Stopped(stop)),
+            Err(stop) => Err(Halt::Stopped(stop)),
         },
-        // No primitive value has it (X.690, 8.1.3.2), and none is passed over here.
-        Length::Indefinite => Err(Bar::NoMemory),
+        // No primitive value has it (X.690, 8.1.3.2).
+        Length::Indefinite => unreachable!(),
     }
 }
 
@@ -330,8 +324,8 @@ where
     if let Err(error) = op(outermost.tag, outermost.constructed, 0) {
         return Err(Halt::Refused(error));
     }
-    if let Err(bar) = go_into(cons, &mut opened, outermost) {
-        return Err(Halt::Barred(bar));
+    if let Err(halt) = go_into(cons, &mut opened, outermost) {
+        return Err(halt);
     }
     while opened.depth > 0 {
         match cons.next_header() {
@@ -340,15 +334,15 @@ where
                     unwind(cons.source, opened.frames, outer);
                     return Err(Halt::Refused(error));
                 }
-                if let Err(bar) = go_into(cons, &mut opened, header) {
+                if let Err(halt) = go_into(cons, &mut opened, header) {
                     unwind(cons.source, opened.frames, outer);
-                    return Err(Halt::Barred(bar));
+                    return Err(halt);
                 }
             }
             Ok(None) => leave(cons, &mut opened),
             Err(stop) => {
                 unwind(cons.source, opened.frames, outer);
-                return Err(Halt::Barred(Bar::Stopped(stop)));
+                return Err(Halt::Stopped(stop));
             }
         }
     }
@@ -386,7 +380,7 @@ where
 impl<'a, S: Source> Constructed<'a, S> {
     /// The error that a halt is, at the present position.
     #[cold]
-    fn error_of(&self, halt: Halt<S::Error>) -> DecodeError<S::Error>
+    fn halted(&self, halt: Halt<S::Error>) -> DecodeError<S::Error>
         ensures content { IsOfContent (halt_cause halt) → IsRefusal result }
         ensures source { halt_cause halt ≡ of_source → cause_of result ≡ of_source }
         ensures memory { halt_cause halt ≡ of_memory → cause_of result ≡ of_memory }
@@ -394,57 +388,13 @@ impl<'a, S: Source> Constructed<'a, S> {
     {
         match halt {
             Halt::Refused(error) => self.source.content_err(error),
-            Halt::Barred(Bar::Stopped(stop)) => self.stopped(stop),
-            Halt::Barred(Bar::NoMemory) => DecodeError::no_memory(),
+            Halt::Stopped(stop) => self.stopped(stop),
+            Halt::NoMemory => DecodeError::no_memory(),
         }
     }
 
-    /// The same, with room for the error that is cleared here, and not where nothing halts.
-    #[inline(always)]
-    fn halted(&self, halt: Halt<S::Error>) -> DecodeError<S::Error>
-        ensures content { IsOfContent (halt_cause halt) → IsRefusal result }
-        ensures source { halt_cause halt ≡ of_source → cause_of result ≡ of_source }
-        ensures memory { halt_cause halt ≡ of_memory → cause_of result ≡ of_memory }
-        ensures closure { (x : _) → halt ≡ Halt.Refused x → cause_of result ≡ of_content x }
-    {
-        let error = self.error_of(halt);
-        error
-    }
-
-    /// Passes over the content of a primitive value whose header was passed over, which needs no
-    /// stack.
-    #[inline(always)]
-    fn skip_octets<F>(
-        &mut self,
-        header: Header,
-        op: &mut F,
-    ) -> Result<Option<()>, DecodeError<S::Error>>
-    where
-        F: FnMut(Tag, bool, usize) -> Result<(), ContentError>,
-        requires callable { F.IsAlwaysCallable op.old }
-        requires primitive { header.constructed ≡ false }
-        requires definite { header.len ≡ Length.Indefinite → ⊥ }
-        requires fits { FitsOwed header.len (limit_in self.old) }
-        ensures moves { MovedBehind S.stream self header }
-        ensures skipped { SkippedBehind S.stream F.step self header op result }
-    {
-        if let Err(error) = op(header.tag, header.constructed, 0) {
-            return Err(self.halted(Halt::Refused(error)));
-        }
-        match header.len {
-            Length::Definite(len) => match self.source.skip_owed(len) {
-                Ok(()) => {
-                    self.state = State::Open;
-                    Ok(Some(()))
-                }
-                Err(stop) => Err(self.halted(Halt::Barred(Bar::Stopped(stop)))),
-            },
-            // No primitive value has it (X.690, 8.1.3.2), and none is passed over here.
-            Length::Indefinite => Err(self.halted(Halt::Barred(Bar::NoMemory))),
-        }
-    }
-
-    /// The same where all of the contents octets are at hand.
+    /// Passes over the contents octets of a primitive value whose header was passed over, where all
+    /// are at hand. That needs no stack.
     #[inline(always)]
     fn skip_octets_at_hand<F>(
         &mut self,
@@ -470,57 +420,7 @@ impl<'a, S: Source> Constructed<'a, S> {
                 self.state = State::Open;
                 Ok(Some(()))
             }
-            // No primitive value has it (X.690, 8.1.3.2), and none is passed over here.
-            Length::Indefinite => Err(self.halted(Halt::Barred(Bar::NoMemory))),
-        }
-    }
-
-    /// The same of a constructed value.
-    #[inline(always)]
-    fn skip_values<F>(
-        &mut self,
-        alloc: Global,
-        header: Header,
-        op: &mut F,
-    ) -> Result<Option<()>, DecodeError<S::Error>>
-    where
-        F: FnMut(Tag, bool, usize) -> Result<(), ContentError>,
-        requires callable { F.IsAlwaysCallable op.old }
-        requires allowed { may_have self.old.mode header.constructed header.len ≡ true }
-        requires fits { FitsOwed header.len (limit_in self.old) }
-        ensures moves { MovedBehind S.stream self header }
-        ensures skipped { SkippedBehind S.stream F.step self header op result }
-    {
-        match skip_content(self.source, self.mode, alloc, header, op) {
-            Ok(()) => {
-                self.state = State::Open;
-                Ok(Some(()))
-            }
-            Err(halt) => Err(self.halted(halt)),
-        }
-    }
-
-    /// Passes over the content of a value whose header was passed over, in the way that its form
-    /// needs.
-    #[inline(always)]
-    fn skip_behind<F>(
-        &mut self,
-        alloc: Global,
-        header: Header,
-        op: &mut F,
-    ) -> Result<Option<()>, DecodeError<S::Error>>
-    where
-        F: FnMut(Tag, bool, usize) -> Result<(), ContentError>,
-        requires callable { F.IsAlwaysCallable op.old }
-        requires allowed { may_have self.old.mode header.constructed header.len ≡ true }
-        requires fits { FitsOwed header.len (limit_in self.old) }
-        ensures moves { MovedBehind S.stream self header }
-        ensures skipped { SkippedBehind S.stream F.step self header op result }
-    {
-        if header.constructed {
-            self.skip_values(alloc, header, op)
-        } else {
-            self.skip_octets(header, op)
+            Length::Indefinite => unreachable!(),
         }
     }
 
@@ -592,7 +492,13 @@ impl<'a, S: Source> Constructed<'a, S> {
         ensures skipped { SkippedNext S.stream F.step self op result }
     {
         match self.next_header() {
-            Ok(Some(header)) => self.skip_behind(alloc, header, op),
+            Ok(Some(header)) => match skip_content(self.source, self.mode, alloc, header, op) {
+                Ok(()) => {
+                    self.state = State::Open;
+                    Ok(Some(()))
+                }
+                Err(halt) => Err(self.halted(halt)),
+            },
             Ok(None) => Ok(None),
             Err(stop) => Err(self.stopped(stop)),
         }
