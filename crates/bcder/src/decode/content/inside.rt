@@ -276,44 +276,8 @@ where
     }
 }
 
-/// Calls the closure on the values that a source is limited to, and says whether it changed the
-/// mode.
-#[tactic(auto, using(crate::proofs::moves), unfolding(crate::specs::Views::of_constructed))]
-#[inline(always)]
-fn values_over<S: Source, F, T: Drop>(
-    source: &mut LimitedSource<S>,
-    kind: Kind,
-    mode: Mode,
-    tag: Tag,
-    op: F,
-) -> (Result<T, DecodeError<S::Error>>, bool)
-where
-    F: FnOnce(Tag, &mut Constructed<'_, S>) -> Result<T, DecodeError<S::Error>>,
-    requires callable { MayBeCalledAt (of_constructed S.stream)
-        (IsOver (limited_stream S.stream source.old) source.old.limit (values kind) mode)
-        tag (F.pre op) }
-    requires lawful { IsLawfulAt (of_constructed S.stream)
-        (IsOver (limited_stream S.stream source.old) source.old.limit (values kind) mode)
-        tag (F.post op) }
-    ensures { RanOver cause_of (of_constructed S.stream) (F.post op)
-        (limited_stream S.stream source.old) source.old.limit (values kind) mode tag
-        result.0 result.1 (limited_stream S.stream source.new) source.new.limit }
-{
-    let start = source.pos();
-    let mut cons = Constructed {
-        source: &mut *source,
-        kind,
-        state: State::Open,
-        mode,
-        marked: false,
-        start,
-    };
-    let result = run_values(&mut cons, tag, op);
-    let marked = cons.marked;
-    (result, marked)
-}
-
-/// The same on contents octets, for a closure that takes either form.
+/// Calls the closure on the contents octets that a source is limited to, and says whether it changed
+/// the mode.
 #[tactic(auto, using(crate::proofs::moves), unfolding(crate::specs::Views::views))]
 #[inline(always)]
 fn run_primitive<S: Source, F, T: Drop>(
@@ -347,7 +311,7 @@ where
     (result, marked)
 }
 
-/// The same on values, for a closure that takes either form.
+/// The same on the values that a source is limited to.
 #[tactic(auto, using(crate::proofs::moves), unfolding(crate::specs::Views::views))]
 #[inline(always)]
 fn run_constructed<S: Source, F, T: Drop>(
@@ -386,101 +350,6 @@ where
 
 #[tactic(auto, unfolding(crate::specs::Views::views))]
 impl<'a, S: Source> Constructed<'a, S> {
-    /// Takes the contents octets behind a header of a primitive value.
-    #[inline(always)]
-    fn take_octets<F, T: Drop>(&mut self, header: Header, op: F) -> Result<T, DecodeError<S::Error>>
-    where
-        F: FnOnce(Tag, &mut Primitive<'_, S>) -> Result<T, DecodeError<S::Error>>,
-        requires callable { MayBeCalledAt (of_primitive S.stream) (IsBehind S.stream self header)
-            header.tag (F.pre op) }
-        requires lawful { IsLawfulAt (of_primitive S.stream) (IsBehind S.stream self header)
-            header.tag (F.post op) }
-        requires form { header.constructed ≡ false }
-        requires allowed { may_have self.old.mode header.constructed header.len ≡ true }
-        requires fits { FitsOwed header.len self.old.source.now.limit }
-        ensures taken { TakesContent cause_of (of_primitive S.stream) (F.post op)
-            (before S.stream self) (header_of header) result (after S.stream self) }
-    {
-        let mode = self.mode;
-        let source = &mut *self.source;
-        let outer = go_inside(source, header.len);
-        let start = source.pos();
-        let mut octets = Primitive {
-            source: &mut *source,
-            mode,
-            marked: false,
-            start,
-        };
-        let value = match run_octets(&mut octets, header.tag, op) {
-            Ok(value) => value,
-            Err(error) => {
-                let marked = octets.marked;
-                go_outside(source, outer, header.len);
-                self.marked = either(self.marked, marked);
-                return Err(error);
-            }
-        };
-        let marked = octets.marked;
-        go_outside(source, outer, header.len);
-        self.marked = either(self.marked, marked);
-        Ok(value)
-    }
-
-    /// Takes the values behind a header of a constructed value.
-    #[inline(always)]
-    fn take_values<F, T: Drop>(&mut self, header: Header, op: F) -> Result<T, DecodeError<S::Error>>
-    where
-        F: FnOnce(Tag, &mut Constructed<'_, S>) -> Result<T, DecodeError<S::Error>>,
-        requires callable { MayBeCalledAt (of_constructed S.stream) (IsBehind S.stream self header)
-            header.tag (F.pre op) }
-        requires lawful { IsLawfulAt (of_constructed S.stream) (IsBehind S.stream self header)
-            header.tag (F.post op) }
-        requires form { header.constructed ≡ true }
-        requires fits { FitsOwed header.len self.old.source.now.limit }
-        ensures taken { TakesContent cause_of (of_constructed S.stream) (F.post op)
-            (before S.stream self) (header_of header) result (after S.stream self) }
-    {
-        let outer = go_inside(self.source, header.len);
-        let kind = kind_behind(header.len);
-        let (result, marked) = values_over(self.source, kind, self.mode, header.tag, op);
-        go_outside(self.source, outer, header.len);
-        self.marked = either(self.marked, marked);
-        result
-    }
-
-    /// Takes the content behind a header.
-    #[inline(always)]
-    fn take_content<F, T: Drop>(
-        &mut self,
-        header: Header,
-        op: F,
-    ) -> Result<T, DecodeError<S::Error>>
-    where
-        F: FnOnce(Tag, &mut Content<'_, S>) -> Result<T, DecodeError<S::Error>>,
-        requires callable { MayBeCalledAt (of_content S.stream) (IsBehind S.stream self header)
-            header.tag (F.pre op) }
-        requires lawful { IsLawfulAt (of_content S.stream) (IsBehind S.stream self header)
-            header.tag (F.post op) }
-        requires allowed { may_have self.old.mode header.constructed header.len ≡ true }
-        requires fits { FitsOwed header.len self.old.source.now.limit }
-        ensures taken { TakesContent cause_of (of_content S.stream) (F.post op)
-            (before S.stream self) (header_of header) result (after S.stream self) }
-    {
-        let outer = go_inside(self.source, header.len);
-        if header.constructed {
-            let kind = kind_behind(header.len);
-            let (result, marked) = run_constructed(self.source, kind, self.mode, header.tag, op);
-            go_outside(self.source, outer, header.len);
-            self.marked = either(self.marked, marked);
-            result
-        } else {
-            let (result, marked) = run_primitive(self.source, self.mode, header.tag, op);
-            go_outside(self.source, outer, header.len);
-            self.marked = either(self.marked, marked);
-            result
-        }
-    }
-
     /// Takes a value whose header was passed over, and which has to be primitive. The content is
     /// usable again where it was taken.
     #[inline(always)]
@@ -503,10 +372,28 @@ impl<'a, S: Source> Constructed<'a, S> {
         if header.constructed {
             return Err(self.refusal("expected a primitive value"));
         }
-        let value = match self.take_octets(header, op) {
-            Ok(value) => value,
-            Err(error) => return Err(error),
+        let mode = self.mode;
+        let source = &mut *self.source;
+        let outer = go_inside(source, header.len);
+        let start = source.pos();
+        let mut octets = Primitive {
+            source: &mut *source,
+            mode,
+            marked: false,
+            start,
         };
+        let value = match run_octets(&mut octets, header.tag, op) {
+            Ok(value) => value,
+            Err(error) => {
+                let marked = octets.marked;
+                go_outside(source, outer, header.len);
+                self.marked = either(self.marked, marked);
+                return Err(error);
+            }
+        };
+        let marked = octets.marked;
+        go_outside(source, outer, header.len);
+        self.marked = either(self.marked, marked);
         self.state = State::Open;
         Ok(Some(value))
     }
@@ -531,13 +418,33 @@ impl<'a, S: Source> Constructed<'a, S> {
         if !header.constructed {
             return Err(self.refusal("expected a constructed value"));
         }
-        match self.take_values(header, op) {
-            Ok(value) => {
-                self.state = State::Open;
-                Ok(Some(value))
+        let mode = self.mode;
+        let source = &mut *self.source;
+        let outer = go_inside(source, header.len);
+        let kind = kind_behind(header.len);
+        let start = source.pos();
+        let mut values = Constructed {
+            source: &mut *source,
+            kind,
+            state: State::Open,
+            mode,
+            marked: false,
+            start,
+        };
+        let value = match run_values(&mut values, header.tag, op) {
+            Ok(value) => value,
+            Err(error) => {
+                let marked = values.marked;
+                go_outside(source, outer, header.len);
+                self.marked = either(self.marked, marked);
+                return Err(error);
             }
-            Err(error) => Err(error),
-        }
+        };
+        let marked = values.marked;
+        go_outside(source, outer, header.len);
+        self.marked = either(self.marked, marked);
+        self.state = State::Open;
+        Ok(Some(value))
     }
 
     /// The same of a value of either form.
@@ -558,12 +465,30 @@ impl<'a, S: Source> Constructed<'a, S> {
         ensures { TakesBehind (of_content S.stream) (F.post op) None
             (before S.stream self) (header_of header) result (after S.stream self) }
     {
-        match self.take_content(header, op) {
-            Ok(value) => {
-                self.state = State::Open;
-                Ok(Some(value))
+        let outer = go_inside(self.source, header.len);
+        if header.constructed {
+            let kind = kind_behind(header.len);
+            let (result, marked) = run_constructed(self.source, kind, self.mode, header.tag, op);
+            go_outside(self.source, outer, header.len);
+            self.marked = either(self.marked, marked);
+            match result {
+                Ok(value) => {
+                    self.state = State::Open;
+                    Ok(Some(value))
+                }
+                Err(error) => Err(error),
             }
-            Err(error) => Err(error),
+        } else {
+            let (result, marked) = run_primitive(self.source, self.mode, header.tag, op);
+            go_outside(self.source, outer, header.len);
+            self.marked = either(self.marked, marked);
+            match result {
+                Ok(value) => {
+                    self.state = State::Open;
+                    Ok(Some(value))
+                }
+                Err(error) => Err(error),
+            }
         }
     }
 }
