@@ -9,7 +9,7 @@ use Rattle.bcder.specs.Stream.{Stream, IsSound}
 use Rattle.bcder.specs.Content.{octets, values, Octets, Moves}
 use Rattle.bcder.specs.laws.Limits.{limited_sound}
 use Rattle.bcder.proofs.Entering.{Within}
-use Rattle.bcder.specs.Views.{of_content, of_primitive, of_constructed, content_name, content_mark}
+use Rattle.bcder.specs.Views.{of_content, of_primitive, of_constructed, content_name, content_source, content_mark, limited_stream}
 
 pub name_of_content : {S : Type 0} (stream : S → Stream) (a : Content S) → (of_content stream a).name ≡ content_name a
 unfolding of_primitive of_constructed
@@ -32,6 +32,16 @@ pub mark_of_content : {S : Type 0} (stream : S → Stream) (a : Content S) → (
 unfolding of_primitive of_constructed
 mark_of_content stream (content.Primitive p) = refl
 mark_of_content stream (content.Constructed p) = refl
+
+pub stream_of_content : {S : Type 0} (stream : S → Stream) (a : Content S) → (of_content stream a).stream ≡ limited_stream stream (content_source a)
+unfolding of_primitive of_constructed
+stream_of_content stream (content.Primitive p) = refl
+stream_of_content stream (content.Constructed p) = refl
+
+pub owed_of_content : {S : Type 0} (stream : S → Stream) (a : Content S) → (of_content stream a).owed ≡ (content_source a).limit
+unfolding of_primitive of_constructed
+owed_of_content stream (content.Primitive p) = refl
+owed_of_content stream (content.Constructed p) = refl
 
 take_within : (n : ℕ) (xs : List ℕ) → length (take n xs) ≤ n
 take_within n xs = grind (arith, common_steps)

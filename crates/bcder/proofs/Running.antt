@@ -9,6 +9,8 @@ use Rattle.bcder.specs.declared.length.Length.TheVariants as len
 use Rattle.bcder.specs.declared.decode.content.Kind.{Kind}
 use Rattle.bcder.specs.declared.decode.content.State.TheVariants.{Open}
 use Rattle.bcder.specs.Stacked.{Entry}
+use Rattle.bcder.specs.declared.decode.content.skip.Bar.{Bar}
+use Rattle.bcder.specs.declared.decode.content.skip.Bar.TheVariants as bar
 use Rattle.bcder.specs.declared.decode.content.skip.Halt.{Halt}
 use Rattle.bcder.specs.declared.decode.content.skip.Halt.TheVariants as halt
 use Rattle.bcder.specs.declared.decode.stop.Stop.{Stop}
@@ -99,10 +101,10 @@ module _ {F X : Type 0} (step : Steps F ContentError) (h : Header) (es : List En
     pub visited_gone : {T U : Type 0} (x : T) (y : U) → GoneBy {X = X} h es s o (Ok x) fs t p → VisitedBy {X = X} step h es s o f (Ok y) g fs t p
     visited_gone x y z = record { answered = called; goes = z.goes; no_fault = z.no_fault; stays = tt; entries = tt; rest = tt; limit = tt; kept = z.kept; faults = z.faults }
 
-    pub visited_barred : {T U : Type 0} (e : Halt X) → GoneBy {T = T} h es s o (Err e) fs t p → VisitedBy step {T = U} h es s o f (Err e) g fs t p
+    pub visited_barred : {T U : Type 0} (e : Bar X) → GoneBy {T = T} h es s o (Err e) fs t p → VisitedBy step {T = U} h es s o f (Err (halt.Barred e)) g fs t p
     visited_barred e z = record { answered = tt; goes = tt; no_fault = tt; stays = go z.stays; entries = z.entries; rest = z.rest; limit = z.limit; kept = z.kept; faults = z.faults }
       where
-        go : StaysAt h (length es) s e t → StaysOut step h (length es) s f e g t
+        go : StaysAt h (length es) s e t → StaysOut step h (length es) s f (halt.Barred e) g t
         go (for_memory a l j) = wanted called a l j
         go (by_failure j k) = failing called j k
         go (too_few m a k l j) = few m called a k l j
@@ -144,8 +146,8 @@ module _ {F : Type 0} (step : Steps F ContentError) (mode : Mode) (h : Header) (
     pub first_went : {X : Type 0} (x : Unit {0}) → FitsOwed h.len o → GoneBy {X = X} h es s o (Ok x) fs t p → Goes step mode h s o f fs g t p
     first_went {X} x w z = began {X = X} x g es fs t p none w (visited_gone {X = X} step h es s o f g fs t p at_first x x z)
 
-    pub first_barred : {T X : Type 0} (e : Halt X) → GoneBy {T = T} h es s o (Err e) fs t p → RanBy step {T = Unit {0}} mode h s o f (Err e) g t p
-    first_barred e z = not_begun e g es fs t p none (visited_barred step h es s o f g fs t p at_first e z)
+    pub first_barred : {T X : Type 0} (e : Bar X) → GoneBy {T = T} h es s o (Err e) fs t p → RanBy step {T = Unit {0}} mode h s o f (Err (halt.Barred e)) g t p
+    first_barred e z = not_begun (halt.Barred e) g es fs t p none (visited_barred step h es s o f g fs t p at_first e z)
 
   module _ (es : List Entry) (g : F) (t : Stream) (p : Option ℕ) (w : Goes step mode h s o f es g t p) where
     -- a value inside was gone into
@@ -187,8 +189,8 @@ module _ {F : Type 0} (step : Steps F ContentError) (mode : Mode) (h : Header) (
       stayed_out e g' fs t' u' p' r z y i = subst (λ x. RanBy step {T = Unit {0}} mode h s o f (Err e) g' x r) (sym y) (stayed_out_of e g' fs t' p' r z i)
 
     -- the next header was refused, and the limit was given back
-    pub went_wrong : {X : Type 0} → (e : Stop X) (v x' : Stream) (q r : Option ℕ) (c d : Reading) (k : Kind) (cs : c.stream ≡ limited p t) (co : c.owed ≡ p) (ds : d.stream ≡ limited q v) (do' : d.owed ≡ q) → Moves c d → 1 ≤ length es → c.kind ≡ values k → TopIs es k → c.state ≡ Open → c.mode ≡ mode → Within c → RefusesHeader stop_cause any c e d → x' ≡ v → r ≡ unwound es q → RanBy step {T = Unit {0}} mode h s o f (Err (halt.Stopped e)) g x' r
-    went_wrong e v x' q r c d k cs co ds do' m some ck ti st cm wi x j i = subst (λ z. RanBy step {T = Unit {0}} mode h s o f (Err (halt.Stopped e)) g z r) (sym j) record { whole = tt; no_fault = tt; breaks = go x; faults = (let y : c.stream.faults ≤ d.stream.faults = moves_faults c d m in omega (arith, w.no_fault, ap (λ z. z.faults) cs, ap (λ z. z.faults) ds)) }
+    pub went_wrong : {X : Type 0} → (e : Stop X) (v x' : Stream) (q r : Option ℕ) (c d : Reading) (k : Kind) (cs : c.stream ≡ limited p t) (co : c.owed ≡ p) (ds : d.stream ≡ limited q v) (do' : d.owed ≡ q) → Moves c d → 1 ≤ length es → c.kind ≡ values k → TopIs es k → c.state ≡ Open → c.mode ≡ mode → Within c → RefusesHeader stop_cause any c e d → x' ≡ v → r ≡ unwound es q → RanBy step {T = Unit {0}} mode h s o f (Err (halt.Barred (bar.Stopped e))) g x' r
+    went_wrong e v x' q r c d k cs co ds do' m some ck ti st cm wi x j i = subst (λ z. RanBy step {T = Unit {0}} mode h s o f (Err (halt.Barred (bar.Stopped e))) g z r) (sym j) record { whole = tt; no_fault = tt; breaks = go x; faults = (let y : c.stream.faults ≤ d.stream.faults = moves_faults c d m in omega (arith, w.no_fault, ap (λ z. z.faults) cs, ap (λ z. z.faults) ds)) }
       where
         a : Passing t v p q c d cs co ds do'
         a = passing t v p q c d cs co ds do' m
@@ -203,7 +205,7 @@ module _ {F : Type 0} (step : Steps F ContentError) (mode : Mode) (h : Header) (
         remains [] l ti li n j = absurd (omega arith)
         remains (top ∷ fs) l ti li n j = nothing_more mode fs t p c k ck st cm co (ap (λ z. z.rest) cs) (octets_moved t v p q c d cs co ds do' wi) n j top ti li
 
-        go : RefusesHeader stop_cause any c e d → Breaks step mode h s o f (halt.Stopped e) g v r
+        go : RefusesHeader stop_cause any c e d → Breaks step mode h s o f (halt.Barred (bar.Stopped e)) g v r
         go (failed y z) = absurd (open_not_failed c.state st y)
         go (source y z) = by_source w.calls w.called b y (grew z)
         go (nothing n z) = by_content w.calls w.called b (nothing_whole mode h s o (heading h 0 ∷ w.calls) (remain mode es p t.rest) w.under.outcome (remains es some ti w.under.limits (no_value_of_nothing c wi n) (end_of_nothing c n))) z

@@ -14,6 +14,8 @@ use Rattle.bcder.specs.declared.decode.content.Kind.{Kind}
 use Rattle.bcder.specs.declared.decode.content.Kind.TheVariants as kind
 use Rattle.bcder.specs.declared.decode.content.skip.Frame.{Frame}
 use Rattle.bcder.specs.declared.decode.content.skip.Opened.{Opened}
+use Rattle.bcder.specs.declared.decode.content.skip.Bar.{Bar}
+use Rattle.bcder.specs.declared.decode.content.skip.Bar.TheVariants as bar
 use Rattle.bcder.specs.declared.decode.content.skip.Halt.{Halt}
 use Rattle.bcder.specs.declared.decode.content.skip.Halt.TheVariants as halt
 use Rattle.bcder.specs.declared.decode.error.ContentError.{ContentError}
@@ -33,11 +35,14 @@ pub data Entry : Type 0 where
   Definite : Option ℕ → Entry
   Indefinite : Entry
 
--- why passing over a value halted
+-- why the content of a value wasn't gone into, and why passing over a value halted
+abbrev pub bar_cause : {S : Type 0} → Bar S → Cause ContentError
+bar_cause (bar.Stopped s) = stop_cause s
+bar_cause bar.NoMemory = of_memory
+
 abbrev pub halt_cause : {S : Type 0} → Halt S → Cause ContentError
 halt_cause (halt.Refused e) = of_content e
-halt_cause (halt.Stopped s) = stop_cause s
-halt_cause halt.NoMemory = of_memory
+halt_cause (halt.Barred b) = bar_cause b
 
 -- ---- limits
 
@@ -180,13 +185,13 @@ pub record IsBroken (mode : Mode) (h : Header) (s : Stream) (o : Option ℕ) (ca
 -- ---- what calls over the stack did
 
 -- why the content of a header wasn't gone into, after n values were open
-pub data StaysAt {X : Type 0} (h : Header) (n : ℕ) (s : Stream) (e : Halt X) (t : Stream) : Type 0 where
-  for_memory : h.form ≡ true → 4 ≤ n → halt_cause e ≡ of_memory → StaysAt h n s e t
-  by_failure : halt_cause e ≡ of_source → Grew s.faults t.faults → StaysAt h n s e t
-  too_few : (m : ℕ) → h.form ≡ false → h.len ≡ len.Definite m → length s.rest < m → IsOfContent (halt_cause e) → StaysAt h n s e t
+pub data StaysAt {X : Type 0} (h : Header) (n : ℕ) (s : Stream) (e : Bar X) (t : Stream) : Type 0 where
+  for_memory : h.form ≡ true → 4 ≤ n → bar_cause e ≡ of_memory → StaysAt h n s e t
+  by_failure : bar_cause e ≡ of_source → Grew s.faults t.faults → StaysAt h n s e t
+  too_few : (m : ℕ) → h.form ≡ false → h.len ≡ len.Definite m → length s.rest < m → IsOfContent (bar_cause e) → StaysAt h n s e t
 
 -- the content of a header was gone into, or not
-pub record GoneBy {T X : Type 0} (h : Header) (es : List Entry) (s : Stream) (o : Option ℕ) (r : Result T (Halt X)) (fs : List Entry) (t : Stream) (p : Option ℕ) : Type 0 where
+pub record GoneBy {T X : Type 0} (h : Header) (es : List Entry) (s : Stream) (o : Option ℕ) (r : Result T (Bar X)) (fs : List Entry) (t : Stream) (p : Option ℕ) : Type 0 where
   pub goes : OnOk r (GoesInto h es s o fs t p)
   pub no_fault : OnOk r (t.faults ≡ s.faults)
   pub stays : IfErr r (λ e. StaysAt h (length es) s e t)
@@ -266,7 +271,7 @@ abbrev pub limit_in : {S : Type 0} → Constructed S → Option ℕ
 limit_in c = c.source.now.limit
 
 module _ {S : Type 0} (stream : S → Stream) where
-  abbrev pub Gone : {T X : Type 0} → Both (MutBor (Constructed S)) (MutBor (Constructed S)) → Both (MutBor Opened) (MutBor Opened) → Kept → Result T (Halt X) → Type 0
+  abbrev pub Gone : {T X : Type 0} → Both (MutBor (Constructed S)) (MutBor (Constructed S)) → Both (MutBor Opened) (MutBor Opened) → Kept → Result T (Bar X) → Type 0
   Gone c es h r = GoneBy (header_of h) (entries es.entry.now) (source_of stream c.entry.now) (limit_in c.entry.now) r (entries es.exit.now) (source_of stream c.exit.now) (limit_in c.exit.now)
 
 module _ {S F : Type 0} (stream : S → Stream) (step : Steps F ContentError) where

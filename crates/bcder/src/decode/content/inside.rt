@@ -1,14 +1,14 @@
 //! Taking the content of a value whose header was passed over.
 ghost use Rattle.std.specs.Prelude.{◌≡◌, ◌||◌, Bool, true, false, None, Some, Ok, IfOk, IfErr};
 ghost use Rattle.std.specs.Prelude.{OnOk};
-ghost use Rattle.bcder.specs.Calls.{MayBeCalledAt, IsLawfulAt, IsOver, AnswersDone, RefusesContent};
-ghost use Rattle.bcder.specs.Calls.{RefusesEnd, RanOver, TakesContent};
+ghost use Rattle.bcder.specs.Calls.{AnswersDone, IsLawfulAt, MayBeCalledAt, RefusesContent};
+ghost use Rattle.bcder.specs.Calls.{RefusesEnd};
 ghost use Rattle.bcder.specs.Cause.{cause_of, stop_cause};
-ghost use Rattle.bcder.specs.Content.{Octets, Moves, FitsOwed, values, EndsAt, IsDone};
+ghost use Rattle.bcder.specs.Content.{Moves, FitsOwed, EndsAt, IsDone};
 ghost use Rattle.bcder.specs.Encoding.{may_have};
 ghost use Rattle.bcder.specs.Entering.{MeetsNoFault};
 ghost use Rattle.bcder.specs.Inside.{kind_behind, limit_inside, limit_outside, IsBehind};
-ghost use Rattle.bcder.specs.Inside.{TakesBehind};
+ghost use Rattle.bcder.specs.Inside.{RanInside, TakesBehind};
 ghost use Rattle.bcder.specs.Peek.{header as header_of};
 ghost use Rattle.bcder.specs.Views.{of_constructed, of_primitive, of_content, limited_stream};
 ghost use Rattle.bcder.specs.Views.{content_name, content_source, content_mark, before, after};
@@ -21,7 +21,6 @@ use crate::decode::header::Header;
 use crate::decode::source::{LimitedSource, Source};
 use crate::decode::stop::{Stop, Why};
 use crate::length::Length;
-use crate::mode::Mode;
 use crate::tag::Tag;
 
 /// How the end of the values behind a length is known (X.690, 8.1.3.2).
@@ -276,76 +275,34 @@ where
     }
 }
 
-/// Calls the closure on the contents octets that a source is limited to, and says whether it changed
-/// the mode.
-#[tactic(auto, using(crate::proofs::moves), unfolding(crate::specs::Views::views))]
+/// The same of content that is open, which is gone then. Answered is also whether the mode was
+/// changed, and the source is handed back.
 #[inline(always)]
-fn run_primitive<S: Source, F, T: Drop>(
-    source: &mut LimitedSource<S>,
-    mode: Mode,
+fn run_over<'a, S: Source, F, T: Drop>(
+    mut content: Content<'a, S>,
     tag: Tag,
     op: F,
-) -> (Result<T, DecodeError<S::Error>>, bool)
+) -> (
+    Result<T, DecodeError<S::Error>>,
+    bool,
+    &'a mut LimitedSource<S>,
+)
 where
     F: FnOnce(Tag, &mut Content<'_, S>) -> Result<T, DecodeError<S::Error>>,
+    requires usable { (of_content S.stream content).state ≡ State.Open }
+    requires unmarked { (of_content S.stream content).marked ≡ false }
     requires callable { MayBeCalledAt (of_content S.stream)
-        (IsOver (limited_stream S.stream source.old) source.old.limit Octets mode)
-        tag (F.pre op) }
+        (λ i. i ≡ of_content S.stream content) tag (F.pre op) }
     requires lawful { IsLawfulAt (of_content S.stream)
-        (IsOver (limited_stream S.stream source.old) source.old.limit Octets mode)
-        tag (F.post op) }
-    ensures { RanOver cause_of (of_content S.stream) (F.post op)
-        (limited_stream S.stream source.old) source.old.limit Octets mode tag
-        result.0 result.1 (limited_stream S.stream source.new) source.new.limit }
+        (λ i. i ≡ of_content S.stream content) tag (F.post op) }
+    ensures name { result.2.ghost_name ≡ content_name content.entry }
+    ensures ran { RanInside cause_of (of_content S.stream) (F.post op)
+        (of_content S.stream content.entry) tag
+        result.0 result.1 (limited_stream S.stream result.2.now) result.2.now.limit }
 {
-    let start = source.pos();
-    let mut content = Content::Primitive(Primitive {
-        source: &mut *source,
-        mode,
-        marked: false,
-        start,
-    });
     let result = run(&mut content, tag, op);
     let marked = content.is_marked();
-    let _back = content.into_source();
-    (result, marked)
-}
-
-/// The same on the values that a source is limited to.
-#[tactic(auto, using(crate::proofs::moves), unfolding(crate::specs::Views::views))]
-#[inline(always)]
-fn run_constructed<S: Source, F, T: Drop>(
-    source: &mut LimitedSource<S>,
-    kind: Kind,
-    mode: Mode,
-    tag: Tag,
-    op: F,
-) -> (Result<T, DecodeError<S::Error>>, bool)
-where
-    F: FnOnce(Tag, &mut Content<'_, S>) -> Result<T, DecodeError<S::Error>>,
-    requires callable { MayBeCalledAt (of_content S.stream)
-        (IsOver (limited_stream S.stream source.old) source.old.limit (values kind) mode)
-        tag (F.pre op) }
-    requires lawful { IsLawfulAt (of_content S.stream)
-        (IsOver (limited_stream S.stream source.old) source.old.limit (values kind) mode)
-        tag (F.post op) }
-    ensures { RanOver cause_of (of_content S.stream) (F.post op)
-        (limited_stream S.stream source.old) source.old.limit (values kind) mode tag
-        result.0 result.1 (limited_stream S.stream source.new) source.new.limit }
-{
-    let start = source.pos();
-    let mut content = Content::Constructed(Constructed {
-        source: &mut *source,
-        kind,
-        state: State::Open,
-        mode,
-        marked: false,
-        start,
-    });
-    let result = run(&mut content, tag, op);
-    let marked = content.is_marked();
-    let _back = content.into_source();
-    (result, marked)
+    (result, marked, content.into_source())
 }
 
 #[tactic(auto, unfolding(crate::specs::Views::views))]
@@ -465,11 +422,22 @@ impl<'a, S: Source> Constructed<'a, S> {
         ensures { TakesBehind (of_content S.stream) (F.post op) None
             (before S.stream self) (header_of header) result (after S.stream self) }
     {
-        let outer = go_inside(self.source, header.len);
+        let mode = self.mode;
+        let source = &mut *self.source;
+        let outer = go_inside(source, header.len);
+        let start = source.pos();
         if header.constructed {
             let kind = kind_behind(header.len);
-            let (result, marked) = run_constructed(self.source, kind, self.mode, header.tag, op);
-            go_outside(self.source, outer, header.len);
+            let content = Content::Constructed(Constructed {
+                source: &mut *source,
+                kind,
+                state: State::Open,
+                mode,
+                marked: false,
+                start,
+            });
+            let (result, marked, _back) = run_over(content, header.tag, op);
+            go_outside(source, outer, header.len);
             self.marked = either(self.marked, marked);
             match result {
                 Ok(value) => {
@@ -479,8 +447,14 @@ impl<'a, S: Source> Constructed<'a, S> {
                 Err(error) => Err(error),
             }
         } else {
-            let (result, marked) = run_primitive(self.source, self.mode, header.tag, op);
-            go_outside(self.source, outer, header.len);
+            let content = Content::Primitive(Primitive {
+                source: &mut *source,
+                mode,
+                marked: false,
+                start,
+            });
+            let (result, marked, _back) = run_over(content, header.tag, op);
+            go_outside(source, outer, header.len);
             self.marked = either(self.marked, marked);
             match result {
                 Ok(value) => {

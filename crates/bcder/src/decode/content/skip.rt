@@ -66,16 +66,23 @@ struct Opened<'f> {
     frames: &'f mut SmallVec<Frame, 4>,
 }
 
-/// Why passing over a value halted.
-enum Halt<E> {
-    /// The closure refused a header.
-    Refused(ContentError),
-
+/// Why the content of a value wasn't gone into. It stands apart from `Halt`, since it has no room
+/// for an error, which the loop would move at each value.
+enum Bar<E> {
     /// A step over content stopped.
     Stopped(Stop<E>),
 
     /// There was no memory for another open value.
     NoMemory,
+}
+
+/// Why passing over a value halted.
+enum Halt<E> {
+    /// The closure refused a header.
+    Refused(ContentError),
+
+    /// The content of a value wasn't gone into.
+    Barred(Bar<E>),
 }
 
 /// What is owed behind a value of so many octets.
@@ -269,7 +276,7 @@ fn go_into<S: Source>(
     cons: &mut Constructed<'_, S>,
     opened: &mut Opened<'_>,
     header: Header,
-) -> Result<(), Halt<S::Error>>
+) -> Result<(), Bar<S::Error>>
     requires counted { IsCounted opened.old }
     requires few { opened.old.depth + 1 < 2 ^ 64 }
     requires allowed { may_have cons.old.mode header.constructed header.len ≡ true }
@@ -287,7 +294,7 @@ fn go_into<S: Source>(
         if open(cons, opened, header.len) {
             return Ok(());
         }
-        return Err(Halt::NoMemory);
+        return Err(Bar::NoMemory);
     }
     match header.len {
         Length::Definite(len) => match cons.source.skip_owed(len) {
@@ -295,7 +302,7 @@ fn go_into<S: Source>(
                 cons.state = State::Open;
                 Ok(())
             }
-            Err(stop) => Err(Halt::Stopped(stop)),
+            Err(stop) => Err(Bar::Stopped(stop)),
         },
         // No primitive value has it (X.690, 8.1.3.2).
         Length::Indefinite => unreachable!(),
@@ -324,8 +331,8 @@ where
     if let Err(error) = op(outermost.tag, outermost.constructed, 0) {
         return Err(Halt::Refused(error));
     }
-    if let Err(halt) = go_into(cons, &mut opened, outermost) {
-        return Err(halt);
+    if let Err(bar) = go_into(cons, &mut opened, outermost) {
+        return Err(Halt::Barred(bar));
     }
     while opened.depth > 0 {
         match cons.next_header() {
@@ -334,15 +341,15 @@ where
                     unwind(cons.source, opened.frames, outer);
                     return Err(Halt::Refused(error));
                 }
-                if let Err(halt) = go_into(cons, &mut opened, header) {
+                if let Err(bar) = go_into(cons, &mut opened, header) {
                     unwind(cons.source, opened.frames, outer);
-                    return Err(halt);
+                    return Err(Halt::Barred(bar));
                 }
             }
             Ok(None) => leave(cons, &mut opened),
             Err(stop) => {
                 unwind(cons.source, opened.frames, outer);
-                return Err(Halt::Stopped(stop));
+                return Err(Halt::Barred(Bar::Stopped(stop)));
             }
         }
     }
@@ -388,8 +395,8 @@ impl<'a, S: Source> Constructed<'a, S> {
     {
         match halt {
             Halt::Refused(error) => self.source.content_err(error),
-            Halt::Stopped(stop) => self.stopped(stop),
-            Halt::NoMemory => DecodeError::no_memory(),
+            Halt::Barred(Bar::Stopped(stop)) => self.stopped(stop),
+            Halt::Barred(Bar::NoMemory) => DecodeError::no_memory(),
         }
     }
 

@@ -17,7 +17,7 @@ returns-in-Err-clause-ran g c =
 
 pub returns-in-Err-go_into-clause-ran : goal.returns-in-Err-go_into-clause-ran
 returns-in-Err-go_into-clause-ran g c =
-    first_barred _ _ _ _ _ _ (entries c.new-opened.result) (entries c.go_into.new.opened) _ _ _ c.new-opened.ensures.none c.in_default.ensures c.in-Err-go_into.halt c.in-Err-go_into.ensures.gone
+    first_barred _ _ _ _ _ _ (entries c.new-opened.result) (entries c.go_into.new.opened) _ _ _ c.new-opened.ensures.none c.in_default.ensures c.in-Err-go_into.bar c.in-Err-go_into.ensures.gone
 
 pub loop-opened-init : goal.loop-opened-init
 loop-opened-init g c =
