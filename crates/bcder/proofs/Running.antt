@@ -291,3 +291,10 @@ module _ {F X : Type 0} (step : Steps F ContentError) (mode : Mode) (h : Header)
   module _ (g : F) (t : Stream) (p : Option ℕ) (n : ℕ) (tells : h.len ≡ len.Definite n) (called : step f h.tag h.form 0 (Ok tt) g) (kept : t.kept ≡ s.kept) (least : s.faults ≤ t.faults) where
     pub octets_passed : FitsOwed h.len o → n ≤ length s.rest → t.rest ≡ drop n s.rest → p ≡ popped o n (Some 0) → t.faults ≡ s.faults → RanBy {X = X} step {T = Unit {0}} mode h s o f (Ok tt) g t p
     octets_passed fits enough rest limit nf = went_through step mode h s o f tt [] g t p refl (began step mode h s o f {X = X} tt g [] [] t p refl fits (record { answered = called; goes = octets n form tells enough refl rest kept limit; no_fault = nf; stays = tt; entries = tt; rest = tt; limit = tt; kept = kept; faults = least }))
+
+    pub octets_stopped : (e : Stop X) → MatchStop e (Grew s.faults t.faults) (length s.rest < n) → t.rest ≡ s.rest → p ≡ o → RanBy {X = X} step {T = Unit {0}} mode h s o f (Err (halt.Barred (bar.Stopped e))) g t p
+    octets_stopped e why rest limit = not_begun step mode h s o f (halt.Barred (bar.Stopped e)) g [] [] t p refl (record { answered = tt; goes = tt; no_fault = tt; stays = go (stop_reason _ _ e why); entries = refl; rest = rest; limit = limit; kept = kept; faults = least })
+      where
+        go : (stop_cause e ≡ of_source) × Grew s.faults t.faults ⊎ (length s.rest < n) × IsOfContent (stop_cause e) → StaysOut step h 0 s f (halt.Barred (bar.Stopped e)) g t
+        go (inl x) = failing called x.0 x.1
+        go (inr x) = few n called form tells x.0 x.1

@@ -26,38 +26,7 @@ impl<'a, S: Source> Primitive<'a, S> {
     }
 }
 
-/// Calls the closure on contents octets, of which then none are left.
-#[tactic(auto, using(crate::specs::laws::Moved::untouched_is_moved))]
-fn run<S: Source, F, T: Drop>(
-    octets: &mut Primitive<'_, S>,
-    op: F,
-) -> Result<T, DecodeError<S::Error>>
-where
-    F: FnOnce(&mut Primitive<'_, S>) -> Result<T, DecodeError<S::Error>>,
-    requires callable { MayBeCalledOn (of_primitive S.stream)
-        (λ i. i ≡ of_primitive S.stream octets.old) (F.pre op) }
-    requires lawful { IsLawfulOn (of_primitive S.stream)
-        (λ i. i ≡ of_primitive S.stream octets.old) (F.post op) }
-    ensures moves { Moves (octets_before S.stream octets) (octets_after S.stream octets) }
-    ensures ok { IfOk result (λ x.
-        AnsweredAlone (of_primitive S.stream) (F.post op)
-        (octets_before S.stream octets) x (octets_after S.stream octets)) }
-    ensures refused { IfErr result (λ e.
-        RefusedAlone (of_primitive S.stream) (F.post op)
-        (octets_before S.stream octets) e (octets_after S.stream octets)) }
-{
-    match op(octets) {
-        Ok(value) => {
-            if octets.is_used_up() {
-                return Ok(value);
-            }
-            Err(octets.refusal("octets left in a primitive value"))
-        }
-        Err(error) => Err(error),
-    }
-}
-
-/// Calls the closure on all octets up to the limit of a source.
+/// Calls the closure on all octets up to the limit of a source, of which then none are left.
 #[tactic(auto, unfolding(crate::specs::Views::of_primitive))]
 fn run_over<S: Source, F, T: Drop>(
     source: &mut LimitedSource<S>,
@@ -82,7 +51,14 @@ where
         marked: false,
         start,
     };
-    run(&mut octets, op)
+    let value = match op(&mut octets) {
+        Ok(value) => value,
+        Err(error) => return Err(error),
+    };
+    if octets.is_used_up() {
+        return Ok(value);
+    }
+    Err(octets.refusal("octets left in a primitive value"))
 }
 
 impl Primitive<'static, SliceSource<'static>> {

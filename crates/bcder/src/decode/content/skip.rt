@@ -400,8 +400,40 @@ impl<'a, S: Source> Constructed<'a, S> {
         }
     }
 
-    /// Passes over the contents octets of a primitive value whose header was passed over, where all
-    /// are at hand. That needs no stack.
+    /// Passes over the contents octets of a primitive value whose header was passed over, which needs
+    /// no stack.
+    #[inline(always)]
+    fn skip_octets<F>(
+        &mut self,
+        header: Header,
+        op: &mut F,
+    ) -> Result<Option<()>, DecodeError<S::Error>>
+    where
+        F: FnMut(Tag, bool, usize) -> Result<(), ContentError>,
+        requires callable { F.IsAlwaysCallable op.old }
+        requires primitive { header.constructed ≡ false }
+        requires allowed { may_have self.old.mode header.constructed header.len ≡ true }
+        requires fits { FitsOwed header.len (limit_in self.old) }
+        ensures moves { MovedBehind S.stream self header }
+        ensures skipped { SkippedBehind S.stream F.step self header op result }
+    {
+        if let Err(error) = op(header.tag, header.constructed, 0) {
+            return Err(self.halted(Halt::Refused(error)));
+        }
+        match header.len {
+            Length::Definite(len) => match self.source.skip_owed(len) {
+                Ok(()) => {
+                    self.state = State::Open;
+                    Ok(Some(()))
+                }
+                Err(stop) => Err(self.halted(Halt::Barred(Bar::Stopped(stop)))),
+            },
+            // No primitive value has it (X.690, 8.1.3.2).
+            Length::Indefinite => unreachable!(),
+        }
+    }
+
+    /// The same where all of the contents octets are at hand.
     #[inline(always)]
     fn skip_octets_at_hand<F>(
         &mut self,
@@ -499,13 +531,18 @@ impl<'a, S: Source> Constructed<'a, S> {
         ensures skipped { SkippedNext S.stream F.step self op result }
     {
         match self.next_header() {
-            Ok(Some(header)) => match skip_content(self.source, self.mode, alloc, header, op) {
-                Ok(()) => {
-                    self.state = State::Open;
-                    Ok(Some(()))
+            Ok(Some(header)) => {
+                if !header.constructed {
+                    return self.skip_octets(header, op);
                 }
-                Err(halt) => Err(self.halted(halt)),
-            },
+                match skip_content(self.source, self.mode, alloc, header, op) {
+                    Ok(()) => {
+                        self.state = State::Open;
+                        Ok(Some(()))
+                    }
+                    Err(halt) => Err(self.halted(halt)),
+                }
+            }
             Ok(None) => Ok(None),
             Err(stop) => Err(self.stopped(stop)),
         }

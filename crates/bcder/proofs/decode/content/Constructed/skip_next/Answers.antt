@@ -23,6 +23,32 @@ skip_content-requires-clause-fits g c =
     let e = rw c.in-Ok-Some.field-0-is at c.in-Ok-Some.ensures.entered in
     entered_fits (of_constructed g.S.Source.stream c.args.self.now) (of_constructed g.S.Source.stream c.next_header.new.self) (header c.in-Ok-Some.header) _ refl e.1
 
+pub skip_octets-requires-clause-allowed : goal.skip_octets-requires-clause-allowed
+unfolding of_constructed
+skip_octets-requires-clause-allowed g c =
+    let e = rw c.in-Ok-Some.field-0-is at c.in-Ok-Some.ensures.entered in
+    allowed_entered (of_constructed g.S.Source.stream c.args.self.now) (header c.in-Ok-Some.header) (of_constructed g.S.Source.stream c.next_header.new.self) e.1
+
+pub skip_octets-requires-clause-fits : goal.skip_octets-requires-clause-fits
+unfolding of_constructed
+skip_octets-requires-clause-fits g c =
+    let e = rw c.in-Ok-Some.field-0-is at c.in-Ok-Some.ensures.entered in
+    entered_fits (of_constructed g.S.Source.stream c.args.self.now) (of_constructed g.S.Source.stream c.next_header.new.self) (header c.in-Ok-Some.header) _ refl e.1
+
+pub returns-then-not-header-clause-moves : goal.returns-then-not-header-clause-moves
+unfolding of_constructed
+returns-then-not-header-clause-moves g c =
+    let e = rw c.in-Ok-Some.field-0-is at c.in-Ok-Some.ensures.entered in
+    let w = within_constructed g.S.Source.stream g.met.S.Source.sound c.args.self.now in
+    c.skip_octets.ensures.moves (of_constructed g.S.Source.stream c.args.self.now) (record { enters = e.1; octets = w.octets; fits = w.fits })
+
+pub returns-then-not-header-clause-skipped : goal.returns-then-not-header-clause-skipped
+unfolding of_constructed
+returns-then-not-header-clause-skipped g c =
+    let e = rw c.in-Ok-Some.field-0-is at c.in-Ok-Some.ensures.entered in
+    let w = within_constructed g.S.Source.stream g.met.S.Source.sound c.args.self.now in
+    c.skip_octets.ensures.skipped (of_constructed g.S.Source.stream c.args.self.now) (record { enters = e.1; octets = w.octets; fits = w.fits })
+
 pub returns-in-Ok-clause-moves : goal.returns-in-Ok-clause-moves
 unfolding of_constructed
 returns-in-Ok-clause-moves g c =
