@@ -153,26 +153,16 @@ impl<'a, S: Source> Content<'a, S> {
         }
     }
 
-    /// Whether a mode was changed.
+    /// Whether a mode was changed, and the source, which goes back to its owner.
     #[inline(always)]
-    fn is_marked(&self) -> bool
-        ensures { result ≡ content_mark self.now }
+    fn into_mark_and_source(self) -> (bool, &'a mut LimitedSource<S>)
+        ensures marked { result.0 ≡ content_mark self.entry }
+        ensures name { result.1.ghost_name ≡ content_name self.entry }
+        ensures now { result.1.now ≡ content_source self.entry }
     {
         match self {
-            Content::Primitive(octets) => octets.marked,
-            Content::Constructed(values) => values.marked,
-        }
-    }
-
-    /// Hands the source back to its owner.
-    #[inline(always)]
-    fn into_source(self) -> &'a mut LimitedSource<S>
-        ensures name { result.ghost_name ≡ content_name self.entry }
-        ensures now { result.now ≡ content_source self.entry }
-    {
-        match self {
-            Content::Primitive(Primitive { source, .. }) => source,
-            Content::Constructed(Constructed { source, .. }) => source,
+            Content::Primitive(Primitive { source, marked, .. }) => (marked, source),
+            Content::Constructed(Constructed { source, marked, .. }) => (marked, source),
         }
     }
 }
@@ -301,8 +291,8 @@ where
         result.0 result.1 (limited_stream S.stream result.2.now) result.2.now.limit }
 {
     let result = run(&mut content, tag, op);
-    let marked = content.is_marked();
-    (result, marked, content.into_source())
+    let (marked, source) = content.into_mark_and_source();
+    (result, marked, source)
 }
 
 #[tactic(auto, unfolding(crate::specs::Views::views))]

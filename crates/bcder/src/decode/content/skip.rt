@@ -124,34 +124,6 @@ impl<'f> Opened<'f> {
         }
     }
 
-    /// Opens a value of this length, where so much is owed behind its header, if there is memory
-    /// for it.
-    #[inline(always)]
-    fn open(&mut self, len: Length, owed: Option<usize>) -> bool
-        requires counted { IsCounted self.old }
-        requires few { self.old.depth + 1 < 2 ^ 64 }
-        ensures counted { IsCounted self.new }
-        ensures entries { result ≡ true → entries self.new ≡ entry_of len owed ∷ entries self.old }
-        ensures full { result ≡ false → 4 ≤ self.old.depth }
-        ensures same { result ≡ false → entries self.new ≡ entries self.old }
-    {
-        match len {
-            Length::Definite(len) => {
-                let frame = Frame {
-                    behind: owed_behind(owed, len),
-                    around: self.inner,
-                };
-                if self.frames.push(frame).is_err() {
-                    return false;
-                }
-                self.inner = 0;
-            }
-            Length::Indefinite => self.inner += 1,
-        }
-        self.depth += 1;
-        true
-    }
-
     /// Leaves the innermost value, and answers it if its length is definite.
     #[inline(always)]
     fn close(&mut self) -> Option<Frame>
@@ -208,9 +180,20 @@ fn open<S>(cons: &mut Constructed<'_, S>, opened: &mut Opened<'_>, len: Length) 
     ensures mode { cons.new.mode ≡ cons.old.mode }
     ensures marked { cons.new.marked ≡ cons.old.marked }
 {
-    if !opened.open(len, cons.source.limit()) {
-        return false;
+    match len {
+        Length::Definite(len) => {
+            let frame = Frame {
+                behind: owed_behind(cons.source.limit(), len),
+                around: opened.inner,
+            };
+            if opened.frames.push(frame).is_err() {
+                return false;
+            }
+            opened.inner = 0;
+        }
+        Length::Indefinite => opened.inner += 1,
     }
+    opened.depth += 1;
     go_inside(cons.source, len);
     cons.kind = kind_behind(len);
     cons.state = State::Open;
@@ -642,20 +625,6 @@ impl<'a, S: Source> Constructed<'a, S> {
         self.skip_opt(alloc, &mut all)
     }
 
-    /// The same, with room for the answer that is cleared here, and not before the first look. Each
-    /// arm makes its answer anew, so that the octets of an error are moved only where there is one.
-    #[inline(always)]
-    fn skip_stacked_on(&mut self, alloc: Global) -> Result<Option<()>, DecodeError<S::Error>>
-        ensures moves { Moves (before S.stream self) (after S.stream self) }
-        ensures skipped { SkippedOne S.stream self result }
-    {
-        match self.skip_stacked(alloc) {
-            Ok(Some(())) => Ok(Some(())),
-            Ok(None) => Ok(None),
-            Err(error) => Err(error),
-        }
-    }
-
     /// As `skip_one`, whatever stands in front.
     #[inline(always)]
     fn skip_any(&mut self, alloc: Global) -> Result<Option<()>, DecodeError<S::Error>>
@@ -665,7 +634,7 @@ impl<'a, S: Source> Constructed<'a, S> {
     {
         match self.pass_shallow() {
             Ok(true) => Ok(Some(())),
-            Ok(false) => self.skip_stacked_on(alloc),
+            Ok(false) => self.skip_stacked(alloc),
             Err(stop) => Err(self.stopped(stop)),
         }
     }

@@ -9,8 +9,8 @@ returns-clause-ran g c =
     record {
       handed = of_content g.S.Source.stream c.args.content;
       left = of_content g.S.Source.stream left;
-      runs = record { stream = refl; owed = refl; kind = refl; state = c.requires.usable; mode = refl; marked = c.requires.unmarked; left_stream = stream_of_content g.S.Source.stream left ∙ ap (limited_stream g.S.Source.stream) (sym c.into_source.ensures.now); left_owed = owed_of_content g.S.Source.stream left ∙ ap (λ z. z.limit) (sym c.into_source.ensures.now); moves = c.run-result.ensures.moves };
-      marks = mark_of_content g.S.Source.stream left ∙ sym c.is_marked-marked.ensures;
+      runs = record { stream = refl; owed = refl; kind = refl; state = c.requires.usable; mode = refl; marked = c.requires.unmarked; left_stream = stream_of_content g.S.Source.stream left ∙ ap (limited_stream g.S.Source.stream) (sym c.into_mark_and_source-marked.ensures.now); left_owed = owed_of_content g.S.Source.stream left ∙ ap (λ z. z.limit) (sym c.into_mark_and_source-marked.ensures.now); moves = c.run-result.ensures.moves };
+      marks = mark_of_content g.S.Source.stream left ∙ sym c.into_mark_and_source-marked.ensures.marked;
       answers = c.run-result.ensures.ok;
       refuses = c.run-result.ensures.refused;
     }
