@@ -124,30 +124,6 @@ impl<'f> Opened<'f> {
         }
     }
 
-    /// Leaves the innermost value, and answers it if its length is definite.
-    #[inline(always)]
-    fn close(&mut self) -> Option<Frame>
-        requires counted { IsCounted self.old }
-        requires some { 0 < self.old.depth }
-        ensures counted { IsCounted self.new }
-        ensures leaves { (o : Option ℕ)
-            → Leaves (entries self.old) o (entries self.new) (limit_behind result o) }
-        ensures fewer { self.new.depth + 1 ≡ self.old.depth }
-    {
-        self.depth -= 1;
-        if self.inner > 0 {
-            self.inner -= 1;
-            return None;
-        }
-        match self.frames.pop() {
-            Some(frame) => {
-                self.inner = frame.around;
-                Some(frame)
-            }
-            None => None,
-        }
-    }
-
     /// How the end of the innermost value is known.
     #[inline(always)]
     fn kind(&self) -> Kind
@@ -216,7 +192,11 @@ fn leave<S>(cons: &mut Constructed<'_, S>, opened: &mut Opened<'_>)
     ensures mode { cons.new.mode ≡ cons.old.mode }
     ensures marked { cons.new.marked ≡ cons.old.marked }
 {
-    if let Some(frame) = opened.close() {
+    opened.depth -= 1;
+    if opened.inner > 0 {
+        opened.inner -= 1;
+    } else if let Some(frame) = opened.frames.pop() {
+        opened.inner = frame.around;
         cons.source.set_limit(frame.behind);
     }
     cons.kind = opened.kind();
