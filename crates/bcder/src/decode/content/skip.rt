@@ -34,22 +34,13 @@ use smallvec::SmallVec;
 use std::alloc::Global;
 
 /// An open value of definite length.
-#[derive(Clone, Copy)]
+#[derive(Clone, Copy, Default)]
 struct Frame {
     /// How many octets are owed behind it, if there is a limit.
     behind: Option<usize>,
 
     /// How many values of indefinite length are open around it, up to the next of definite length.
     around: usize,
-}
-
-impl Default for Frame {
-    fn default() -> Frame {
-        Frame {
-            behind: None,
-            around: 0,
-        }
-    }
 }
 
 /// The values that are open. Those of definite length take memory, the others are counted.
@@ -123,18 +114,6 @@ impl<'f> Opened<'f> {
             frames,
         }
     }
-
-    /// How the end of the innermost value is known.
-    #[inline(always)]
-    fn kind(&self) -> Kind
-        ensures { TopIs (entries self.now) result }
-    {
-        if self.inner > 0 {
-            Kind::Indefinite
-        } else {
-            Kind::Definite
-        }
-    }
 }
 
 /// Opens a value whose header was passed over, if there is memory for it.
@@ -199,7 +178,11 @@ fn leave<S>(cons: &mut Constructed<'_, S>, opened: &mut Opened<'_>)
         opened.inner = frame.around;
         cons.source.set_limit(frame.behind);
     }
-    cons.kind = opened.kind();
+    cons.kind = if opened.inner > 0 {
+        Kind::Indefinite
+    } else {
+        Kind::Definite
+    };
     cons.state = State::Open;
 }
 
@@ -426,22 +409,6 @@ impl<'a, S: Source> Constructed<'a, S> {
         }
     }
 
-    /// Looks at the header of the next value, if it is primitive, has a header of two octets, and
-    /// all of its octets are at hand. Nothing is taken.
-    #[tactic(auto, unfolding(crate::specs::Views::of_constructed))]
-    #[inline(always)]
-    fn look_at_octets(&mut self) -> Result<Option<Header>, S::Error>
-        ensures same { Between S.stream self Resembles }
-        ensures peeked { IfOk result (λ o. IfSome o (λ h.
-            Peeks self.old.mode (Peeked.Front h 2) (limited_stream S.stream self.new.source.now))) }
-        ensures whole { IfOk result (λ o. IfSome o (λ h.
-            IsAllHere h (limited_stream S.stream self.new.source.now).avail)) }
-        ensures no_fault { OnOk result (NoFault S.stream self) }
-        ensures fault { OnErr result (Fault S.stream self) }
-    {
-        peek_whole(self.source)
-    }
-
     /// Passes over the header of the next value, if it is primitive, has a header of two octets,
     /// and all of its octets are at hand. Else nothing is taken. The source is asked once at most.
     #[tactic(auto, using(crate::specs::laws::Moved::untouched_is_moved), unfolding(crate::specs::Views::views))]
@@ -467,7 +434,7 @@ impl<'a, S: Source> Constructed<'a, S> {
         if self.is_used_up() {
             return Ok(None);
         }
-        match self.look_at_octets() {
+        match peek_whole(self.source) {
             Ok(Some(header)) => {
                 self.pass(2);
                 Ok(Some(header))
