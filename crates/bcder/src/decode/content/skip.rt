@@ -1,23 +1,19 @@
 //! Passing over values with a stack of limits, and a closure that is told of each.
 ghost use Rattle.std.specs.Prelude.{◌≡◌, ◌+◌, ◌^◌, ◌<◌, ◌≤◌, [], ◌∷◌, true, false, IfSome, OnOk};
-ghost use Rattle.std.specs.Prelude.{ℕ, Option, IfErr, IfNone, IfOk, OnErr};
-ghost use Rattle.bcder.specs.declared.decode.header.Peeked.{Peeked};
-ghost use Rattle.bcder.specs.declared.mode.Mode.{Mode as ModeValue};
+ghost use Rattle.std.specs.Prelude.{IfErr, IfNone, IfOk, OnErr};
 ghost use Rattle.bcder.specs.Cause.{cause_of, of_content, of_memory, of_source, stop_cause};
-ghost use Rattle.bcder.specs.Cause.{IsOfContent};
-ghost use Rattle.bcder.specs.Cause.{IsRefusal};
+ghost use Rattle.bcder.specs.Cause.{IsOfContent, IsRefusal};
 ghost use Rattle.bcder.specs.Content.{FitsOwed, Moves, Resembles};
 ghost use Rattle.bcder.specs.Encoding.{may_have};
 ghost use Rattle.bcder.specs.Inside.{kind_behind, limit_inside};
-ghost use Rattle.bcder.specs.Stacked.{Counts, Gone, IsCounted, Leaves, Ran, RanOverSource, TopIs};
+ghost use Rattle.bcder.specs.Peek.{header as header_of, IsAtHand};
 ghost use Rattle.bcder.specs.Skipping.{ExactlyAll, ExactlySkipped, ExactlyValue, FoundMemory};
 ghost use Rattle.bcder.specs.Skipping.{IsPast, MovedBehind, SkippedBehind};
-ghost use Rattle.bcder.specs.Peek.{header as header_of, IsAllHere, IsAtHand, Peeks};
 ghost use Rattle.bcder.specs.Skipping.{SkippedAll, SkippedNext, SkippedOne, SkippedValue};
+ghost use Rattle.bcder.specs.Stacked.{Counts, Gone, IsCounted, Leaves, Ran, RanOverSource, TopIs};
 ghost use Rattle.bcder.specs.Stacked.{entries, entry_of, framed, halt_cause, joined, limit_in};
-ghost use Rattle.bcder.specs.Stacked.{limit_behind, source_of, unwound};
-ghost use Rattle.bcder.specs.Stream.{limit_left};
-ghost use Rattle.bcder.specs.Views.{after, before, limited_stream, Moved};
+ghost use Rattle.bcder.specs.Stacked.{source_of, unwound};
+ghost use Rattle.bcder.specs.Views.{after, before, Moved};
 ghost use Rattle.bcder.specs.Walking.{Between, ExactlyNext, Fault, NoFault};
 
 use super::inside::{go_inside, kind_behind};
@@ -76,17 +72,6 @@ enum Halt<E> {
     Barred(Bar<E>),
 }
 
-/// What is owed behind a value of so many octets.
-#[inline(always)]
-fn owed_behind(owed: Option<usize>, len: usize) -> Option<usize>
-    ensures { result ≡ limit_left owed len }
-{
-    match owed {
-        Some(owed) => Some(owed.saturating_sub(len)),
-        None => None,
-    }
-}
-
 /// What is owed in all where so much is owed behind a value and so much in it.
 #[inline(always)]
 fn joined(behind: Option<usize>, left: Option<usize>) -> Option<usize>
@@ -137,8 +122,12 @@ fn open<S>(cons: &mut Constructed<'_, S>, opened: &mut Opened<'_>, len: Length) 
 {
     match len {
         Length::Definite(len) => {
+            let behind = match cons.source.limit() {
+                Some(owed) => Some(owed.saturating_sub(len)),
+                None => None,
+            };
             let frame = Frame {
-                behind: owed_behind(cons.source.limit(), len),
+                behind,
                 around: opened.inner,
             };
             if opened.frames.push(frame).is_err() {
