@@ -1,10 +1,10 @@
 //! Octets read as the contents octets of a primitive value.
-ghost use Rattle.std.specs.Prelude.{◌≡◌, ◌≢◌, false, IsTrue, Some, IfOk, IfErr, length};
-ghost use Rattle.bcder.specs.Alone.{AnsweredAlone, RefusedAlone, RanAlone, IsAllOctets};
-ghost use Rattle.bcder.specs.Calls.{MayBeCalledOn, IsLawfulOn, IsOver};
-ghost use Rattle.bcder.specs.Content.{Octets, Moves};
-ghost use Rattle.bcder.specs.Stream.{limited, at_hand};
-ghost use Rattle.bcder.specs.Views.{of_primitive, limited_stream, octets_before, octets_after};
+ghost use Rattle.std.specs.Prelude.{◌≡◌, ◌≢◌, false, IsTrue, Some, length};
+ghost use Rattle.bcder.specs.Alone.{IsAllOctets, RanAlone};
+ghost use Rattle.bcder.specs.Calls.{IsLawfulOn, IsOver, MayBeCalledOn};
+ghost use Rattle.bcder.specs.Content.{Octets};
+ghost use Rattle.bcder.specs.Stream.{at_hand};
+ghost use Rattle.bcder.specs.Views.{limited_stream, of_primitive};
 
 use super::Primitive;
 use crate::decode::error::DecodeError;

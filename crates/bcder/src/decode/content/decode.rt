@@ -1,10 +1,9 @@
 //! Decoding the values of a source.
-ghost use Rattle.std.specs.Prelude.{◌≡◌, ◌≢◌, ◌↔◌, ◌≤◌, ◌++◌, ℕ, List, Ok, None, IsTrue, IfOk};
-ghost use Rattle.std.specs.Prelude.{IfErr, OnOk};
+ghost use Rattle.std.specs.Prelude.{◌≡◌, ◌≢◌, ◌≤◌, ◌++◌, ℕ, List, Ok, None, IfErr, IfOk, OnOk};
 ghost use Rattle.bcder.specs.Calls.{MayBeCalledOn, IsLawfulOn, IsOver};
-ghost use Rattle.bcder.specs.Cause.{cause_of, IsRefusal};
+ghost use Rattle.bcder.specs.Cause.{cause_of};
 ghost use Rattle.bcder.specs.Content.{Moves, UnboundedValues};
-ghost use Rattle.bcder.specs.Decoding.{IsAllOf, AnsweredOn, RefusesOn, RanOn, Decodes};
+ghost use Rattle.bcder.specs.Decoding.{AnsweredOn, RefusesOn, RanOn, Decodes};
 ghost use Rattle.bcder.specs.Decoding.{RefusesDecode, CallableOnAll, LawfulOnAll, CallableOnLent};
 ghost use Rattle.bcder.specs.Decoding.{LawfulOnLent, DecodesAll, RefusesAll, DecodesLent};
 ghost use Rattle.bcder.specs.Decoding.{RefusesLent};

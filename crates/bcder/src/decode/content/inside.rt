@@ -1,6 +1,5 @@
 //! Taking the content of a value whose header was passed over.
-ghost use Rattle.std.specs.Prelude.{◌≡◌, ◌||◌, Bool, true, false, None, Some, Ok, IfOk, IfErr};
-ghost use Rattle.std.specs.Prelude.{OnOk};
+ghost use Rattle.std.specs.Prelude.{◌≡◌, ◌||◌, true, false, None, Some, Ok, IfErr, IfOk, OnOk};
 ghost use Rattle.bcder.specs.Calls.{AnswersDone, IsLawfulAt, MayBeCalledAt, RefusesContent};
 ghost use Rattle.bcder.specs.Calls.{RefusesEnd};
 ghost use Rattle.bcder.specs.Cause.{cause_of, stop_cause};
