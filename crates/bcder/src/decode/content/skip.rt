@@ -84,23 +84,6 @@ fn joined(behind: Option<usize>, left: Option<usize>) -> Option<usize>
     }
 }
 
-impl<'f> Opened<'f> {
-    /// No values, over a stack that is empty.
-    #[inline(always)]
-    fn new(frames: &'f mut SmallVec<Frame, 4>) -> Opened<'f>
-        requires empty { frames.old.items ≡ [] }
-        requires room { 4 ≤ frames.old.capacity }
-        ensures counted { IsCounted result }
-        ensures none { entries result ≡ [] }
-    {
-        Opened {
-            depth: 0,
-            inner: 0,
-            frames,
-        }
-    }
-}
-
 /// Opens a value whose header was passed over, if there is memory for it.
 #[inline(always)]
 fn open<S>(cons: &mut Constructed<'_, S>, opened: &mut Opened<'_>, len: Length) -> bool
@@ -262,7 +245,11 @@ where
 {
     let outer = owed(cons.source);
     let mut frames = SmallVec::new(alloc);
-    let mut opened = Opened::new(&mut frames);
+    let mut opened = Opened {
+        depth: 0,
+        inner: 0,
+        frames: &mut frames,
+    };
     if let Err(error) = op(outermost.tag, outermost.constructed, 0) {
         return Err(Halt::Refused(error));
     }
