@@ -322,7 +322,7 @@ impl<'a, S: Source> Constructed<'a, S> {
         }
     }
 
-    /// Passes over the contents octets of a primitive value whose header was passed over, which needs
+    /// Passes over the contents octets of a primitive value whose header was passed over. That needs
     /// no stack.
     #[inline(always)]
     fn skip_octets<F>(
