@@ -5,11 +5,12 @@ use Rattle.bcder.specs.declared.decode.content.Constructed.{Constructed}
 use Rattle.bcder.specs.declared.decode.content.Content.{Content}
 use Rattle.bcder.specs.declared.decode.content.Content.TheVariants as content
 use Rattle.bcder.specs.declared.decode.content.Primitive.{Primitive}
+use Rattle.bcder.specs.declared.decode.source.limited.LimitedSource.{LimitedSource}
 use Rattle.bcder.specs.Stream.{Stream, IsSound}
-use Rattle.bcder.specs.Content.{octets, values, Octets, Moves}
-use Rattle.bcder.specs.laws.Limits.{limited_sound}
+use Rattle.bcder.specs.Content.{octets, values, Octets, Moves, Resembles}
+use Rattle.bcder.specs.laws.Limits.{limited_sound, limit_told, first_kept}
 use Rattle.bcder.proofs.Entering.{Within}
-use Rattle.bcder.specs.Views.{of_content, of_primitive, of_constructed, content_name, content_mark}
+use Rattle.bcder.specs.Views.{of_content, of_primitive, of_constructed, content_name, content_source, content_mark, limited_stream}
 
 pub name_of_content : {S : Type 0} (stream : S → Stream) (a : Content S) → (of_content stream a).name ≡ content_name a
 unfolding of_primitive of_constructed
@@ -33,6 +34,16 @@ unfolding of_primitive of_constructed
 mark_of_content stream (content.Primitive p) = refl
 mark_of_content stream (content.Constructed p) = refl
 
+pub stream_of_content : {S : Type 0} (stream : S → Stream) (a : Content S) → (of_content stream a).stream ≡ limited_stream stream (content_source a)
+unfolding of_primitive of_constructed
+stream_of_content stream (content.Primitive p) = refl
+stream_of_content stream (content.Constructed p) = refl
+
+pub owed_of_content : {S : Type 0} (stream : S → Stream) (a : Content S) → (of_content stream a).owed ≡ (content_source a).limit
+unfolding of_primitive of_constructed
+owed_of_content stream (content.Primitive p) = refl
+owed_of_content stream (content.Constructed p) = refl
+
 take_within : (n : ℕ) (xs : List ℕ) → length (take n xs) ≤ n
 take_within n xs = grind (arith, common_steps)
 
@@ -48,3 +59,21 @@ constructed_form stream p e = (let x : values p.kind ≡ octets = e in cc)
 pub primitive_form : {S : Type 0} (stream : S → Stream) (p : Primitive S) → (of_primitive stream p).kind ≡ Octets
 unfolding of_primitive
 primitive_form stream p = refl
+
+-- ---- content whose source was looked at
+
+abbrev pub with_source : {S : Type 0} → Constructed S → LimitedSource S → Constructed S
+with_source c x = record { source = record { ref_ptr = c.source.ref_ptr; ghost_name = c.source.ghost_name; now = x }; kind = c.kind; state = c.state; mode = c.mode; marked = c.marked; start = c.start }
+
+pub resembles_with_source : {S : Type 0} (stream : S → Stream) (c : Constructed S) (x : LimitedSource S) → (limited_stream stream x).rest ≡ (limited_stream stream c.source.now).rest → (limited_stream stream x).kept ≡ (limited_stream stream c.source.now).kept → Resembles (of_constructed stream c) (of_constructed stream (with_source c x))
+unfolding of_constructed
+resembles_with_source stream c x r k = record {
+  rest = r;
+  kept = k;
+  owed = limit_told c.source.now.limit x.limit (stream c.source.now.source).rest (stream x.source).rest r (first_kept k);
+  kind = refl;
+  state = refl;
+  mode = refl;
+  marked = refl;
+  name = refl;
+}

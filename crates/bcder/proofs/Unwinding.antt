@@ -54,6 +54,10 @@ top_definite zero [] k l e = refl
 top_definite zero (f ∷ fs) k l e = e
 top_definite (suc n) fs k l e = absurd (omega arith)
 
+pub top_indefinite : (n : ℕ) (fs : List Frame) (k : Kind) → 0 < n → k ≡ kind.Indefinite → TopIs (indefinites n (around fs)) k
+top_indefinite zero fs k l e = absurd (omega arith)
+top_indefinite (suc n) fs k l e = e
+
 unwound_none : (es : List Entry) → unwound es None ≡ None
 unwound_none [] = refl
 unwound_none (Definite None ∷ es) = unwound_none es

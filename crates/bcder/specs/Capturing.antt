@@ -16,20 +16,24 @@ use Rattle.bcder.specs.Length.{IsEndOfContents}
 use Rattle.bcder.specs.Stream.{Stream, Grew, cut}
 use Rattle.bcder.specs.Sources.{capturing}
 use Rattle.bcder.specs.Captured.{Kept, AreWhole}
-use Rattle.bcder.specs.Content.{Reading, values, label, Closes, Moves}
+use Rattle.bcder.specs.Content.{Form, Reading, values, label, Closes, Moves}
 use Rattle.bcder.specs.Calls.{MayBeCalledOn, IsLawfulOn}
 use Rattle.bcder.specs.Decoding.{AnsweredOn, RefusesOn}
 use Rattle.bcder.specs.Views.{of_constructed, limited_stream, before, after}
 
--- the content that the closure of a capture of c is handed: the same values, in the same state and mode, unmarked
-pub record IsCaptureOf (c i : Reading) : Type 0 where
-  pub rest : i.stream.rest ≡ c.stream.rest
-  pub faults : i.stream.faults ≡ c.stream.faults
-  pub owed : i.owed ≡ c.owed
-  pub kind : i.kind ≡ c.kind
-  pub state : i.state ≡ c.state
-  pub mode : i.mode ≡ c.mode
+-- unmarked content of these octets, over a source that has failed so often
+pub record IsHanded (w : List ℕ) (n : ℕ) (o : Option ℕ) (k : Form) (st : State) (m : Mode) (i : Reading) : Type 0 where
+  pub rest : i.stream.rest ≡ w
+  pub faults : i.stream.faults ≡ n
+  pub owed : i.owed ≡ o
+  pub kind : i.kind ≡ k
+  pub state : i.state ≡ st
+  pub mode : i.mode ≡ m
   pub marked : i.marked ≡ false
+
+-- the content that the closure of a capture of c is handed: the same values, in the same state and mode, unmarked
+abbrev pub IsCaptureOf : Reading → Reading → Type 0
+IsCaptureOf c i = IsHanded c.stream.rest c.stream.faults c.owed c.kind c.state c.mode i
 
 -- these octets were passed, and behind them a marker where it ended the content; they are encodings in a mode
 pub record Holds (c : Reading) (mode : Mode) (octets : List ℕ) (d : Reading) : Type 0 where
@@ -142,14 +146,8 @@ module _ {C E : Type 0} (why : E → Cause ContentError) (view : C → Reading) 
     pub refuses : IfErr r (λ e. RefusesOn why view post handed e left)
 
 -- content over a source up to a limit, as it is handed to a closure in whatever state
-pub record HandsOver (s : Stream) (o : Option ℕ) (k : Kind) (st : State) (m : Mode) (i : Reading) : Type 0 where
-  pub rest : i.stream.rest ≡ cut o s.rest
-  pub faults : i.stream.faults ≡ s.faults
-  pub owed : i.owed ≡ o
-  pub kind : i.kind ≡ values k
-  pub state : i.state ≡ st
-  pub mode : i.mode ≡ m
-  pub marked : i.marked ≡ false
+abbrev pub HandsOver : Stream → Option ℕ → Kind → State → Mode → Reading → Type 0
+HandsOver s o k st m i = IsHanded (cut o s.rest) s.faults o (values k) st m i
 
 module _ {C X : Type 0} (view : C → Reading) (post : MutBor C → Result (Unit {0}) (DecodeError X) → MutBor C → Type 0) where
   -- the octets b were passed by the closure, and then taken from the source

@@ -9,12 +9,13 @@ use Rattle.bcder.specs.declared.decode.content.Kind.TheVariants as kind
 use Rattle.bcder.specs.declared.decode.content.State.TheVariants.{Open}
 use Rattle.bcder.specs.declared.decode.error.DecodeError.{DecodeError}
 use Rattle.bcder.specs.declared.decode.header.Header.{Header as Kept}
-use Rattle.bcder.specs.Cause.{cause_of, IsRefusal}
+use Rattle.bcder.specs.declared.decode.error.ContentError.{ContentError}
+use Rattle.bcder.specs.Cause.{Cause, cause_of, IsRefusal}
 use Rattle.bcder.specs.Identifier.{Tag}
 use Rattle.bcder.specs.Reading.{Header}
 use Rattle.bcder.specs.Stream.{Stream}
 use Rattle.bcder.specs.Content.{Reading}
-use Rattle.bcder.specs.Calls.{Hands, TakesContent, popped}
+use Rattle.bcder.specs.Calls.{Hands, RanOver, TakesContent, popped}
 use Rattle.bcder.specs.Views.{of_constructed}
 
 -- how the end of the values behind a length is known
@@ -35,6 +36,10 @@ limit_outside Indefinite o left = left
 -- the content behind a header that was passed
 abbrev pub IsBehind : {S : Type 0} → (S → Stream) → MutBor (Constructed S) → Kept → Reading → Type 0
 IsBehind stream c h i = Hands (of_constructed stream c.now).mode h.constructed h.len (of_constructed stream c.now).owed (of_constructed stream c.now).stream.rest i
+
+-- a closure ran on this content
+abbrev pub RanInside : {C T E : Type 0} → (E → Cause ContentError) → (C → Reading) → (Tag → MutBor C → Result T E → MutBor C → Type 0) → Reading → Tag → Result T E → Bool → Stream → Option ℕ → Type 0
+RanInside why view post i t r mark s o = RanOver why view post i.stream i.owed i.kind i.mode t r mark s o
 
 -- usable content once more
 abbrev pub opened : Reading → Reading

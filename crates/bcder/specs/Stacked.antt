@@ -254,11 +254,6 @@ framed v = around (reverse v.items)
 abbrev pub entries : Opened → List Entry
 entries v = indefinites v.inner (framed v.frames.now)
 
--- the limit behind a value that was left, with so much owed at its end
-abbrev pub limit_behind : Option Frame → Option ℕ → Option ℕ
-limit_behind None o = o
-limit_behind (Some f) o = f.behind
-
 pub record IsCounted (v : Opened) : Type 0 where
   pub depth : v.depth ≡ length (entries v)
   pub inline : 4 ≤ v.frames.now.capacity

@@ -1,10 +1,10 @@
 //! Octets read as the contents octets of a primitive value.
-ghost use Rattle.std.specs.Prelude.{◌≡◌, ◌≢◌, false, IsTrue, Some, IfOk, IfErr, length};
-ghost use Rattle.bcder.specs.Alone.{AnsweredAlone, RefusedAlone, RanAlone, IsAllOctets};
-ghost use Rattle.bcder.specs.Calls.{MayBeCalledOn, IsLawfulOn, IsOver};
-ghost use Rattle.bcder.specs.Content.{Octets, Moves};
-ghost use Rattle.bcder.specs.Stream.{limited, at_hand};
-ghost use Rattle.bcder.specs.Views.{of_primitive, limited_stream, octets_before, octets_after};
+ghost use Rattle.std.specs.Prelude.{◌≡◌, ◌≢◌, false, IsTrue, Some, length};
+ghost use Rattle.bcder.specs.Alone.{IsAllOctets, RanAlone};
+ghost use Rattle.bcder.specs.Calls.{IsLawfulOn, IsOver, MayBeCalledOn};
+ghost use Rattle.bcder.specs.Content.{Octets};
+ghost use Rattle.bcder.specs.Stream.{at_hand};
+ghost use Rattle.bcder.specs.Views.{limited_stream, of_primitive};
 
 use super::Primitive;
 use crate::decode::error::DecodeError;
@@ -26,38 +26,7 @@ impl<'a, S: Source> Primitive<'a, S> {
     }
 }
 
-/// Calls the closure on contents octets, of which then none are left.
-#[tactic(auto, using(crate::specs::laws::Moved::untouched_is_moved))]
-fn run<S: Source, F, T: Drop>(
-    octets: &mut Primitive<'_, S>,
-    op: F,
-) -> Result<T, DecodeError<S::Error>>
-where
-    F: FnOnce(&mut Primitive<'_, S>) -> Result<T, DecodeError<S::Error>>,
-    requires callable { MayBeCalledOn (of_primitive S.stream)
-        (λ i. i ≡ of_primitive S.stream octets.old) (F.pre op) }
-    requires lawful { IsLawfulOn (of_primitive S.stream)
-        (λ i. i ≡ of_primitive S.stream octets.old) (F.post op) }
-    ensures moves { Moves (octets_before S.stream octets) (octets_after S.stream octets) }
-    ensures ok { IfOk result (λ x.
-        AnsweredAlone (of_primitive S.stream) (F.post op)
-        (octets_before S.stream octets) x (octets_after S.stream octets)) }
-    ensures refused { IfErr result (λ e.
-        RefusedAlone (of_primitive S.stream) (F.post op)
-        (octets_before S.stream octets) e (octets_after S.stream octets)) }
-{
-    match op(octets) {
-        Ok(value) => {
-            if octets.is_used_up() {
-                return Ok(value);
-            }
-            Err(octets.refusal("octets left in a primitive value"))
-        }
-        Err(error) => Err(error),
-    }
-}
-
-/// Calls the closure on all octets up to the limit of a source.
+/// Calls the closure on all octets up to the limit of a source, of which then none are left.
 #[tactic(auto, unfolding(crate::specs::Views::of_primitive))]
 fn run_over<S: Source, F, T: Drop>(
     source: &mut LimitedSource<S>,
@@ -82,7 +51,14 @@ where
         marked: false,
         start,
     };
-    run(&mut octets, op)
+    let value = match op(&mut octets) {
+        Ok(value) => value,
+        Err(error) => return Err(error),
+    };
+    if octets.is_used_up() {
+        return Ok(value);
+    }
+    Err(octets.refusal("octets left in a primitive value"))
 }
 
 impl Primitive<'static, SliceSource<'static>> {

@@ -39,46 +39,9 @@ fn ends(before: State, after: State) -> bool
     }
 }
 
-/// Calls the closure on content over a source, in whatever state, and answers the state and the
-/// mark that it left too.
-#[tactic(auto, using(crate::proofs::moves), unfolding(crate::specs::Views::of_constructed))]
-#[inline(always)]
-fn run_from<S: Source, F>(
-    source: &mut LimitedSource<S>,
-    kind: Kind,
-    state: State,
-    mode: Mode,
-    op: F,
-) -> (Result<(), DecodeError<S::Error>>, State, bool)
-where
-    F: FnOnce(&mut Constructed<'_, S>) -> Result<(), DecodeError<S::Error>>,
-    requires callable { MayBeCalledOn (of_constructed S.stream)
-        (IsFrom (limited_stream S.stream source.old) source.old.limit kind state mode)
-        (F.pre op) }
-    requires lawful { IsLawfulOn (of_constructed S.stream)
-        (IsFrom (limited_stream S.stream source.old) source.old.limit kind state mode)
-        (F.post op) }
-    ensures { RanFrom cause_of (of_constructed S.stream) (F.post op)
-        (limited_stream S.stream source.old) source.old.limit kind state mode
-        result.0 result.1 result.2 (limited_stream S.stream source.new) source.new.limit }
-{
-    let start = source.pos();
-    let mut cons = Constructed {
-        source: &mut *source,
-        kind,
-        state,
-        mode,
-        marked: false,
-        start,
-    };
-    let result = run(&mut cons, op);
-    let state = cons.state;
-    let marked = cons.marked;
-    (result, state, marked)
-}
-
-/// The same over a source that captures what is passed over. That one's own source keeps all its
-/// octets.
+/// Calls the closure on content over a source that captures what is passed over, in whatever state,
+/// and answers the state and the mark that it left too. The source below keeps all its octets.
+#[tactic(auto, unfolding(crate::specs::Views::of_constructed))]
 #[inline(always)]
 fn run_capturing<S: Source, F>(
     view: &mut LimitedSource<CaptureSource<'_, S>>,
@@ -107,7 +70,17 @@ where
     ensures kept { (S.stream (behind view.new.source)).kept
         ≡ (S.stream (behind view.old.source)).kept }
 {
-    run_from(view, kind, state, mode, op)
+    let start = view.pos();
+    let mut cons = Constructed {
+        source: &mut *view,
+        kind,
+        state,
+        mode,
+        marked: false,
+        start,
+    };
+    let result = run(&mut cons, op);
+    (result, cons.state, cons.marked)
 }
 
 /// Takes the octets that were passed over from the source behind, and gives that one back. A

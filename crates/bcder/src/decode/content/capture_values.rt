@@ -1,5 +1,4 @@
 //! Capturing the next value, and all values.
-ghost use Rattle.std.specs.Prelude.{◌≡◌};
 ghost use Rattle.bcder.specs.CapturingValues.{CapturedOne, ExactlyOne, CapturedAll, ExactlyAll};
 ghost use Rattle.bcder.specs.CapturingValues.{PassedOne, PassedAll};
 ghost use Rattle.bcder.specs.Views.{Moved};

@@ -1,41 +1,18 @@
 //! Decoding the values of a source.
-ghost use Rattle.std.specs.Prelude.{◌≡◌, ◌≢◌, ◌↔◌, ◌≤◌, ◌++◌, ℕ, List, Ok, None, IsTrue, IfOk};
-ghost use Rattle.std.specs.Prelude.{IfErr, OnOk};
+ghost use Rattle.std.specs.Prelude.{◌≡◌, ◌≢◌, ◌≤◌, ◌++◌, ℕ, List, Ok, None, IfErr, IfOk, OnOk};
 ghost use Rattle.bcder.specs.Calls.{MayBeCalledOn, IsLawfulOn, IsOver};
-ghost use Rattle.bcder.specs.Cause.{cause_of, IsRefusal};
+ghost use Rattle.bcder.specs.Cause.{cause_of};
 ghost use Rattle.bcder.specs.Content.{Moves, UnboundedValues};
-ghost use Rattle.bcder.specs.Decoding.{IsAllOf, AnsweredOn, RefusesOn, RanOn, Decodes};
+ghost use Rattle.bcder.specs.Decoding.{AnsweredOn, RefusesOn, RanOn, Decodes};
 ghost use Rattle.bcder.specs.Decoding.{RefusesDecode, CallableOnAll, LawfulOnAll, CallableOnLent};
 ghost use Rattle.bcder.specs.Decoding.{LawfulOnLent, DecodesAll, RefusesAll, DecodesLent};
 ghost use Rattle.bcder.specs.Decoding.{RefusesLent};
 ghost use Rattle.bcder.specs.Views.{of_constructed, limited_stream, lent, before, after};
 
 use super::{Constructed, Kind, State};
-use crate::decode::error::{ContentError, DecodeError};
+use crate::decode::error::DecodeError;
 use crate::decode::source::{IntoSource, LimitedSource, Source};
 use crate::mode::Mode;
-
-impl<'a, S> Constructed<'a, S> {
-    /// Whether a value was refused.
-    fn is_failed(&self) -> bool
-        ensures { IsTrue result ↔ (self.now.state ≡ State.Failed) }
-    {
-        match self.state {
-            State::Failed => true,
-            _ => false,
-        }
-    }
-}
-
-impl<'a, S: Source> Constructed<'a, S> {
-    /// The refusal of content that a closure left failed.
-    fn had_failed(&self) -> DecodeError<S::Error>
-        ensures { IsRefusal result }
-    {
-        self.source
-            .content_err(ContentError::from_static("an earlier value was refused"))
-    }
-}
 
 /// Calls the closure on content, which then has not failed.
 #[tactic(auto, using(crate::proofs::moves_constructed_name), unfolding(crate::specs::Views::views))]
@@ -60,12 +37,10 @@ where
         (before S.stream cons) e (after S.stream cons)) }
 {
     match op(cons) {
-        Ok(value) => {
-            if cons.is_failed() {
-                return Err(cons.had_failed());
-            }
-            Ok(value)
-        }
+        Ok(value) => match cons.state {
+            State::Failed => Err(cons.refusal("an earlier value was refused")),
+            State::Open | State::Ended => Ok(value),
+        },
         Err(error) => Err(error),
     }
 }

@@ -1,14 +1,13 @@
 //! Taking the content of a value whose header was passed over.
-ghost use Rattle.std.specs.Prelude.{◌≡◌, ◌||◌, Bool, true, false, None, Some, Ok, IfOk, IfErr};
-ghost use Rattle.std.specs.Prelude.{OnOk};
-ghost use Rattle.bcder.specs.Calls.{MayBeCalledAt, IsLawfulAt, IsOver, AnswersDone, RefusesContent};
-ghost use Rattle.bcder.specs.Calls.{RefusesEnd, RanOver, TakesContent};
+ghost use Rattle.std.specs.Prelude.{◌≡◌, ◌||◌, true, false, None, Some, Ok, IfErr, IfOk, OnOk};
+ghost use Rattle.bcder.specs.Calls.{AnswersDone, IsLawfulAt, MayBeCalledAt, RefusesContent};
+ghost use Rattle.bcder.specs.Calls.{RefusesEnd};
 ghost use Rattle.bcder.specs.Cause.{cause_of, stop_cause};
-ghost use Rattle.bcder.specs.Content.{Octets, Moves, FitsOwed, values, EndsAt, IsDone};
+ghost use Rattle.bcder.specs.Content.{Moves, FitsOwed, EndsAt, IsDone};
 ghost use Rattle.bcder.specs.Encoding.{may_have};
 ghost use Rattle.bcder.specs.Entering.{MeetsNoFault};
 ghost use Rattle.bcder.specs.Inside.{kind_behind, limit_inside, limit_outside, IsBehind};
-ghost use Rattle.bcder.specs.Inside.{TakesBehind};
+ghost use Rattle.bcder.specs.Inside.{RanInside, TakesBehind};
 ghost use Rattle.bcder.specs.Peek.{header as header_of};
 ghost use Rattle.bcder.specs.Views.{of_constructed, of_primitive, of_content, limited_stream};
 ghost use Rattle.bcder.specs.Views.{content_name, content_source, content_mark, before, after};
@@ -21,7 +20,6 @@ use crate::decode::header::{Header, Wanted};
 use crate::decode::source::{LimitedSource, Source};
 use crate::decode::stop::{Stop, Why};
 use crate::length::Length;
-use crate::mode::Mode;
 use crate::tag::Tag;
 
 /// How the end of the values behind a length is known (X.690, 8.1.3.2).
@@ -154,26 +152,16 @@ impl<'a, S: Source> Content<'a, S> {
         }
     }
 
-    /// Whether a mode was changed.
+    /// Whether a mode was changed, and the source, which goes back to its owner.
     #[inline(always)]
-    fn is_marked(&self) -> bool
-        ensures { result ≡ content_mark self.now }
+    fn into_mark_and_source(self) -> (bool, &'a mut LimitedSource<S>)
+        ensures marked { result.0 ≡ content_mark self.entry }
+        ensures name { result.1.ghost_name ≡ content_name self.entry }
+        ensures now { result.1.now ≡ content_source self.entry }
     {
         match self {
-            Content::Primitive(octets) => octets.marked,
-            Content::Constructed(values) => values.marked,
-        }
-    }
-
-    /// Hands the source back to its owner.
-    #[inline(always)]
-    fn into_source(self) -> &'a mut LimitedSource<S>
-        ensures name { result.ghost_name ≡ content_name self.entry }
-        ensures now { result.now ≡ content_source self.entry }
-    {
-        match self {
-            Content::Primitive(Primitive { source, .. }) => source,
-            Content::Constructed(Constructed { source, .. }) => source,
+            Content::Primitive(Primitive { source, marked, .. }) => (marked, source),
+            Content::Constructed(Constructed { source, marked, .. }) => (marked, source),
         }
     }
 }
@@ -276,211 +264,38 @@ where
     }
 }
 
-/// Calls the closure on the values that a source is limited to, and says whether it changed the
-/// mode.
-#[tactic(auto, using(crate::proofs::moves), unfolding(crate::specs::Views::of_constructed))]
+/// The same of content that is open, which is gone then. Answered is also whether the mode was
+/// changed, and the source is handed back.
 #[inline(always)]
-fn values_over<S: Source, F, T: Drop>(
-    source: &mut LimitedSource<S>,
-    kind: Kind,
-    mode: Mode,
+fn run_over<'a, S: Source, F, T: Drop>(
+    mut content: Content<'a, S>,
     tag: Tag,
     op: F,
-) -> (Result<T, DecodeError<S::Error>>, bool)
-where
-    F: FnOnce(Tag, &mut Constructed<'_, S>) -> Result<T, DecodeError<S::Error>>,
-    requires callable { MayBeCalledAt (of_constructed S.stream)
-        (IsOver (limited_stream S.stream source.old) source.old.limit (values kind) mode)
-        tag (F.pre op) }
-    requires lawful { IsLawfulAt (of_constructed S.stream)
-        (IsOver (limited_stream S.stream source.old) source.old.limit (values kind) mode)
-        tag (F.post op) }
-    ensures { RanOver cause_of (of_constructed S.stream) (F.post op)
-        (limited_stream S.stream source.old) source.old.limit (values kind) mode tag
-        result.0 result.1 (limited_stream S.stream source.new) source.new.limit }
-{
-    let start = source.pos();
-    let mut cons = Constructed {
-        source: &mut *source,
-        kind,
-        state: State::Open,
-        mode,
-        marked: false,
-        start,
-    };
-    let result = run_values(&mut cons, tag, op);
-    let marked = cons.marked;
-    (result, marked)
-}
-
-/// The same on contents octets, for a closure that takes either form.
-#[tactic(auto, using(crate::proofs::moves), unfolding(crate::specs::Views::views))]
-#[inline(always)]
-fn run_primitive<S: Source, F, T: Drop>(
-    source: &mut LimitedSource<S>,
-    mode: Mode,
-    tag: Tag,
-    op: F,
-) -> (Result<T, DecodeError<S::Error>>, bool)
+) -> (
+    Result<T, DecodeError<S::Error>>,
+    bool,
+    &'a mut LimitedSource<S>,
+)
 where
     F: FnOnce(Tag, &mut Content<'_, S>) -> Result<T, DecodeError<S::Error>>,
+    requires usable { (of_content S.stream content).state ≡ State.Open }
+    requires unmarked { (of_content S.stream content).marked ≡ false }
     requires callable { MayBeCalledAt (of_content S.stream)
-        (IsOver (limited_stream S.stream source.old) source.old.limit Octets mode)
-        tag (F.pre op) }
+        (λ i. i ≡ of_content S.stream content) tag (F.pre op) }
     requires lawful { IsLawfulAt (of_content S.stream)
-        (IsOver (limited_stream S.stream source.old) source.old.limit Octets mode)
-        tag (F.post op) }
-    ensures { RanOver cause_of (of_content S.stream) (F.post op)
-        (limited_stream S.stream source.old) source.old.limit Octets mode tag
-        result.0 result.1 (limited_stream S.stream source.new) source.new.limit }
+        (λ i. i ≡ of_content S.stream content) tag (F.post op) }
+    ensures name { result.2.ghost_name ≡ content_name content.entry }
+    ensures ran { RanInside cause_of (of_content S.stream) (F.post op)
+        (of_content S.stream content.entry) tag
+        result.0 result.1 (limited_stream S.stream result.2.now) result.2.now.limit }
 {
-    let start = source.pos();
-    let mut content = Content::Primitive(Primitive {
-        source: &mut *source,
-        mode,
-        marked: false,
-        start,
-    });
     let result = run(&mut content, tag, op);
-    let marked = content.is_marked();
-    let _back = content.into_source();
-    (result, marked)
-}
-
-/// The same on values, for a closure that takes either form.
-#[tactic(auto, using(crate::proofs::moves), unfolding(crate::specs::Views::views))]
-#[inline(always)]
-fn run_constructed<S: Source, F, T: Drop>(
-    source: &mut LimitedSource<S>,
-    kind: Kind,
-    mode: Mode,
-    tag: Tag,
-    op: F,
-) -> (Result<T, DecodeError<S::Error>>, bool)
-where
-    F: FnOnce(Tag, &mut Content<'_, S>) -> Result<T, DecodeError<S::Error>>,
-    requires callable { MayBeCalledAt (of_content S.stream)
-        (IsOver (limited_stream S.stream source.old) source.old.limit (values kind) mode)
-        tag (F.pre op) }
-    requires lawful { IsLawfulAt (of_content S.stream)
-        (IsOver (limited_stream S.stream source.old) source.old.limit (values kind) mode)
-        tag (F.post op) }
-    ensures { RanOver cause_of (of_content S.stream) (F.post op)
-        (limited_stream S.stream source.old) source.old.limit (values kind) mode tag
-        result.0 result.1 (limited_stream S.stream source.new) source.new.limit }
-{
-    let start = source.pos();
-    let mut content = Content::Constructed(Constructed {
-        source: &mut *source,
-        kind,
-        state: State::Open,
-        mode,
-        marked: false,
-        start,
-    });
-    let result = run(&mut content, tag, op);
-    let marked = content.is_marked();
-    let _back = content.into_source();
-    (result, marked)
+    let (marked, source) = content.into_mark_and_source();
+    (result, marked, source)
 }
 
 #[tactic(auto, unfolding(crate::specs::Views::views))]
 impl<'a, S: Source> Constructed<'a, S> {
-    /// Takes the contents octets behind a header of a primitive value.
-    #[inline(always)]
-    fn take_octets<F, T: Drop>(&mut self, header: Header, op: F) -> Result<T, DecodeError<S::Error>>
-    where
-        F: FnOnce(Tag, &mut Primitive<'_, S>) -> Result<T, DecodeError<S::Error>>,
-        requires callable { MayBeCalledAt (of_primitive S.stream) (IsBehind S.stream self header)
-            header.tag (F.pre op) }
-        requires lawful { IsLawfulAt (of_primitive S.stream) (IsBehind S.stream self header)
-            header.tag (F.post op) }
-        requires form { header.constructed ≡ false }
-        requires allowed { may_have self.old.mode header.constructed header.len ≡ true }
-        requires fits { FitsOwed header.len self.old.source.now.limit }
-        ensures taken { TakesContent cause_of (of_primitive S.stream) (F.post op)
-            (before S.stream self) (header_of header) result (after S.stream self) }
-    {
-        let mode = self.mode;
-        let source = &mut *self.source;
-        let outer = go_inside(source, header.len);
-        let start = source.pos();
-        let mut octets = Primitive {
-            source: &mut *source,
-            mode,
-            marked: false,
-            start,
-        };
-        let value = match run_octets(&mut octets, header.tag, op) {
-            Ok(value) => value,
-            Err(error) => {
-                let marked = octets.marked;
-                go_outside(source, outer, header.len);
-                self.marked = either(self.marked, marked);
-                return Err(error);
-            }
-        };
-        let marked = octets.marked;
-        go_outside(source, outer, header.len);
-        self.marked = either(self.marked, marked);
-        Ok(value)
-    }
-
-    /// Takes the values behind a header of a constructed value.
-    #[inline(always)]
-    fn take_values<F, T: Drop>(&mut self, header: Header, op: F) -> Result<T, DecodeError<S::Error>>
-    where
-        F: FnOnce(Tag, &mut Constructed<'_, S>) -> Result<T, DecodeError<S::Error>>,
-        requires callable { MayBeCalledAt (of_constructed S.stream) (IsBehind S.stream self header)
-            header.tag (F.pre op) }
-        requires lawful { IsLawfulAt (of_constructed S.stream) (IsBehind S.stream self header)
-            header.tag (F.post op) }
-        requires form { header.constructed ≡ true }
-        requires fits { FitsOwed header.len self.old.source.now.limit }
-        ensures taken { TakesContent cause_of (of_constructed S.stream) (F.post op)
-            (before S.stream self) (header_of header) result (after S.stream self) }
-    {
-        let outer = go_inside(self.source, header.len);
-        let kind = kind_behind(header.len);
-        let (result, marked) = values_over(self.source, kind, self.mode, header.tag, op);
-        go_outside(self.source, outer, header.len);
-        self.marked = either(self.marked, marked);
-        result
-    }
-
-    /// Takes the content behind a header.
-    #[inline(always)]
-    fn take_content<F, T: Drop>(
-        &mut self,
-        header: Header,
-        op: F,
-    ) -> Result<T, DecodeError<S::Error>>
-    where
-        F: FnOnce(Tag, &mut Content<'_, S>) -> Result<T, DecodeError<S::Error>>,
-        requires callable { MayBeCalledAt (of_content S.stream) (IsBehind S.stream self header)
-            header.tag (F.pre op) }
-        requires lawful { IsLawfulAt (of_content S.stream) (IsBehind S.stream self header)
-            header.tag (F.post op) }
-        requires allowed { may_have self.old.mode header.constructed header.len ≡ true }
-        requires fits { FitsOwed header.len self.old.source.now.limit }
-        ensures taken { TakesContent cause_of (of_content S.stream) (F.post op)
-            (before S.stream self) (header_of header) result (after S.stream self) }
-    {
-        let outer = go_inside(self.source, header.len);
-        if header.constructed {
-            let kind = kind_behind(header.len);
-            let (result, marked) = run_constructed(self.source, kind, self.mode, header.tag, op);
-            go_outside(self.source, outer, header.len);
-            self.marked = either(self.marked, marked);
-            result
-        } else {
-            let (result, marked) = run_primitive(self.source, self.mode, header.tag, op);
-            go_outside(self.source, outer, header.len);
-            self.marked = either(self.marked, marked);
-            result
-        }
-    }
-
     /// Takes a value whose header was passed over, and which has to be primitive. The content is
     /// usable again where it was taken.
     #[inline(always)]
@@ -503,10 +318,28 @@ impl<'a, S: Source> Constructed<'a, S> {
         if header.constructed {
             return Err(self.refusal("expected a primitive value"));
         }
-        let value = match self.take_octets(header, op) {
-            Ok(value) => value,
-            Err(error) => return Err(error),
+        let mode = self.mode;
+        let source = &mut *self.source;
+        let outer = go_inside(source, header.len);
+        let start = source.pos();
+        let mut octets = Primitive {
+            source: &mut *source,
+            mode,
+            marked: false,
+            start,
         };
+        let value = match run_octets(&mut octets, header.tag, op) {
+            Ok(value) => value,
+            Err(error) => {
+                let marked = octets.marked;
+                go_outside(source, outer, header.len);
+                self.marked = either(self.marked, marked);
+                return Err(error);
+            }
+        };
+        let marked = octets.marked;
+        go_outside(source, outer, header.len);
+        self.marked = either(self.marked, marked);
         self.state = State::Open;
         Ok(Some(value))
     }
@@ -531,13 +364,33 @@ impl<'a, S: Source> Constructed<'a, S> {
         if !header.constructed {
             return Err(self.refusal("expected a constructed value"));
         }
-        match self.take_values(header, op) {
-            Ok(value) => {
-                self.state = State::Open;
-                Ok(Some(value))
+        let mode = self.mode;
+        let source = &mut *self.source;
+        let outer = go_inside(source, header.len);
+        let kind = kind_behind(header.len);
+        let start = source.pos();
+        let mut values = Constructed {
+            source: &mut *source,
+            kind,
+            state: State::Open,
+            mode,
+            marked: false,
+            start,
+        };
+        let value = match run_values(&mut values, header.tag, op) {
+            Ok(value) => value,
+            Err(error) => {
+                let marked = values.marked;
+                go_outside(source, outer, header.len);
+                self.marked = either(self.marked, marked);
+                return Err(error);
             }
-            Err(error) => Err(error),
-        }
+        };
+        let marked = values.marked;
+        go_outside(source, outer, header.len);
+        self.marked = either(self.marked, marked);
+        self.state = State::Open;
+        Ok(Some(value))
     }
 
     /// The same of a value of either form.
@@ -558,12 +411,47 @@ impl<'a, S: Source> Constructed<'a, S> {
         ensures { TakesBehind (of_content S.stream) (F.post op) None
             (before S.stream self) (header_of header) result (after S.stream self) }
     {
-        match self.take_content(header, op) {
-            Ok(value) => {
-                self.state = State::Open;
-                Ok(Some(value))
+        let mode = self.mode;
+        let source = &mut *self.source;
+        let outer = go_inside(source, header.len);
+        let start = source.pos();
+        if header.constructed {
+            let kind = kind_behind(header.len);
+            let content = Content::Constructed(Constructed {
+                source: &mut *source,
+                kind,
+                state: State::Open,
+                mode,
+                marked: false,
+                start,
+            });
+            let (result, marked, _back) = run_over(content, header.tag, op);
+            go_outside(source, outer, header.len);
+            self.marked = either(self.marked, marked);
+            match result {
+                Ok(value) => {
+                    self.state = State::Open;
+                    Ok(Some(value))
+                }
+                Err(error) => Err(error),
             }
-            Err(error) => Err(error),
+        } else {
+            let content = Content::Primitive(Primitive {
+                source: &mut *source,
+                mode,
+                marked: false,
+                start,
+            });
+            let (result, marked, _back) = run_over(content, header.tag, op);
+            go_outside(source, outer, header.len);
+            self.marked = either(self.marked, marked);
+            match result {
+                Ok(value) => {
+                    self.state = State::Open;
+                    Ok(Some(value))
+                }
+                Err(error) => Err(error),
+            }
         }
     }
 }

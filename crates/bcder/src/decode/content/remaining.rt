@@ -1,5 +1,5 @@
 //! What remains of the octets of a primitive value.
-ghost use Rattle.std.specs.Prelude.{◌≡◌, ℕ, [], length, Some, IfErr, OnOk, OnErr};
+ghost use Rattle.std.specs.Prelude.{◌≡◌, [], length, Some, IfErr, OnOk, OnErr};
 ghost use Rattle.bcder.specs.Cause.{cause_of, IsRefusal};
 ghost use Rattle.bcder.specs.Stream.{limit_or};
 ghost use Rattle.bcder.specs.Walking.{RefusesOctets};

@@ -1,22 +1,19 @@
 //! Passing over values with a stack of limits, and a closure that is told of each.
 ghost use Rattle.std.specs.Prelude.{◌≡◌, ◌+◌, ◌^◌, ◌<◌, ◌≤◌, [], ◌∷◌, true, false, IfSome, OnOk};
-ghost use Rattle.std.specs.Prelude.{ℕ, Option, IfErr, IfNone, IfOk, OnErr};
-ghost use Rattle.bcder.specs.declared.mode.Mode.{Mode as ModeValue};
+ghost use Rattle.std.specs.Prelude.{IfErr, IfNone, IfOk, OnErr};
 ghost use Rattle.bcder.specs.Cause.{cause_of, of_content, of_memory, of_source, stop_cause};
-ghost use Rattle.bcder.specs.Cause.{IsOfContent};
-ghost use Rattle.bcder.specs.Cause.{IsRefusal};
+ghost use Rattle.bcder.specs.Cause.{IsOfContent, IsRefusal};
 ghost use Rattle.bcder.specs.Content.{FitsOwed, Moves, Resembles};
 ghost use Rattle.bcder.specs.Encoding.{may_have};
 ghost use Rattle.bcder.specs.Inside.{kind_behind, limit_inside};
-ghost use Rattle.bcder.specs.Stacked.{Counts, Gone, IsCounted, Leaves, Ran, RanOverSource, TopIs};
+ghost use Rattle.bcder.specs.Peek.{header as header_of, IsAtHand};
 ghost use Rattle.bcder.specs.Skipping.{ExactlyAll, ExactlySkipped, ExactlyValue, FoundMemory};
 ghost use Rattle.bcder.specs.Skipping.{IsPast, MovedBehind, SkippedBehind};
-ghost use Rattle.bcder.specs.Peek.{header as header_of, Fronts, IsAllHere, IsAtHand};
 ghost use Rattle.bcder.specs.Skipping.{SkippedAll, SkippedNext, SkippedOne, SkippedValue};
+ghost use Rattle.bcder.specs.Stacked.{Counts, Gone, IsCounted, Leaves, Ran, RanOverSource, TopIs};
 ghost use Rattle.bcder.specs.Stacked.{entries, entry_of, framed, halt_cause, joined, limit_in};
-ghost use Rattle.bcder.specs.Stacked.{limit_behind, source_of, unwound};
-ghost use Rattle.bcder.specs.Stream.{limit_left};
-ghost use Rattle.bcder.specs.Views.{after, before, limited_stream, Moved};
+ghost use Rattle.bcder.specs.Stacked.{source_of, unwound};
+ghost use Rattle.bcder.specs.Views.{after, before, Moved};
 ghost use Rattle.bcder.specs.Walking.{Between, ExactlyNext, Fault, NoFault};
 
 use super::inside::{go_inside, kind_behind};
@@ -33,22 +30,13 @@ use smallvec::SmallVec;
 use std::alloc::Global;
 
 /// An open value of definite length.
-#[derive(Clone, Copy)]
+#[derive(Clone, Copy, Default)]
 struct Frame {
     /// How many octets are owed behind it, if there is a limit.
     behind: Option<usize>,
 
     /// How many values of indefinite length are open around it, up to the next of definite length.
     around: usize,
-}
-
-impl Default for Frame {
-    fn default() -> Frame {
-        Frame {
-            behind: None,
-            around: 0,
-        }
-    }
 }
 
 /// The values that are open. Those of definite length take memory, the others are counted.
@@ -65,7 +53,8 @@ struct Opened<'f> {
     frames: &'f mut SmallVec<Frame, 4>,
 }
 
-/// Why the content of a value wasn't gone into.
+/// Why the content of a value wasn't gone into. It stands apart from `Halt`, since it has no room
+/// for an error, which the loop would move at each value.
 enum Bar<E> {
     /// A step over content stopped.
     Stopped(Stop<E>),
@@ -83,17 +72,6 @@ enum Halt<E> {
     Barred(Bar<E>),
 }
 
-/// What is owed behind a value of so many octets.
-#[inline(always)]
-fn owed_behind(owed: Option<usize>, len: usize) -> Option<usize>
-    ensures { result ≡ limit_left owed len }
-{
-    match owed {
-        Some(owed) => Some(owed.saturating_sub(len)),
-        None => None,
-    }
-}
-
 /// What is owed in all where so much is owed behind a value and so much in it.
 #[inline(always)]
 fn joined(behind: Option<usize>, left: Option<usize>) -> Option<usize>
@@ -103,87 +81,6 @@ fn joined(behind: Option<usize>, left: Option<usize>) -> Option<usize>
     match (behind, left) {
         (Some(behind), Some(left)) => Some(behind + left),
         _ => None,
-    }
-}
-
-impl<'f> Opened<'f> {
-    /// No values, over a stack that is empty.
-    #[inline(always)]
-    fn new(frames: &'f mut SmallVec<Frame, 4>) -> Opened<'f>
-        requires empty { frames.old.items ≡ [] }
-        requires room { 4 ≤ frames.old.capacity }
-        ensures counted { IsCounted result }
-        ensures none { entries result ≡ [] }
-    {
-        Opened {
-            depth: 0,
-            inner: 0,
-            frames,
-        }
-    }
-
-    /// Opens a value of this length, where so much is owed behind its header, if there is memory
-    /// for it.
-    #[inline(always)]
-    fn open(&mut self, len: Length, owed: Option<usize>) -> bool
-        requires counted { IsCounted self.old }
-        requires few { self.old.depth + 1 < 2 ^ 64 }
-        ensures counted { IsCounted self.new }
-        ensures entries { result ≡ true → entries self.new ≡ entry_of len owed ∷ entries self.old }
-        ensures full { result ≡ false → 4 ≤ self.old.depth }
-        ensures same { result ≡ false → entries self.new ≡ entries self.old }
-    {
-        match len {
-            Length::Definite(len) => {
-                let frame = Frame {
-                    behind: owed_behind(owed, len),
-                    around: self.inner,
-                };
-                if self.frames.push(frame).is_err() {
-                    return false;
-                }
-                self.inner = 0;
-            }
-            Length::Indefinite => self.inner += 1,
-        }
-        self.depth += 1;
-        true
-    }
-
-    /// Leaves the innermost value, and answers it if its length is definite.
-    #[inline(always)]
-    fn close(&mut self) -> Option<Frame>
-        requires counted { IsCounted self.old }
-        requires some { 0 < self.old.depth }
-        ensures counted { IsCounted self.new }
-        ensures leaves { (o : Option ℕ)
-            → Leaves (entries self.old) o (entries self.new) (limit_behind result o) }
-        ensures fewer { self.new.depth + 1 ≡ self.old.depth }
-    {
-        self.depth -= 1;
-        if self.inner > 0 {
-            self.inner -= 1;
-            return None;
-        }
-        match self.frames.pop() {
-            Some(frame) => {
-                self.inner = frame.around;
-                Some(frame)
-            }
-            None => None,
-        }
-    }
-
-    /// How the end of the innermost value is known.
-    #[inline(always)]
-    fn kind(&self) -> Kind
-        ensures { TopIs (entries self.now) result }
-    {
-        if self.inner > 0 {
-            Kind::Indefinite
-        } else {
-            Kind::Definite
-        }
     }
 }
 
@@ -206,9 +103,24 @@ fn open<S>(cons: &mut Constructed<'_, S>, opened: &mut Opened<'_>, len: Length) 
     ensures mode { cons.new.mode ≡ cons.old.mode }
     ensures marked { cons.new.marked ≡ cons.old.marked }
 {
-    if !opened.open(len, cons.source.limit()) {
-        return false;
+    match len {
+        Length::Definite(len) => {
+            let behind = match cons.source.limit() {
+                Some(owed) => Some(owed.saturating_sub(len)),
+                None => None,
+            };
+            let frame = Frame {
+                behind,
+                around: opened.inner,
+            };
+            if opened.frames.push(frame).is_err() {
+                return false;
+            }
+            opened.inner = 0;
+        }
+        Length::Indefinite => opened.inner += 1,
     }
+    opened.depth += 1;
     go_inside(cons.source, len);
     cons.kind = kind_behind(len);
     cons.state = State::Open;
@@ -231,10 +143,18 @@ fn leave<S>(cons: &mut Constructed<'_, S>, opened: &mut Opened<'_>)
     ensures mode { cons.new.mode ≡ cons.old.mode }
     ensures marked { cons.new.marked ≡ cons.old.marked }
 {
-    if let Some(frame) = opened.close() {
+    opened.depth -= 1;
+    if opened.inner > 0 {
+        opened.inner -= 1;
+    } else if let Some(frame) = opened.frames.pop() {
+        opened.inner = frame.around;
         cons.source.set_limit(frame.behind);
     }
-    cons.kind = opened.kind();
+    cons.kind = if opened.inner > 0 {
+        Kind::Indefinite
+    } else {
+        Kind::Definite
+    };
     cons.state = State::Open;
 }
 
@@ -302,8 +222,8 @@ fn go_into<S: Source>(
             }
             Err(stop) => Err(Bar::Stopped(stop)),
         },
-        // No primitive value has it (X.690, 8.1.3.2), and none is passed over here.
-        Length::Indefinite => Err(Bar::NoMemory),
+        // No primitive value has it (X.690, 8.1.3.2).
+        Length::Indefinite => unreachable!(),
     }
 }
 
@@ -325,7 +245,11 @@ where
 {
     let outer = owed(cons.source);
     let mut frames = SmallVec::new(alloc);
-    let mut opened = Opened::new(&mut frames);
+    let mut opened = Opened {
+        depth: 0,
+        inner: 0,
+        frames: &mut frames,
+    };
     if let Err(error) = op(outermost.tag, outermost.constructed, 0) {
         return Err(Halt::Refused(error));
     }
@@ -385,7 +309,7 @@ where
 impl<'a, S: Source> Constructed<'a, S> {
     /// The error that a halt is, at the present position.
     #[cold]
-    fn error_of(&self, halt: Halt<S::Error>) -> DecodeError<S::Error>
+    fn halted(&self, halt: Halt<S::Error>) -> DecodeError<S::Error>
         ensures content { IsOfContent (halt_cause halt) → IsRefusal result }
         ensures source { halt_cause halt ≡ of_source → cause_of result ≡ of_source }
         ensures memory { halt_cause halt ≡ of_memory → cause_of result ≡ of_memory }
@@ -398,20 +322,8 @@ impl<'a, S: Source> Constructed<'a, S> {
         }
     }
 
-    /// The same, with room for the error that is cleared here, and not where nothing halts.
-    #[inline(always)]
-    fn halted(&self, halt: Halt<S::Error>) -> DecodeError<S::Error>
-        ensures content { IsOfContent (halt_cause halt) → IsRefusal result }
-        ensures source { halt_cause halt ≡ of_source → cause_of result ≡ of_source }
-        ensures memory { halt_cause halt ≡ of_memory → cause_of result ≡ of_memory }
-        ensures closure { (x : _) → halt ≡ Halt.Refused x → cause_of result ≡ of_content x }
-    {
-        let error = self.error_of(halt);
-        error
-    }
-
-    /// Passes over the content of a primitive value whose header was passed over, which needs no
-    /// stack.
+    /// Passes over the contents octets of a primitive value whose header was passed over. That needs
+    /// no stack.
     #[inline(always)]
     fn skip_octets<F>(
         &mut self,
@@ -422,7 +334,7 @@ impl<'a, S: Source> Constructed<'a, S> {
         F: FnMut(Tag, bool, usize) -> Result<(), ContentError>,
         requires callable { F.IsAlwaysCallable op.old }
         requires primitive { header.constructed ≡ false }
-        requires definite { header.len ≡ Length.Indefinite → ⊥ }
+        requires allowed { may_have self.old.mode header.constructed header.len ≡ true }
         requires fits { FitsOwed header.len (limit_in self.old) }
         ensures moves { MovedBehind S.stream self header }
         ensures skipped { SkippedBehind S.stream F.step self header op result }
@@ -438,8 +350,8 @@ impl<'a, S: Source> Constructed<'a, S> {
                 }
                 Err(stop) => Err(self.halted(Halt::Barred(Bar::Stopped(stop)))),
             },
-            // No primitive value has it (X.690, 8.1.3.2), and none is passed over here.
-            Length::Indefinite => Err(self.halted(Halt::Barred(Bar::NoMemory))),
+            // No primitive value has it (X.690, 8.1.3.2).
+            Length::Indefinite => unreachable!(),
         }
     }
 
@@ -469,74 +381,8 @@ impl<'a, S: Source> Constructed<'a, S> {
                 self.state = State::Open;
                 Ok(Some(()))
             }
-            // No primitive value has it (X.690, 8.1.3.2), and none is passed over here.
-            Length::Indefinite => Err(self.halted(Halt::Barred(Bar::NoMemory))),
+            Length::Indefinite => unreachable!(),
         }
-    }
-
-    /// The same of a constructed value.
-    #[inline(always)]
-    fn skip_values<F>(
-        &mut self,
-        alloc: Global,
-        header: Header,
-        op: &mut F,
-    ) -> Result<Option<()>, DecodeError<S::Error>>
-    where
-        F: FnMut(Tag, bool, usize) -> Result<(), ContentError>,
-        requires callable { F.IsAlwaysCallable op.old }
-        requires allowed { may_have self.old.mode header.constructed header.len ≡ true }
-        requires fits { FitsOwed header.len (limit_in self.old) }
-        ensures moves { MovedBehind S.stream self header }
-        ensures skipped { SkippedBehind S.stream F.step self header op result }
-    {
-        match skip_content(self.source, self.mode, alloc, header, op) {
-            Ok(()) => {
-                self.state = State::Open;
-                Ok(Some(()))
-            }
-            Err(halt) => Err(self.halted(halt)),
-        }
-    }
-
-    /// Passes over the content of a value whose header was passed over, in the way that its form
-    /// needs.
-    #[inline(always)]
-    fn skip_behind<F>(
-        &mut self,
-        alloc: Global,
-        header: Header,
-        op: &mut F,
-    ) -> Result<Option<()>, DecodeError<S::Error>>
-    where
-        F: FnMut(Tag, bool, usize) -> Result<(), ContentError>,
-        requires callable { F.IsAlwaysCallable op.old }
-        requires allowed { may_have self.old.mode header.constructed header.len ≡ true }
-        requires fits { FitsOwed header.len (limit_in self.old) }
-        ensures moves { MovedBehind S.stream self header }
-        ensures skipped { SkippedBehind S.stream F.step self header op result }
-    {
-        if header.constructed {
-            self.skip_values(alloc, header, op)
-        } else {
-            self.skip_octets(header, op)
-        }
-    }
-
-    /// Looks at the header of the next value, if it is primitive, has a header of two octets, and
-    /// all of its octets are at hand. Nothing is taken.
-    #[tactic(auto, unfolding(crate::specs::Views::of_constructed))]
-    #[inline(always)]
-    fn look_at_octets(&mut self) -> Result<Option<Header>, S::Error>
-        ensures same { Between S.stream self Resembles }
-        ensures peeked { IfOk result (λ o. IfSome o (λ h.
-            Fronts self.old.mode h 2 (limited_stream S.stream self.new.source.now))) }
-        ensures whole { IfOk result (λ o. IfSome o (λ h.
-            IsAllHere h (limited_stream S.stream self.new.source.now).avail)) }
-        ensures no_fault { OnOk result (NoFault S.stream self) }
-        ensures fault { OnErr result (Fault S.stream self) }
-    {
-        peek_whole(self.source)
     }
 
     /// Passes over the header of the next value, if it is primitive, has a header of two octets,
@@ -564,7 +410,7 @@ impl<'a, S: Source> Constructed<'a, S> {
         if self.is_used_up() {
             return Ok(None);
         }
-        match self.look_at_octets() {
+        match peek_whole(self.source) {
             Ok(Some(header)) => {
                 self.pass(2);
                 Ok(Some(header))
@@ -591,7 +437,18 @@ impl<'a, S: Source> Constructed<'a, S> {
         ensures skipped { SkippedNext S.stream F.step self op result }
     {
         match self.next_header(Wanted::Any) {
-            Ok(Some(header)) => self.skip_behind(alloc, header, op),
+            Ok(Some(header)) => {
+                if !header.constructed {
+                    return self.skip_octets(header, op);
+                }
+                match skip_content(self.source, self.mode, alloc, header, op) {
+                    Ok(()) => {
+                        self.state = State::Open;
+                        Ok(Some(()))
+                    }
+                    Err(halt) => Err(self.halted(halt)),
+                }
+            }
             Ok(None) => Ok(None),
             Err(stop) => Err(self.stopped(stop)),
         }
@@ -691,20 +548,6 @@ impl<'a, S: Source> Constructed<'a, S> {
         self.skip_opt(alloc, &mut all)
     }
 
-    /// The same, with room for the answer that is cleared here, and not before the first look. Each
-    /// arm makes its answer anew, so that the octets of an error are moved only where there is one.
-    #[inline(always)]
-    fn skip_stacked_on(&mut self, alloc: Global) -> Result<Option<()>, DecodeError<S::Error>>
-        ensures moves { Moves (before S.stream self) (after S.stream self) }
-        ensures skipped { SkippedOne S.stream self result }
-    {
-        match self.skip_stacked(alloc) {
-            Ok(Some(())) => Ok(Some(())),
-            Ok(None) => Ok(None),
-            Err(error) => Err(error),
-        }
-    }
-
     /// As `skip_one`, whatever stands in front.
     #[inline(always)]
     fn skip_any(&mut self, alloc: Global) -> Result<Option<()>, DecodeError<S::Error>>
@@ -714,7 +557,7 @@ impl<'a, S: Source> Constructed<'a, S> {
     {
         match self.pass_shallow() {
             Ok(true) => Ok(Some(())),
-            Ok(false) => self.skip_stacked_on(alloc),
+            Ok(false) => self.skip_stacked(alloc),
             Err(stop) => Err(self.stopped(stop)),
         }
     }

@@ -8,12 +8,12 @@ use Rattle.bcder.proofs.decode.content.Constructed.capture.Goals as goal
 pub capture_over-result-requires-clause-callable : goal.capture_over-result-requires-clause-callable
 unfolding of_constructed
 capture_over-result-requires-clause-callable g c =
-    λ p h. c.requires.callable p (captured_hands _ _ (g.S.Source.stream c.args.self.now.source.now.source) c.args.self.now.source.now.limit _ _ _ _ refl refl refl refl refl c.owed-limit.ensures h)
+    λ p h. c.requires.callable p (captured_hands (of_constructed g.S.Source.stream c.args.self.now) _ (g.S.Source.stream c.args.self.now.source.now.source) c.args.self.now.source.now.limit _ _ _ _ refl refl refl refl refl c.owed-limit.ensures h)
 
 pub capture_over-result-requires-clause-lawful : goal.capture_over-result-requires-clause-lawful
 unfolding of_constructed
 capture_over-result-requires-clause-lawful g c =
-    λ p r q h. c.requires.lawful p r q (captured_hands _ _ (g.S.Source.stream c.args.self.now.source.now.source) c.args.self.now.source.now.limit _ _ _ _ refl refl refl refl refl c.owed-limit.ensures h)
+    λ p r q h. c.requires.lawful p r q (captured_hands (of_constructed g.S.Source.stream c.args.self.now) _ (g.S.Source.stream c.args.self.now.source.now.source) c.args.self.now.source.now.limit _ _ _ _ refl refl refl refl refl c.owed-limit.ensures h)
 
 pub without_marker-octets-requires : goal.without_marker-octets-requires
 unfolding of_constructed

@@ -1,11 +1,52 @@
-use Rattle.std.proofs.Common.{refl}
-use Rattle.bcder.specs.Inside.{refused, taken}
-use Rattle.bcder.specs.Views.{of_constructed}
+use Rattle.std.proofs.Common.{◌≡◌, refl, rules}
+use Rattle.bcder.specs.Cause.{cause_of}
+use Rattle.bcder.specs.Content.{Reading, values}
+use Rattle.bcder.specs.Inside.{limit_outside, refused, taken}
+use Rattle.bcder.specs.Peek.{header}
+use Rattle.bcder.specs.Views.{of_constructed, of_primitive, of_content, limited_stream}
+use Rattle.bcder.proofs.Inner.{octets_taken, values_taken}
 use Rattle.bcder.proofs.decode.content.Constructed.content_behind.Goals as goal
 
 pub returns-in-Err : goal.returns-in-Err
-returns-in-Err g c = refused _ refl c.in-Err.ensures.taken
+unfolding of_constructed of_primitive
+returns-in-Err g c =
+    let back = c.run_over-result.result.2.now in
+    let limit : c.go_outside.new.source.limit ≡ limit_outside c.args.header.len c.go_inside-outer.result back.limit = search rules in
+    let source : c.go_outside.new.source.source ≡ back.source = search rules in
+    refused _ refl (values_taken cause_of (of_content g.S.Source.stream) _ (of_constructed g.S.Source.stream c.args.self.now) _ (header c.args.header) _ refl refl refl refl _ c.either-self.ensures
+    g.S.Source.stream c.args.self.now.source.now c.go_inside-outer.new.source back c.go_outside.new.source c.go_inside-outer.result
+    refl refl c.go_inside-outer.ensures.outer c.go_inside-outer.ensures.limit c.go_inside-outer.ensures.source limit source refl refl c.requires.fits c.if-header.true (rw (c.kind_behind-kind.ensures, c.in-Err.is) at c.run_over-result.ensures.ran))
 
 pub returns-in-Ok : goal.returns-in-Ok
-unfolding of_constructed
-returns-in-Ok g c = taken _ (of_constructed g.S.Source.stream c.take_content.new.self) refl c.in-Ok.ensures.taken refl
+unfolding of_constructed of_primitive
+returns-in-Ok g c =
+    let back = c.run_over-result.result.2.now in
+    let limit : c.go_outside.new.source.limit ≡ limit_outside c.args.header.len c.go_inside-outer.result back.limit = search rules in
+    let source : c.go_outside.new.source.source ≡ back.source = search rules in
+    let old = c.args.self.now in let new = c.go_outside.new.source in
+    let m : Reading = record { stream = limited_stream g.S.Source.stream new; owed = new.limit; kind = values old.kind; state = old.state; mode = old.mode; marked = c.either-self.result; name = old.source.ghost_name } in
+    taken _ m refl (values_taken cause_of (of_content g.S.Source.stream) _ (of_constructed g.S.Source.stream c.args.self.now) m (header c.args.header) _ refl refl refl refl _ c.either-self.ensures
+    g.S.Source.stream c.args.self.now.source.now c.go_inside-outer.new.source back c.go_outside.new.source c.go_inside-outer.result
+    refl refl c.go_inside-outer.ensures.outer c.go_inside-outer.ensures.limit c.go_inside-outer.ensures.source limit source refl refl c.requires.fits c.if-header.true (rw (c.kind_behind-kind.ensures, c.in-Ok.is) at c.run_over-result.ensures.ran)) refl
+
+pub returns-in-Err-result : goal.returns-in-Err-result
+unfolding of_constructed of_primitive
+returns-in-Err-result g c =
+    let back = c.run_over-result-else-header.result.2.now in
+    let limit : c.go_outside-else-header.new.source.limit ≡ limit_outside c.args.header.len c.go_inside-outer.result back.limit = search rules in
+    let source : c.go_outside-else-header.new.source.source ≡ back.source = search rules in
+    refused _ refl (octets_taken cause_of (of_content g.S.Source.stream) _ (of_constructed g.S.Source.stream c.args.self.now) _ (header c.args.header) _ refl refl refl refl _ c.either-self-else-header.ensures
+    g.S.Source.stream c.args.self.now.source.now c.go_inside-outer.new.source back c.go_outside-else-header.new.source c.go_inside-outer.result
+    refl refl c.go_inside-outer.ensures.outer c.go_inside-outer.ensures.limit c.go_inside-outer.ensures.source limit source refl refl c.requires.fits c.if-header.false c.requires.allowed (g.met.S.Source.sound c.args.self.now.source.now.source) (rw c.in-Err-result.is at c.run_over-result-else-header.ensures.ran))
+
+pub returns-in-Ok-result : goal.returns-in-Ok-result
+unfolding of_constructed of_primitive
+returns-in-Ok-result g c =
+    let back = c.run_over-result-else-header.result.2.now in
+    let limit : c.go_outside-else-header.new.source.limit ≡ limit_outside c.args.header.len c.go_inside-outer.result back.limit = search rules in
+    let source : c.go_outside-else-header.new.source.source ≡ back.source = search rules in
+    let old = c.args.self.now in let new = c.go_outside-else-header.new.source in
+    let m : Reading = record { stream = limited_stream g.S.Source.stream new; owed = new.limit; kind = values old.kind; state = old.state; mode = old.mode; marked = c.either-self-else-header.result; name = old.source.ghost_name } in
+    taken _ m refl (octets_taken cause_of (of_content g.S.Source.stream) _ (of_constructed g.S.Source.stream c.args.self.now) m (header c.args.header) _ refl refl refl refl _ c.either-self-else-header.ensures
+    g.S.Source.stream c.args.self.now.source.now c.go_inside-outer.new.source back c.go_outside-else-header.new.source c.go_inside-outer.result
+    refl refl c.go_inside-outer.ensures.outer c.go_inside-outer.ensures.limit c.go_inside-outer.ensures.source limit source refl refl c.requires.fits c.if-header.false c.requires.allowed (g.met.S.Source.sound c.args.self.now.source.now.source) (rw c.in-Ok-result.is at c.run_over-result-else-header.ensures.ran)) refl

@@ -4,38 +4,44 @@ use Rattle.bcder.specs.Views.{of_constructed, limited_stream}
 use Rattle.bcder.specs.laws.Moved.{moved_twice_is_moved}
 use Rattle.bcder.proofs.Entering.{enters, within, looked_enters, looked_moves, looked_failed, no_fewer, grew_least}
 use Rattle.bcder.proofs.Moving.{moves_failed, open_not_ended}
-use Rattle.bcder.proofs.Names.{within_constructed}
+use Rattle.bcder.proofs.Names.{within_constructed, with_source, resembles_with_source}
 use Rattle.bcder.proofs.Skipped.{whole_accepted, behind_at_hand}
 use Rattle.bcder.proofs.decode.content.Constructed.enter_at_hand.Goals as goal
 
 pub returns-in-Ok-Some-clause-moves : goal.returns-in-Ok-Some-clause-moves
 unfolding of_constructed
 returns-in-Ok-Some-clause-moves g c =
-    let s = c.look_at_octets.ensures.same in
-    moved_twice_is_moved (of_constructed g.S.Source.stream c.args.self.now) (of_constructed g.S.Source.stream c.look_at_octets.new.self) _ (looked_moves _ _ s (no_fewer _ _ c.in-Ok-Some.ensures.no_fault)) (moves_failed (of_constructed g.S.Source.stream c.look_at_octets.new.self) _ _ c.pass.ensures.advances (λ x. c.pass.ensures.marked ∙ x) (open_not_ended _ (s.state ∙ c.in-Open.is)) c.pass.ensures.state)
+    let k = with_source c.args.self.now c.peek_whole.new.source in
+    let s = resembles_with_source g.S.Source.stream c.args.self.now c.peek_whole.new.source c.peek_whole.ensures.rest c.peek_whole.ensures.kept in
+    moved_twice_is_moved (of_constructed g.S.Source.stream c.args.self.now) (of_constructed g.S.Source.stream k) _ (looked_moves _ _ s (no_fewer _ _ c.in-Ok-Some.ensures.no_fault)) (moves_failed (of_constructed g.S.Source.stream k) _ _ c.pass.ensures.advances (λ x. c.pass.ensures.marked ∙ x) (open_not_ended _ (s.state ∙ c.in-Open.is)) c.pass.ensures.state)
 
 pub returns-in-Ok-Some-clause-entered : goal.returns-in-Ok-Some-clause-entered
 unfolding of_constructed
 returns-in-Ok-Some-clause-entered g c =
-    let s = c.look_at_octets.ensures.same in
-    let p = rw c.in-Ok-Some.field-0-is at c.in-Ok-Some.ensures.peeked in
+    let k = with_source c.args.self.now c.peek_whole.new.source in
+    let s = resembles_with_source g.S.Source.stream c.args.self.now c.peek_whole.new.source c.peek_whole.ensures.rest c.peek_whole.ensures.kept in
+    let p = (rw c.in-Ok-Some.field-0-is at c.in-Ok-Some.ensures.peeked) c.args.self.now.mode in
     let w = rw c.in-Ok-Some.field-0-is at c.in-Ok-Some.ensures.whole in
-    let l = (within c.look_at_octets.new.self.source.now.limit (g.S.Source.stream c.look_at_octets.new.self.source.now.source) (limited_stream g.S.Source.stream c.look_at_octets.new.self.source.now).avail (g.met.S.Source.sound c.look_at_octets.new.self.source.now.source) (omega arith)).1 in
+    let l = (within k.source.now.limit (g.S.Source.stream k.source.now.source) (limited_stream g.S.Source.stream k.source.now).avail (g.met.S.Source.sound k.source.now.source) (omega arith)).1 in
     let i = within_constructed g.S.Source.stream g.met.S.Source.sound c.args.self.now in
-    let a = whole_accepted (of_constructed g.S.Source.stream c.look_at_octets.new.self) (of_constructed g.S.Source.stream c.pass.new.self) c.in-Ok-Some.header _ w l (within_constructed g.S.Source.stream g.met.S.Source.sound c.look_at_octets.new.self) c.pass.ensures.advances in
-    let e = enters (of_constructed g.S.Source.stream c.look_at_octets.new.self) (of_constructed g.S.Source.stream c.pass.new.self) 2 (header c.in-Ok-Some.header) c.pass.ensures.advances c.pass.ensures.octets c.pass.ensures.within (rw s.mode p.1) (s.state ∙ c.in-Open.is) a c.pass.ensures.no_fault c.pass.ensures.marked c.pass.ensures.state in
+    let a = whole_accepted (of_constructed g.S.Source.stream k) (of_constructed g.S.Source.stream c.pass.new.self) c.in-Ok-Some.header _ w l (within_constructed g.S.Source.stream g.met.S.Source.sound k) c.pass.ensures.advances in
+    let e = enters (of_constructed g.S.Source.stream k) (of_constructed g.S.Source.stream c.pass.new.self) 2 (header c.in-Ok-Some.header) c.pass.ensures.advances c.pass.ensures.octets c.pass.ensures.within p.1 (s.state ∙ c.in-Open.is) a c.pass.ensures.no_fault c.pass.ensures.marked c.pass.ensures.state in
     record {
-      enters = looked_enters (of_constructed g.S.Source.stream c.args.self.now) (of_constructed g.S.Source.stream c.look_at_octets.new.self) s (no_fewer _ _ c.in-Ok-Some.ensures.no_fault) c.in-Ok-Some.ensures.no_fault (header c.in-Ok-Some.header) _ e;
+      enters = looked_enters (of_constructed g.S.Source.stream c.args.self.now) (of_constructed g.S.Source.stream k) s (no_fewer _ _ c.in-Ok-Some.ensures.no_fault) c.in-Ok-Some.ensures.no_fault (header c.in-Ok-Some.header) _ e;
       octets = i.octets;
       fits = i.fits;
     }
 
+pub returns-in-Ok-None-clause-same : goal.returns-in-Ok-None-clause-same
+returns-in-Ok-None-clause-same g c = resembles_with_source g.S.Source.stream c.args.self.now c.peek_whole.new.source c.peek_whole.ensures.rest c.peek_whole.ensures.kept
+
 pub returns-in-Ok-None-clause-moves : goal.returns-in-Ok-None-clause-moves
-returns-in-Ok-None-clause-moves g c = looked_moves _ _ c.look_at_octets.ensures.same (no_fewer _ _ c.in-Ok-None.ensures.no_fault)
+unfolding of_constructed
+returns-in-Ok-None-clause-moves g c = looked_moves _ _ (resembles_with_source g.S.Source.stream c.args.self.now c.peek_whole.new.source c.peek_whole.ensures.rest c.peek_whole.ensures.kept) (no_fewer _ _ c.in-Ok-None.ensures.no_fault)
 
 pub returns-in-Err-clause-moves : goal.returns-in-Err-clause-moves
 unfolding of_constructed
-returns-in-Err-clause-moves g c = looked_failed _ _ c.look_at_octets.ensures.same (grew_least _ _ c.in-Err.ensures.fault) _ c.in-Open.is refl refl refl refl refl refl refl
+returns-in-Err-clause-moves g c = looked_failed _ _ (resembles_with_source g.S.Source.stream c.args.self.now c.peek_whole.new.source c.peek_whole.ensures.rest c.peek_whole.ensures.kept) (grew_least _ _ c.in-Err.ensures.fault) _ c.in-Open.is refl refl refl refl refl refl refl
 
 pub returns-in-Ok-Some-clause-at_hand : goal.returns-in-Ok-Some-clause-at_hand
 unfolding of_constructed

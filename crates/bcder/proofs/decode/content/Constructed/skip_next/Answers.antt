@@ -1,40 +1,81 @@
 use Rattle.std.proofs.Common.{refl}
 use Rattle.bcder.specs.Cause.{cause_of, stop_cause}
 use Rattle.bcder.specs.Peek.{header}
+use Rattle.bcder.specs.Stacked.{source_of, limit_in}
 use Rattle.bcder.specs.Views.{of_constructed}
 use Rattle.bcder.proofs.Names.{within_constructed}
-use Rattle.bcder.proofs.Skipped.{skipped_end, skipped_none}
+use Rattle.bcder.proofs.Skipped.{skipped_end, skipped_none, behind_moved, behind_passed, behind_stopped, behind_refused}
 use Rattle.bcder.proofs.Stepping.{next_refused}
 use Rattle.bcder.proofs.Stopping.{walk_stopped}
 use Rattle.bcder.proofs.Taking.{allowed_entered}
 use Rattle.bcder.proofs.Running.{entered_fits}
 use Rattle.bcder.proofs.decode.content.Constructed.skip_next.Goals as goal
 
-pub skip_behind-requires-clause-allowed : goal.skip_behind-requires-clause-allowed
+pub skip_content-requires-clause-allowed : goal.skip_content-requires-clause-allowed
 unfolding of_constructed
-skip_behind-requires-clause-allowed g c =
+skip_content-requires-clause-allowed g c =
     let e = rw c.in-Ok-Some.field-0-is at c.in-Ok-Some.ensures.entered in
     allowed_entered (of_constructed g.S.Source.stream c.args.self.now) (header c.in-Ok-Some.header) (of_constructed g.S.Source.stream c.next_header.new.self) e.1
 
-pub skip_behind-requires-clause-fits : goal.skip_behind-requires-clause-fits
+pub skip_content-requires-clause-fits : goal.skip_content-requires-clause-fits
 unfolding of_constructed
-skip_behind-requires-clause-fits g c =
+skip_content-requires-clause-fits g c =
     let e = rw c.in-Ok-Some.field-0-is at c.in-Ok-Some.ensures.entered in
     entered_fits (of_constructed g.S.Source.stream c.args.self.now) (of_constructed g.S.Source.stream c.next_header.new.self) (header c.in-Ok-Some.header) _ refl e.1
 
-pub returns-in-Ok-Some-clause-moves : goal.returns-in-Ok-Some-clause-moves
+pub skip_octets-requires-clause-allowed : goal.skip_octets-requires-clause-allowed
 unfolding of_constructed
-returns-in-Ok-Some-clause-moves g c =
+skip_octets-requires-clause-allowed g c =
     let e = rw c.in-Ok-Some.field-0-is at c.in-Ok-Some.ensures.entered in
-    let w = within_constructed g.S.Source.stream g.met.S.Source.sound c.args.self.now in
-    c.skip_behind.ensures.moves (of_constructed g.S.Source.stream c.args.self.now) (record { enters = e.1; octets = w.octets; fits = w.fits })
+    allowed_entered (of_constructed g.S.Source.stream c.args.self.now) (header c.in-Ok-Some.header) (of_constructed g.S.Source.stream c.next_header.new.self) e.1
 
-pub returns-in-Ok-Some-clause-skipped : goal.returns-in-Ok-Some-clause-skipped
+pub skip_octets-requires-clause-fits : goal.skip_octets-requires-clause-fits
 unfolding of_constructed
-returns-in-Ok-Some-clause-skipped g c =
+skip_octets-requires-clause-fits g c =
+    let e = rw c.in-Ok-Some.field-0-is at c.in-Ok-Some.ensures.entered in
+    entered_fits (of_constructed g.S.Source.stream c.args.self.now) (of_constructed g.S.Source.stream c.next_header.new.self) (header c.in-Ok-Some.header) _ refl e.1
+
+pub returns-then-not-header-clause-moves : goal.returns-then-not-header-clause-moves
+unfolding of_constructed
+returns-then-not-header-clause-moves g c =
     let e = rw c.in-Ok-Some.field-0-is at c.in-Ok-Some.ensures.entered in
     let w = within_constructed g.S.Source.stream g.met.S.Source.sound c.args.self.now in
-    c.skip_behind.ensures.skipped (of_constructed g.S.Source.stream c.args.self.now) (record { enters = e.1; octets = w.octets; fits = w.fits })
+    c.skip_octets.ensures.moves (of_constructed g.S.Source.stream c.args.self.now) (record { enters = e.1; octets = w.octets; fits = w.fits })
+
+pub returns-then-not-header-clause-skipped : goal.returns-then-not-header-clause-skipped
+unfolding of_constructed
+returns-then-not-header-clause-skipped g c =
+    let e = rw c.in-Ok-Some.field-0-is at c.in-Ok-Some.ensures.entered in
+    let w = within_constructed g.S.Source.stream g.met.S.Source.sound c.args.self.now in
+    c.skip_octets.ensures.skipped (of_constructed g.S.Source.stream c.args.self.now) (record { enters = e.1; octets = w.octets; fits = w.fits })
+
+pub returns-in-Ok-clause-moves : goal.returns-in-Ok-clause-moves
+unfolding of_constructed
+returns-in-Ok-clause-moves g c =
+    let e = rw c.in-Ok-Some.field-0-is at c.in-Ok-Some.ensures.entered in
+    let w = within_constructed g.S.Source.stream g.met.S.Source.sound c.args.self.now in
+    behind_moved (of_constructed g.S.Source.stream c.args.self.now) (of_constructed g.S.Source.stream c.next_header.new.self) _ (header c.in-Ok-Some.header) c.next_header.new.self.mode (source_of g.S.Source.stream c.next_header.new.self) (g.S.Source.stream c.skip_content.new.source.source) (limit_in c.next_header.new.self) c.skip_content.new.source.limit (record { enters = e.1; octets = w.octets; fits = w.fits }) refl refl refl refl refl refl refl refl refl _ c.args.op.now c.skip_content.new.op _ c.in-Ok.ensures refl
+
+pub returns-in-Ok-clause-skipped : goal.returns-in-Ok-clause-skipped
+unfolding of_constructed
+returns-in-Ok-clause-skipped g c =
+    let e = rw c.in-Ok-Some.field-0-is at c.in-Ok-Some.ensures.entered in
+    let w = within_constructed g.S.Source.stream g.met.S.Source.sound c.args.self.now in
+    behind_passed (of_constructed g.S.Source.stream c.args.self.now) (of_constructed g.S.Source.stream c.next_header.new.self) _ (header c.in-Ok-Some.header) c.next_header.new.self.mode (source_of g.S.Source.stream c.next_header.new.self) (g.S.Source.stream c.skip_content.new.source.source) (limit_in c.next_header.new.self) c.skip_content.new.source.limit (record { enters = e.1; octets = w.octets; fits = w.fits }) refl refl refl refl refl refl refl refl refl _ c.args.op.now c.skip_content.new.op cause_of _ _ c.in-Ok.ensures refl
+
+pub returns-in-Err-skip_content-clause-moves : goal.returns-in-Err-skip_content-clause-moves
+unfolding of_constructed
+returns-in-Err-skip_content-clause-moves g c =
+    let e = rw c.in-Ok-Some.field-0-is at c.in-Ok-Some.ensures.entered in
+    let w = within_constructed g.S.Source.stream g.met.S.Source.sound c.args.self.now in
+    behind_stopped (of_constructed g.S.Source.stream c.args.self.now) (of_constructed g.S.Source.stream c.next_header.new.self) _ (header c.in-Ok-Some.header) c.next_header.new.self.mode (source_of g.S.Source.stream c.next_header.new.self) (g.S.Source.stream c.skip_content.new.source.source) (limit_in c.next_header.new.self) c.skip_content.new.source.limit (record { enters = e.1; octets = w.octets; fits = w.fits }) refl refl refl refl refl refl refl refl refl _ c.args.op.now c.skip_content.new.op cause_of c.in-Err-skip_content.halt c.halted.result refl c.halted.ensures.content c.halted.ensures.source c.halted.ensures.memory c.halted.ensures.closure c.in-Err-skip_content.ensures
+
+pub returns-in-Err-skip_content-clause-skipped : goal.returns-in-Err-skip_content-clause-skipped
+unfolding of_constructed
+returns-in-Err-skip_content-clause-skipped g c =
+    let e = rw c.in-Ok-Some.field-0-is at c.in-Ok-Some.ensures.entered in
+    let w = within_constructed g.S.Source.stream g.met.S.Source.sound c.args.self.now in
+    behind_refused (of_constructed g.S.Source.stream c.args.self.now) (of_constructed g.S.Source.stream c.next_header.new.self) _ (header c.in-Ok-Some.header) c.next_header.new.self.mode (source_of g.S.Source.stream c.next_header.new.self) (g.S.Source.stream c.skip_content.new.source.source) (limit_in c.next_header.new.self) c.skip_content.new.source.limit (record { enters = e.1; octets = w.octets; fits = w.fits }) refl refl refl refl refl refl refl refl refl _ c.args.op.now c.skip_content.new.op cause_of c.in-Err-skip_content.halt c.halted.result refl c.halted.ensures.content c.halted.ensures.source c.halted.ensures.memory c.halted.ensures.closure c.in-Err-skip_content.ensures
 
 pub returns-in-Ok-None-clause-moves : goal.returns-in-Ok-None-clause-moves
 returns-in-Ok-None-clause-moves g c =

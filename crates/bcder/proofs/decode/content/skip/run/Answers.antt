@@ -1,9 +1,9 @@
-use Rattle.std.proofs.Common.{◌∙◌, sym, ap, refl, arith, length, subst, []}
+use Rattle.std.proofs.Common.{reverse, ◌∙◌, sym, ap, refl, arith, length, subst, []}
 use denote.Param.Always.{mut_next}
 use Rattle.bcder.specs.Peek.{header}
 use Rattle.bcder.specs.laws.Moved.{moved_keeps_kind}
 use Rattle.bcder.proofs.Entering.{kind_of}
-use Rattle.bcder.specs.Stacked.{TopIs, entries, source_of, limit_in}
+use Rattle.bcder.specs.Stacked.{TopIs, around, entries, source_of, limit_in}
 use Rattle.bcder.specs.Views.{of_constructed}
 use Rattle.bcder.proofs.Names.{within_constructed, moves_constructed_name}
 use Rattle.bcder.proofs.Taking.{allowed_entered}
@@ -17,16 +17,16 @@ returns-in-Err-clause-ran g c =
 
 pub returns-in-Err-go_into-clause-ran : goal.returns-in-Err-go_into-clause-ran
 returns-in-Err-go_into-clause-ran g c =
-    first_barred _ _ _ _ _ _ (entries c.new-opened.result) (entries c.go_into.new.opened) _ _ _ c.new-opened.ensures.none c.in_default.ensures c.in-Err-go_into.bar c.in-Err-go_into.ensures.gone
+    first_barred _ _ _ _ _ _ (around (reverse c.new-frames.result.items)) (entries c.go_into.new.opened) _ _ _ (ap (λ v. around (reverse v)) c.new-frames.ensures.items) c.in_default.ensures c.in-Err-go_into.bar c.in-Err-go_into.ensures.gone
 
 pub loop-opened-init : goal.loop-opened-init
 loop-opened-init g c =
-    let w = first_went (F-step g) _ _ _ _ c.args.op.now (entries c.new-opened.result) (entries c.go_into.new.opened) c.op.new.self _ _ c.new-opened.ensures.none c.in_default.ensures _ c.requires.fits c.in_default-go_into.ensures.gone in
+    let w = first_went (F-step g) _ _ _ _ c.args.op.now (around (reverse c.new-frames.result.items)) (entries c.go_into.new.opened) c.op.new.self _ _ (ap (λ v. around (reverse v)) c.new-frames.ensures.items) c.in_default.ensures _ c.requires.fits c.in_default-go_into.ensures.gone in
     record {
       callable = mut_next _ _ _ _ _ _ c.op.ensures refl c.requires.callable;
       counted = c.go_into.ensures.counted;
       went = (w.calls, w.called, w.under);
-      top = c.in_default-go_into.ensures.kind (subst (λ z. TopIs z c.args.cons.now.kind) (sym c.new-opened.ensures.none) refl);
+      top = c.in_default-go_into.ensures.kind (subst (λ z. TopIs z c.args.cons.now.kind) (sym (ap (λ v. around (reverse v)) c.new-frames.ensures.items)) refl);
       state = c.in_default-go_into.ensures.state;
       mode = c.go_into.ensures.mode;
       name = c.go_into.ensures.name;
@@ -153,7 +153,7 @@ pub returns-in-Err-next_header-clause-name : goal.returns-in-Err-next_header-cla
 returns-in-Err-next_header-clause-name g c = moves_constructed_name g.S.Source.stream c.loop-opened.cons c.next_header.new.self c.next_header.ensures.moves ∙ c.loop-opened.invariant.name
 
 pub go_into-requires-clause-few : goal.go_into-requires-clause-few
-go_into-requires-clause-few g c = (let x = c.new-opened.ensures.counted.depth in let y = ap length c.new-opened.ensures.none in omega (arith, x, y))
+go_into-requires-clause-few g c = omega arith
 
 pub go_into-requires-in-Ok-Some-clause-few : goal.go_into-requires-in-Ok-Some-clause-few
 go_into-requires-in-Ok-Some-clause-few g c = few_open c.loop-opened.opened c.loop-opened.invariant.counted _ _ _ _ _ _ _ (g.met.S.Source.sound c.args.cons.now.source.now.source) c.loop-opened.invariant.went.2
