@@ -1,6 +1,6 @@
 //! The plain reader: values at the front of a slice of octets, without memory (X.690, 8.1.1). It
-//! loops over values side by side, and calls itself for values inside values. What the rest of the
-//! crate reads from sources is compared with it.
+//! loops over values side by side, and calls itself for values inside values of definite length, no
+//! deeper than it is told. What the rest of the crate reads from sources is compared with it.
 ghost use Rattle.std.specs.Prelude.{◌≡◌, ℕ, ◌+◌, ◌<◌, ◌≤◌, ◌↔◌, Bool, List, [], ◌∷◌, ◌++◌, length};
 ghost use Rattle.std.specs.Prelude.{Option, Some, None, IfSome, IfNone, MatchOption, IsTrue};
 ghost use Rattle.bcder.specs.declared.mode.Mode.{Mode as ModeValue};
@@ -10,10 +10,8 @@ ghost use Rattle.bcder.specs.Encoding.{IsEncoding, AreEncodings, IsHeader, may_h
 ghost use Rattle.bcder.specs.Told.{told};
 ghost use Rattle.bcder.specs.Identifier.{Tag as TagValue};
 ghost use Rattle.bcder.specs.Reading.{is_value_tag, BeginPrimitive};
-ghost use Rattle.bcder.specs.Reading.{read_header, read_tree, read_list, at_end};
+ghost use Rattle.bcder.specs.Reading.{read_header, at_end, after_tree, after_list, Leaves};
 ghost use Rattle.bcder.specs.Grammar.{IsOnly, BeginsWhole};
-
-pub(crate) mod levels;
 
 use crate::length::{Length, after_end, length_at};
 use crate::mode::Mode;
@@ -87,43 +85,80 @@ pub(crate) fn short_size(octets: &[u8]) -> Option<usize>
     }
 }
 
-/// The octets after the value at the front.
-#[cycle(plain)]
+/// The same, if it is primitive, has one identifier octet and three length octets for a length that
+/// no mode has fewer for (8.1.3.5, 10.1), and is all here.
 #[inline(always)]
-fn value_at(mode: Mode, octets: &[u8]) -> Option<&[u8]>
-    ensures read { MatchOption result
-        (read_tree mode octets.now ≡ None)
-        (λ r. (t : Tree) × (read_tree mode octets.now ≡ Some (t, r.now))) }
-    ensures less { IfSome result (λ r. length r.now + 2 ≤ length octets.now) }
+fn long_size(octets: &[u8]) -> Option<usize>
+    ensures some { IfSome result (λ n. 2 ≤ n) }
+    ensures fits { IfSome result (λ n. n ≤ length octets.now) }
+    ensures begins { IfSome result (λ n. (mode : ModeValue) → BeginsWhole mode octets.now n) }
+{
+    match octets {
+        [first, count, high, low, ..] if *count == 0x82 => {
+            let kind = *first % 64;
+            let len = usize::from(*high) * 0x100 + usize::from(*low);
+            let size = 4 + len;
+            if 1 <= kind && kind <= 30 && len >= 0x100 && size <= octets.len() {
+                Some(size)
+            } else {
+                None
+            }
+        }
+        _ => None,
+    }
+}
+
+/// The octets after the value at the front, of no more than so many levels of values of definite
+/// length. `None` says that there is none, or that it is deeper.
+#[inline(always)]
+fn value_within(mode: Mode, octets: &[u8], levels: usize) -> Option<&[u8]>
+    ensures read { IfSome result (λ r. after_tree mode octets.now ≡ Some r.now) }
+    ensures none { IfNone result
+        (length octets.now ≤ levels → after_tree mode octets.now ≡ None) }
 {
     match short_size(octets) {
         Some(size) => Some(octets.split_at(size).1),
-        None => apart_at(mode, octets),
+        None => apart_within(mode, octets, levels),
     }
 }
 
 /// The same, with room for the answer that is cleared here, and not before the first look.
-#[cycle(plain)]
 #[inline(always)]
-fn apart_at(mode: Mode, octets: &[u8]) -> Option<&[u8]>
-    ensures read { MatchOption result
-        (read_tree mode octets.now ≡ None)
-        (λ r. (t : Tree) × (read_tree mode octets.now ≡ Some (t, r.now))) }
-    ensures less { IfSome result (λ r. length r.now + 2 ≤ length octets.now) }
+fn apart_within(mode: Mode, octets: &[u8], levels: usize) -> Option<&[u8]>
+    ensures read { IfSome result (λ r. after_tree mode octets.now ≡ Some r.now) }
+    ensures none { IfNone result
+        (length octets.now ≤ levels → after_tree mode octets.now ≡ None) }
 {
-    let rest = any_at(mode, octets);
+    let rest = any_within(mode, octets, levels);
     rest
 }
 
 /// The same, whatever value it is.
-#[cycle(plain)]
 #[inline(never)]
-fn any_at(mode: Mode, octets: &[u8]) -> Option<&[u8]>
-    ensures read { MatchOption result
-        (read_tree mode octets.now ≡ None)
-        (λ r. (t : Tree) × (read_tree mode octets.now ≡ Some (t, r.now))) }
-    ensures less { IfSome result (λ r. length r.now + 2 ≤ length octets.now) }
+fn any_within(mode: Mode, octets: &[u8], levels: usize) -> Option<&[u8]>
+    ensures read { IfSome result (λ r. after_tree mode octets.now ≡ Some r.now) }
+    ensures none { IfNone result
+        (length octets.now ≤ levels → after_tree mode octets.now ≡ None) }
 {
+    match front_within(mode, octets, levels) {
+        Some((false, rest)) => Some(rest),
+        Some((true, inside)) => list_within(mode, true, inside, levels),
+        None => None,
+    }
+}
+
+/// The same, or where it is of indefinite length the octets after its header, and which it is.
+#[cycle(plain)]
+#[inline(always)]
+fn front_within(mode: Mode, octets: &[u8], levels: usize) -> Option<(bool, &[u8])>
+    ensures read { IfSome result (λ r. Leaves mode octets.now r.0 r.1.now) }
+    ensures less { IfSome result (λ r. length r.1.now + 2 ≤ length octets.now) }
+    ensures none { IfNone result
+        (length octets.now ≤ levels → after_tree mode octets.now ≡ None) }
+{
+    if let Some(size) = long_size(octets) {
+        return Some((false, octets.split_at(size).1));
+    }
     let Some((_, constructed, len, rest)) = header_at(mode, octets) else {
         return None;
     };
@@ -134,19 +169,23 @@ fn any_at(mode: Mode, octets: &[u8]) -> Option<&[u8]>
             }
             let (contents, after) = rest.split_at(n);
             if !constructed {
-                return Some(after);
+                return Some((false, after));
             }
-            match list_at(mode, false, contents) {
-                Some(_) => Some(after),
+            if levels == 0 {
+                return None;
+            }
+            match list_within(mode, false, contents, levels - 1) {
+                Some(_) => Some((false, after)),
                 None => None,
             }
         }
-        Length::Indefinite => list_at(mode, true, rest),
+        Length::Indefinite => Some((true, rest)),
     }
 }
 
 /// The octets after the end of a list, if it is here.
 #[tactic(auto, unfolding(crate::specs::Reading::at_end))]
+#[inline(always)]
 fn at_end(mode: Mode, marked: bool, octets: &[u8]) -> Option<&[u8]>
     ensures { MatchOption result
         (at_end mode marked octets.now ≡ None)
@@ -161,23 +200,52 @@ fn at_end(mode: Mode, marked: bool, octets: &[u8]) -> Option<&[u8]>
     }
 }
 
-/// The octets after the values up to the end.
+/// The octets after the values up to the end. Values of indefinite length take no calls: those that
+/// are open are counted.
 #[cycle(plain)]
-fn list_at(mode: Mode, marked: bool, octets: &[u8]) -> Option<&[u8]>
-    ensures less { IfSome result (λ r. length r.now ≤ length octets.now) }
-    ensures read { MatchOption result
-        (read_list mode marked octets.now ≡ None)
-        (λ r. (ts : Trees) × (read_list mode marked octets.now ≡ Some (ts, r.now))) }
+fn list_within(mode: Mode, marked: bool, octets: &[u8], levels: usize) -> Option<&[u8]>
+    ensures read { IfSome result (λ r. after_list mode marked octets.now ≡ Some r.now) }
+    ensures none { IfNone result
+        (length octets.now ≤ levels → after_list mode marked octets.now ≡ None) }
 {
     let mut rest = octets;
+    let mut depth = 0usize;
     loop {
-        if let Some(after) = at_end(mode, marked, rest) {
-            return Some(after);
+        match short_size(rest) {
+            Some(size) => rest = rest.split_at(size).1,
+            None => match at_end(mode, marked | (depth > 0), rest) {
+                Some(after) => {
+                    if depth == 0 {
+                        return Some(after);
+                    }
+                    depth -= 1;
+                    rest = after;
+                }
+                None => match front_within(mode, rest, levels) {
+                    Some((false, after)) => rest = after,
+                    Some((true, inside)) => {
+                        depth += 1;
+                        rest = inside;
+                    }
+                    None => return None,
+                },
+            },
         }
-        match value_at(mode, rest) {
-            Some(after) => rest = after,
-            None => return None,
-        }
+    }
+}
+
+/// How many levels of values of definite length are looked at where deeper ones take no calls.
+const LEVELS: usize = 64;
+
+/// How many octets the value at the front has, if it is all here and not too deep. `None` says
+/// nothing.
+#[inline(always)]
+pub(crate) fn size_within(mode: Mode, octets: &[u8]) -> Option<usize>
+    ensures { IfSome result (λ n. BeginsWhole mode octets.now n) }
+{
+    match value_within(mode, octets, LEVELS) {
+        Some(rest) => Some(octets.len() - rest.len()),
+        None => None,
     }
 }
 
@@ -250,12 +318,12 @@ pub fn skip_one(mode: Mode, octets: &[u8]) -> Option<&[u8]>
     ensures none { IfNone result
         ((t : Tree) (w x : List ℕ) → IsEncoding mode t w → octets.now ≡ w ++ x → ⊥) }
 {
-    value_at(mode, octets)
+    value_within(mode, octets, octets.len())
 }
 
 /// Whether the octets are the encodings of a list of values in the mode, one after the other.
 pub fn is_list(mode: Mode, octets: &[u8]) -> bool
     ensures { IsTrue result ↔ (ts : Trees) × AreEncodings mode ts octets.now }
 {
-    list_at(mode, false, octets).is_some()
+    list_within(mode, false, octets, octets.len()).is_some()
 }

@@ -6,7 +6,7 @@ use Rattle.bcder.proofs.plain.skip_one.Goals as goal
 pub returns-clause-found : goal.returns-clause-found
 returns-clause-found c =
     let o : AreOctets c.args.octets.now = λ i. omega (arith, c.type_inv.octets i) in
-    if_found c.value_at.result (λ r. r.now) c.args.mode c.args.octets.now o c.value_at.ensures.read
+    if_found c.value_within.result (λ r. r.now) c.args.mode c.args.octets.now o c.value_within.ensures.read
 
 pub returns-clause-none : goal.returns-clause-none
-returns-clause-none c = if_nothing_found c.value_at.result (λ r. r.now) c.args.mode c.args.octets.now c.value_at.ensures.read
+returns-clause-none c = if_nothing_found c.value_within.result c.args.mode c.args.octets.now _ (omega arith) c.value_within.ensures.none
