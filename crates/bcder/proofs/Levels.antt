@@ -1,18 +1,16 @@
 -- Lists of values, and the values of indefinite length that are open inside them.
-use Rattle.std.proofs.Common.{◌≡◌, ℕ, zero, suc, ◌+◌, ◌-◌, ◌<◌, ◌≤◌, Bool, true, false, ◌||◌, nat_lt, List, ◌++◌, length, take, drop, Option, Some, None, option_map, option_and_then, refl, sym, ap, subst, ◌∙◌, arith}
-use Rattle.std.proofs.lemmas.Bool.{lt-ltb}
-use Rattle.std.proofs.lemmas.List.{length-append, length-drop, take-append-drop}
+use Rattle.std.proofs.Common.{◌≡◌, ℕ, zero, suc, ◌+◌, ◌-◌, ◌<◌, ◌≤◌, Bool, true, false, List, [], ◌∷◌, length, Option, Some, None, option_map, option_and_then, refl, sym, ap, subst, ◌∙◌, arith}
+use Rattle.std.specs.Int.{from_bool}
+use Rattle.std.proofs.lemmas.List.{length-append}
 use Rattle.bcder.specs.declared.mode.Mode.{Mode}
 use Rattle.bcder.specs.Identifier.{AreOctets}
 use Rattle.bcder.specs.Tree.{Tree, Trees, ◌∷ₜ◌}
-use Rattle.bcder.specs.Grammar.{BeginsWhole}
-use Rattle.bcder.specs.Reading.{read_end, read_list, read_tree, at_end, after_tree, after_list}
-use Rattle.bcder.specs.laws.Complete.{BeginsValue-encoding, not_at_end}
+use Rattle.bcder.specs.Reading.{read_end, read_list, read_tree, at_end, after_tree, after_list, Leaves}
+use Rattle.bcder.specs.laws.Complete.{two_octets}
 use Rattle.bcder.specs.laws.Sound.{end_sound}
-use Rattle.bcder.specs.laws.Identifiers.{BeginsValue}
 use Rattle.bcder.specs.laws.Stands.{AreOctets-after, tree_sound}
 use Rattle.bcder.proofs.Markers.{end_size}
-use Rattle.bcder.proofs.Skip.{tree_read, whole_read}
+use Rattle.bcder.proofs.Skip.{tree_read}
 use Rattle.bcder.proofs.Steps.{read_list_step}
 
 list_ends : (mode : Mode) (marked : Bool) (w x : List ℕ) → AreOctets w → at_end mode marked w ≡ Some x → after_list mode marked w ≡ Some x
@@ -42,83 +40,129 @@ end_less mode w x o e =
     let l : length w ≡ length m.marker + length x = ap length m.is ∙ length-append m.marker x in
     let two : 2 ≤ length m.marker = s.0 in omega arith
 
--- the octets after a list in which so many values are open before these octets
-abbrev pub after_all : Mode → Bool → ℕ → List ℕ → Option (List ℕ)
-after_all mode marked zero w = after_list mode marked w
-after_all mode marked (suc n) w = option_and_then (after_all mode marked n) (after_list mode true w)
+-- the octets after the ends of so many values of indefinite length, which are open before these octets
+abbrev pub after_ends : Mode → ℕ → List ℕ → Option (List ℕ)
+after_ends mode zero w = Some w
+after_ends mode (suc n) w = option_and_then (after_ends mode n) (after_list mode true w)
 
--- end markers end all but the first list
-inner_end : (marked : Bool) (n : ℕ) → marked || nat_lt 0 (suc n) ≡ true
-inner_end false n = rw (lt-ltb 0 (suc n) (omega arith)) refl
-inner_end true n = refl
+chained : (f g : List ℕ → Option (List ℕ)) (r : Option (List ℕ)) → option_and_then f (option_and_then g r) ≡ option_and_then (λ y. option_and_then f (g y)) r
+chained f g None = refl
+chained f g (Some y) = refl
 
-outer_end : (marked : Bool) → marked || nat_lt 0 0 ≡ marked
-outer_end false = refl
-outer_end true = refl
+ends_go_on : (mode : Mode) (n : ℕ) (w : List ℕ) → AreOctets w → at_end mode true w ≡ None → after_ends mode (suc n) w ≡ option_and_then (after_ends mode (suc n)) (after_tree mode w)
+ends_go_on mode n w o e = ap (option_and_then (after_ends mode n)) (list_goes_on mode true w o e) ∙ chained (after_ends mode n) (after_list mode true) (after_tree mode w)
 
-module _ (mode : Mode) (marked : Bool) where
-  chained : (f g : List ℕ → Option (List ℕ)) (r : Option (List ℕ)) → option_and_then f (option_and_then g r) ≡ option_and_then (λ y. option_and_then f (g y)) r
-  chained f g None = refl
-  chained f g (Some y) = refl
+value_shorter : (mode : Mode) (w x : List ℕ) → AreOctets w → after_tree mode w ≡ Some x → length x + 2 ≤ length w
+value_shorter mode w x o e =
+    let r = tree_read mode w x e in
+    let s = tree_sound mode w (r.0, x) o r.1 in
+    omega (arith, two_octets mode r.0 s.front s.is_encoding, ap length s.is, length-append s.front x)
 
-  all_go_on : (n : ℕ) (w : List ℕ) → AreOctets w → at_end mode (marked || nat_lt 0 n) w ≡ None → after_all mode marked n w ≡ option_and_then (after_all mode marked n) (after_tree mode w)
-  all_go_on zero w o e = list_goes_on mode marked w o (rw (outer_end marked) at e)
-  all_go_on (suc n) w o e = ap (option_and_then (after_all mode marked n)) (list_goes_on mode true w o (rw (inner_end marked n) at e)) ∙ chained (after_all mode marked n) (after_list mode true) (after_tree mode w)
+-- what is read of all these octets is what f gives of those that are left, where so many values are open
+pub record Reads (all : Option (List ℕ)) (size : ℕ) (f : List ℕ → Option (List ℕ)) (n : ℕ) (left : List ℕ) : Type 0 where
+  pub octets : AreOctets left
+  pub shorter : length left + n ≤ size
+  pub same : all ≡ f left
 
-  -- where so many are open, what is left gives what the whole list gives
-  pub record ReadsOn (w : List ℕ) (depth : ℕ) (left : List ℕ) : Type 0 where
-    pub octets : AreOctets left
-    pub shorter : length left + depth ≤ length w
-    pub same : after_list mode marked w ≡ after_all mode marked depth left
+-- behind a value
+passes : (mode : Mode) (all : Option (List ℕ)) (size : ℕ) (f : List ℕ → Option (List ℕ)) (n : ℕ) (v y : List ℕ) → Reads all size f n v → f v ≡ option_and_then f (after_tree mode v) → after_tree mode v ≡ Some y → Reads all size f n y
+passes mode all size f n v y k go e =
+    let r = tree_read mode v y e in
+    let s = tree_sound mode v (r.0, y) k.octets r.1 in
+    record {
+      octets = AreOctets-after s.front v y s.is k.octets;
+      shorter = (let h = k.shorter in omega (arith, value_shorter mode v y k.octets e));
+      same = k.same ∙ go ∙ rw e refl;
+    }
 
-  module _ (w v : List ℕ) (n : ℕ) (k : ReadsOn w n v) where
-    all_goes_on : at_end mode (marked || nat_lt 0 n) v ≡ None → after_list mode marked w ≡ option_and_then (after_all mode marked n) (after_tree mode v)
-    all_goes_on e = k.same ∙ all_go_on n v k.octets e
+-- ---- up to the last octet
 
-    pub reads_more : (y : List ℕ) → at_end mode (marked || nat_lt 0 n) v ≡ None → length y + 2 ≤ length v → after_tree mode v ≡ Some y → ReadsOn w n y
-    reads_more y e l r =
-        let t = tree_read mode v y r in
-        let s = tree_sound mode v (t.0, y) k.octets t.1 in
-        record {
-          octets = AreOctets-after s.front v y s.is k.octets;
-          shorter = (let h = k.shorter in omega arith);
-          same = all_goes_on e ∙ rw r refl;
-        }
+abbrev pub InList : Mode → List ℕ → List ℕ → Type 0
+InList mode w left = Reads (after_list mode false w) (length w) (after_list mode false) 0 left
 
-    pub reads_inside : (z : List ℕ) → at_end mode (marked || nat_lt 0 n) v ≡ None → length z + 2 ≤ length v → AreOctets z × (after_tree mode v ≡ after_list mode true z) → ReadsOn w (n + 1) z
-    reads_inside z e l r =
-        let one : suc n ≡ n + 1 = omega arith in
-        record {
-          octets = r.0;
-          shorter = (let h = k.shorter in omega arith);
-          same = all_goes_on e ∙ rw (r.1) (ap (λ i. after_all mode marked i z) one);
-        }
+not_ended : (mode : Mode) (w : List ℕ) → 0 < length w → at_end mode false w ≡ None
+unfolding at_end
+not_ended mode [] e = absurd (omega arith)
+not_ended mode (b ∷ w) e = refl
 
-    pub reads_nothing : at_end mode (marked || nat_lt 0 n) v ≡ None → after_tree mode v ≡ None → after_list mode marked w ≡ None
-    reads_nothing e r = all_goes_on e ∙ rw r refl
+module _ (mode : Mode) (w v : List ℕ) (k : InList mode w v) where
+  pub list_passes : (y : List ℕ) → 0 < length v → after_tree mode v ≡ Some y → InList mode w y
+  list_passes y s e = passes mode (after_list mode false w) (length w) (after_list mode false) 0 v y k (list_goes_on mode false v k.octets (not_ended mode v s)) e
 
-    -- a value is never where a list ends
-    pub reads_whole : (y : List ℕ) → (size : ℕ) → BeginsWhole mode v size → 2 ≤ size → y ≡ drop size v → ReadsOn w n y
-    reads_whole y size b two is =
-        let t = whole_read mode v y size b is in
-        let begins : BeginsValue v = subst BeginsValue (take-append-drop size v) (BeginsValue-encoding mode b.tree (take size v) (drop size v) b.encodes) in
-        reads_more y (not_at_end mode (marked || nat_lt 0 n) v begins) (let f = b.fits in omega (arith, ap length is, length-drop size v)) t
+  pub list_fails : 0 < length v → after_tree mode v ≡ None → after_list mode false w ≡ None
+  list_fails s e = k.same ∙ list_goes_on mode false v k.octets (not_ended mode v s) ∙ rw e refl
 
-  pub reads_end : (w v x : List ℕ) (n : ℕ) → ReadsOn w n v → at_end mode (marked || nat_lt 0 n) v ≡ Some x → n ≡ 0 → after_list mode marked w ≡ Some x
-  reads_end w v x n k e z = k.same ∙ rw z (list_ends mode marked v x k.octets (rw (z, outer_end marked) at e))
+  pub behind_shorter : (y : List ℕ) → after_tree mode v ≡ Some y → length y < length v
+  behind_shorter y e = (let s = value_shorter mode v y k.octets e in omega arith)
 
-  pub reads_after : (w v x : List ℕ) (n : ℕ) → ReadsOn w n v → at_end mode (marked || nat_lt 0 n) v ≡ Some x → (n ≡ 0 → ⊥) → ReadsOn w (n - 1) x
-  reads_after w v x zero k e d = absurd (d refl)
-  reads_after w v x (suc n) k e d =
-      let m : at_end mode true v ≡ Some x = rw (inner_end marked n) at e in
-      let ended = end_sound mode v x k.octets (sym (at_end-marked mode v) ∙ m) in
+pub list_ended : (mode : Mode) (w v : List ℕ) → InList mode w v → length v ≡ 0 → after_list mode false w ≡ Some []
+unfolding at_end
+list_ended mode w [] k e = k.same ∙ list_ends mode false [] [] k.octets refl
+list_ended mode w (b ∷ v) k e = absurd (omega arith)
+
+-- ---- up to the ends of open values
+
+abbrev pub InOpen : Mode → List ℕ → ℕ → List ℕ → Type 0
+InOpen mode w n left = Reads (after_tree mode w) (length w) (after_ends mode n) n left
+
+
+marker_ended : (mode : Mode) (w : List ℕ) → at_end mode true w ≡ read_end mode w
+unfolding at_end
+marker_ended mode w = refl
+
+end_shorter : (mode : Mode) (w x : List ℕ) → AreOctets w → read_end mode w ≡ Some x → length x + 2 ≤ length w
+end_shorter mode w x o e =
+    let m = end_sound mode w x o e in
+    let s = end_size mode m.marker m.is_end in
+    let two : 2 ≤ length m.marker = s.0 in
+    omega (arith, ap length m.is, length-append m.marker x)
+
+one_ended : (r : Option (List ℕ)) → option_and_then (λ w. Some w) r ≡ r
+one_ended None = refl
+one_ended (Some w) = refl
+
+pub opened : (mode : Mode) (w x : List ℕ) (b : Bool) (n : ℕ) → AreOctets w → Leaves mode w b x → length x + 2 ≤ length w → n ≡ from_bool b → InOpen mode w n x
+opened mode w x false n o l s e =
+    let r = tree_read mode w x l in
+    let t = tree_sound mode w (r.0, x) o r.1 in
+    rw e (record { octets = AreOctets-after t.front w x t.is o; shorter = omega arith; same = l })
+opened mode w x true n o l s e = rw e (record { octets = l.0; shorter = omega arith; same = l.1 ∙ sym (one_ended (after_list mode true x)) })
+
+module _ (mode : Mode) (w v : List ℕ) where
+  pub ends_one : (n : ℕ) → InOpen mode w n v → 0 < n → (x : List ℕ) → read_end mode v ≡ Some x → InOpen mode w (n - 1) x
+  ends_one zero k s x e = absurd (omega arith)
+  ends_one (suc n) k s x e =
+      let m = end_sound mode v x k.octets e in
       let one : suc n - 1 ≡ n = omega arith in
-      subst (λ i. ReadsOn w i x) (sym one) (record {
-        octets = AreOctets-after ended.marker v x ended.is k.octets;
-        shorter = (let s = k.shorter in let l = end_less mode v x k.octets m in omega arith);
-        same = k.same ∙ rw (list_ends mode true v x k.octets m) refl;
+      rw one (record {
+        octets = AreOctets-after m.marker v x m.is k.octets;
+        shorter = (let h = k.shorter in omega (arith, end_shorter mode v x k.octets e));
+        same = k.same ∙ rw (list_ends mode true v x k.octets (marker_ended mode v ∙ e)) refl;
       })
 
-  pub end_shorter : (w v x : List ℕ) (n : ℕ) → ReadsOn w n v → at_end mode (marked || nat_lt 0 n) v ≡ Some x → (n ≡ 0 → ⊥) → length x < length v
-  end_shorter w v x zero k e d = absurd (d refl)
-  end_shorter w v x (suc n) k e d = (let l = end_less mode v x k.octets (rw (inner_end marked n) at e) in omega arith)
+  pub end_passes : (n : ℕ) → InOpen mode w n v → (x : List ℕ) → read_end mode v ≡ Some x → length x < length v
+  end_passes n k x e = omega (arith, end_shorter mode v x k.octets e)
+
+  go_on : (n : ℕ) → InOpen mode w (suc n) v → read_end mode v ≡ None → after_ends mode (suc n) v ≡ option_and_then (after_ends mode (suc n)) (after_tree mode v)
+  go_on n k e = ends_go_on mode n v k.octets (marker_ended mode v ∙ e)
+
+  pub open_passes : (n : ℕ) → InOpen mode w n v → 0 < n → (y : List ℕ) → read_end mode v ≡ None → after_tree mode v ≡ Some y → InOpen mode w n y
+  open_passes zero k s y e t = absurd (omega arith)
+  open_passes (suc n) k s y e t = passes mode (after_tree mode w) (length w) (after_ends mode (suc n)) (suc n) v y k (go_on n k e) t
+
+  pub open_goes_on : (n : ℕ) → InOpen mode w n v → 0 < n → (y : List ℕ) (b : Bool) (m : ℕ) → read_end mode v ≡ None → Leaves mode v b y → length y + 2 ≤ length v → m ≡ from_bool b → InOpen mode w (n + m) y
+  open_goes_on zero k s y b m e l less is = absurd (omega arith)
+  open_goes_on (suc n) k s y false m e l less is =
+      let none : suc n + 0 ≡ suc n = omega arith in
+      rw (is, none) (open_passes (suc n) k s y e l)
+  open_goes_on (suc n) k s y true m e l less is =
+      let one : suc n + 1 ≡ suc (suc n) = omega arith in
+      rw (is, one) (record {
+        octets = l.0;
+        shorter = (let h = k.shorter in omega arith);
+        same = k.same ∙ go_on n k e ∙ rw (l.1) refl;
+      })
+
+  pub open_fails : (n : ℕ) → InOpen mode w n v → 0 < n → read_end mode v ≡ None → after_tree mode v ≡ None → after_tree mode w ≡ None
+  open_fails zero k s e t = absurd (omega arith)
+  open_fails (suc n) k s e t = k.same ∙ go_on n k e ∙ rw t refl

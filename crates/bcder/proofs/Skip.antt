@@ -70,8 +70,8 @@ module _ (mode : Mode) (w : List ℕ) (t : Tag) (f : Bool) (len : Length) (z : L
       go None = refl
       go (Some ts) = refl
 
-  pub definite_read : (n : ℕ) (contents y rest : List ℕ) → len ≡ Definite n → n ≤ length z → f ≡ true → contents ≡ take n z → rest ≡ drop n z → after_list mode false contents ≡ Some y → after_tree mode w ≡ Some rest
-  definite_read n contents y rest e l form front back r = contents_read n e l form ∙ rw (sym front, r) (ap Some (sym back))
+  pub definite_read : (n : ℕ) (contents rest : List ℕ) → len ≡ Definite n → n ≤ length z → f ≡ true → contents ≡ take n z → rest ≡ drop n z → after_list mode false contents ≡ Some [] → after_tree mode w ≡ Some rest
+  definite_read n contents rest e l form front back r = contents_read n e l form ∙ rw (sym front, r) (ap Some (sym back))
 
   pub bad_contents : (n : ℕ) (contents : List ℕ) → len ≡ Definite n → n ≤ length z → f ≡ true → contents ≡ take n z → after_list mode false contents ≡ None → after_tree mode w ≡ None
   bad_contents n contents e l form front r = contents_read n e l form ∙ rw (sym front, r) refl
@@ -188,7 +188,7 @@ Found mode octets rest = (t : Tree) × (w : List ℕ) × IsEncoding mode t w × 
 abbrev pub NothingFound : Mode → List ℕ → Type 0
 NothingFound mode octets = (t : Tree) (w x : List ℕ) → IsEncoding mode t w → octets ≡ w ++ x → ⊥
 
-found : (mode : Mode) (octets rest : List ℕ) → AreOctets octets → after_tree mode octets ≡ Some rest → Found mode octets rest
+pub found : (mode : Mode) (octets rest : List ℕ) → AreOctets octets → after_tree mode octets ≡ Some rest → Found mode octets rest
 found mode octets rest o e =
     let r = tree_read mode octets rest e in
     let s = tree_sound mode octets (r.0, rest) o r.1 in
@@ -202,6 +202,6 @@ pub if_found : {X : Type 0} (r : Option X) (now : X → List ℕ) (mode : Mode) 
 if_found None now mode octets o h = tt
 if_found (Some x) now mode octets o h = found mode octets (now x) o h
 
-pub if_nothing_found : {X : Type 0} (r : Option X) (mode : Mode) (octets : List ℕ) (n : ℕ) → length octets ≤ n → IfNone r (length octets ≤ n → after_tree mode octets ≡ None) → IfNone r (NothingFound mode octets)
-if_nothing_found None mode octets n l h = nothing_found mode octets (h l)
-if_nothing_found (Some x) mode octets n l h = tt
+pub if_nothing_found : {X : Type 0} (r : Option X) (mode : Mode) (octets : List ℕ) → IfNone r (after_tree mode octets ≡ None) → IfNone r (NothingFound mode octets)
+if_nothing_found None mode octets h = nothing_found mode octets h
+if_nothing_found (Some x) mode octets h = tt

@@ -1,8 +1,8 @@
 //! The plain reader: values at the front of a slice of octets, without memory (X.690, 8.1.1). It
 //! loops over values side by side, and calls itself for values inside values of definite length, no
 //! deeper than it is told. What the rest of the crate reads from sources is compared with it.
-ghost use Rattle.std.specs.Prelude.{◌≡◌, ℕ, ◌+◌, ◌<◌, ◌≤◌, ◌↔◌, Bool, List, [], ◌∷◌, ◌++◌, length};
-ghost use Rattle.std.specs.Prelude.{Option, Some, None, IfSome, IfNone, MatchOption, IsTrue};
+ghost use Rattle.std.specs.Prelude.{◌≡◌, ℕ, ◌+◌, ◌<◌, ◌≤◌, ◌↔◌, Bool, false, List, [], ◌∷◌, ◌++◌, length};
+ghost use Rattle.std.specs.Prelude.{Option, Some, None, IfSome, IfNone, MatchOption, IsTrue, IsFalse};
 ghost use Rattle.bcder.specs.declared.mode.Mode.{Mode as ModeValue};
 ghost use Rattle.bcder.specs.Tree.{Tree, Trees};
 ghost use Rattle.bcder.specs.Length.{IsEndOfContents};
@@ -10,7 +10,7 @@ ghost use Rattle.bcder.specs.Encoding.{IsEncoding, AreEncodings, IsHeader, may_h
 ghost use Rattle.bcder.specs.Told.{told};
 ghost use Rattle.bcder.specs.Identifier.{Tag as TagValue};
 ghost use Rattle.bcder.specs.Reading.{is_value_tag, BeginPrimitive};
-ghost use Rattle.bcder.specs.Reading.{read_header, at_end, after_tree, after_list, Leaves};
+ghost use Rattle.bcder.specs.Reading.{read_header, after_tree, after_list, Leaves};
 ghost use Rattle.bcder.specs.Grammar.{IsOnly, BeginsWhole};
 
 use crate::length::{Length, after_end, length_at};
@@ -110,44 +110,43 @@ fn long_size(octets: &[u8]) -> Option<usize>
 
 /// The octets after the value at the front, of no more than so many levels of values of definite
 /// length. `None` says that there is none, or that it is deeper.
-#[inline(always)]
+#[cycle(plain)]
+#[inline(never)]
 fn value_within(mode: Mode, octets: &[u8], levels: usize) -> Option<&[u8]>
     ensures read { IfSome result (λ r. after_tree mode octets.now ≡ Some r.now) }
     ensures none { IfNone result
         (length octets.now ≤ levels → after_tree mode octets.now ≡ None) }
 {
-    match short_size(octets) {
-        Some(size) => Some(octets.split_at(size).1),
-        None => apart_within(mode, octets, levels),
+    if let Some(size) = long_size(octets) {
+        return Some(octets.split_at(size).1);
     }
-}
-
-/// The same, with room for the answer that is cleared here, and not before the first look.
-#[inline(always)]
-fn apart_within(mode: Mode, octets: &[u8], levels: usize) -> Option<&[u8]>
-    ensures read { IfSome result (λ r. after_tree mode octets.now ≡ Some r.now) }
-    ensures none { IfNone result
-        (length octets.now ≤ levels → after_tree mode octets.now ≡ None) }
-{
-    let rest = any_within(mode, octets, levels);
-    rest
-}
-
-/// The same, whatever value it is.
-#[inline(never)]
-fn any_within(mode: Mode, octets: &[u8], levels: usize) -> Option<&[u8]>
-    ensures read { IfSome result (λ r. after_tree mode octets.now ≡ Some r.now) }
-    ensures none { IfNone result
-        (length octets.now ≤ levels → after_tree mode octets.now ≡ None) }
-{
-    match front_within(mode, octets, levels) {
-        Some((false, rest)) => Some(rest),
-        Some((true, inside)) => list_within(mode, true, inside, levels),
-        None => None,
+    let Some((opened, mut rest)) = front_within(mode, octets, levels) else {
+        return None;
+    };
+    let mut depth = usize::from(opened);
+    while depth > 0 {
+        match after_end(mode, rest) {
+            Some(after) => {
+                depth -= 1;
+                rest = after;
+            }
+            None => match short_size(rest) {
+                Some(size) => rest = rest.split_at(size).1,
+                None => match front_within(mode, rest, levels) {
+                    Some((opened, after)) => {
+                        depth += usize::from(opened);
+                        rest = after;
+                    }
+                    None => return None,
+                },
+            },
+        }
     }
+    Some(rest)
 }
 
-/// The same, or where it is of indefinite length the octets after its header, and which it is.
+/// The octets after the value at the front, or after its header if it is of indefinite length,
+/// which is told too.
 #[cycle(plain)]
 #[inline(always)]
 fn front_within(mode: Mode, octets: &[u8], levels: usize) -> Option<(bool, &[u8])>
@@ -156,9 +155,6 @@ fn front_within(mode: Mode, octets: &[u8], levels: usize) -> Option<(bool, &[u8]
     ensures none { IfNone result
         (length octets.now ≤ levels → after_tree mode octets.now ≡ None) }
 {
-    if let Some(size) = long_size(octets) {
-        return Some((false, octets.split_at(size).1));
-    }
     let Some((_, constructed, len, rest)) = header_at(mode, octets) else {
         return None;
     };
@@ -174,64 +170,34 @@ fn front_within(mode: Mode, octets: &[u8], levels: usize) -> Option<(bool, &[u8]
             if levels == 0 {
                 return None;
             }
-            match list_within(mode, false, contents, levels - 1) {
-                Some(_) => Some((false, after)),
-                None => None,
+            if is_list_within(mode, contents, levels - 1) {
+                Some((false, after))
+            } else {
+                None
             }
         }
         Length::Indefinite => Some((true, rest)),
     }
 }
 
-/// The octets after the end of a list, if it is here.
-#[tactic(auto, unfolding(crate::specs::Reading::at_end))]
-#[inline(always)]
-fn at_end(mode: Mode, marked: bool, octets: &[u8]) -> Option<&[u8]>
-    ensures { MatchOption result
-        (at_end mode marked octets.now ≡ None)
-        (λ r. at_end mode marked octets.now ≡ Some r.now) }
-{
-    if marked {
-        return after_end(mode, octets);
-    }
-    match octets {
-        [] => Some(octets),
-        _ => None,
-    }
-}
-
-/// The octets after the values up to the end. Values of indefinite length take no calls: those that
-/// are open are counted.
+/// Whether the octets are values up to the last one, of no more than so many levels.
 #[cycle(plain)]
-fn list_within(mode: Mode, marked: bool, octets: &[u8], levels: usize) -> Option<&[u8]>
-    ensures read { IfSome result (λ r. after_list mode marked octets.now ≡ Some r.now) }
-    ensures none { IfNone result
-        (length octets.now ≤ levels → after_list mode marked octets.now ≡ None) }
+fn is_list_within(mode: Mode, octets: &[u8], levels: usize) -> bool
+    ensures list { IsTrue result → after_list mode false octets.now ≡ Some [] }
+    ensures none { IsFalse result
+        → length octets.now ≤ levels → after_list mode false octets.now ≡ None }
 {
     let mut rest = octets;
-    let mut depth = 0usize;
-    loop {
+    while !rest.is_empty() {
         match short_size(rest) {
             Some(size) => rest = rest.split_at(size).1,
-            None => match at_end(mode, marked | (depth > 0), rest) {
-                Some(after) => {
-                    if depth == 0 {
-                        return Some(after);
-                    }
-                    depth -= 1;
-                    rest = after;
-                }
-                None => match front_within(mode, rest, levels) {
-                    Some((false, after)) => rest = after,
-                    Some((true, inside)) => {
-                        depth += 1;
-                        rest = inside;
-                    }
-                    None => return None,
-                },
+            None => match value_within(mode, rest, levels) {
+                Some(after) => rest = after,
+                None => return false,
             },
         }
     }
+    true
 }
 
 /// How many levels of values of definite length are looked at where deeper ones take no calls.
@@ -307,6 +273,16 @@ pub fn end_at(mode: Mode, octets: &[u8]) -> Option<&[u8]>
     after_end(mode, octets)
 }
 
+/// The octets after the value at the front, with room for the answer that is cleared here.
+#[inline(always)]
+fn value_at(mode: Mode, octets: &[u8]) -> Option<&[u8]>
+    ensures read { IfSome result (λ r. after_tree mode octets.now ≡ Some r.now) }
+    ensures none { IfNone result (after_tree mode octets.now ≡ None) }
+{
+    let rest = value_within(mode, octets, octets.len());
+    rest
+}
+
 /// The octets after the value at the front: none where no front of the octets is an encoding in the
 /// mode.
 #[inline(always)]
@@ -318,12 +294,15 @@ pub fn skip_one(mode: Mode, octets: &[u8]) -> Option<&[u8]>
     ensures none { IfNone result
         ((t : Tree) (w x : List ℕ) → IsEncoding mode t w → octets.now ≡ w ++ x → ⊥) }
 {
-    value_within(mode, octets, octets.len())
+    match short_size(octets) {
+        Some(size) => Some(octets.split_at(size).1),
+        None => value_at(mode, octets),
+    }
 }
 
 /// Whether the octets are the encodings of a list of values in the mode, one after the other.
 pub fn is_list(mode: Mode, octets: &[u8]) -> bool
     ensures { IsTrue result ↔ (ts : Trees) × AreEncodings mode ts octets.now }
 {
-    list_within(mode, false, octets, octets.len()).is_some()
+    is_list_within(mode, octets, octets.len())
 }

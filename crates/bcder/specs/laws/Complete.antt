@@ -50,7 +50,7 @@ BeginsValue-encoding mode (constructed t ts) w x h = framed h.2
     framed (inl d) = rw (d.is, append_assoc) (BeginsValue-header mode t true _ _ _ d.is_header)
     framed (inr d) = rw (d.is, append_assoc) (BeginsValue-header mode t true _ _ _ d.is_header)
 
-pub not_at_end : (mode : Mode) (marked : Bool) (w : List ℕ) → BeginsValue w → at_end mode marked w ≡ None
+not_at_end : (mode : Mode) (marked : Bool) (w : List ℕ) → BeginsValue w → at_end mode marked w ≡ None
 unfolding at_end read_end
 not_at_end mode true w h = rw h.is refl
 not_at_end mode false w h = rw h.is refl
