@@ -182,6 +182,7 @@ fn front_within(mode: Mode, octets: &[u8], levels: usize) -> Option<(bool, &[u8]
 
 /// Whether the octets are values up to the last one, of no more than so many levels.
 #[cycle(plain)]
+#[inline(always)]
 fn is_list_within(mode: Mode, octets: &[u8], levels: usize) -> bool
     ensures list { IsTrue result → after_list mode false octets.now ≡ Some [] }
     ensures none { IsFalse result
