@@ -1,5 +1,5 @@
 -- Lists of values, and the values of indefinite length that are open inside them.
-use Rattle.std.proofs.Common.{◌≡◌, ℕ, zero, suc, ◌+◌, ◌-◌, ◌<◌, ◌≤◌, Bool, true, false, List, [], ◌∷◌, length, Option, Some, None, option_map, option_and_then, refl, sym, ap, subst, ◌∙◌, arith}
+use Rattle.std.proofs.Common.{◌≡◌, ℕ, zero, suc, ◌+◌, ◌-◌, ◌<◌, ◌≤◌, Bool, true, false, List, [], ◌∷◌, length, Option, Some, None, option_map, option_and_then, refl, sym, ap, ◌∙◌, arith}
 use Rattle.std.specs.Int.{from_bool}
 use Rattle.std.proofs.lemmas.List.{length-append}
 use Rattle.bcder.specs.declared.mode.Mode.{Mode}
@@ -104,7 +104,6 @@ list_ended mode w (b ∷ v) k e = absurd (omega arith)
 
 abbrev pub InOpen : Mode → List ℕ → ℕ → List ℕ → Type 0
 InOpen mode w n left = Reads (after_tree mode w) (length w) (after_ends mode n) n left
-
 
 marker_ended : (mode : Mode) (w : List ℕ) → at_end mode true w ≡ read_end mode w
 unfolding at_end

@@ -89,7 +89,6 @@ pub(crate) fn short_size(octets: &[u8]) -> Option<usize>
 /// no mode has fewer for (8.1.3.5, 10.1), and is all here.
 #[inline(always)]
 fn long_size(octets: &[u8]) -> Option<usize>
-    ensures some { IfSome result (λ n. 2 ≤ n) }
     ensures fits { IfSome result (λ n. n ≤ length octets.now) }
     ensures begins { IfSome result (λ n. (mode : ModeValue) → BeginsWhole mode octets.now n) }
 {
@@ -108,8 +107,9 @@ fn long_size(octets: &[u8]) -> Option<usize>
     }
 }
 
-/// The octets after the value at the front, of no more than so many levels of values of definite
-/// length. `None` says that there is none, or that it is deeper.
+/// The octets after the value at the front, in which no more than so many levels of values of
+/// definite length are read: each takes a call. `None` says that there is none, or that it is
+/// deeper. Values of indefinite length that are open are counted, and take none.
 #[cycle(plain)]
 #[inline(never)]
 fn value_within(mode: Mode, octets: &[u8], levels: usize) -> Option<&[u8]>
@@ -180,7 +180,7 @@ fn front_within(mode: Mode, octets: &[u8], levels: usize) -> Option<(bool, &[u8]
     }
 }
 
-/// Whether the octets are values up to the last one, of no more than so many levels.
+/// Whether the octets are values up to the last one. `false` says that they aren't, or are deeper.
 #[cycle(plain)]
 #[inline(always)]
 fn is_list_within(mode: Mode, octets: &[u8], levels: usize) -> bool
@@ -201,11 +201,10 @@ fn is_list_within(mode: Mode, octets: &[u8], levels: usize) -> bool
     true
 }
 
-/// How many levels of values of definite length are looked at where deeper ones take no calls.
+/// How many levels are read of what can be read without calls, too.
 const LEVELS: usize = 64;
 
-/// How many octets the value at the front has, if it is all here and not too deep. `None` says
-/// nothing.
+/// How many octets the value at the front has, if it is all here and no deeper than that.
 #[inline(always)]
 pub(crate) fn size_within(mode: Mode, octets: &[u8]) -> Option<usize>
     ensures { IfSome result (λ n. BeginsWhole mode octets.now n) }
