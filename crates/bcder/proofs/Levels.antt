@@ -6,11 +6,10 @@ use Rattle.bcder.specs.declared.mode.Mode.{Mode}
 use Rattle.bcder.specs.Identifier.{AreOctets}
 use Rattle.bcder.specs.Tree.{Tree, Trees, ◌∷ₜ◌}
 use Rattle.bcder.specs.Reading.{read_end, read_list, read_tree, at_end, after_tree, after_list, Leaves}
-use Rattle.bcder.specs.laws.Complete.{two_octets}
 use Rattle.bcder.specs.laws.Sound.{end_sound}
 use Rattle.bcder.specs.laws.Stands.{AreOctets-after, tree_sound}
 use Rattle.bcder.proofs.Markers.{end_size}
-use Rattle.bcder.proofs.Skip.{tree_read}
+use Rattle.bcder.proofs.Skip.{tree_read, value_shorter}
 use Rattle.bcder.proofs.Steps.{read_list_step}
 
 list_ends : (mode : Mode) (marked : Bool) (w x : List ℕ) → AreOctets w → at_end mode marked w ≡ Some x → after_list mode marked w ≡ Some x
@@ -29,17 +28,6 @@ list_goes_on mode marked w o e = ap (option_map (λ ts. ts.1)) (read_list_step m
     go None = refl
     go (Some t) = inner t.0 (read_list mode marked t.1)
 
-at_end-marked : (mode : Mode) (w : List ℕ) → at_end mode true w ≡ read_end mode w
-unfolding at_end
-at_end-marked mode w = refl
-
-end_less : (mode : Mode) (w x : List ℕ) → AreOctets w → at_end mode true w ≡ Some x → length x + 2 ≤ length w
-end_less mode w x o e =
-    let m = end_sound mode w x o (sym (at_end-marked mode w) ∙ e) in
-    let s = end_size mode m.marker m.is_end in
-    let l : length w ≡ length m.marker + length x = ap length m.is ∙ length-append m.marker x in
-    let two : 2 ≤ length m.marker = s.0 in omega arith
-
 -- the octets after the ends of so many values of indefinite length, which are open before these octets
 abbrev pub after_ends : Mode → ℕ → List ℕ → Option (List ℕ)
 after_ends mode zero w = Some w
@@ -51,12 +39,6 @@ chained f g (Some y) = refl
 
 ends_go_on : (mode : Mode) (n : ℕ) (w : List ℕ) → AreOctets w → at_end mode true w ≡ None → after_ends mode (suc n) w ≡ option_and_then (after_ends mode (suc n)) (after_tree mode w)
 ends_go_on mode n w o e = ap (option_and_then (after_ends mode n)) (list_goes_on mode true w o e) ∙ chained (after_ends mode n) (after_list mode true) (after_tree mode w)
-
-value_shorter : (mode : Mode) (w x : List ℕ) → AreOctets w → after_tree mode w ≡ Some x → length x + 2 ≤ length w
-value_shorter mode w x o e =
-    let r = tree_read mode w x e in
-    let s = tree_sound mode w (r.0, x) o r.1 in
-    omega (arith, two_octets mode r.0 s.front s.is_encoding, ap length s.is, length-append s.front x)
 
 -- what is read of all these octets is what f gives of those that are left, where so many values are open
 pub record Reads (all : Option (List ℕ)) (size : ℕ) (f : List ℕ → Option (List ℕ)) (n : ℕ) (left : List ℕ) : Type 0 where

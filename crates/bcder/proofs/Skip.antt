@@ -12,7 +12,7 @@ use Rattle.bcder.specs.Tree.{Tree, constructed, Trees}
 use Rattle.bcder.specs.Encoding.{may_have, IsEncoding}
 use Rattle.bcder.specs.Grammar.{IsOnly, BeginsWhole}
 use Rattle.bcder.specs.Reading.{class_of, is_value_tag, is_marked, read_identifier, read_length, read_long, may_tell, Header, BeginPrimitive, read_header, read_contents, read_value, read_list, read_tree, after_tree, after_list}
-use Rattle.bcder.specs.laws.Complete.{header_size, tree_complete, one_encoding}
+use Rattle.bcder.specs.laws.Complete.{header_size, two_octets, tree_complete, one_encoding}
 use Rattle.bcder.specs.laws.Sound.{mapped, none_is}
 use Rattle.bcder.specs.laws.Stands.{AreOctets-after, header_sound, tree_sound}
 use Rattle.bcder.proofs.Steps.{read_tree_step}
@@ -39,18 +39,15 @@ pub no_header : (mode : Mode) (w : List ℕ) → AreOctets w → read_header mod
 unfolding after_tree read_value
 no_header mode w o e = ap (option_map (λ t. t.1)) (read_tree_step mode w o) ∙ rw e refl
 
--- what the program knows of a header that it read
-pub record HasHeader (mode : Mode) (w : List ℕ) (t : Tag) (f : Bool) (len : Length) (z : List ℕ) : Type 0 where
-  pub octets : AreOctets w
-  pub read : read_header mode w ≡ Some (record { tag = t; form = f; len = len }, z)
+-- ---- behind a header
 
-module _ (mode : Mode) (w : List ℕ) (t : Tag) (f : Bool) (len : Length) (z : List ℕ) (h : HasHeader mode w t f len z) where
+module _ (mode : Mode) (w : List ℕ) (t : Tag) (f : Bool) (len : Length) (z : List ℕ) (o : AreOctets w) (h : read_header mode w ≡ Some (record { tag = t; form = f; len = len }, z)) where
   behind : after_tree mode w ≡ option_map (λ t. t.1) (read_contents (read_list mode) t f len z)
   unfolding after_tree
-  behind = ap (option_map (λ t. t.1)) (from_header mode (record { tag = t; form = f; len = len }) w z h.octets h.read)
+  behind = ap (option_map (λ t. t.1)) (from_header mode (record { tag = t; form = f; len = len }) w z o h)
 
   pub octets_behind : AreOctets z
-  octets_behind = let d = header_sound mode w (record { tag = t; form = f; len = len }, z) h.octets h.read in AreOctets-after d.octets w z d.is h.octets
+  octets_behind = let d = header_sound mode w (record { tag = t; form = f; len = len }, z) o h in AreOctets-after d.octets w z d.is o
 
   pub too_short : (n : ℕ) → len ≡ Definite n → length z < n → after_tree mode w ≡ None
   too_short n e l = behind ∙ short f
@@ -79,7 +76,7 @@ module _ (mode : Mode) (w : List ℕ) (t : Tag) (f : Bool) (len : Length) (z : L
   pub indefinite_read : len ≡ Indefinite → after_tree mode w ≡ after_list mode true z
   unfolding after_list
   indefinite_read e =
-      let d = header_sound mode w (record { tag = t; form = f; len = len }, z) h.octets h.read in
+      let d = header_sound mode w (record { tag = t; form = f; len = len }, z) o h in
       let m : f ≡ true = marked_form mode f (rw e at d.is_header.allowed) in
       behind ∙ rw (m, e) (go (read_list mode true z))
     where
@@ -114,10 +111,11 @@ short_header b n some l k mode x =
     let z : b ≢ 0 = λ e. (let m : b % 64 ≡ 0 = rw e refl in omega arith) in
     (record { class = class_of b; number = b % 32 }, rw (lt-ltb (b % 32) 31 p, lt-leb 32 (b % 64) (omega arith), value_octet b (omega arith) z, lt-ltb n 128 k) refl)
 
-pub no_longer : (mode : Mode) (w rest : List ℕ) → AreOctets w → after_tree mode w ≡ Some rest → length rest ≤ length w
-no_longer mode w rest o e =
-    let r = tree_read mode w rest e in
-    let s = tree_sound mode w (r.0, rest) o r.1 in omega (arith, ap length s.is, length-append s.front rest)
+pub value_shorter : (mode : Mode) (w x : List ℕ) → AreOctets w → after_tree mode w ≡ Some x → length x + 2 ≤ length w
+value_shorter mode w x o e =
+    let r = tree_read mode w x e in
+    let s = tree_sound mode w (r.0, x) o r.1 in
+    omega (arith, two_octets mode r.0 s.front s.is_encoding, ap length s.is, length-append s.front x)
 
 -- what is read of octets is their front
 pub begins_read : (mode : Mode) (w rest : List ℕ) (n : ℕ) → AreOctets w → after_tree mode w ≡ Some rest → n + length rest ≡ length w → BeginsWhole mode w n
@@ -129,7 +127,7 @@ begins_read mode w rest n o e l =
 
 -- a primitive value whose header was read
 primitive_begins : (mode : Mode) (w x : List ℕ) (t : Tag) (n m : ℕ) → AreOctets w → read_header mode w ≡ Some (record { tag = t; form = false; len = Definite m }, x) → m ≤ length x → n + length (drop m x) ≡ length w → BeginsWhole mode w n
-primitive_begins mode w x t n m o e l k = begins_read mode w (drop m x) n o (primitive_read mode w t false (Definite m) x (record { octets = o; read = e }) m (drop m x) refl l refl refl) k
+primitive_begins mode w x t n m o e l k = begins_read mode w (drop m x) n o (primitive_read mode w t false (Definite m) x o e m (drop m x) refl l refl refl) k
 
 pub short_begins : (w : List ℕ) (n m : ℕ) → AreOctets w → 2 ≤ length w → BeginPrimitive (get_or w 0 0) (get_or w 1 0) → m ≡ get_or w 1 0 → 2 + m ≤ length w → n ≡ 2 + m → (mode : Mode) → BeginsWhole mode w n
 short_begins [] n m o two k e h r mode = absurd (omega arith)

@@ -1,7 +1,7 @@
 use Rattle.std.proofs.Common.{◌+◌, ◌≤◌, length, arith, rules}
 use Rattle.bcder.specs.Identifier.{AreOctets}
 use Rattle.bcder.proofs.Levels.{list_passes, list_fails, behind_shorter, list_ended, opened, ends_one, end_passes, open_passes, open_goes_on, open_fails}
-use Rattle.bcder.proofs.Skip.{HasHeader, no_header, octets_behind, too_short, primitive_read, definite_read, bad_contents, indefinite_read, whole_read}
+use Rattle.bcder.proofs.Skip.{no_header, octets_behind, too_short, primitive_read, definite_read, bad_contents, indefinite_read, whole_read}
 use Rattle.bcder.proofs.plain.+plain.Goals as goal
 
 pub front_within-returns-in_default-clause-none : goal.front_within-returns-in_default-clause-none
@@ -13,33 +13,33 @@ pub front_within-returns-then-rest-n-clause-none :
     goal.front_within-returns-then-rest-n-clause-none
 front_within-returns-then-rest-n-clause-none t c =
     let o : AreOctets c.args.octets.now = λ i. omega (arith, c.type_inv.octets i) in
-    λ _. too_short _ _ _ _ _ _ (record { octets = o; read = c.in-Some.ensures.read }) _ c.in-Definite.is c.if-rest-n.true
+    λ _. too_short _ _ _ _ _ _ o c.in-Some.ensures.read _ c.in-Definite.is c.if-rest-n.true
 
 pub front_within-returns-then-not-constructed-clause-read :
     goal.front_within-returns-then-not-constructed-clause-read
 front_within-returns-then-not-constructed-clause-read t c =
     let o : AreOctets c.args.octets.now = λ i. omega (arith, c.type_inv.octets i) in
-    primitive_read _ _ _ _ _ _ (record { octets = o; read = c.in-Some.ensures.read }) _ _ c.in-Definite.is c.if-rest-n.false c.if-not-constructed.true c.split_at.ensures.back
+    primitive_read _ _ _ _ _ _ o c.in-Some.ensures.read _ _ c.in-Definite.is c.if-rest-n.false c.if-not-constructed.true c.split_at.ensures.back
 
 pub front_within-returns-then-is_list_within-clause-read :
     goal.front_within-returns-then-is_list_within-clause-read
 front_within-returns-then-is_list_within-clause-read t c =
     let o : AreOctets c.args.octets.now = λ i. omega (arith, c.type_inv.octets i) in
-    definite_read _ _ _ _ _ _ (record { octets = o; read = c.in-Some.ensures.read }) _ _ _ c.in-Definite.is c.if-rest-n.false c.if-not-constructed.false c.split_at.ensures.front c.split_at.ensures.back (c.is_list_within.ensures.list c.if-is_list_within.true)
+    definite_read _ _ _ _ _ _ o c.in-Some.ensures.read _ _ _ c.in-Definite.is c.if-rest-n.false c.if-not-constructed.false c.split_at.ensures.front c.split_at.ensures.back (c.is_list_within.ensures.list c.if-is_list_within.true)
 
 pub front_within-returns-else-is_list_within-clause-none :
     goal.front_within-returns-else-is_list_within-clause-none
 front_within-returns-else-is_list_within-clause-none t c =
     let o : AreOctets c.args.octets.now = λ i. omega (arith, c.type_inv.octets i) in
     let less : length c.split_at.result.0.now + 2 ≤ length c.args.octets.now = search rules in
-    λ l. bad_contents _ _ _ _ _ _ (record { octets = o; read = c.in-Some.ensures.read }) _ _ c.in-Definite.is c.if-rest-n.false c.if-not-constructed.false c.split_at.ensures.front (c.is_list_within.ensures.none c.if-is_list_within.false (omega (arith, l, less, c.if-levels-eq0.false)))
+    λ l. bad_contents _ _ _ _ _ _ o c.in-Some.ensures.read _ _ c.in-Definite.is c.if-rest-n.false c.if-not-constructed.false c.split_at.ensures.front (c.is_list_within.ensures.none c.if-is_list_within.false (omega (arith, l, less, c.if-levels-eq0.false)))
 
 pub front_within-returns-in-Indefinite-clause-read :
     goal.front_within-returns-in-Indefinite-clause-read
 front_within-returns-in-Indefinite-clause-read t c =
     let o : AreOctets c.args.octets.now = λ i. omega (arith, c.type_inv.octets i) in
-    let h : HasHeader c.args.mode c.args.octets.now _ _ _ c.in-Some.rest.now = record { octets = o; read = c.in-Some.ensures.read } in
-    (octets_behind _ _ _ _ _ _ h, indefinite_read _ _ _ _ _ _ h c.in-Indefinite.is)
+    let h = c.in-Some.ensures.read in
+    (octets_behind _ _ _ _ _ _ o h, indefinite_read _ _ _ _ _ _ o h c.in-Indefinite.is)
 
 pub is_list_within-loop-rest-preserved-in-Some : goal.is_list_within-loop-rest-preserved-in-Some
 is_list_within-loop-rest-preserved-in-Some t c = list_passes _ _ _ c.loop-rest.invariant _ (search rules) (whole_read _ _ _ _ (c.in-Some.ensures.begins c.args.mode) c.split_at.ensures.back)
