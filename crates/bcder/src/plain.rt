@@ -1,8 +1,9 @@
 //! The plain reader: values at the front of a slice of octets, without memory (X.690, 8.1.1). It
 //! loops over values side by side, and calls itself for values inside values of definite length, no
 //! deeper than it is told. What the rest of the crate reads from sources is compared with it.
-ghost use Rattle.std.specs.Prelude.{◌≡◌, ℕ, ◌+◌, ◌<◌, ◌≤◌, ◌↔◌, Bool, false, List, [], ◌∷◌, ◌++◌, length};
-ghost use Rattle.std.specs.Prelude.{Option, Some, None, IfSome, IfNone, MatchOption, IsTrue, IsFalse};
+ghost use Rattle.std.specs.Prelude.{◌≡◌, ℕ, ◌+◌, ◌<◌, ◌≤◌, ◌↔◌, List, [], ◌∷◌, ◌++◌, length};
+ghost use Rattle.std.specs.Prelude.{Bool, false, IsTrue, IsFalse};
+ghost use Rattle.std.specs.Prelude.{Option, Some, None, IfSome, IfNone, MatchOption};
 ghost use Rattle.bcder.specs.declared.mode.Mode.{Mode as ModeValue};
 ghost use Rattle.bcder.specs.Tree.{Tree, Trees};
 ghost use Rattle.bcder.specs.Length.{IsEndOfContents};
