@@ -1,5 +1,5 @@
 -- What the plain reader's answers say of the octets.
-use Rattle.std.proofs.Common.{◌≡◌, ℕ, Bool, false, List, ◌++◌, Option, Some, None, MatchOption, IfSome, IfNone, IsSome, ◌↔◌, refl, sym, ap, subst, ◌∙◌}
+use Rattle.std.proofs.Common.{◌≡◌, ◌↔◌, ℕ, ◌≤◌, Bool, true, false, IsTrue, IsFalse, List, [], ◌++◌, length, Option, Some, None, option_map, MatchOption, IfSome, IfNone, refl, sym, ap, subst, ◌∙◌}
 use Rattle.bcder.specs.declared.mode.Mode.{Mode}
 use Rattle.bcder.specs.declared.length.Length.{Length}
 use Rattle.bcder.specs.Identifier.{AreOctets, Tag}
@@ -7,12 +7,11 @@ use Rattle.bcder.specs.Length.{IsEndOfContents}
 use Rattle.bcder.specs.Tree.{Trees}
 use Rattle.bcder.specs.Encoding.{IsHeader, AreEncodings}
 use Rattle.bcder.specs.Told.{told}
-use Rattle.bcder.specs.Reading.{read_header, read_end, read_list}
+use Rattle.bcder.specs.Reading.{read_header, read_end, read_list, after_list}
 use Rattle.bcder.specs.laws.Complete.{header_complete}
 use Rattle.bcder.specs.laws.Lengths.{read_end-complete}
-use Rattle.bcder.specs.laws.Sound.{end_sound, none_is}
+use Rattle.bcder.specs.laws.Sound.{end_sound, mapped, none_is}
 use Rattle.bcder.specs.laws.Stands.{header_sound, list_sound, list_complete}
-use Rattle.bcder.proofs.Skip.{ListRead}
 
 -- ---- headers
 
@@ -48,6 +47,7 @@ no_end_found (Some x) now mode octets h = tt
 
 -- ---- lists
 
-pub list_is_found : {X : Type 0} (r : Option X) (now : X → List ℕ) (mode : Mode) (octets : List ℕ) → AreOctets octets → MatchOption r (read_list mode false octets ≡ None) (λ x. ListRead mode false octets (now x)) → IsSome r ↔ (ts : Trees) × AreEncodings mode ts octets
-list_is_found None now mode octets o h = (λ e. cc, λ l. absurd (none_is _ (sym h ∙ list_complete mode octets l.0 l.1)))
-list_is_found (Some x) now mode octets o h = (λ _. (h.0, list_sound mode octets h.0 (now x) o h.1), λ _. refl)
+pub list_is_found : (b : Bool) (mode : Mode) (octets : List ℕ) (n : ℕ) → AreOctets octets → length octets ≤ n → (IsTrue b → after_list mode false octets ≡ Some []) → (IsFalse b → length octets ≤ n → after_list mode false octets ≡ None) → IsTrue b ↔ (ts : Trees) × AreEncodings mode ts octets
+unfolding after_list
+list_is_found false mode octets n o l list none = (λ e. cc, λ ts. absurd (none_is [] (sym (none refl l) ∙ ap (option_map (λ r. r.1)) (list_complete mode octets ts.0 ts.1))))
+list_is_found true mode octets n o l list none = (λ e. (let m = mapped (λ r. r.1) (read_list mode false octets) [] (list e) in (m.0.0, list_sound mode octets m.0.0 m.0.1 o m.1)), λ ts. refl)

@@ -1,128 +1,149 @@
--- Values of indefinite length that are open, one inside the other, and what ends them.
-use Rattle.std.proofs.Common.{◌≡◌, ℕ, zero, suc, ◌+◌, ◌-◌, ◌<◌, ◌≤◌, Bool, true, false, List, [], ◌∷◌, length, take, Option, Some, None, IfSome, refl, sym, ap, subst, ◌∙◌, arith}
-use Rattle.std.proofs.lemmas.List.{length-append, take_at}
+-- Lists of values, and the values of indefinite length that are open inside them.
+use Rattle.std.proofs.Common.{◌≡◌, ℕ, zero, suc, ◌+◌, ◌-◌, ◌<◌, ◌≤◌, Bool, true, false, List, [], ◌∷◌, length, Option, Some, None, option_map, option_and_then, refl, sym, ap, ◌∙◌, arith}
+use Rattle.std.specs.Int.{from_bool}
+use Rattle.std.proofs.lemmas.List.{length-append}
 use Rattle.bcder.specs.declared.mode.Mode.{Mode}
-use Rattle.bcder.specs.declared.length.Length.TheVariants.{Indefinite}
-use Rattle.bcder.specs.Identifier.{AreOctets, Tag}
-use Rattle.bcder.specs.Encoding.{IsEncoding}
-use Rattle.bcder.specs.Grammar.{BeginsWhole}
-use Rattle.bcder.specs.Reading.{read_header, read_end, at_end}
+use Rattle.bcder.specs.Identifier.{AreOctets}
+use Rattle.bcder.specs.Tree.{Tree, Trees, ◌∷ₜ◌}
+use Rattle.bcder.specs.Reading.{read_end, read_list, read_tree, at_end, after_tree, after_list, Leaves}
 use Rattle.bcder.specs.laws.Sound.{end_sound}
-use Rattle.bcder.specs.laws.Stands.{AreOctets-after, header_sound, tree_sound}
+use Rattle.bcder.specs.laws.Stands.{AreOctets-after, tree_sound}
 use Rattle.bcder.proofs.Markers.{end_size}
-use Rattle.bcder.proofs.Skip.{TreeRead, ListRead, list_ends, list_goes_on, indefinite_read, at_end-marked, at_end-nil, at_end-some, ReadsOn, reads_more, reads_end}
+use Rattle.bcder.proofs.Skip.{tree_read, value_shorter}
+use Rattle.bcder.proofs.Steps.{read_list_step}
 
--- the value that is read begins the octets
-pub begins_before : (mode : Mode) (w rest : List ℕ) (n : ℕ) → AreOctets w → TreeRead mode w rest → n ≡ length w - length rest → BeginsWhole mode w n
-begins_before mode w rest n o r e =
-    let s = tree_sound mode w (r.0, rest) o r.1 in
-    let l : length w ≡ length s.front + length rest = ap length s.is ∙ length-append s.front rest in
-    let k : length s.front ≡ n = omega arith in
-    record { tree = r.0; encodes = subst (λ v. IsEncoding mode r.0 v) (sym (ap (take n) s.is ∙ take_at s.front rest n k)) s.is_encoding; fits = omega arith }
+list_ends : (mode : Mode) (marked : Bool) (w x : List ℕ) → AreOctets w → at_end mode marked w ≡ Some x → after_list mode marked w ≡ Some x
+unfolding after_list
+list_ends mode marked w x o e = ap (option_map (λ ts. ts.1)) (read_list_step mode marked w o) ∙ rw e refl
 
-pub octets_behind : (mode : Mode) (w rest : List ℕ) → AreOctets w → TreeRead mode w rest → AreOctets rest
-octets_behind mode w rest o r = (let s = tree_sound mode w (r.0, rest) o r.1 in AreOctets-after s.front w rest s.is o)
+list_goes_on : (mode : Mode) (marked : Bool) (w : List ℕ) → AreOctets w → at_end mode marked w ≡ None → after_list mode marked w ≡ option_and_then (after_list mode marked) (after_tree mode w)
+unfolding after_list after_tree
+list_goes_on mode marked w o e = ap (option_map (λ ts. ts.1)) (read_list_step mode marked w o) ∙ rw e (go (read_tree mode w))
+  where
+    inner : (t : Tree) (r : Option (Trees × List ℕ)) → option_map (λ ts. ts.1) (option_map {U = Trees × List ℕ} (λ ts. (t ∷ₜ ts.0, ts.1)) r) ≡ option_map (λ ts. ts.1) r
+    inner t None = refl
+    inner t (Some ts) = refl
+
+    go : (r : Option (Tree × List ℕ)) → option_map (λ ts. ts.1) (option_and_then {U = Trees × List ℕ} (λ t. option_map (λ ts. (t.0 ∷ₜ ts.0, ts.1)) (read_list mode marked t.1)) r) ≡ option_and_then (λ y. option_map (λ ts. ts.1) (read_list mode marked y)) (option_map (λ t. t.1) r)
+    go None = refl
+    go (Some t) = inner t.0 (read_list mode marked t.1)
+
+-- the octets after the ends of so many values of indefinite length, which are open before these octets
+abbrev pub after_ends : Mode → ℕ → List ℕ → Option (List ℕ)
+after_ends mode zero w = Some w
+after_ends mode (suc n) w = option_and_then (after_ends mode n) (after_list mode true w)
+
+chained : (f g : List ℕ → Option (List ℕ)) (r : Option (List ℕ)) → option_and_then f (option_and_then g r) ≡ option_and_then (λ y. option_and_then f (g y)) r
+chained f g None = refl
+chained f g (Some y) = refl
+
+ends_go_on : (mode : Mode) (n : ℕ) (w : List ℕ) → AreOctets w → at_end mode true w ≡ None → after_ends mode (suc n) w ≡ option_and_then (after_ends mode (suc n)) (after_tree mode w)
+ends_go_on mode n w o e = ap (option_and_then (after_ends mode n)) (list_goes_on mode true w o e) ∙ chained (after_ends mode n) (after_list mode true) (after_tree mode w)
+
+-- what is read of all these octets is what f gives of those that are left, where so many values are open
+pub record Reads (all : Option (List ℕ)) (size : ℕ) (f : List ℕ → Option (List ℕ)) (n : ℕ) (left : List ℕ) : Type 0 where
+  pub octets : AreOctets left
+  pub shorter : length left + n ≤ size
+  pub same : all ≡ f left
+
+-- behind a value
+passes : (mode : Mode) (all : Option (List ℕ)) (size : ℕ) (f : List ℕ → Option (List ℕ)) (n : ℕ) (v y : List ℕ) → Reads all size f n v → f v ≡ option_and_then f (after_tree mode v) → after_tree mode v ≡ Some y → Reads all size f n y
+passes mode all size f n v y k go e =
+    let r = tree_read mode v y e in
+    let s = tree_sound mode v (r.0, y) k.octets r.1 in
+    record {
+      octets = AreOctets-after s.front v y s.is k.octets;
+      shorter = (let h = k.shorter in omega (arith, value_shorter mode v y k.octets e));
+      same = k.same ∙ go ∙ rw e refl;
+    }
 
 -- ---- up to the last octet
 
-abbrev pub ReadsIn : Mode → List ℕ → List ℕ → Type 0
-ReadsIn mode w left = ReadsOn mode false w left
+abbrev pub InList : Mode → List ℕ → List ℕ → Type 0
+InList mode w left = Reads (after_list mode false w) (length w) (after_list mode false) 0 left
 
-pub reads_in_more : (mode : Mode) (w v y : List ℕ) → ReadsIn mode w v → 0 < length v → TreeRead mode v y → length y + 2 ≤ length v → ReadsIn mode w y
-reads_in_more mode w v y k n t l = reads_more mode false w v y k (at_end-some mode v n) t l
+not_ended : (mode : Mode) (w : List ℕ) → 0 < length w → at_end mode false w ≡ None
+unfolding at_end
+not_ended mode [] e = absurd (omega arith)
+not_ended mode (b ∷ w) e = refl
 
-pub reads_in_all : (mode : Mode) (w v : List ℕ) → ReadsIn mode w v → length v ≡ 0 → ListRead mode false w []
-reads_in_all mode w [] k e = reads_end mode false w [] [] k (at_end-nil mode [] refl)
-reads_in_all mode w (b ∷ v) k e = absurd (omega arith)
+module _ (mode : Mode) (w v : List ℕ) (k : InList mode w v) where
+  pub list_passes : (y : List ℕ) → 0 < length v → after_tree mode v ≡ Some y → InList mode w y
+  list_passes y s e = passes mode (after_list mode false w) (length w) (after_list mode false) 0 v y k (list_goes_on mode false v k.octets (not_ended mode v s)) e
 
--- ---- up to end markers
+  pub list_fails : 0 < length v → after_tree mode v ≡ None → after_list mode false w ≡ None
+  list_fails s e = k.same ∙ list_goes_on mode false v k.octets (not_ended mode v s) ∙ rw e refl
 
--- the octets w end so many open values, and x stands behind them
-abbrev pub Closes : Mode → ℕ → List ℕ → List ℕ → Type 0
-Closes mode zero w x = w ≡ x
-Closes mode (suc n) w x = (y : List ℕ) × ListRead mode true w y × Closes mode n y x
+  pub behind_shorter : (y : List ℕ) → after_tree mode v ≡ Some y → length y < length v
+  behind_shorter y e = (let s = value_shorter mode v y k.octets e in omega arith)
 
--- where so many are open before these octets, what ends them ends the list
-pub record EndsOn (mode : Mode) (w : List ℕ) (count : ℕ) (left : List ℕ) : Type 0 where
-  pub octets : AreOctets left
-  pub some : 1 ≤ count
-  pub shorter : length left + count ≤ length w + 1
-  pub ends : (x : List ℕ) → Closes mode count left x → ListRead mode true w x
+pub list_ended : (mode : Mode) (w v : List ℕ) → InList mode w v → length v ≡ 0 → after_list mode false w ≡ Some []
+unfolding at_end
+list_ended mode w [] k e = k.same ∙ list_ends mode false [] [] k.octets refl
+list_ended mode w (b ∷ v) k e = absurd (omega arith)
 
-marked_end : (mode : Mode) (w x : List ℕ) → AreOctets w → read_end mode w ≡ Some x → ListRead mode true w x
-marked_end mode w x o e = list_ends mode true w x o (at_end-marked mode w ∙ e)
+-- ---- up to the ends of open values
 
-pub ends_here : (mode : Mode) (w v x : List ℕ) (n : ℕ) → EndsOn mode w n v → n ≡ 1 → read_end mode v ≡ Some x → ListRead mode true w x
-ends_here mode w v x n k e r = k.ends x (subst (λ i. Closes mode i v x) (sym e) (x, marked_end mode v x k.octets r, refl))
+abbrev pub InOpen : Mode → List ℕ → ℕ → List ℕ → Type 0
+InOpen mode w n left = Reads (after_tree mode w) (length w) (after_ends mode n) n left
 
-end_less : (mode : Mode) (w x : List ℕ) → AreOctets w → read_end mode w ≡ Some x → length x + 2 ≤ length w
-end_less mode w x o e =
+marker_ended : (mode : Mode) (w : List ℕ) → at_end mode true w ≡ read_end mode w
+unfolding at_end
+marker_ended mode w = refl
+
+end_shorter : (mode : Mode) (w x : List ℕ) → AreOctets w → read_end mode w ≡ Some x → length x + 2 ≤ length w
+end_shorter mode w x o e =
     let m = end_sound mode w x o e in
     let s = end_size mode m.marker m.is_end in
-    let l : length w ≡ length m.marker + length x = ap length m.is ∙ length-append m.marker x in
-    let two : 2 ≤ length m.marker = s.0 in omega arith
+    let two : 2 ≤ length m.marker = s.0 in
+    omega (arith, ap length m.is, length-append m.marker x)
 
-pub end_no_longer : (mode : Mode) (w v x : List ℕ) (n : ℕ) → EndsOn mode w n v → read_end mode v ≡ Some x → length x < length v
-end_no_longer mode w v x n k r = (let l = end_less mode v x k.octets r in omega arith)
+one_ended : (r : Option (List ℕ)) → option_and_then (λ w. Some w) r ≡ r
+one_ended None = refl
+one_ended (Some w) = refl
 
-one_closed : (mode : Mode) (w v x : List ℕ) (n : ℕ) → EndsOn mode w (suc n) v → 1 ≤ n → read_end mode v ≡ Some x → EndsOn mode w n x
-one_closed mode w v x n k s r =
-    let m = end_sound mode v x k.octets r in
-    let l = end_less mode v x k.octets r in
-    record {
-      octets = AreOctets-after m.marker v x m.is k.octets;
-      some = s;
-      shorter = (let h = k.shorter in omega arith);
-      ends = λ y c. k.ends y (x, marked_end mode v x k.octets r, c);
-    }
+pub opened : (mode : Mode) (w x : List ℕ) (b : Bool) (n : ℕ) → AreOctets w → Leaves mode w b x → length x + 2 ≤ length w → n ≡ from_bool b → InOpen mode w n x
+opened mode w x false n o l s e =
+    let r = tree_read mode w x l in
+    let t = tree_sound mode w (r.0, x) o r.1 in
+    rw e (record { octets = AreOctets-after t.front w x t.is o; shorter = omega arith; same = l })
+opened mode w x true n o l s e = rw e (record { octets = l.0; shorter = omega arith; same = l.1 ∙ sym (one_ended (after_list mode true x)) })
 
-pub ends_one : (mode : Mode) (w v x : List ℕ) (n : ℕ) → EndsOn mode w n v → (n ≡ 1 → ⊥) → read_end mode v ≡ Some x → EndsOn mode w (n - 1) x
-ends_one mode w v x zero k d r = absurd (let s = k.some in omega arith)
-ends_one mode w v x (suc zero) k d r = absurd (d refl)
-ends_one mode w v x (suc (suc n)) k d r =
-    let e : suc (suc n) - 1 ≡ suc n = omega arith in subst (λ i. EndsOn mode w i x) (sym e) (one_closed mode w v x (suc n) k (omega arith) r)
+module _ (mode : Mode) (w v : List ℕ) where
+  pub ends_one : (n : ℕ) → InOpen mode w n v → 0 < n → (x : List ℕ) → read_end mode v ≡ Some x → InOpen mode w (n - 1) x
+  ends_one zero k s x e = absurd (omega arith)
+  ends_one (suc n) k s x e =
+      let m = end_sound mode v x k.octets e in
+      let one : suc n - 1 ≡ n = omega arith in
+      rw one (record {
+        octets = AreOctets-after m.marker v x m.is k.octets;
+        shorter = (let h = k.shorter in omega (arith, end_shorter mode v x k.octets e));
+        same = k.same ∙ rw (list_ends mode true v x k.octets (marker_ended mode v ∙ e)) refl;
+      })
 
-not_ended : (mode : Mode) (v : List ℕ) → read_end mode v ≡ None → at_end mode true v ≡ None
-not_ended mode v e = at_end-marked mode v ∙ e
+  pub end_passes : (n : ℕ) → InOpen mode w n v → (x : List ℕ) → read_end mode v ≡ Some x → length x < length v
+  end_passes n k x e = omega (arith, end_shorter mode v x k.octets e)
 
-list_with : (mode : Mode) (v y x : List ℕ) → AreOctets v → at_end mode true v ≡ None → TreeRead mode v y → ListRead mode true y x → ListRead mode true v x
-list_with mode v y x o e t l = list_goes_on (Some x) (λ (z : List ℕ). z) mode true v y o e t l
+  go_on : (n : ℕ) → InOpen mode w (suc n) v → read_end mode v ≡ None → after_ends mode (suc n) v ≡ option_and_then (after_ends mode (suc n)) (after_tree mode v)
+  go_on n k e = ends_go_on mode n v k.octets (marker_ended mode v ∙ e)
 
--- behind a value the same are open
-closes_with : (mode : Mode) (n : ℕ) (v y x : List ℕ) → 1 ≤ n → AreOctets v → at_end mode true v ≡ None → TreeRead mode v y → Closes mode n y x → Closes mode n v x
-closes_with mode zero v y x s o e t c = absurd (omega arith)
-closes_with mode (suc n) v y x s o e t c = (c.0, list_with mode v y c.0 o e t c.1, c.2)
+  pub open_passes : (n : ℕ) → InOpen mode w n v → 0 < n → (y : List ℕ) → read_end mode v ≡ None → after_tree mode v ≡ Some y → InOpen mode w n y
+  open_passes zero k s y e t = absurd (omega arith)
+  open_passes (suc n) k s y e t = passes mode (after_tree mode w) (length w) (after_ends mode (suc n)) (suc n) v y k (go_on n k e) t
 
-pub ends_behind : (mode : Mode) (w v y : List ℕ) (n : ℕ) → EndsOn mode w n v → read_end mode v ≡ None → TreeRead mode v y → length y + 2 ≤ length v → EndsOn mode w n y
-ends_behind mode w v y n k e t l = record {
-  octets = octets_behind mode v y k.octets t;
-  some = k.some;
-  shorter = (let h = k.shorter in omega arith);
-  ends = λ x c. k.ends x (closes_with mode n v y x k.some k.octets (not_ended mode v e) t c);
-}
+  pub open_goes_on : (n : ℕ) → InOpen mode w n v → 0 < n → (y : List ℕ) (b : Bool) (m : ℕ) → read_end mode v ≡ None → Leaves mode v b y → length y + 2 ≤ length v → m ≡ from_bool b → InOpen mode w (n + m) y
+  open_goes_on zero k s y b m e l less is = absurd (omega arith)
+  open_goes_on (suc n) k s y false m e l less is =
+      let none : suc n + 0 ≡ suc n = omega arith in
+      rw (is, none) (open_passes (suc n) k s y e l)
+  open_goes_on (suc n) k s y true m e l less is =
+      let one : suc n + 1 ≡ suc (suc n) = omega arith in
+      rw (is, one) (record {
+        octets = l.0;
+        shorter = (let h = k.shorter in omega arith);
+        same = k.same ∙ go_on n k e ∙ rw (l.1) refl;
+      })
 
--- and behind the header of one of indefinite length one more
-abbrev pub Opens : Mode → List ℕ → List ℕ → Type 0
-Opens mode v z = (t : Tag) × (f : Bool) × (read_header mode v ≡ Some (record { tag = t; form = f; len = Indefinite }, z))
-
-tree_with : (mode : Mode) (v z y : List ℕ) → AreOctets v → Opens mode v z → ListRead mode true z y → TreeRead mode v y
-tree_with mode v z y o h l = indefinite_read (Some y) (λ (u : List ℕ). u) mode h.0 h.1 v z o h.2 l
-
-closes_inside : (mode : Mode) (n : ℕ) (v z x : List ℕ) → 1 ≤ n → AreOctets v → at_end mode true v ≡ None → Opens mode v z → Closes mode (suc n) z x → Closes mode n v x
-closes_inside mode n v z x s o e h c = closes_with mode n v c.0 x s o e (tree_with mode v z c.0 o h c.1) c.2
-
-pub ends_inside : (mode : Mode) (w v z : List ℕ) (n : ℕ) → EndsOn mode w n v → read_end mode v ≡ None → Opens mode v z → length z + 2 ≤ length v → EndsOn mode w (n + 1) z
-ends_inside mode w v z n k e h l =
-    let d = header_sound mode v (record { tag = h.0; form = h.1; len = Indefinite }, z) k.octets h.2 in
-    let one : n + 1 ≡ suc n = omega arith in
-    record {
-      octets = AreOctets-after d.octets v z d.is k.octets;
-      some = omega arith;
-      shorter = (let q = k.shorter in omega arith);
-      ends = λ x c. k.ends x (closes_inside mode n v z x k.some k.octets (not_ended mode v e) h (subst (λ i. Closes mode i z x) one c));
-    }
-
--- a value of indefinite length, whose end was read if it was found
-pub if_ended : {X : Type 0} (r : Option X) (now : X → List ℕ) (mode : Mode) (v z : List ℕ) → AreOctets v → Opens mode v z → IfSome r (λ x. ListRead mode true z (now x)) → IfSome r (λ x. TreeRead mode v (now x))
-if_ended None now mode v z o h l = tt
-if_ended (Some x) now mode v z o h l = tree_with mode v z (now x) o h l
+  pub open_fails : (n : ℕ) → InOpen mode w n v → 0 < n → read_end mode v ≡ None → after_tree mode v ≡ None → after_tree mode w ≡ None
+  open_fails zero k s e t = absurd (omega arith)
+  open_fails (suc n) k s e t = k.same ∙ go_on n k e ∙ rw t refl

@@ -1,8 +1,9 @@
 //! The plain reader: values at the front of a slice of octets, without memory (X.690, 8.1.1). It
-//! loops over values side by side, and calls itself for values inside values. What the rest of the
-//! crate reads from sources is compared with it.
-ghost use Rattle.std.specs.Prelude.{◌≡◌, ℕ, ◌+◌, ◌<◌, ◌≤◌, ◌↔◌, Bool, List, [], ◌∷◌, ◌++◌, length};
-ghost use Rattle.std.specs.Prelude.{Option, Some, None, IfSome, IfNone, MatchOption, IsTrue};
+//! loops over values side by side, and calls itself for values inside values of definite length, no
+//! deeper than it is told. What the rest of the crate reads from sources is compared with it.
+ghost use Rattle.std.specs.Prelude.{◌≡◌, ℕ, ◌+◌, ◌<◌, ◌≤◌, ◌↔◌, List, [], ◌∷◌, ◌++◌, length};
+ghost use Rattle.std.specs.Prelude.{Bool, false, IsTrue, IsFalse};
+ghost use Rattle.std.specs.Prelude.{Option, Some, None, IfSome, IfNone, MatchOption};
 ghost use Rattle.bcder.specs.declared.mode.Mode.{Mode as ModeValue};
 ghost use Rattle.bcder.specs.Tree.{Tree, Trees};
 ghost use Rattle.bcder.specs.Length.{IsEndOfContents};
@@ -10,10 +11,8 @@ ghost use Rattle.bcder.specs.Encoding.{IsEncoding, AreEncodings, IsHeader, may_h
 ghost use Rattle.bcder.specs.Told.{told};
 ghost use Rattle.bcder.specs.Identifier.{Tag as TagValue};
 ghost use Rattle.bcder.specs.Reading.{is_value_tag, BeginPrimitive};
-ghost use Rattle.bcder.specs.Reading.{read_header, read_tree, read_list, at_end};
+ghost use Rattle.bcder.specs.Reading.{read_header, after_tree, after_list, Leaves};
 ghost use Rattle.bcder.specs.Grammar.{IsOnly, BeginsWhole};
-
-pub(crate) mod levels;
 
 use crate::length::{Length, after_end, length_at};
 use crate::mode::Mode;
@@ -87,42 +86,75 @@ pub(crate) fn short_size(octets: &[u8]) -> Option<usize>
     }
 }
 
-/// The octets after the value at the front.
-#[cycle(plain)]
+/// The same, if it is primitive, has one identifier octet and three length octets for a length that
+/// no mode has fewer for (8.1.3.5, 10.1), and is all here.
 #[inline(always)]
-fn value_at(mode: Mode, octets: &[u8]) -> Option<&[u8]>
-    ensures read { MatchOption result
-        (read_tree mode octets.now ≡ None)
-        (λ r. (t : Tree) × (read_tree mode octets.now ≡ Some (t, r.now))) }
-    ensures less { IfSome result (λ r. length r.now + 2 ≤ length octets.now) }
+fn long_size(octets: &[u8]) -> Option<usize>
+    ensures fits { IfSome result (λ n. n ≤ length octets.now) }
+    ensures begins { IfSome result (λ n. (mode : ModeValue) → BeginsWhole mode octets.now n) }
 {
-    match short_size(octets) {
-        Some(size) => Some(octets.split_at(size).1),
-        None => apart_at(mode, octets),
+    match octets {
+        [first, count, high, low, ..] if *count == 0x82 => {
+            let kind = *first % 64;
+            let len = usize::from(*high) * 0x100 + usize::from(*low);
+            let size = 4 + len;
+            if 1 <= kind && kind <= 30 && len >= 0x100 && size <= octets.len() {
+                Some(size)
+            } else {
+                None
+            }
+        }
+        _ => None,
     }
 }
 
-/// The same, with room for the answer that is cleared here, and not before the first look.
-#[cycle(plain)]
-#[inline(always)]
-fn apart_at(mode: Mode, octets: &[u8]) -> Option<&[u8]>
-    ensures read { MatchOption result
-        (read_tree mode octets.now ≡ None)
-        (λ r. (t : Tree) × (read_tree mode octets.now ≡ Some (t, r.now))) }
-    ensures less { IfSome result (λ r. length r.now + 2 ≤ length octets.now) }
-{
-    let rest = any_at(mode, octets);
-    rest
-}
-
-/// The same, whatever value it is.
+/// The octets after the value at the front, in which no more than so many levels of values of
+/// definite length are read: each takes a call. `None` says that there is none, or that it is
+/// deeper. Values of indefinite length that are open are counted, and take none.
 #[cycle(plain)]
 #[inline(never)]
-fn any_at(mode: Mode, octets: &[u8]) -> Option<&[u8]>
-    ensures read { MatchOption result
-        (read_tree mode octets.now ≡ None)
-        (λ r. (t : Tree) × (read_tree mode octets.now ≡ Some (t, r.now))) }
-    ensures less { IfSome result (λ r. length r.now + 2 ≤ length octets.now) }
+fn value_within(mode: Mode, octets: &[u8], levels: usize) -> Option<&[u8]>
+    ensures read { IfSome result (λ r. after_tree mode octets.now ≡ Some r.now) }
+    ensures none { IfNone result
+        (length octets.now ≤ levels → after_tree mode octets.now ≡ None) }
+{
+    if let Some(size) = long_size(octets) {
+        return Some(octets.split_at(size).1);
+    }
+    let Some((opened, mut rest)) = front_within(mode, octets, levels) else {
+        return None;
+    };
+    let mut depth = usize::from(opened);
+    while depth > 0 {
+        match after_end(mode, rest) {
+            Some(after) => {
+                depth -= 1;
+                rest = after;
+            }
+            None => match short_size(rest) {
+                Some(size) => rest = rest.split_at(size).1,
+                None => match front_within(mode, rest, levels) {
+                    Some((opened, after)) => {
+                        depth += usize::from(opened);
+                        rest = after;
+                    }
+                    None => return None,
+                },
+            },
+        }
+    }
+    Some(rest)
+}
+
+/// The octets after the value at the front, or after its header if it is of indefinite length,
+/// which is told too.
+#[cycle(plain)]
+#[inline(always)]
+fn front_within(mode: Mode, octets: &[u8], levels: usize) -> Option<(bool, &[u8])>
+    ensures read { IfSome result (λ r. Leaves mode octets.now r.0 r.1.now) }
+    ensures less { IfSome result (λ r. length r.1.now + 2 ≤ length octets.now) }
+    ensures none { IfNone result
+        (length octets.now ≤ levels → after_tree mode octets.now ≡ None) }
 {
     let Some((_, constructed, len, rest)) = header_at(mode, octets) else {
         return None;
@@ -134,50 +166,53 @@ fn any_at(mode: Mode, octets: &[u8]) -> Option<&[u8]>
             }
             let (contents, after) = rest.split_at(n);
             if !constructed {
-                return Some(after);
+                return Some((false, after));
             }
-            match list_at(mode, false, contents) {
-                Some(_) => Some(after),
-                None => None,
+            if levels == 0 {
+                return None;
+            }
+            if is_list_within(mode, contents, levels - 1) {
+                Some((false, after))
+            } else {
+                None
             }
         }
-        Length::Indefinite => list_at(mode, true, rest),
+        Length::Indefinite => Some((true, rest)),
     }
 }
 
-/// The octets after the end of a list, if it is here.
-#[tactic(auto, unfolding(crate::specs::Reading::at_end))]
-fn at_end(mode: Mode, marked: bool, octets: &[u8]) -> Option<&[u8]>
-    ensures { MatchOption result
-        (at_end mode marked octets.now ≡ None)
-        (λ r. at_end mode marked octets.now ≡ Some r.now) }
-{
-    if marked {
-        return after_end(mode, octets);
-    }
-    match octets {
-        [] => Some(octets),
-        _ => None,
-    }
-}
-
-/// The octets after the values up to the end.
+/// Whether the octets are values up to the last one. `false` says that they aren't, or are deeper.
 #[cycle(plain)]
-fn list_at(mode: Mode, marked: bool, octets: &[u8]) -> Option<&[u8]>
-    ensures less { IfSome result (λ r. length r.now ≤ length octets.now) }
-    ensures read { MatchOption result
-        (read_list mode marked octets.now ≡ None)
-        (λ r. (ts : Trees) × (read_list mode marked octets.now ≡ Some (ts, r.now))) }
+#[inline(always)]
+fn is_list_within(mode: Mode, octets: &[u8], levels: usize) -> bool
+    ensures list { IsTrue result → after_list mode false octets.now ≡ Some [] }
+    ensures none { IsFalse result
+        → length octets.now ≤ levels → after_list mode false octets.now ≡ None }
 {
     let mut rest = octets;
-    loop {
-        if let Some(after) = at_end(mode, marked, rest) {
-            return Some(after);
+    while !rest.is_empty() {
+        match short_size(rest) {
+            Some(size) => rest = rest.split_at(size).1,
+            None => match value_within(mode, rest, levels) {
+                Some(after) => rest = after,
+                None => return false,
+            },
         }
-        match value_at(mode, rest) {
-            Some(after) => rest = after,
-            None => return None,
-        }
+    }
+    true
+}
+
+/// How many levels are read of what can be read without calls, too.
+const LEVELS: usize = 64;
+
+/// How many octets the value at the front has, if it is all here and no deeper than that.
+#[inline(always)]
+pub(crate) fn size_within(mode: Mode, octets: &[u8]) -> Option<usize>
+    ensures { IfSome result (λ n. BeginsWhole mode octets.now n) }
+{
+    match value_within(mode, octets, LEVELS) {
+        Some(rest) => Some(octets.len() - rest.len()),
+        None => None,
     }
 }
 
@@ -239,6 +274,16 @@ pub fn end_at(mode: Mode, octets: &[u8]) -> Option<&[u8]>
     after_end(mode, octets)
 }
 
+/// The octets after the value at the front, with room for the answer that is cleared here.
+#[inline(always)]
+fn value_at(mode: Mode, octets: &[u8]) -> Option<&[u8]>
+    ensures read { IfSome result (λ r. after_tree mode octets.now ≡ Some r.now) }
+    ensures none { IfNone result (after_tree mode octets.now ≡ None) }
+{
+    let rest = value_within(mode, octets, octets.len());
+    rest
+}
+
 /// The octets after the value at the front: none where no front of the octets is an encoding in the
 /// mode.
 #[inline(always)]
@@ -250,12 +295,15 @@ pub fn skip_one(mode: Mode, octets: &[u8]) -> Option<&[u8]>
     ensures none { IfNone result
         ((t : Tree) (w x : List ℕ) → IsEncoding mode t w → octets.now ≡ w ++ x → ⊥) }
 {
-    value_at(mode, octets)
+    match short_size(octets) {
+        Some(size) => Some(octets.split_at(size).1),
+        None => value_at(mode, octets),
+    }
 }
 
 /// Whether the octets are the encodings of a list of values in the mode, one after the other.
 pub fn is_list(mode: Mode, octets: &[u8]) -> bool
     ensures { IsTrue result ↔ (ts : Trees) × AreEncodings mode ts octets.now }
 {
-    list_at(mode, false, octets).is_some()
+    is_list_within(mode, octets, octets.len())
 }

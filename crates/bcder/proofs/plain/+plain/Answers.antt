@@ -1,54 +1,91 @@
-use Rattle.std.proofs.Common.{arith}
+use Rattle.std.proofs.Common.{◌+◌, ◌≤◌, length, arith, rules}
 use Rattle.bcder.specs.Identifier.{AreOctets}
-use Rattle.bcder.proofs.Skip.{HasHeader, at_end_less, no_header, too_short_at, bad_contents_at, primitive_at, definite_at, indefinite_at, reads_more, reads_end, reads_nothing, whole_read}
+use Rattle.bcder.proofs.Levels.{list_passes, list_fails, behind_shorter, list_ended, opened, ends_one, end_passes, open_passes, open_goes_on, open_fails}
+use Rattle.bcder.proofs.Skip.{no_header, octets_behind, too_short, primitive_read, definite_read, bad_contents, indefinite_read, whole_read}
 use Rattle.bcder.proofs.plain.+plain.Goals as goal
 
-pub list_at-returns-in-Some-clause-less : goal.list_at-returns-in-Some-clause-less
-list_at-returns-in-Some-clause-less t c = omega (arith, at_end_less _ _ _ _ c.loop-after.invariant.octets c.in-Some.ensures)
-
-pub list_at-returns-in-Some-clause-read : goal.list_at-returns-in-Some-clause-read
-list_at-returns-in-Some-clause-read t c = reads_end _ _ _ _ _ c.loop-after.invariant c.in-Some.ensures
-
-pub list_at-loop-after-preserved : goal.list_at-loop-after-preserved
-list_at-loop-after-preserved t c = reads_more _ _ _ _ _ c.loop-after.invariant c.in_default.ensures c.in-Some-value_at.ensures.read c.in-Some-value_at.ensures.less
-
-pub list_at-returns-in-None-clause-read : goal.list_at-returns-in-None-clause-read
-list_at-returns-in-None-clause-read t c = reads_nothing _ _ _ _ c.loop-after.invariant c.in_default.ensures c.in-None.ensures.read
-
-pub any_at-returns-in_default-clause-read : goal.any_at-returns-in_default-clause-read
-any_at-returns-in_default-clause-read t c =
+pub front_within-returns-in_default-clause-none : goal.front_within-returns-in_default-clause-none
+front_within-returns-in_default-clause-none t c =
     let o : AreOctets c.args.octets.now = λ i. omega (arith, c.type_inv.octets i) in
-    no_header _ _ o c.in_default.ensures.read
+    λ _. no_header _ _ o c.in_default.ensures.read
 
-pub any_at-returns-then-rest-n-clause-read : goal.any_at-returns-then-rest-n-clause-read
-any_at-returns-then-rest-n-clause-read t c =
+pub front_within-returns-then-rest-n-clause-none :
+    goal.front_within-returns-then-rest-n-clause-none
+front_within-returns-then-rest-n-clause-none t c =
     let o : AreOctets c.args.octets.now = λ i. omega (arith, c.type_inv.octets i) in
-    let h : HasHeader c.args.mode c.args.octets.now c.in-Some.field-0-0 c.in-Some.constructed c.in-Some.len c.in-Some.rest.now = record { octets = o; read = c.in-Some.ensures.read } in
-    too_short_at c.args.mode c.args.octets.now c.in-Some.field-0-0 c.in-Some.constructed c.in-Some.len c.in-Some.rest.now c.in-Definite.n h c.in-Definite.is c.if-rest-n.true
+    λ _. too_short _ _ _ _ _ _ o c.in-Some.ensures.read _ c.in-Definite.is c.if-rest-n.true
 
-pub any_at-returns-then-not-constructed-clause-read : goal.any_at-returns-then-not-constructed-clause-read
-any_at-returns-then-not-constructed-clause-read t c =
+pub front_within-returns-then-not-constructed-clause-read :
+    goal.front_within-returns-then-not-constructed-clause-read
+front_within-returns-then-not-constructed-clause-read t c =
     let o : AreOctets c.args.octets.now = λ i. omega (arith, c.type_inv.octets i) in
-    let h : HasHeader c.args.mode c.args.octets.now c.in-Some.field-0-0 c.in-Some.constructed c.in-Some.len c.in-Some.rest.now = record { octets = o; read = c.in-Some.ensures.read } in
-    primitive_at c.args.mode c.args.octets.now c.in-Some.field-0-0 c.in-Some.constructed c.in-Some.len c.in-Some.rest.now c.in-Definite.n _ h c.in-Definite.is c.if-rest-n.false c.if-not-constructed.true c.split_at.ensures.back
+    primitive_read _ _ _ _ _ _ o c.in-Some.ensures.read _ _ c.in-Definite.is c.if-rest-n.false c.if-not-constructed.true c.split_at.ensures.back
 
-pub any_at-returns-in-Some-list_at-clause-read : goal.any_at-returns-in-Some-list_at-clause-read
-any_at-returns-in-Some-list_at-clause-read t c =
+pub front_within-returns-then-is_list_within-clause-read :
+    goal.front_within-returns-then-is_list_within-clause-read
+front_within-returns-then-is_list_within-clause-read t c =
     let o : AreOctets c.args.octets.now = λ i. omega (arith, c.type_inv.octets i) in
-    let h : HasHeader c.args.mode c.args.octets.now c.in-Some.field-0-0 c.in-Some.constructed c.in-Some.len c.in-Some.rest.now = record { octets = o; read = c.in-Some.ensures.read } in
-    definite_at c.args.mode c.args.octets.now c.in-Some.field-0-0 c.in-Some.constructed c.in-Some.len c.in-Some.rest.now c.in-Definite.n c.split_at.result.0.now c.in-Some-list_at.field-0.now _ h c.in-Definite.is c.if-rest-n.false c.if-not-constructed.false c.split_at.ensures.front c.split_at.ensures.back c.in-Some-list_at.ensures.read
+    definite_read _ _ _ _ _ _ o c.in-Some.ensures.read _ _ _ c.in-Definite.is c.if-rest-n.false c.if-not-constructed.false c.split_at.ensures.front c.split_at.ensures.back (c.is_list_within.ensures.list c.if-is_list_within.true)
 
-pub any_at-returns-in-None-clause-read : goal.any_at-returns-in-None-clause-read
-any_at-returns-in-None-clause-read t c =
+pub front_within-returns-else-is_list_within-clause-none :
+    goal.front_within-returns-else-is_list_within-clause-none
+front_within-returns-else-is_list_within-clause-none t c =
     let o : AreOctets c.args.octets.now = λ i. omega (arith, c.type_inv.octets i) in
-    let h : HasHeader c.args.mode c.args.octets.now c.in-Some.field-0-0 c.in-Some.constructed c.in-Some.len c.in-Some.rest.now = record { octets = o; read = c.in-Some.ensures.read } in
-    bad_contents_at c.args.mode c.args.octets.now c.in-Some.field-0-0 c.in-Some.constructed c.in-Some.len c.in-Some.rest.now c.in-Definite.n c.split_at.result.0.now h c.in-Definite.is c.if-rest-n.false c.if-not-constructed.false c.split_at.ensures.front c.in-None.ensures.read
+    let less : length c.split_at.result.0.now + 2 ≤ length c.args.octets.now = search rules in
+    λ l. bad_contents _ _ _ _ _ _ o c.in-Some.ensures.read _ _ c.in-Definite.is c.if-rest-n.false c.if-not-constructed.false c.split_at.ensures.front (c.is_list_within.ensures.none c.if-is_list_within.false (omega (arith, l, less, c.if-levels-eq0.false)))
 
-pub any_at-returns-in-Indefinite-clause-read : goal.any_at-returns-in-Indefinite-clause-read
-any_at-returns-in-Indefinite-clause-read t c =
+pub front_within-returns-in-Indefinite-clause-read :
+    goal.front_within-returns-in-Indefinite-clause-read
+front_within-returns-in-Indefinite-clause-read t c =
     let o : AreOctets c.args.octets.now = λ i. omega (arith, c.type_inv.octets i) in
-    let h : HasHeader c.args.mode c.args.octets.now c.in-Some.field-0-0 c.in-Some.constructed c.in-Some.len c.in-Some.rest.now = record { octets = o; read = c.in-Some.ensures.read } in
-    indefinite_at c.list_at-in-Indefinite.result (λ r. r.now) c.args.mode c.args.octets.now c.in-Some.field-0-0 c.in-Some.constructed c.in-Some.len c.in-Some.rest.now h c.in-Indefinite.is c.list_at-in-Indefinite.ensures.read
+    let h = c.in-Some.ensures.read in
+    (octets_behind _ _ _ _ _ _ o h, indefinite_read _ _ _ _ _ _ o h c.in-Indefinite.is)
 
-pub value_at-returns-in-Some-clause-read : goal.value_at-returns-in-Some-clause-read
-value_at-returns-in-Some-clause-read t c = whole_read c.args.mode c.args.octets.now c.split_at.result.1.now c.in-Some.size (c.in-Some.ensures.begins c.args.mode) c.split_at.ensures.back
+pub is_list_within-loop-rest-preserved-in-Some : goal.is_list_within-loop-rest-preserved-in-Some
+is_list_within-loop-rest-preserved-in-Some t c = list_passes _ _ _ c.loop-rest.invariant _ (search rules) (whole_read _ _ _ _ (c.in-Some.ensures.begins c.args.mode) c.split_at.ensures.back)
+
+pub is_list_within-loop-rest-smaller : goal.is_list_within-loop-rest-smaller
+is_list_within-loop-rest-smaller t c = behind_shorter _ _ _ c.loop-rest.invariant _ c.in-Some-value_within.ensures.read
+
+pub is_list_within-loop-rest-preserved : goal.is_list_within-loop-rest-preserved
+is_list_within-loop-rest-preserved t c = list_passes _ _ _ c.loop-rest.invariant _ (search rules) c.in-Some-value_within.ensures.read
+
+pub is_list_within-returns-in-None-value_within-clause-none :
+    goal.is_list_within-returns-in-None-value_within-clause-none
+is_list_within-returns-in-None-value_within-clause-none t c =
+    λ _ l. list_fails _ _ _ c.loop-rest.invariant (search rules) (c.in-None-value_within.ensures.none (let s = c.loop-rest.invariant.shorter in omega (arith, l)))
+
+pub is_list_within-returns-clause-list : goal.is_list_within-returns-clause-list
+is_list_within-returns-clause-list t c = λ _. list_ended _ _ _ c.loop-rest.invariant (search rules)
+
+pub value_within-returns-in-Some-clause-read : goal.value_within-returns-in-Some-clause-read
+value_within-returns-in-Some-clause-read t c = whole_read _ _ _ _ (c.in-Some.ensures.begins c.args.mode) c.split_at.ensures.back
+
+pub value_within-loop-depth-init : goal.value_within-loop-depth-init
+value_within-loop-depth-init t c =
+    let o : AreOctets c.args.octets.now = λ i. omega (arith, c.type_inv.octets i) in
+    let e = c.in-Some-front_within.ensures in
+    opened _ _ _ _ _ o e.read e.less c.from-depth.ensures
+
+pub value_within-loop-depth-smaller-in-Some-after_end :
+    goal.value_within-loop-depth-smaller-in-Some-after_end
+value_within-loop-depth-smaller-in-Some-after_end t c = end_passes _ _ _ _ c.loop-depth.invariant _ c.in-Some-after_end.ensures
+
+pub value_within-loop-depth-preserved-in-Some-after_end :
+    goal.value_within-loop-depth-preserved-in-Some-after_end
+value_within-loop-depth-preserved-in-Some-after_end t c = ends_one _ _ _ _ c.loop-depth.invariant c.loop-depth-test.true _ c.in-Some-after_end.ensures
+
+pub value_within-loop-depth-preserved-in-Some-short_size :
+    goal.value_within-loop-depth-preserved-in-Some-short_size
+value_within-loop-depth-preserved-in-Some-short_size t c =
+    open_passes _ _ _ _ c.loop-depth.invariant c.loop-depth-test.true _ c.in-None.ensures (whole_read _ _ _ _ (c.in-Some-short_size.ensures.begins c.args.mode) c.split_at-in-Some-short_size.ensures.back)
+
+pub value_within-loop-depth-preserved : goal.value_within-loop-depth-preserved
+value_within-loop-depth-preserved t c =
+    let e = c.in-Some-front_within-2.ensures in
+    open_goes_on _ _ _ _ c.loop-depth.invariant c.loop-depth-test.true _ _ _ c.in-None.ensures e.read e.less c.from-depth-in-Some-front_within-2.ensures
+
+pub value_within-returns-in-None-front_within-clause-none :
+    goal.value_within-returns-in-None-front_within-clause-none
+value_within-returns-in-None-front_within-clause-none t c =
+    λ l. open_fails _ _ _ _ c.loop-depth.invariant c.loop-depth-test.true c.in-None.ensures (c.in-None-front_within.ensures.none (let s = c.loop-depth.invariant.shorter in omega (arith, l)))

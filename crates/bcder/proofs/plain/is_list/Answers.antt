@@ -6,4 +6,4 @@ use Rattle.bcder.proofs.plain.is_list.Goals as goal
 pub returns : goal.returns
 returns c =
     let o : AreOctets c.args.octets.now = λ i. omega (arith, c.type_inv.octets i) in
-    rw c.is_some.ensures (list_is_found c.list_at.result (λ r. r.now) c.args.mode c.args.octets.now o c.list_at.ensures.read)
+    list_is_found _ _ _ _ o (omega arith) c.is_list_within.ensures.list c.is_list_within.ensures.none

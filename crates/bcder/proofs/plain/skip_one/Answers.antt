@@ -1,12 +1,17 @@
 use Rattle.std.proofs.Common.{arith}
 use Rattle.bcder.specs.Identifier.{AreOctets}
-use Rattle.bcder.proofs.Skip.{if_found, if_nothing_found}
+use Rattle.bcder.proofs.Skip.{found, if_found, if_nothing_found, whole_read}
 use Rattle.bcder.proofs.plain.skip_one.Goals as goal
 
-pub returns-clause-found : goal.returns-clause-found
-returns-clause-found c =
+pub returns-in-Some-clause-found : goal.returns-in-Some-clause-found
+returns-in-Some-clause-found c =
     let o : AreOctets c.args.octets.now = λ i. omega (arith, c.type_inv.octets i) in
-    if_found c.value_at.result (λ r. r.now) c.args.mode c.args.octets.now o c.value_at.ensures.read
+    found _ _ _ o (whole_read _ _ _ _ (c.in-Some.ensures.begins c.args.mode) c.split_at.ensures.back)
 
-pub returns-clause-none : goal.returns-clause-none
-returns-clause-none c = if_nothing_found c.value_at.result (λ r. r.now) c.args.mode c.args.octets.now c.value_at.ensures.read
+pub returns-in-None-clause-found : goal.returns-in-None-clause-found
+returns-in-None-clause-found c =
+    let o : AreOctets c.args.octets.now = λ i. omega (arith, c.type_inv.octets i) in
+    if_found c.value_at.result (λ r. r.now) _ _ o c.value_at.ensures.read
+
+pub returns-in-None-clause-none : goal.returns-in-None-clause-none
+returns-in-None-clause-none c = if_nothing_found c.value_at.result _ _ c.value_at.ensures.none

@@ -21,8 +21,7 @@ use crate::decode::source::{LimitedSource, Source};
 use crate::decode::stop::Stop;
 use crate::length::Length;
 use crate::mode::Mode;
-use crate::plain::levels::size_within;
-use crate::plain::short_size;
+use crate::plain::{short_size, size_within};
 
 /// Passes over the next value, or answers `None` at the end of the content, whose marker it takes.
 ///

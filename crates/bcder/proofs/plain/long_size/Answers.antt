@@ -1,7 +1,7 @@
 use Rattle.std.proofs.Common.{arith, refl}
 use Rattle.bcder.specs.Identifier.{AreOctets}
 use Rattle.bcder.proofs.Skip.{long_begins}
-use Rattle.bcder.proofs.plain.levels.long_size.Goals as goal
+use Rattle.bcder.proofs.plain.long_size.Goals as goal
 
 pub returns-then-size-octets-clause-begins : goal.returns-then-size-octets-clause-begins
 returns-then-size-octets-clause-begins c =
