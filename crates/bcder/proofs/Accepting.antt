@@ -2,14 +2,15 @@
 use Rattle.std.proofs.Common.{◌≡◌, ap, sym, ◌∙◌, subst}
 use Rattle.std.specs.Prelude.{Ok, Err}
 use Rattle.bcder.specs.declared.decode.error.DecodeError.{DecodeError}
-use Rattle.bcder.specs.Cause.{IsRefusal}
-use Rattle.bcder.specs.Content.{Reading}
-use Rattle.bcder.specs.Identifier.{Tag}
-use Rattle.bcder.specs.Tree.{Tree}
-use Rattle.bcder.specs.OctetString.{StringOctets, octets_of, flat, MeansString}
-use Rattle.bcder.specs.CharSet.{Step, Accepts}
-use Rattle.bcder.specs.RestrictedString.{MeansRestricted}
-use Rattle.bcder.specs.Valued.{ReadsTree, RefusesToRead, ReadsContent, ReadsAny, HoldsTree, failed, source, memory, nothing}
+use Rattle.bcder.specs.calls.Cause.{IsRefusal}
+use Rattle.bcder.specs.calls.Content.{Reading}
+use Rattle.bcder.specs.x690.Identifier.{Tag}
+use Rattle.bcder.specs.x690.Tree.{Tree}
+use Rattle.bcder.specs.calls.StringOctets.{StringOctets, octets_of, MeansString}
+use Rattle.bcder.specs.x690.OctetString.{flat}
+use Rattle.bcder.specs.x690.CharSet.{Step, Accepts}
+use Rattle.bcder.specs.calls.RestrictedString.{MeansRestricted}
+use Rattle.bcder.specs.calls.Valued.{ReadsTree, RefusesToRead, ReadsContent, ReadsAny, HoldsTree, failed, source, memory, nothing}
 use Rattle.bcder.proofs.OneString.{means_flat}
 use Rattle.bcder.proofs.Valued.{one_content}
 

@@ -8,15 +8,15 @@ use Rattle.bcder.specs.declared.decode.header.Header.{Header as Kept}
 use Rattle.bcder.specs.declared.decode.content.State.TheVariants.{Failed}
 use Rattle.bcder.specs.declared.decode.error.DecodeError.{DecodeError}
 use Rattle.bcder.specs.declared.decode.error.ContentError.{ContentError}
-use Rattle.bcder.specs.Calls.{HasForm}
-use Rattle.bcder.specs.Cause.{Cause, cause_of, of_source, IsOfContent, IsRefusal}
-use Rattle.bcder.specs.Encoding.{IsHeader, may_have}
-use Rattle.bcder.specs.Identifier.{Tag}
-use Rattle.bcder.specs.Peek.{header, octets_header}
-use Rattle.bcder.specs.Stream.{Grew}
-use Rattle.bcder.specs.Content.{Reading, Asked, tagged, Enters, HasHeader, HasMarker, HasOther, Falls, Resembles, IsElsewhere, none_left, other, marker, IsAbsent, IsLeft, RefusesHeader, failed, source, nothing}
-use Rattle.bcder.specs.Entering.{EntersOctets}
-use Rattle.bcder.specs.Takes.{HasNone, TakesNext, by_form}
+use Rattle.bcder.specs.calls.Calls.{HasForm}
+use Rattle.bcder.specs.calls.Cause.{Cause, cause_of, of_source, IsOfContent, IsRefusal}
+use Rattle.bcder.specs.x690.Encoding.{IsHeader, may_have}
+use Rattle.bcder.specs.x690.Identifier.{Tag}
+use Rattle.bcder.specs.steps.Peek.{header, octets_header}
+use Rattle.bcder.specs.calls.Stream.{Grew}
+use Rattle.bcder.specs.calls.Content.{Reading, Asked, tagged, Enters, HasHeader, HasMarker, HasOther, Falls, Resembles, IsElsewhere, none_left, other, marker, IsAbsent, IsLeft, RefusesHeader, failed, source, nothing}
+use Rattle.bcder.specs.steps.Entering.{EntersOctets}
+use Rattle.bcder.specs.calls.Takes.{HasNone, TakesNext, by_form}
 use Rattle.bcder.proofs.Entering.{looked_enters, header_entered, no_fewer}
 use Rattle.bcder.proofs.Stopping.{header_stopped}
 use Rattle.bcder.proofs.Taking.{next_refused}

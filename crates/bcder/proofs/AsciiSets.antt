@@ -7,8 +7,8 @@ use Rattle.std.proofs.lemmas.Bool.Decides.{nat_tests}
 use Rattle.std.proofs.lemmas.Str.{encodes-chars, encodes-IsAscii}
 use Rattle.std.specs.List.{list_all}
 use Rattle.std.specs.Str.{IsUtf8, IsAscii, IsNotAscii, chars, encode_utf8_all}
-use Rattle.bcder.specs.CharSet.{Spells, Accepts, HasNo}
-use Rattle.bcder.specs.AsciiSets.{one_octet_step, is_ia5}
+use Rattle.bcder.specs.x690.CharSet.{Spells, Accepts, HasNo}
+use Rattle.bcder.specs.x690.AsciiSets.{one_octet_step, is_ia5}
 use Rattle.bcder.specs.laws.CharSets.{AllHave, self_spelled, all_ascii, spells_text, ia5_ascii}
 
 module _ (has : ℕ → Bool) where

@@ -5,10 +5,10 @@ use Rattle.std.proofs.lemmas.List.{length-append, take-append-le, drop_at}
 use Rattle.bcder.specs.declared.mode.Mode.{Mode}
 use Rattle.bcder.specs.declared.length.Length.{Length}
 use Rattle.bcder.specs.declared.length.Length.TheVariants.{Definite, Indefinite}
-use Rattle.bcder.specs.Identifier.{AreOctets, Tag, end_of_contents, IsTag, base128, identifier}
-use Rattle.bcder.specs.Length.{big_endian, AreLengthOctets}
-use Rattle.bcder.specs.Reading.{may_tell, read_long, read_length, third_digit, second_digit, read_number, class_of, is_marked, read_identifier, read_front}
-use Rattle.bcder.specs.Begins.{BeginsNoIdentifier}
+use Rattle.bcder.specs.x690.Identifier.{AreOctets, Tag, end_of_contents, IsTag, base128, identifier}
+use Rattle.bcder.specs.x690.Length.{big_endian, AreLengthOctets}
+use Rattle.bcder.specs.steps.Reading.{may_tell, read_long, read_length, third_digit, second_digit, read_number, class_of, is_marked, read_identifier, read_front}
+use Rattle.bcder.specs.calls.Begins.{BeginsNoIdentifier}
 use Rattle.bcder.specs.laws.Identifiers.{read_identifier-identifier, identifier_some}
 use Rattle.bcder.specs.laws.Lengths.{read_length-tells}
 use Rattle.bcder.specs.laws.Sound.{identifier_sound, length_sound}

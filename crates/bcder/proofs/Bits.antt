@@ -9,9 +9,9 @@ use Rattle.std.proofs.Math.Pow.{pow_mono}
 use Rattle.std.proofs.Math.Nat.{div-eq_of_lt}
 use Rattle.bcder.specs.declared.mode.Mode.{Mode}
 use Rattle.bcder.specs.declared.mode.Mode.TheVariants.{Ber, Cer, Der}
-use Rattle.bcder.specs.Identifier.{AreOctets}
+use Rattle.bcder.specs.x690.Identifier.{AreOctets}
 use Rattle.bcder.specs.laws.Octets.{AreOctets-nil, AreOctets-cons}
-use Rattle.bcder.specs.BitString.{Bits, is_one, octet_bits, bits, cleared, AreCleared, contents_octets, as_written}
+use Rattle.bcder.specs.x690.BitString.{Bits, is_one, octet_bits, bits, cleared, AreCleared, contents_octets, as_written}
 
 pub octet_bits_length : (w : List ℕ) → length (octet_bits w) ≡ 8 * length w
 octet_bits_length [] = refl

@@ -11,12 +11,12 @@ use Rattle.bcder.specs.declared.decode.content.State.{State}
 use Rattle.bcder.specs.declared.decode.content.State.TheVariants.{Open, Ended}
 use Rattle.bcder.specs.declared.decode.error.ContentError.{ContentError}
 use Rattle.bcder.specs.declared.decode.error.DecodeError.{DecodeError}
-use Rattle.bcder.specs.Cause.{Cause, cause_of, of_source, of_content, of_memory, MatchCause}
-use Rattle.bcder.specs.Length.{IsEndOfContents}
-use Rattle.bcder.specs.Stream.{Layer, Stream, Grew, cut, past, limited, ahead}
-use Rattle.bcder.specs.Captured.{Kept}
-use Rattle.bcder.specs.Capturing.{IsCaptureOf, Holds, Captures, RefusesCapture, RanFrom, HandsOver, CapturesOver, IsMarker, EndsIn, RefusesLeft, by_content, by_source, by_memory}
-use Rattle.bcder.specs.Content.{Reading, values, Octets, label, Falls, Closes, Moves, Whole}
+use Rattle.bcder.specs.calls.Cause.{Cause, cause_of, of_source, of_content, of_memory, MatchCause}
+use Rattle.bcder.specs.x690.Length.{IsEndOfContents}
+use Rattle.bcder.specs.calls.Stream.{Layer, Stream, Grew, cut, past, limited, ahead}
+use Rattle.bcder.specs.calls.Captured.{Kept}
+use Rattle.bcder.specs.calls.Capturing.{IsCaptureOf, Holds, Captures, RefusesCapture, RanFrom, HandsOver, CapturesOver, IsMarker, EndsIn, RefusesLeft, by_content, by_source, by_memory}
+use Rattle.bcder.specs.calls.Content.{Reading, values, Octets, label, Falls, Closes, Moves, Whole}
 use Rattle.bcder.specs.laws.Canonical.{AreEncodings-in_ber}
 use Rattle.bcder.specs.laws.Lengths.{IsLengthForm-from_length}
 use Rattle.bcder.specs.laws.Limits.{first_kept, rest_kept, rest_told_behind, limit_told, limit_told_after}

@@ -7,20 +7,20 @@ use Rattle.bcder.specs.declared.mode.Mode.{Mode}
 use Rattle.bcder.specs.declared.decode.content.Kind.TheVariants as kind
 use Rattle.bcder.specs.declared.decode.content.State.TheVariants.{Open, Ended, Failed}
 use Rattle.bcder.specs.declared.decode.error.DecodeError.{DecodeError}
-use Rattle.bcder.specs.Cause.{cause_of}
-use Rattle.bcder.specs.Tree.{Tree}
-use Rattle.bcder.specs.Encoding.{IsEncoding}
-use Rattle.bcder.specs.Grammar.{IsOnly}
-use Rattle.bcder.specs.Stream.{Grew}
-use Rattle.bcder.specs.Captured.{Kept, AreWhole}
-use Rattle.bcder.specs.Capturing.{IsCaptureOf, Captures, RefusesCapture, RefusesLeft, by_content, by_source, by_memory}
-use Rattle.bcder.specs.CapturingValues.{RefusesWhere, failed, source, nothing, memory, WantsMemory, CapturesBy, PassesBy, CapturesValue, HasNoValue, CapturesValues, HasOthers, PassesToEnd}
-use Rattle.bcder.specs.Content.{Reading, Form, octets, values, Octets, IndefiniteValues, label, Closes, Moves, Falls, HasMarker, EndsAt, IsDone, IsUsedUp}
-use Rattle.bcder.specs.Decoding.{AnsweredOn, by_closure, left_failed}
-use Rattle.bcder.specs.Walking.{HasValue, PassesValue, ClosesBefore, HasValues, Walks}
-use Rattle.bcder.specs.Walking as walking
-use Rattle.bcder.specs.Skipping.{RefusesOne}
-use Rattle.bcder.specs.Skipping as skipping
+use Rattle.bcder.specs.calls.Cause.{cause_of}
+use Rattle.bcder.specs.x690.Tree.{Tree}
+use Rattle.bcder.specs.x690.Encoding.{IsEncoding}
+use Rattle.bcder.specs.x690.Grammar.{IsOnly}
+use Rattle.bcder.specs.calls.Stream.{Grew}
+use Rattle.bcder.specs.calls.Captured.{Kept, AreWhole}
+use Rattle.bcder.specs.calls.Capturing.{IsCaptureOf, Captures, RefusesCapture, RefusesLeft, by_content, by_source, by_memory}
+use Rattle.bcder.specs.calls.CapturingValues.{RefusesWhere, failed, source, nothing, memory, WantsMemory, CapturesBy, PassesBy, CapturesValue, HasNoValue, CapturesValues, HasOthers, PassesToEnd}
+use Rattle.bcder.specs.calls.Content.{Reading, Form, octets, values, Octets, IndefiniteValues, label, Closes, Moves, Falls, HasMarker, EndsAt, IsDone, IsUsedUp}
+use Rattle.bcder.specs.calls.Decoding.{AnsweredOn, by_closure, left_failed}
+use Rattle.bcder.specs.calls.Walking.{HasValue, PassesValue, ClosesBefore, HasValues, Walks}
+use Rattle.bcder.specs.calls.Walking as walking
+use Rattle.bcder.specs.calls.Skipping.{RefusesOne}
+use Rattle.bcder.specs.calls.Skipping as skipping
 use Rattle.bcder.proofs.Moving.{open_not_ended, open_not_failed}
 use Rattle.bcder.proofs.Entering.{Within}
 use Rattle.bcder.proofs.Walking.{value_not_at_end, value_once, moves_faults, grew_from, walks_refused}

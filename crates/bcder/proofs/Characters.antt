@@ -6,9 +6,10 @@ use Rattle.std.proofs.lemmas.Str.{encodes-append, encodes-chars, chars-nil, char
 use Rattle.std.specs.Str.{IsUtf8, chars, all_scalars}
 use Rattle.std.specs.Iterator.{YieldsFirst, MakesProgress, item_count}
 use Rattle.bcder.specs.declared.string.restricted.char_set.CharSetError.{CharSetError}
-use Rattle.bcder.specs.CharSet.{Front, Step, IsStep, Spells, Accepts, NextChar}
-use Rattle.bcder.specs.TextSets.{AreTexts}
-use Rattle.bcder.specs.Characters.{and_behind, characters_within, characters, characters_left}
+use Rattle.bcder.specs.x690.CharSet.{Front, Step, IsStep, Spells, Accepts}
+use Rattle.bcder.specs.calls.CharSetCalls.{NextChar, characters_left}
+use Rattle.bcder.specs.x690.TextSets.{AreTexts}
+use Rattle.bcder.specs.x690.Characters.{and_behind, characters_within, characters}
 
 some_front : (x y : Front) → ◌≡◌ {A = Option Front} (Some x) (Some y) → x ≡ y
 some_front x y e = cc

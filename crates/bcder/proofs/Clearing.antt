@@ -6,7 +6,7 @@ use Rattle.std.proofs.lemmas.Nat.Bits.{bit_at_cat_high, bit_at_cat_low, bit_at-z
 use Rattle.std.proofs.lemmas.Bool.{cases_lt}
 use Rattle.std.proofs.lemmas.Grind.{same_number_lists}
 use Rattle.std.specs.Int.{bit_at}
-use Rattle.bcder.specs.BitString.{Bits, IsBits, is_one, bits, cleared}
+use Rattle.bcder.specs.x690.BitString.{Bits, IsBits, is_one, bits, cleared}
 use Rattle.bcder.proofs.Bits.{bits_length, bit_is, cleared_length}
 
 -- a number with its low bits set to zero has the others

@@ -8,7 +8,7 @@ use Rattle.std.specs.declared.cmp.Ordering.TheVariants.{Less, Equal, Greater}
 use Rattle.std.specs.Cmp.{nat_cmp_is}
 use Rattle.std.specs.List.{concat}
 use Rattle.std.proofs.lemmas.Bool.{not-true, not-false}
-use Rattle.bcder.specs.OctetString.{StringOctets, whole, cut, piece, parts, octets_of}
+use Rattle.bcder.specs.calls.StringOctets.{StringOctets, whole, cut, piece, parts, octets_of}
 
 -- ---- the parts of a string, joined
 

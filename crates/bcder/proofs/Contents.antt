@@ -4,11 +4,11 @@ use Rattle.std.specs.Prelude.{ℤ, pos, FitsSigned}
 use Rattle.std.specs.Int.{Width, FitsUnsignedBits}
 use Rattle.bcder.specs.declared.mode.Mode.{Mode}
 use Rattle.bcder.specs.declared.mode.Mode.TheVariants.{Ber, Cer, Der}
-use Rattle.bcder.specs.Identifier.{AreOctets}
-use Rattle.bcder.specs.Integer.{AreInteger, integer_octets}
-use Rattle.bcder.specs.Meaning.{Exactly, ExactlyOctets, truth_octets}
-use Rattle.bcder.specs.ReadBack.{IsReadBack}
-use Rattle.bcder.specs.Readers.{IsSigned, IsUnsigned, IsTruth}
+use Rattle.bcder.specs.x690.Identifier.{AreOctets}
+use Rattle.bcder.specs.x690.Integer.{AreInteger, integer_octets}
+use Rattle.bcder.specs.calls.Meaning.{Exactly, ExactlyOctets, truth_octets}
+use Rattle.bcder.specs.calls.ReadBack.{IsReadBack}
+use Rattle.bcder.specs.calls.Readers.{IsSigned, IsUnsigned, IsTruth}
 use Rattle.bcder.specs.laws.Integers.{some_integer}
 
 exactly_read : {T : Type 0} (w : List ℕ) (reads : List ℕ → T → Type 0) (x : T) → reads w x → ((y : T) → reads w y → y ≡ x) → IsReadBack (Exactly w) reads x

@@ -4,10 +4,10 @@ use Rattle.std.specs.Prelude.{decimal, All}
 use Rattle.std.proofs.lemmas.Bool.{cases_lt, lt-ltb, le-ltb}
 use Rattle.std.proofs.lemmas.Fmt.{decimal_is_IsNumeral}
 use Rattle.std.proofs.lemmas.Str.Parse.{digit_at, without_leading_plus_none}
-use Rattle.bcder.specs.Identifier.{AreOctets}
-use Rattle.bcder.specs.ObjectIdentifier.{number, cut_after, subidentifiers, IsWhole, AreSubidentifiers, IsComplete, components_of, components}
-use Rattle.bcder.specs.IdentifierText.{shown, dotted, text_of, between_dots, IsComponentText, AreComponentTexts, MayBegin, IsTextOf, ReadsParts}
-use Rattle.bcder.specs.Pushed.{AreMarked}
+use Rattle.bcder.specs.x690.Identifier.{AreOctets}
+use Rattle.bcder.specs.x690.ObjectIdentifier.{number, cut_after, subidentifiers, IsWhole, AreSubidentifiers, IsComplete, components_of, components}
+use Rattle.bcder.specs.calls.IdentifierText.{shown, dotted, text_of, between_dots, IsComponentText, AreComponentTexts, MayBegin, IsTextOf, ReadsParts}
+use Rattle.bcder.specs.steps.Pushed.{AreMarked}
 use Rattle.bcder.proofs.Texts.{HasNoDot, split_dot, split_none}
 use Rattle.bcder.proofs.Digits.{whole-push, marked-push}
 

@@ -3,13 +3,13 @@ use Rattle.std.proofs.Common.{◌≡◌, ℕ, ◌≤◌, List, ◌++◌, length,
 use Rattle.std.specs.Prelude.{Option, Some, None, Result, Ok, Err, IfOk, IfErr}
 use Rattle.std.specs.Borrow.{MutBor}
 use Rattle.bcder.specs.declared.mode.Mode.{Mode}
-use Rattle.bcder.specs.Stream.{Stream, Layer, limited}
+use Rattle.bcder.specs.calls.Stream.{Stream, Layer, limited}
 use Rattle.bcder.specs.declared.decode.error.ContentError.{ContentError}
-use Rattle.bcder.specs.Cause.{Cause}
-use Rattle.bcder.specs.Content.{Reading, UnboundedValues, Moves, Falls}
-use Rattle.bcder.specs.Calls.{RunsOver}
-use Rattle.bcder.specs.Decoding.{HandsAll, RanOn, Decodes, RefusesDecode}
-use Rattle.bcder.specs.Views.{lent}
+use Rattle.bcder.specs.calls.Cause.{Cause}
+use Rattle.bcder.specs.calls.Content.{Reading, UnboundedValues, Moves, Falls}
+use Rattle.bcder.specs.calls.Calls.{RunsOver}
+use Rattle.bcder.specs.calls.Decoding.{HandsAll, RanOn, Decodes, RefusesDecode}
+use Rattle.bcder.specs.calls.Views.{lent}
 use Rattle.bcder.specs.laws.Limits.{first_kept, rest_kept}
 
 falls_none : (k : ℕ) (o : Option ℕ) → Falls None k o → o ≡ None

@@ -1,7 +1,7 @@
 -- Digits in base 128, put one behind the other.
 use Rattle.std.proofs.Common.{◌≡◌, ℕ, ◌+◌, ◌*◌, ◌/◌, ◌%◌, ◌<◌, ◌≤◌, List, [], ◌∷◌, ◌++◌, length, get_or, refl, ap, sym, ◌∙◌, append_assoc, length-append, arith}
-use Rattle.bcder.specs.ObjectIdentifier.{number_after, number, IsWhole}
-use Rattle.bcder.specs.Pushed.{AreMarked, AppendsDigits, AppendsSubidentifier}
+use Rattle.bcder.specs.x690.ObjectIdentifier.{number_after, number, IsWhole}
+use Rattle.bcder.specs.steps.Pushed.{AreMarked, AppendsDigits, AppendsSubidentifier}
 
 pub number-append : (high : ℕ) (v w : List ℕ) → number_after high (v ++ w) ≡ number_after (number_after high v) w
 number-append high [] w = refl

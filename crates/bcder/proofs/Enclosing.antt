@@ -6,10 +6,10 @@ use Rattle.bcder.specs.declared.mode.Mode.TheVariants.{Ber, Cer, Der}
 use Rattle.bcder.specs.declared.encode.error.EncodeError.TheVariants.{LengthTooLarge}
 use Rattle.bcder.specs.declared.length.Length.{Length}
 use Rattle.bcder.specs.declared.length.Length.TheVariants.{Definite}
-use Rattle.bcder.specs.Identifier.{Tag, identifier, IsValueTag}
-use Rattle.bcder.specs.Octets.{definite_length, length_octets, fits_length, header, definite, constructed_length, closing, enclosed, enclosed_size}
-use Rattle.bcder.specs.Enclosing.{length_size}
-use Rattle.bcder.specs.Meaning.{Encoded, Meaning, ContentsMeaning, ValueMeans, primitive_encoded, primitive_meaning, constructed_encoded, constructed_meaning, fits_enclosed, enclosed_refusal}
+use Rattle.bcder.specs.x690.Identifier.{Tag, identifier, IsValueTag}
+use Rattle.bcder.specs.x690.Octets.{definite_length, length_octets, fits_length, header, definite, constructed_length, closing, enclosed, enclosed_size}
+use Rattle.bcder.specs.steps.Enclosing.{length_size}
+use Rattle.bcder.specs.calls.Meaning.{Encoded, Meaning, ContentsMeaning, ValueMeans, primitive_encoded, primitive_meaning, constructed_encoded, constructed_meaning, fits_enclosed, enclosed_refusal}
 use Rattle.bcder.proofs.Writing.{append_not_nil}
 
 pub primitive_given : (t : Tag) (M : ContentsMeaning → Type 0) (c : List ℕ) → M (Ok c) → length c < 2 ^ 32 → IsValueTag t → ValueMeans t (primitive_meaning t) M (Ok (primitive_encoded t c))

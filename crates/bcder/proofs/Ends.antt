@@ -6,14 +6,13 @@ use Rattle.std.proofs.lemmas.List.{length-append, take_all, drop_all}
 use Rattle.bcder.specs.declared.mode.Mode.{Mode}
 use Rattle.bcder.specs.declared.length.Length.{Length}
 use Rattle.bcder.specs.declared.length.Length.TheVariants as len
-use Rattle.bcder.specs.Stacked.{Entry}
-use Rattle.bcder.specs.Stacked.{Definite, Indefinite}
-use Rattle.bcder.specs.Identifier.{AreOctets, Tag}
-use Rattle.bcder.specs.Tree.{Tree, constructed, Trees, ◌∷ₜ◌}
-use Rattle.bcder.specs.Preorder.{Heading, preorder, preorders}
-use Rattle.bcder.specs.Reading.{Header, Inside, read_header, read_end, read_contents, read_value, at_end, read_list, read_tree}
-use Rattle.bcder.specs.Stream.{cut, past}
-use Rattle.bcder.specs.Stacked.{Reached, after, lack, is_indefinite, ends, next_to}
+use Rattle.bcder.specs.steps.Stacked.{Entry, Definite, Indefinite, Reached, after, lack, is_indefinite, ends, next_to}
+use Rattle.bcder.specs.x690.Identifier.{AreOctets, Tag}
+use Rattle.bcder.specs.x690.Tree.{Tree, constructed, Trees, ◌∷ₜ◌}
+use Rattle.bcder.specs.x690.Preorder.{Heading, preorder, preorders}
+use Rattle.bcder.specs.x690.Encoding.{Header}
+use Rattle.bcder.specs.steps.Reading.{Inside, read_header, read_end, read_contents, read_value, at_end, read_list, read_tree}
+use Rattle.bcder.specs.calls.Stream.{cut, past}
 use Rattle.bcder.proofs.Steps.{read_tree_step, read_list_step}
 
 pub from_header : (mode : Mode) (h : Header) (x z : List ℕ) → AreOctets x → read_header mode x ≡ Some (h, z) → read_tree mode x ≡ read_contents (read_list mode) h.tag h.form h.len z

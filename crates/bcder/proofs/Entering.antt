@@ -5,17 +5,17 @@ use Rattle.std.proofs.lemmas.Grind.{common_steps}
 use Rattle.bcder.specs.declared.mode.Mode.{Mode}
 use Rattle.bcder.specs.declared.decode.content.Kind.{Kind}
 use Rattle.bcder.specs.declared.decode.content.State.TheVariants.{Open, Ended, Failed}
-use Rattle.bcder.specs.Identifier.{AreOctets, Tag, end_of_contents}
-use Rattle.bcder.specs.Reading.{Header, is_value_tag, read_identifier, read_front}
-use Rattle.bcder.specs.Encoding.{may_have, IsHeader}
+use Rattle.bcder.specs.x690.Identifier.{AreOctets, Tag, end_of_contents, is_value_tag}
+use Rattle.bcder.specs.x690.Encoding.{Header, may_have, IsHeader}
+use Rattle.bcder.specs.steps.Reading.{read_identifier, read_front}
 use Rattle.bcder.specs.declared.decode.header.Wanted.{Wanted}
 use Rattle.bcder.specs.declared.decode.header.Wanted.TheVariants.{Any, Tagged}
-use Rattle.bcder.specs.Peek.{asked, HasOtherTag, HasNoHeader}
-use Rattle.bcder.specs.Stream.{Layer, Stream, IsSound, Grew, cut, past, limited}
+use Rattle.bcder.specs.steps.Peek.{asked, HasOtherTag, HasNoHeader}
+use Rattle.bcder.specs.calls.Stream.{Layer, Stream, IsSound, Grew, cut, past, limited}
 use Rattle.bcder.specs.declared.decode.error.ContentError.{ContentError}
-use Rattle.bcder.specs.Cause.{Cause}
-use Rattle.bcder.specs.Content.{Reading, Asked, any, tagged, IsAsked, HasHeader, HasMarker, IndefiniteValues, Falls, Advances, Moves, Accepts, Enters, TakesMarker, NoFront, Resembles, end_header, values, Octets, DefiniteValues, UnboundedValues, IsAtEnd, of_octets, of_definite, of_indefinite, of_unbounded, NotAtEnd, IsElsewhere, none_left, other, marker, IsAbsent, IsLeft, IsMissing, NothingThere, RefusesHeader, failed, source, nothing}
-use Rattle.bcder.specs.Calls.{RefusesEnd, left_failed, source_failed, left_open}
+use Rattle.bcder.specs.calls.Cause.{Cause}
+use Rattle.bcder.specs.calls.Content.{Reading, Asked, any, tagged, IsAsked, HasHeader, HasMarker, IndefiniteValues, Falls, Advances, Moves, Accepts, Enters, TakesMarker, NoFront, Resembles, end_header, values, Octets, DefiniteValues, UnboundedValues, IsAtEnd, of_octets, of_definite, of_indefinite, of_unbounded, NotAtEnd, IsElsewhere, none_left, other, marker, IsAbsent, IsLeft, IsMissing, NothingThere, RefusesHeader, failed, source, nothing}
+use Rattle.bcder.specs.calls.Calls.{RefusesEnd, left_failed, source_failed, left_open}
 use Rattle.bcder.specs.laws.Limits.{limit_told_after, limited_sound}
 use Rattle.bcder.specs.laws.Sound.{none_is}
 use Rattle.bcder.specs.laws.Stands.{Headed}

@@ -3,7 +3,7 @@ use Rattle.std.proofs.Common.{◌≡◌, ◌≢◌, ℕ, suc, ◌+◌, ◌*◌, 
 use Rattle.std.proofs.Math.Nat.{mul-le-mul_right, pow-le-pow_right}
 use Rattle.std.proofs.lemmas.Bool.{cases_order, cases_lt}
 use Rattle.std.proofs.lemmas.Grind.{pow_more}
-use Rattle.bcder.specs.ObjectIdentifier.{number_after, number, IsWhole}
+use Rattle.bcder.specs.x690.ObjectIdentifier.{number_after, number, IsWhole}
 
 -- 128 to the number of octets
 abbrev weight : List ℕ → ℕ

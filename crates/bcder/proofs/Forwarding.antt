@@ -6,10 +6,10 @@ use Rattle.bcder.specs.declared.decode.content.Primitive.{Primitive}
 use Rattle.bcder.specs.declared.decode.content.Constructed.{Constructed}
 use Rattle.bcder.specs.declared.decode.content.Content.{Content}
 use Rattle.bcder.specs.declared.decode.content.Content.TheVariants as variant
-use Rattle.bcder.specs.Content.{Reading, Octets}
-use Rattle.bcder.specs.Decoding.{AnsweredOn}
-use Rattle.bcder.specs.Stream.{Stream}
-use Rattle.bcder.specs.Views.{of_content}
+use Rattle.bcder.specs.calls.Content.{Reading, Octets}
+use Rattle.bcder.specs.calls.Decoding.{AnsweredOn}
+use Rattle.bcder.specs.calls.Stream.{Stream}
+use Rattle.bcder.specs.calls.Views.{of_content}
 use Rattle.bcder.proofs.Names.{primitive_form, constructed_form}
 
 pub primitive_content : {S : Type 0} (stream : S → Stream) (a : Content S) (p : Primitive S) → a ≡ variant.Primitive p → (of_content stream a).kind ≡ Octets

@@ -2,12 +2,12 @@
 use Rattle.std.proofs.Common.{◌≡◌, ◌↔◌, ℕ, ◌≤◌, Bool, true, false, IsTrue, IsFalse, List, [], ◌++◌, length, Option, Some, None, option_map, MatchOption, IfSome, IfNone, refl, sym, ap, subst, ◌∙◌}
 use Rattle.bcder.specs.declared.mode.Mode.{Mode}
 use Rattle.bcder.specs.declared.length.Length.{Length}
-use Rattle.bcder.specs.Identifier.{AreOctets, Tag}
-use Rattle.bcder.specs.Length.{IsEndOfContents}
-use Rattle.bcder.specs.Tree.{Trees}
-use Rattle.bcder.specs.Encoding.{IsHeader, AreEncodings}
-use Rattle.bcder.specs.Told.{told}
-use Rattle.bcder.specs.Reading.{read_header, read_end, read_list, after_list}
+use Rattle.bcder.specs.x690.Identifier.{AreOctets, Tag}
+use Rattle.bcder.specs.x690.Length.{IsEndOfContents}
+use Rattle.bcder.specs.x690.Tree.{Trees}
+use Rattle.bcder.specs.x690.Encoding.{IsHeader, AreEncodings}
+use Rattle.bcder.specs.calls.ContentsLen.{told}
+use Rattle.bcder.specs.steps.Reading.{read_header, read_end, read_list, after_list}
 use Rattle.bcder.specs.laws.Complete.{header_complete}
 use Rattle.bcder.specs.laws.Lengths.{read_end-complete}
 use Rattle.bcder.specs.laws.Sound.{end_sound, mapped, none_is}

@@ -2,12 +2,12 @@
 use Rattle.std.proofs.Common.{◌≡◌, ℕ, List, [], true, Some, Result, Ok, refl, sym, subst}
 use Rattle.bcder.specs.declared.encode.error.WriteError.{WriteError}
 use Rattle.bcder.specs.declared.mode.Mode.{Mode}
-use Rattle.bcder.specs.Tree.{no_trees, ◌+++◌}
-use Rattle.bcder.specs.Encoding.{AreEncodings}
-use Rattle.bcder.specs.Captured.{Kept, AreWhole}
-use Rattle.bcder.specs.Meaning.{Meaning, IsLawful}
-use Rattle.bcder.specs.Encoders.{HasEncoding, DoneOf, WritesEncoding}
-use Rattle.bcder.specs.Gathered.{suits, KeptMeans, kept_from_start, GrowsBy}
+use Rattle.bcder.specs.x690.Tree.{no_trees, ◌+++◌}
+use Rattle.bcder.specs.x690.Encoding.{AreEncodings}
+use Rattle.bcder.specs.calls.Captured.{Kept, AreWhole}
+use Rattle.bcder.specs.calls.Meaning.{Meaning, IsLawful}
+use Rattle.bcder.specs.calls.Encoders.{HasEncoding, DoneOf, WritesEncoding}
+use Rattle.bcder.specs.calls.Gathered.{suits, KeptMeans, kept_from_start, GrowsBy}
 use Rattle.bcder.specs.laws.Gathered.{the_encodings}
 use Rattle.bcder.specs.laws.Lists.{AreEncodings-join}
 

@@ -1,9 +1,9 @@
 -- The preorder of values that grow.
 use Rattle.std.proofs.Common.{◌≡◌, ℕ, zero, suc, ◌+◌, ◌≤◌, true, List, ◌∷◌, ◌++◌, refl, sym, ap, ◌∙◌, append_assoc, append-nil, arith}
-use Rattle.bcder.specs.Identifier.{Tag}
-use Rattle.bcder.specs.Tree.{Tree, primitive, constructed, Trees, no_trees, ◌∷ₜ◌, ◌+++◌}
-use Rattle.bcder.specs.Preorder.{Heading, preorder, preorders}
-use Rattle.bcder.specs.Growing.{AreOpen, grown}
+use Rattle.bcder.specs.x690.Identifier.{Tag}
+use Rattle.bcder.specs.x690.Tree.{Tree, primitive, constructed, Trees, no_trees, ◌∷ₜ◌, ◌+++◌}
+use Rattle.bcder.specs.x690.Preorder.{Heading, preorder, preorders}
+use Rattle.bcder.specs.steps.Growing.{AreOpen, grown}
 
 pub preorders-join : (ts us : Trees) (d : ℕ) → preorders (ts +++ us) d ≡ preorders ts d ++ preorders us d
 preorders-join no_trees us d = refl

@@ -4,13 +4,13 @@ use Rattle.std.proofs.lemmas.Grind.{common_steps}
 use Rattle.bcder.specs.declared.mode.Mode.{Mode}
 use Rattle.bcder.specs.declared.length.Length.{Length}
 use Rattle.bcder.specs.declared.length.Length.TheVariants.{Definite, Indefinite}
-use Rattle.bcder.specs.Identifier.{AreOctets, Tag, IsTag, identifier, end_of_contents}
-use Rattle.bcder.specs.Length.{IsEndOfContents}
-use Rattle.bcder.specs.Tree.{Tree, primitive, constructed, Trees}
-use Rattle.bcder.specs.Encoding.{may_have, IsHeader, IsDefinite, IsFramed, IsEncoding, AreEncodings}
-use Rattle.bcder.specs.Reading.{is_value_tag, Header, read_identifier, read_length, read_front, read_header}
-use Rattle.bcder.specs.Peek.{HasOtherTag, HasNoHeader}
-use Rattle.bcder.specs.Content.{Reading, Asked, tagged, IsAsked, HasHeader, HasMarker, HasOther, Falls, FitsOwed, end_header}
+use Rattle.bcder.specs.x690.Identifier.{AreOctets, Tag, IsTag, identifier, end_of_contents, is_value_tag}
+use Rattle.bcder.specs.x690.Length.{IsEndOfContents}
+use Rattle.bcder.specs.x690.Tree.{Tree, primitive, constructed, Trees}
+use Rattle.bcder.specs.x690.Encoding.{may_have, IsHeader, IsDefinite, IsFramed, IsEncoding, AreEncodings, Header}
+use Rattle.bcder.specs.steps.Reading.{read_identifier, read_length, read_front, read_header}
+use Rattle.bcder.specs.steps.Peek.{HasOtherTag, HasNoHeader}
+use Rattle.bcder.specs.calls.Content.{Reading, Asked, tagged, IsAsked, HasHeader, HasMarker, HasOther, Falls, FitsOwed, end_header}
 use Rattle.bcder.specs.laws.Identifiers.{read_identifier-identifier}
 use Rattle.bcder.specs.laws.Lengths.{read_length-tells}
 use Rattle.bcder.specs.laws.Sound.{none_is, mapped, chained, some_inj, identifier_sound, length_sound}

@@ -1,8 +1,8 @@
 -- The subidentifiers that octets are made of.
 use Rattle.std.proofs.Common.{◌≡◌, ℕ, suc, zero, ◌+◌, ◌-◌, ◌*◌, ◌<◌, List, [], ◌∷◌, ◌++◌, map, refl, ap, ◌∙◌, arith, append_assoc, append-nil}
 use Rattle.std.proofs.lemmas.Bool.{lt-ltb, le-ltb}
-use Rattle.bcder.specs.ObjectIdentifier.{number, cut_after, subidentifiers, IsWhole, AreSubidentifiers, IsComplete, components_of, components}
-use Rattle.bcder.specs.IdentifierText.{MayBegin}
+use Rattle.bcder.specs.x690.ObjectIdentifier.{number, cut_after, subidentifiers, IsWhole, AreSubidentifiers, IsComplete, components_of, components}
+use Rattle.bcder.specs.calls.IdentifierText.{MayBegin}
 
 -- whole octets are cut off as they stand
 pub cut_whole : (front v x : List ℕ) → IsWhole v → cut_after front (v ++ x) ≡ (front ++ v) ∷ cut_after [] x

@@ -10,18 +10,17 @@ use Rattle.bcder.specs.declared.length.Length.{Length}
 use Rattle.bcder.specs.declared.length.Length.TheVariants.{Definite, Indefinite}
 use Rattle.bcder.specs.declared.decode.source.limited.LimitedSource.{LimitedSource}
 use Rattle.bcder.specs.declared.decode.content.State.TheVariants.{Open, Ended, Failed}
-use Rattle.bcder.specs.Identifier.{AreOctets, Tag}
-use Rattle.bcder.specs.Length.{IsEndOfContents}
-use Rattle.bcder.specs.Tree.{Tree, primitive, constructed}
-use Rattle.bcder.specs.Encoding.{may_have, IsHeader, IsEncoding, AreEncodings}
-use Rattle.bcder.specs.Reading.{Header}
-use Rattle.bcder.specs.Stream.{Layer, Stream, IsSound, cut, past, limited}
+use Rattle.bcder.specs.x690.Identifier.{AreOctets, Tag}
+use Rattle.bcder.specs.x690.Length.{IsEndOfContents}
+use Rattle.bcder.specs.x690.Tree.{Tree, primitive, constructed}
+use Rattle.bcder.specs.x690.Encoding.{may_have, IsHeader, IsEncoding, AreEncodings, Header}
+use Rattle.bcder.specs.calls.Stream.{Layer, Stream, IsSound, cut, past, limited}
 use Rattle.bcder.specs.declared.decode.error.ContentError.{ContentError}
-use Rattle.bcder.specs.Cause.{Cause}
-use Rattle.bcder.specs.Content.{Reading, Form, values, Octets, DefiniteValues, IndefiniteValues, label, Moves, MovesBy, Whole, Falls, Closes, IsDone, IsUsedUp, Advances, FitsOwed}
-use Rattle.bcder.specs.Calls.{IsFormOf, ContentOf, AnswersDone, RanOver, TakesContent, popped}
-use Rattle.bcder.specs.Inside.{kind_behind, limit_inside, limit_outside}
-use Rattle.bcder.specs.Views.{limited_stream}
+use Rattle.bcder.specs.calls.Cause.{Cause}
+use Rattle.bcder.specs.calls.Content.{Reading, Form, values, Octets, DefiniteValues, IndefiniteValues, label, Moves, MovesBy, Whole, Falls, Closes, IsDone, IsUsedUp, Advances, FitsOwed}
+use Rattle.bcder.specs.calls.Calls.{IsFormOf, ContentOf, AnswersDone, RanOver, TakesContent, popped}
+use Rattle.bcder.specs.steps.Inside.{kind_behind, limit_inside, limit_outside}
+use Rattle.bcder.specs.calls.Views.{limited_stream}
 use Rattle.bcder.specs.laws.Limits.{rest_told_behind, limited_sound}
 use Rattle.bcder.specs.laws.Sound.{AreOctets-take}
 use Rattle.bcder.specs.laws.Canonical.{header_in_ber}

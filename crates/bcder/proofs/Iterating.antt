@@ -3,11 +3,11 @@ use Rattle.std.proofs.Common.{◌≡◌, ℕ, ◌+◌, List, [], ◌∷◌, ◌+
 use Rattle.std.specs.Iterator.{Yields}
 use Rattle.bcder.specs.declared.encode.error.EncodeError.{EncodeError}
 use Rattle.bcder.specs.declared.mode.Mode.{Mode}
-use Rattle.bcder.specs.Tree.{Trees, no_trees, ◌∷ₜ◌, ◌+++◌}
-use Rattle.bcder.specs.Meaning.{Encoded, Meaning, octets_of}
-use Rattle.bcder.specs.Encoders.{TellsSize, TellsSum}
-use Rattle.bcder.specs.Joined.{nothing, join, EachOf, IsSum}
-use Rattle.bcder.specs.Iterated.{MeanSame, AlwaysGives}
+use Rattle.bcder.specs.x690.Tree.{Trees, no_trees, ◌∷ₜ◌, ◌+++◌}
+use Rattle.bcder.specs.calls.Meaning.{Encoded, Meaning, octets_of}
+use Rattle.bcder.specs.calls.Encoders.{TellsSize, TellsSum}
+use Rattle.bcder.specs.calls.Joined.{nothing, join, EachOf, IsSum}
+use Rattle.bcder.specs.calls.Iterated.{MeanSame, AlwaysGives}
 use Rattle.bcder.proofs.Joining.{join-assoc, WrittenSoFar}
 
 -- what the items mean, and its size

@@ -2,24 +2,24 @@
 use Rattle.std.proofs.Common.{◌≡◌, ℕ, ◌+◌, ◌<◌, ◌≤◌, ◌^◌, List, [], ◌∷◌, ◌++◌, length, Option, None, Some, Result, Ok, Err, refl, sym, ap, ◌∙◌, subst, inl, inr, arith, length-append}
 use Rattle.std.specs.Option.{SomeIff, IfSome}
 use Rattle.bcder.specs.declared.encode.error.EncodeError.{EncodeError}
-use Rattle.bcder.specs.Meaning.{Encoded, Meaning, IsOne, octets_of, ValueMeans, constructed_meaning, fits_enclosed}
+use Rattle.bcder.specs.calls.Meaning.{Encoded, Meaning, IsOne, octets_of, ValueMeans, constructed_meaning, fits_enclosed}
 use Rattle.bcder.specs.declared.mode.Mode.{Mode}
 use Rattle.bcder.specs.declared.mode.Mode.TheVariants.{Ber, Cer, Der}
 use Rattle.bcder.specs.declared.length.Length.{Length}
 use Rattle.bcder.specs.declared.length.Length.TheVariants.{Definite}
-use Rattle.bcder.specs.Identifier.{Tag}
-use Rattle.bcder.specs.Octets.{header, constructed_length, enclosed_size}
-use Rattle.bcder.specs.Enclosing.{told_size}
+use Rattle.bcder.specs.x690.Identifier.{Tag}
+use Rattle.bcder.specs.x690.Octets.{header, constructed_length, enclosed_size}
+use Rattle.bcder.specs.steps.Enclosing.{told_size}
 use Rattle.bcder.proofs.Enclosing.{inside_of, enclosed-length}
 use Rattle.std.specs.Prelude.{◌⊎◌}
 use Rattle.std.proofs.Common.{true, ltb-true, IsErr, IsErrAnd, drop_of_length-le, drop, get_or, suc, add-one, drop-cons, append_assoc, append-nil}
 use Rattle.std.specs.Io.KnownBytes.{Appends}
 use Rattle.std.proofs.KnownBytes.{Appends-trans, Appends-nil}
 use Rattle.bcder.specs.declared.encode.error.WriteError.{WriteError}
-use Rattle.bcder.specs.Tree.{Trees, no_trees, ◌∷ₜ◌, ◌+++◌}
+use Rattle.bcder.specs.x690.Tree.{Trees, no_trees, ◌∷ₜ◌, ◌+++◌}
 use Rattle.bcder.proofs.Writing.{stops, follows_on, same_octets, same_ok}
-use Rattle.bcder.specs.Joined.{nothing, join, Then, NoValues, EachOf, IsSum, Joined}
-use Rattle.bcder.specs.Encoders.{HasEncoding, HasSize, TellsSize, TellsSum, WroteOf, WritesEncoding, RefusesBy}
+use Rattle.bcder.specs.calls.Joined.{nothing, join, Then, NoValues, EachOf, IsSum, Joined}
+use Rattle.bcder.specs.calls.Encoders.{HasEncoding, HasSize, TellsSize, TellsSum, WroteOf, WritesEncoding, RefusesBy}
 
 -- what is looked at so far, before whatever comes after it
 abbrev pub after : Encoded → Meaning → Meaning

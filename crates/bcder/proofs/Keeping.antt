@@ -8,14 +8,14 @@ use Rattle.bcder.specs.declared.mode.Mode.TheVariants.{Ber}
 use Rattle.bcder.specs.declared.decode.content.Constructed.{Constructed}
 use Rattle.bcder.specs.declared.decode.content.State.TheVariants.{Failed}
 use Rattle.bcder.specs.declared.decode.error.DecodeError.{DecodeError}
-use Rattle.bcder.specs.Cause.{cause_of}
-use Rattle.bcder.specs.Tree.{Trees, no_trees, ◌∷ₜ◌}
-use Rattle.bcder.specs.Encoding.{IsEncoding, AreEncodings}
-use Rattle.bcder.specs.Stream.{Stream, borrowed}
-use Rattle.bcder.specs.Content.{Reading, label, Moves, Whole, Closes, UnboundedValues, IndefiniteValues, Octets}
-use Rattle.bcder.specs.Decoding.{HandsAll, Decodes, RefusesDecode}
-use Rattle.bcder.specs.Captured.{Kept, AreWhole, kept_stream, DecodesFront, RefusesFront, by_decode}
-use Rattle.bcder.specs.Views.{of_constructed, lent}
+use Rattle.bcder.specs.calls.Cause.{cause_of}
+use Rattle.bcder.specs.x690.Tree.{Trees, no_trees, ◌∷ₜ◌}
+use Rattle.bcder.specs.x690.Encoding.{IsEncoding, AreEncodings}
+use Rattle.bcder.specs.calls.Stream.{Stream, borrowed}
+use Rattle.bcder.specs.calls.Content.{Reading, label, Moves, Whole, Closes, UnboundedValues, IndefiniteValues, Octets}
+use Rattle.bcder.specs.calls.Decoding.{HandsAll, Decodes, RefusesDecode}
+use Rattle.bcder.specs.calls.Captured.{Kept, AreWhole, kept_stream, DecodesFront, RefusesFront, by_decode}
+use Rattle.bcder.specs.calls.Views.{of_constructed, lent}
 use Rattle.bcder.specs.laws.Complete.{two_octets, one_encoding}
 use Rattle.bcder.specs.laws.Canonical.{IsEncoding-in_ber, AreEncodings-in_ber}
 

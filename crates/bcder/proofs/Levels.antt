@@ -3,9 +3,9 @@ use Rattle.std.proofs.Common.{◌≡◌, ℕ, zero, suc, ◌+◌, ◌-◌, ◌<�
 use Rattle.std.specs.Int.{from_bool}
 use Rattle.std.proofs.lemmas.List.{length-append}
 use Rattle.bcder.specs.declared.mode.Mode.{Mode}
-use Rattle.bcder.specs.Identifier.{AreOctets}
-use Rattle.bcder.specs.Tree.{Tree, Trees, ◌∷ₜ◌}
-use Rattle.bcder.specs.Reading.{read_end, read_list, read_tree, at_end, after_tree, after_list, Leaves}
+use Rattle.bcder.specs.x690.Identifier.{AreOctets}
+use Rattle.bcder.specs.x690.Tree.{Tree, Trees, ◌∷ₜ◌}
+use Rattle.bcder.specs.steps.Reading.{read_end, read_list, read_tree, at_end, after_tree, after_list, Leaves}
 use Rattle.bcder.specs.laws.Sound.{end_sound}
 use Rattle.bcder.specs.laws.Stands.{AreOctets-after, tree_sound}
 use Rattle.bcder.proofs.Markers.{end_size}

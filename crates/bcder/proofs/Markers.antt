@@ -3,15 +3,15 @@ use Rattle.std.specs.Prelude.{◌↔◌, IsTrue}
 use Rattle.std.proofs.Common.{◌≡◌, ℕ, zero, suc, ◌-◌, ◌<◌, ◌≤◌, Bool, true, false, List, [], ◌++◌, length, take, drop, refl, sym, ap, ◌∙◌, subst, take-append-drop, append-nil, arith, inl, inr}
 use Rattle.std.proofs.lemmas.List.{length-append, append_cancel_left, take_at}
 use Rattle.bcder.specs.declared.mode.Mode.{Mode}
-use Rattle.bcder.specs.Length.{IsLengthForm, IsEndOfContents}
-use Rattle.bcder.specs.Capturing.{EndsIn, EndsBy}
+use Rattle.bcder.specs.x690.Length.{IsLengthForm, IsEndOfContents}
+use Rattle.bcder.specs.calls.Capturing.{EndsIn, EndsBy}
 use Rattle.bcder.specs.declared.decode.error.ContentError.{ContentError}
-use Rattle.bcder.specs.Cause.{Cause, of_memory, is_memory_cause}
-use Rattle.bcder.specs.Stream.{Grew}
-use Rattle.bcder.specs.Content.{Reading, UnboundedValues}
-use Rattle.bcder.specs.Encoding.{AreEncodings}
-use Rattle.bcder.specs.Tree.{Trees}
-use Rattle.bcder.specs.Walking.{HasValues, ClosesBefore}
+use Rattle.bcder.specs.calls.Cause.{Cause, of_memory, is_memory_cause}
+use Rattle.bcder.specs.calls.Stream.{Grew}
+use Rattle.bcder.specs.calls.Content.{Reading, UnboundedValues}
+use Rattle.bcder.specs.x690.Encoding.{AreEncodings}
+use Rattle.bcder.specs.x690.Tree.{Trees}
+use Rattle.bcder.specs.calls.Walking.{HasValues, ClosesBefore}
 use Rattle.bcder.specs.laws.Lengths.{IsLengthForm-from_length}
 
 form_size : (w : List ℕ) → IsLengthForm 0 w → (1 ≤ length w) × (length w ≤ 5)

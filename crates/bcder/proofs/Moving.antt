@@ -2,10 +2,10 @@
 use Rattle.std.proofs.Common.{◌≡◌, ◌≢◌, ℕ, ◌≤◌, Bool, true, false, List, [], ◌++◌, refl, ap, sym, ◌∙◌, arith, length-append, append_assoc, append-nil, inl, inr}
 use Rattle.bcder.specs.declared.decode.content.State.{State}
 use Rattle.bcder.specs.declared.decode.content.State.TheVariants.{Open, Ended, Failed}
-use Rattle.bcder.specs.Length.{IsEndOfContents}
-use Rattle.bcder.specs.Tree.{Tree, no_trees, ◌∷ₜ◌}
-use Rattle.bcder.specs.Encoding.{IsEncoding}
-use Rattle.bcder.specs.Content.{Reading, Octets, IndefiniteValues, label, Moves, Advances}
+use Rattle.bcder.specs.x690.Length.{IsEndOfContents}
+use Rattle.bcder.specs.x690.Tree.{Tree, no_trees, ◌∷ₜ◌}
+use Rattle.bcder.specs.x690.Encoding.{IsEncoding}
+use Rattle.bcder.specs.calls.Content.{Reading, Octets, IndefiniteValues, label, Moves, Advances}
 use Rattle.bcder.specs.laws.Lists.{AreEncodings-one}
 use Rattle.bcder.specs.laws.Moved.{whole_marked, whole_none, Falls-refl, Falls-trans, untouched_is_moved, moved_twice_is_moved}
 

@@ -5,14 +5,14 @@ use Rattle.std.specs.Prelude.{Result, Ok, Err}
 use Rattle.bcder.specs.declared.mode.Mode.{Mode}
 use Rattle.bcder.specs.declared.decode.content.State.{State}
 use Rattle.bcder.specs.declared.decode.error.ContentError.{ContentError}
-use Rattle.bcder.specs.Cause.{Cause}
-use Rattle.bcder.specs.Preorder.{Heading}
-use Rattle.bcder.specs.Stream.{Stream}
-use Rattle.bcder.specs.Content.{Reading, Form, Moves, Whole, IsAtEnd, of_octets, of_definite, of_indefinite, of_unbounded, EndsBefore, NotAtEnd}
-use Rattle.bcder.specs.Walking.{NoValue, PassesValue, PassedBy}
-use Rattle.bcder.specs.Walking as walking
-use Rattle.bcder.specs.Skipping.{WereCalls, RefusesOne, SkippedOneBy}
-use Rattle.bcder.specs.Skipping as skipping
+use Rattle.bcder.specs.calls.Cause.{Cause}
+use Rattle.bcder.specs.x690.Preorder.{Heading}
+use Rattle.bcder.specs.calls.Stream.{Stream}
+use Rattle.bcder.specs.calls.Content.{Reading, Form, Moves, Whole, IsAtEnd, of_octets, of_definite, of_indefinite, of_unbounded, EndsBefore, NotAtEnd}
+use Rattle.bcder.specs.calls.Walking.{NoValue, PassesValue, PassedBy}
+use Rattle.bcder.specs.calls.Walking as walking
+use Rattle.bcder.specs.calls.Skipping.{WereCalls, RefusesOne, SkippedOneBy}
+use Rattle.bcder.specs.calls.Skipping as skipping
 
 -- the same content, behind a borrow of this name
 abbrev pub named : GName → Reading → Reading

@@ -6,10 +6,10 @@ use Rattle.std.proofs.lemmas.List.{take_more, length-take}
 use Rattle.std.proofs.lemmas.Bool.{cases_lt}
 use Rattle.std.proofs.lemmas.Nat.{mul-le}
 use Rattle.std.proofs.Math.Nat.{pow-le-pow_right}
-use Rattle.bcder.specs.Identifier.{AreOctets}
-use Rattle.bcder.specs.Length.{big_endian}
-use Rattle.bcder.specs.Integer.{number, AreInteger, Leads, octet}
-use Rattle.bcder.specs.Number.{magnitude, HasMagnitude, IsNoNumber}
+use Rattle.bcder.specs.x690.Identifier.{AreOctets}
+use Rattle.bcder.specs.x690.Length.{big_endian}
+use Rattle.bcder.specs.x690.Integer.{number, AreInteger, Leads, octet}
+use Rattle.bcder.specs.x690.Number.{magnitude, HasMagnitude, IsNoNumber}
 use Rattle.bcder.specs.laws.Integers.{Sized, Told, positive, negative, told_by, number_positive, number_negative}
 
 magnitude_snoc : (neg : Bool) (w : List ℕ) (d : ℕ) → magnitude neg (w ++ d ∷ []) ≡ magnitude neg w * 256 + octet neg d

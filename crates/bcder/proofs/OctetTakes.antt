@@ -5,10 +5,10 @@ use Rattle.std.proofs.lemmas.List.{length-take-le}
 use Rattle.std.proofs.lemmas.Grind.{common_steps}
 use Rattle.bcder.specs.declared.decode.content.State.TheVariants.{Open}
 use Rattle.bcder.specs.declared.decode.error.DecodeError.{DecodeError}
-use Rattle.bcder.specs.Cause.{cause_of, MatchCause, IsRefusal}
-use Rattle.bcder.specs.Stream.{Stream, IsSound, Grew, cut, capped, limited}
-use Rattle.bcder.specs.Content.{Reading, Octets, Falls, Moves, Advances}
-use Rattle.bcder.specs.OctetTakes.{TakesNextOctet, TakesOctet, SkipsOctets}
+use Rattle.bcder.specs.calls.Cause.{cause_of, MatchCause, IsRefusal}
+use Rattle.bcder.specs.calls.Stream.{Stream, IsSound, Grew, cut, capped, limited}
+use Rattle.bcder.specs.calls.Content.{Reading, Octets, Falls, Moves, Advances}
+use Rattle.bcder.specs.calls.OctetTakes.{TakesNextOctet, TakesOctet, SkipsOctets}
 use Rattle.bcder.proofs.Moving.{moves_octets}
 use Rattle.bcder.proofs.Entering.{advances_by, no_fewer, grew_least}
 use Rattle.bcder.proofs.Remaining.{limit_stays, asked_moves}

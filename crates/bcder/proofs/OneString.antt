@@ -5,12 +5,13 @@ use Rattle.std.specs.List.{concat}
 use Rattle.std.proofs.lemmas.Bool.Decides.{nat_tests}
 use Rattle.std.proofs.lemmas.List.{length-append, take_at, drop_at}
 use Rattle.bcder.specs.declared.mode.Mode.TheVariants.{Ber, Cer, Der}
-use Rattle.bcder.specs.Identifier.{Tag}
-use Rattle.bcder.specs.Tree.{Tree, primitive, constructed, Trees, no_trees, ◌∷ₜ◌}
-use Rattle.bcder.specs.Encoding.{IsEncoding}
-use Rattle.bcder.specs.OctetString.{whole, cut, octets_of, parts, octet_string_tag, segments_of, flat, IsPiece, IsFull, IsLast, FollowFull, AreSegmentsIn, IsOctetString}
-use Rattle.bcder.specs.OctetStrings.{PrimitiveInDer, PrimitiveInCer, OneString, OneStringEncoding, PartsJoin, MeansFlat, MeansSegments}
-use Rattle.bcder.specs.Valued.{tag_of}
+use Rattle.bcder.specs.x690.Identifier.{Tag}
+use Rattle.bcder.specs.x690.Tree.{Tree, primitive, constructed, Trees, no_trees, ◌∷ₜ◌}
+use Rattle.bcder.specs.x690.Encoding.{IsEncoding}
+use Rattle.bcder.specs.calls.StringOctets.{whole, cut, octets_of, parts}
+use Rattle.bcder.specs.x690.OctetString.{octet_string_tag, segments_of, flat, IsPiece, IsFull, IsLast, FollowFull, AreSegmentsIn, IsOctetString}
+use Rattle.bcder.specs.calls.OctetStrings.{PrimitiveInDer, PrimitiveInCer, OneString, OneStringEncoding, PartsJoin, MeansFlat, MeansSegments}
+use Rattle.bcder.specs.calls.Valued.{tag_of}
 use Rattle.bcder.specs.laws.Canonical.{one_spelling}
 use Rattle.bcder.proofs.Segments.{ArePieces, size_of, in_cer}
 

@@ -2,20 +2,21 @@
 use Rattle.std.proofs.Common.{◌≡◌, ℕ, ◌+◌, ◌≤◌, true, false, List, ◌++◌, length, take, drop, Option, Some, None, refl, ap, sym, ◌∙◌, arith, subst, inl, inr}
 use Rattle.std.specs.Prelude.{Result, Ok, Err}
 use Rattle.bcder.specs.declared.decode.error.ContentError.{ContentError}
-use Rattle.bcder.specs.Cause.{Cause}
-use Rattle.bcder.specs.Stream.{Grew}
+use Rattle.bcder.specs.calls.Cause.{Cause}
+use Rattle.bcder.specs.calls.Stream.{Grew}
 use Rattle.std.proofs.lemmas.Grind.{common_steps}
 use Rattle.std.proofs.Math.Seq.{take-append-add}
 use Rattle.bcder.specs.declared.length.Length.TheVariants.{Definite}
 use Rattle.bcder.specs.declared.decode.content.State.TheVariants.{Open}
-use Rattle.bcder.specs.Identifier.{AreOctets}
-use Rattle.bcder.specs.Reading.{Header, read_front}
-use Rattle.bcder.specs.Tree.{Tree, primitive}
-use Rattle.bcder.specs.Encoding.{IsHeader, IsEncoding, may_have}
-use Rattle.bcder.specs.Grammar.{IsOnly}
-use Rattle.bcder.specs.Content.{Reading, Advances, Moves, Resembles, HasMarker, IsAtEnd, of_octets, of_definite, of_indefinite, of_unbounded, EndsBefore, NotAtEnd}
-use Rattle.bcder.specs.Walking.{NoValue, PassesValue, PassedBy, IsPrimitive}
-use Rattle.bcder.specs.Walking as walking
+use Rattle.bcder.specs.x690.Identifier.{AreOctets}
+use Rattle.bcder.specs.x690.Encoding.{Header, IsHeader, IsEncoding, may_have}
+use Rattle.bcder.specs.steps.Reading.{read_front}
+use Rattle.bcder.specs.x690.Tree.{Tree, primitive}
+use Rattle.bcder.specs.x690.Grammar.{IsOnly}
+use Rattle.bcder.specs.calls.Content.{Reading, Advances, Moves, Resembles, HasMarker, IsAtEnd, of_octets, of_definite, of_indefinite, of_unbounded, EndsBefore, NotAtEnd}
+use Rattle.bcder.specs.calls.Walking.{NoValue, PassesValue, PassedBy}
+use Rattle.bcder.specs.steps.WalkSteps.{IsPrimitive}
+use Rattle.bcder.specs.calls.Walking as walking
 use Rattle.bcder.specs.laws.Complete.{only_at_front}
 use Rattle.bcder.specs.laws.Limits.{AreOctets-drop}
 use Rattle.bcder.specs.laws.Stands.{Headed, primitive_encodes}

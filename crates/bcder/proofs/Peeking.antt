@@ -4,13 +4,13 @@ use denote.Enum.Bare.{sameb, true_same}
 use Rattle.std.proofs.lemmas.Grind.{common_steps}
 use Rattle.std.proofs.lemmas.List.{take-append-drop, length-take-le}
 use Rattle.bcder.specs.declared.mode.Mode.{Mode}
-use Rattle.bcder.specs.Identifier.{Tag}
-use Rattle.bcder.specs.Reading.{read_identifier, read_length}
-use Rattle.bcder.specs.Classes.{class_kept}
-use Rattle.bcder.specs.Content.{Asked, IsAsked}
+use Rattle.bcder.specs.x690.Identifier.{Tag}
+use Rattle.bcder.specs.steps.Reading.{read_identifier, read_length}
+use Rattle.bcder.specs.calls.Classes.{class_kept}
+use Rattle.bcder.specs.calls.Content.{Asked, IsAsked}
 use Rattle.bcder.specs.contracts.tag.Class.{the_type}
 use Rattle.bcder.specs.laws.Sound.{none_is, some_inj}
-use Rattle.bcder.specs.Peek.{HasNoHeader}
+use Rattle.bcder.specs.steps.Peek.{HasNoHeader}
 use Rattle.bcder.proofs.Beginnings.{no_identifier, no_length}
 
 -- ---- no header

@@ -1,8 +1,8 @@
 -- Octets that are asked for at the source of primitive content, and passed.
 use Rattle.std.proofs.Common.{◌≡◌, ℕ, ◌-◌, ◌≤◌, length, take, drop, Option, Some, refl, ap, sym, ◌∙◌, arith, subst}
 use Rattle.bcder.specs.declared.decode.content.State.TheVariants.{Open}
-use Rattle.bcder.specs.Stream.{Stream, IsSound, cut, past, limited}
-use Rattle.bcder.specs.Content.{Reading, Octets, Moves, Resembles, Advances}
+use Rattle.bcder.specs.calls.Stream.{Stream, IsSound, cut, past, limited}
+use Rattle.bcder.specs.calls.Content.{Reading, Octets, Moves, Resembles, Advances}
 use Rattle.bcder.specs.laws.Limits.{limit_told, limit_told_after, first_kept}
 use Rattle.bcder.specs.laws.Moved.{moved_twice_is_moved}
 use Rattle.bcder.proofs.Moving.{moves_octets}

@@ -8,9 +8,9 @@ use Rattle.std.proofs.lemmas.List.{map-append}
 use Rattle.std.specs.declared.vec.Vec.{Vec}
 use Rattle.std.specs.declared.alloc.Global.{Global}
 use Rattle.bcder.specs.declared.decode.error.ContentError.{ContentError}
-use Rattle.bcder.specs.Cause.{Cause, of_memory, IsOfContent}
-use Rattle.bcder.specs.Content.{Reading, Moves}
-use Rattle.bcder.specs.Repeating.{Answer, OwesAsBefore, TookNothing, Turn, Gift, values, Answers, GoesOn, LastAnswers, Repeats, ended, refused, stalled, endless, Collects, collected, not_answered, not_advanced, not_kept}
+use Rattle.bcder.specs.calls.Cause.{Cause, of_memory, IsOfContent}
+use Rattle.bcder.specs.calls.Content.{Reading, Moves}
+use Rattle.bcder.specs.calls.Repeating.{Answer, OwesAsBefore, TookNothing, Turn, Gift, values, Answers, GoesOn, LastAnswers, Repeats, ended, refused, stalled, endless, Collects, collected, not_answered, not_advanced, not_kept}
 use Rattle.bcder.specs.laws.Moved.{untouched_is_moved, moved_twice_is_moved}
 
 -- what the test tells

@@ -3,18 +3,19 @@ use Rattle.std.proofs.Common.{List, ℕ, Option, Some, None, ap, sym, ◌∙◌,
 use Rattle.std.specs.Prelude.{Result, Ok, Err}
 use Rattle.bcder.specs.declared.mode.Mode.{Mode}
 use Rattle.bcder.specs.declared.decode.error.DecodeError.{DecodeError}
-use Rattle.bcder.specs.Identifier.{Tag}
-use Rattle.bcder.specs.Content.{Reading}
-use Rattle.bcder.specs.Tree.{Tree}
-use Rattle.bcder.specs.Encoding.{IsEncoding}
-use Rattle.bcder.specs.OctetString.{StringOctets, octets_of, flat, MeansString}
-use Rattle.bcder.specs.CharSet.{Step, Accepts}
-use Rattle.bcder.specs.RestrictedString.{MeansRestricted}
-use Rattle.bcder.specs.Meaning.{Encoded}
-use Rattle.bcder.specs.TakenBack.{StandsIn}
-use Rattle.bcder.specs.Valued.{HasTagged, TakesTree, RefusesTree, TakesNextTree, TakesOneTree, failed, source, memory, broken}
-use Rattle.bcder.specs.WrittenStrings.{IsWrittenString}
-use Rattle.bcder.specs.WrittenRestricted.{IsTakenRestricted, WrittenAsReadOf, OneRestricted}
+use Rattle.bcder.specs.x690.Identifier.{Tag}
+use Rattle.bcder.specs.calls.Content.{Reading}
+use Rattle.bcder.specs.x690.Tree.{Tree}
+use Rattle.bcder.specs.x690.Encoding.{IsEncoding}
+use Rattle.bcder.specs.calls.StringOctets.{StringOctets, octets_of, MeansString}
+use Rattle.bcder.specs.x690.OctetString.{flat}
+use Rattle.bcder.specs.x690.CharSet.{Step, Accepts}
+use Rattle.bcder.specs.calls.RestrictedString.{MeansRestricted}
+use Rattle.bcder.specs.calls.Meaning.{Encoded}
+use Rattle.bcder.specs.calls.TakenBack.{StandsIn}
+use Rattle.bcder.specs.calls.Valued.{HasTagged, TakesTree, RefusesTree, TakesNextTree, TakesOneTree, failed, source, memory, broken}
+use Rattle.bcder.specs.calls.WrittenStrings.{IsWrittenString}
+use Rattle.bcder.specs.calls.WrittenRestricted.{IsTakenRestricted, WrittenAsReadOf, OneRestricted}
 use Rattle.bcder.specs.laws.Complete.{only_at_front}
 use Rattle.bcder.proofs.OneString.{means_flat, one_string, one_string_encoding}
 use Rattle.bcder.proofs.StringsBack.{string_taken, written_as_read}

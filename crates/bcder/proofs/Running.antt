@@ -8,33 +8,32 @@ use Rattle.bcder.specs.declared.mode.Mode.{Mode}
 use Rattle.bcder.specs.declared.length.Length.TheVariants as len
 use Rattle.bcder.specs.declared.decode.content.Kind.{Kind}
 use Rattle.bcder.specs.declared.decode.content.State.TheVariants.{Open}
-use Rattle.bcder.specs.Stacked.{Entry}
+use Rattle.bcder.specs.steps.Stacked.{Entry, entries, remain, due, heading, unwound, TopIs, Passes, GoesInto, octets, Leaves, Counts, PassesCalls, IsUnderWay, IsBroken, StaysAt, for_memory, by_failure, too_few, GoneBy, IsCounted, framed, StaysOut, refused, wanted, failing, few, VisitedBy, Breaks, by_source, by_content, by_closure, by_memory, RanBy}
 use Rattle.bcder.specs.declared.decode.content.skip.Bar.{Bar}
 use Rattle.bcder.specs.declared.decode.content.skip.Bar.TheVariants as bar
 use Rattle.bcder.specs.declared.decode.content.skip.Halt.{Halt}
 use Rattle.bcder.specs.declared.decode.content.skip.Halt.TheVariants as halt
 use Rattle.bcder.specs.declared.decode.stop.Stop.{Stop}
 use Rattle.bcder.specs.declared.decode.error.ContentError.{ContentError}
-use Rattle.bcder.specs.Cause.{stop_cause, of_source, IsOfContent, MatchStop}
-use Rattle.bcder.specs.Calls.{popped}
-use Rattle.bcder.specs.Identifier.{AreOctets}
-use Rattle.bcder.specs.Encoding.{IsHeader}
-use Rattle.bcder.specs.Tree.{Trees, no_trees, ◌∷ₜ◌, primitive, constructed}
-use Rattle.bcder.specs.Growing.{AreOpen}
-use Rattle.bcder.specs.Preorder.{Heading, preorder, preorders}
-use Rattle.bcder.specs.Reading.{Header, read_contents, read_list}
-use Rattle.bcder.specs.Stream.{IsSound, Layer, Stream, Grew, cut, past, limited}
-use Rattle.bcder.specs.Content.{Reading, values, any, Falls, FitsOwed, Enters, EndsAt, Moves, RefusesHeader, failed, source, nothing}
-use Rattle.bcder.specs.Skipping.{Steps, Called}
-use Rattle.bcder.specs.Stacked.{entries, remain, due, heading, unwound, TopIs, Passes, GoesInto, octets, Leaves, Counts, PassesCalls, IsUnderWay, IsBroken, StaysAt, for_memory, by_failure, too_few, GoneBy, IsCounted, framed, StaysOut, refused, wanted, failing, few, VisitedBy, Breaks, by_source, by_content, by_closure, by_memory, RanBy}
-use Rattle.bcder.specs.Stacked as stacked
+use Rattle.bcder.specs.steps.StopCause.{stop_cause, MatchStop}
+use Rattle.bcder.specs.calls.Cause.{of_source, IsOfContent}
+use Rattle.bcder.specs.calls.Calls.{popped}
+use Rattle.bcder.specs.x690.Identifier.{AreOctets}
+use Rattle.bcder.specs.x690.Encoding.{IsHeader, Header}
+use Rattle.bcder.specs.x690.Tree.{Trees, no_trees, ◌∷ₜ◌, primitive, constructed}
+use Rattle.bcder.specs.steps.Growing.{AreOpen}
+use Rattle.bcder.specs.x690.Preorder.{Heading, preorder, preorders}
+use Rattle.bcder.specs.steps.Reading.{read_contents, read_list}
+use Rattle.bcder.specs.calls.Stream.{IsSound, Layer, Stream, Grew, cut, past, limited}
+use Rattle.bcder.specs.calls.Content.{Reading, values, any, Falls, FitsOwed, Enters, EndsAt, Moves, RefusesHeader, failed, source, nothing, NotAtEnd}
+use Rattle.bcder.specs.calls.Skipping.{Steps, Called}
+use Rattle.bcder.specs.steps.Stacked as stacked
 use Rattle.bcder.specs.laws.Complete.{header_size}
 use Rattle.bcder.specs.laws.Limits.{first_kept}
 use Rattle.bcder.proofs.Entering.{Within}
 use Rattle.bcder.proofs.Moving.{open_not_failed}
 use Rattle.bcder.proofs.Stepping.{stop_reason}
-use Rattle.bcder.specs.Content.{NotAtEnd}
-use Rattle.bcder.specs.Walking.{NoValue}
+use Rattle.bcder.specs.calls.Walking.{NoValue}
 use Rattle.bcder.proofs.Walking.{no_value_of_nothing, end_of_nothing, moves_faults}
 use Rattle.bcder.proofs.Skips.{calls_on, falls_unwound, source_passes, first_gone, first_broken, IsMet, met, met_gone, met_broken, left, broken, nothing_more, nothing_whole, few_there}
 use Rattle.bcder.proofs.Unwinding.{counts_falls, unwound_indefinites}

@@ -14,17 +14,18 @@ use Rattle.bcder.specs.declared.length.Length.TheVariants.{Definite}
 use Rattle.bcder.specs.declared.mode.Mode.{Mode}
 use Rattle.bcder.specs.declared.mode.Mode.TheVariants.{Ber, Cer, Der}
 use Rattle.bcder.specs.declared.string.octet.write.Progress.{Progress}
-use Rattle.bcder.specs.Identifier.{AreOctets, Tag, identifier}
-use Rattle.bcder.specs.Octets.{definite_length, header, definite, enclosed_size}
-use Rattle.bcder.specs.Tree.{Tree, primitive, constructed, Trees, no_trees, ◌∷ₜ◌}
-use Rattle.bcder.specs.Encoding.{IsEncoding, AreEncodings}
-use Rattle.bcder.specs.OctetString.{octet_string_tag, StringOctets, whole, cut, octets_of as string_octets, segments, segments_of, parts, AreSegmented}
-use Rattle.bcder.specs.Captured.{Kept}
-use Rattle.bcder.specs.Gathered.{KeptMeans}
-use Rattle.bcder.specs.Meaning.{Encoded, Meaning, ValueMeans, constructed_meaning, fits_enclosed, primitive_encoded, constructed_encoded}
-use Rattle.bcder.specs.Encoders.{SizeOfValues, WritesEncoding, WroteOf, HasHeader, RefusesHeader}
-use Rattle.bcder.specs.StringMeaning.{full_segments, segmented, segments_in_cer, is_cut, OctetsMean, StringMeans}
-use Rattle.bcder.specs.Segmenting.{segments_size, CutSize, unwritten, to_write, IsProgress, Advanced, PartWritten, SegmentBegun}
+use Rattle.bcder.specs.x690.Identifier.{AreOctets, Tag, identifier}
+use Rattle.bcder.specs.x690.Octets.{definite_length, header, definite, enclosed_size}
+use Rattle.bcder.specs.x690.Tree.{Tree, primitive, constructed, Trees, no_trees, ◌∷ₜ◌}
+use Rattle.bcder.specs.x690.Encoding.{IsEncoding, AreEncodings}
+use Rattle.bcder.specs.x690.OctetString.{octet_string_tag, segments, segments_of, AreSegmented}
+use Rattle.bcder.specs.calls.StringOctets.{StringOctets, whole, cut, octets_of as string_octets, parts}
+use Rattle.bcder.specs.calls.Captured.{Kept}
+use Rattle.bcder.specs.calls.Gathered.{KeptMeans}
+use Rattle.bcder.specs.calls.Meaning.{Encoded, Meaning, ValueMeans, constructed_meaning, fits_enclosed, primitive_encoded, constructed_encoded}
+use Rattle.bcder.specs.calls.Encoders.{SizeOfValues, WritesEncoding, WroteOf, HasHeader, RefusesHeader}
+use Rattle.bcder.specs.calls.StringMeaning.{full_segments, segmented, segments_in_cer, is_cut, OctetsMean, StringMeans}
+use Rattle.bcder.specs.steps.Segmenting.{segments_size, CutSize, unwritten, to_write, IsProgress, Advanced, PartWritten, SegmentBegun}
 use Rattle.std.proofs.lemmas.List.Folds.{concat-append}
 use Rattle.bcder.specs.laws.Octets.{AreOctets-nil, AreOctets-append}
 use Rattle.bcder.proofs.Comparing.{parts_joined}

@@ -8,15 +8,16 @@ use Rattle.bcder.specs.declared.mode.Mode.{Mode}
 use Rattle.bcder.specs.declared.mode.Mode.TheVariants.{Ber, Cer, Der}
 use Rattle.bcder.specs.declared.length.Length.{Length}
 use Rattle.bcder.specs.declared.length.Length.TheVariants.{Definite}
-use Rattle.bcder.specs.Identifier.{Class, universal, application, context_specific, private, Tag}
-use Rattle.bcder.specs.Length.{IsEndOfContents}
-use Rattle.bcder.specs.Tree.{Tree, primitive, constructed, Trees, no_trees, ◌∷ₜ◌}
-use Rattle.bcder.specs.Encoding.{IsHeader, IsDefinite, IsFramed, IsEncoding, AreEncodings}
-use Rattle.bcder.specs.Reading.{class_of, is_marked, read_identifier, read_header, read_length}
-use Rattle.bcder.specs.Captured.{AreWhole}
-use Rattle.bcder.specs.OctetString.{octet_string_tag, segments, segments_of, IsSegment, AreSegments, IsPiece, IsFull, IsLast, FollowFull, AreSegmentsIn, AreCut, segment_at, segments_at, AreWithin, IsTable}
+use Rattle.bcder.specs.x690.Identifier.{Class, universal, application, context_specific, private, Tag}
+use Rattle.bcder.specs.x690.Length.{IsEndOfContents}
+use Rattle.bcder.specs.x690.Tree.{Tree, primitive, constructed, Trees, no_trees, ◌∷ₜ◌}
+use Rattle.bcder.specs.x690.Encoding.{IsHeader, IsDefinite, IsFramed, IsEncoding, AreEncodings}
+use Rattle.bcder.specs.steps.Reading.{class_of, is_marked, read_identifier, read_header, read_length}
+use Rattle.bcder.specs.calls.Captured.{AreWhole}
+use Rattle.bcder.specs.x690.OctetString.{octet_string_tag, segments, segments_of, IsSegment, AreSegments, IsPiece, IsFull, IsLast, FollowFull, AreSegmentsIn, AreCut}
+use Rattle.bcder.specs.steps.SegmentTable.{segment_at, segments_at, AreWithin, IsTable}
 use Rattle.bcder.specs.declared.string.octet.Segment.{Segment}
-use Rattle.bcder.specs.Segments.{is_octet_string, behind_header, read_segment}
+use Rattle.bcder.specs.steps.Segments.{is_octet_string, behind_header, read_segment}
 use Rattle.bcder.specs.laws.Complete.{header_complete, header_size, two_octets, one_list}
 use Rattle.bcder.specs.laws.Lengths.{read_end-complete}
 use Rattle.bcder.specs.laws.Sound.{some_inj, none_is}

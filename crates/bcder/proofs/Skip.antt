@@ -6,12 +6,12 @@ use Rattle.bcder.specs.declared.mode.Mode.{Mode}
 use Rattle.bcder.specs.declared.mode.Mode.TheVariants.{Ber, Cer, Der}
 use Rattle.bcder.specs.declared.length.Length.{Length}
 use Rattle.bcder.specs.declared.length.Length.TheVariants.{Definite, Indefinite}
-use Rattle.bcder.specs.Identifier.{universal, AreOctets, Tag}
-use Rattle.bcder.specs.Length.{big_endian}
-use Rattle.bcder.specs.Tree.{Tree, constructed, Trees}
-use Rattle.bcder.specs.Encoding.{may_have, IsEncoding}
-use Rattle.bcder.specs.Grammar.{IsOnly, BeginsWhole}
-use Rattle.bcder.specs.Reading.{class_of, is_value_tag, is_marked, read_identifier, read_length, read_long, may_tell, Header, BeginPrimitive, read_header, read_contents, read_value, read_list, read_tree, after_tree, after_list}
+use Rattle.bcder.specs.x690.Identifier.{universal, AreOctets, Tag, is_value_tag}
+use Rattle.bcder.specs.x690.Length.{big_endian}
+use Rattle.bcder.specs.x690.Tree.{Tree, constructed, Trees}
+use Rattle.bcder.specs.x690.Encoding.{may_have, IsEncoding, Header}
+use Rattle.bcder.specs.x690.Grammar.{IsOnly, BeginsWhole}
+use Rattle.bcder.specs.steps.Reading.{class_of, is_marked, read_identifier, read_length, read_long, may_tell, BeginPrimitive, read_header, read_contents, read_value, read_list, read_tree, after_tree, after_list}
 use Rattle.bcder.specs.laws.Complete.{header_size, two_octets, tree_complete, one_encoding}
 use Rattle.bcder.specs.laws.Sound.{mapped, none_is}
 use Rattle.bcder.specs.laws.Stands.{AreOctets-after, header_sound, tree_sound}

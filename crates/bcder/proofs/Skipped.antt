@@ -9,24 +9,25 @@ use Rattle.bcder.specs.declared.decode.content.skip.Halt.{Halt}
 use Rattle.bcder.specs.declared.decode.content.skip.Halt.TheVariants as halt
 use Rattle.bcder.specs.declared.decode.error.ContentError.{ContentError}
 use Rattle.bcder.specs.declared.decode.error.DecodeError.{DecodeError}
-use Rattle.bcder.specs.Cause.{Cause, cause_of, of_source, of_content, of_memory, IsOfContent}
-use Rattle.bcder.specs.Identifier.{universal}
-use Rattle.bcder.specs.Tree.{Tree, primitive}
-use Rattle.bcder.specs.Encoding.{IsEncoding}
-use Rattle.bcder.specs.Preorder.{Heading, preorder}
-use Rattle.bcder.specs.Reading.{Header, read_header, read_contents, read_list, read_tree}
-use Rattle.bcder.specs.Stream.{Stream, Grew, capped, cut, past, limited}
+use Rattle.bcder.specs.calls.Cause.{Cause, cause_of, of_source, of_content, of_memory, IsOfContent}
+use Rattle.bcder.specs.x690.Identifier.{universal}
+use Rattle.bcder.specs.x690.Tree.{Tree, primitive}
+use Rattle.bcder.specs.x690.Encoding.{IsEncoding, Header}
+use Rattle.bcder.specs.x690.Preorder.{Heading, preorder}
+use Rattle.bcder.specs.steps.Reading.{read_header, read_contents, read_list, read_tree}
+use Rattle.bcder.specs.calls.Stream.{Stream, Grew, capped, cut, past, limited}
 use Rattle.std.proofs.lemmas.Grind.{common_steps}
 use Rattle.bcder.specs.declared.decode.header.Header.{Header as Kept}
 use Rattle.bcder.specs.declared.length.Length.TheVariants.{Definite}
-use Rattle.bcder.specs.Peek.{header as header_of, IsAllHere, IsAtHand}
-use Rattle.bcder.specs.Content.{Accepts, FitsOwed, Reading, Octets, Resembles, any, Falls, Moves, Advances, Enters, EndsBefore, EndsAt, IsDone, NotAtEnd}
-use Rattle.bcder.specs.Grammar.{IsOnly}
-use Rattle.bcder.specs.Walking.{HasValue, NoValue, PassesValue, RefusesWalk, AnswersNext, HasValues, Walks}
-use Rattle.bcder.specs.Walking as walking
-use Rattle.bcder.specs.Skipping.{IsPast, Steps, Called, WereCalls, SkipsValue, RefusesSkip, SkippedBy, AnswersAll, IsShallow, AnswersSkip, AnswersValue, SkippedValueBy, RefusesOne, SkippedOneBy, RefusesAll, SkippedAllBy, FoundMemory}
-use Rattle.bcder.specs.Skipping as skipping
-use Rattle.bcder.specs.Stacked.{heading, halt_cause, PassesCalls, IsUnderWay, IsBroken, RanBy, Breaks, by_source, by_content, by_closure, by_memory}
+use Rattle.bcder.specs.steps.Peek.{header as header_of, IsAllHere, IsAtHand}
+use Rattle.bcder.specs.calls.Content.{Accepts, FitsOwed, Reading, Octets, Resembles, any, Falls, Moves, Advances, Enters, EndsBefore, EndsAt, IsDone, NotAtEnd}
+use Rattle.bcder.specs.x690.Grammar.{IsOnly}
+use Rattle.bcder.specs.calls.Walking.{HasValue, NoValue, PassesValue, RefusesWalk, AnswersNext, HasValues, Walks}
+use Rattle.bcder.specs.calls.Walking as walking
+use Rattle.bcder.specs.steps.SkipSteps.{IsPast}
+use Rattle.bcder.specs.calls.Skipping.{Steps, Called, WereCalls, SkipsValue, RefusesSkip, SkippedBy, AnswersAll, IsShallow, AnswersSkip, AnswersValue, SkippedValueBy, RefusesOne, SkippedOneBy, RefusesAll, SkippedAllBy, FoundMemory}
+use Rattle.bcder.specs.calls.Skipping as skipping
+use Rattle.bcder.specs.steps.Stacked.{heading, halt_cause, PassesCalls, IsUnderWay, IsBroken, RanBy, Breaks, by_source, by_content, by_closure, by_memory}
 use Rattle.bcder.specs.laws.Complete.{header_complete, header_size, tree_complete, only_at_front}
 use Rattle.bcder.specs.laws.Sound.{none_is, some_inj}
 use Rattle.bcder.specs.laws.Stands.{Stands, tree_sound}

@@ -10,22 +10,20 @@ use Rattle.bcder.specs.declared.length.Length.TheVariants as len
 use Rattle.bcder.specs.declared.decode.content.Kind.{Kind}
 use Rattle.bcder.specs.declared.decode.content.Kind.TheVariants as kind
 use Rattle.bcder.specs.declared.decode.content.State.TheVariants.{Open}
-use Rattle.bcder.specs.Stacked.{Entry}
-use Rattle.bcder.specs.Stacked.{Definite, Indefinite}
-use Rattle.bcder.specs.Identifier.{AreOctets, Tag}
-use Rattle.bcder.specs.Tree.{Tree, primitive, constructed, Trees, no_trees, ◌∷ₜ◌}
-use Rattle.bcder.specs.Encoding.{IsHeader, IsEncoding}
-use Rattle.bcder.specs.Preorder.{Heading, preorder, preorders}
-use Rattle.bcder.specs.Growing.{AreOpen, grown}
-use Rattle.bcder.specs.Reading.{Header, read_header, read_end, read_contents, at_end, read_list, read_tree}
-use Rattle.bcder.specs.Stream.{Layer, Stream, cut, past, limit_left}
-use Rattle.bcder.specs.Content.{Reading, values, Octets, Falls, FitsOwed, Form, HasMarker, of_octets, of_definite, of_indefinite, of_unbounded, EndsAt, NotAtEnd}
-use Rattle.bcder.specs.Walking.{NoValue}
-use Rattle.bcder.specs.Length.{IsEndOfContents}
-use Rattle.bcder.specs.Calls.{popped}
-use Rattle.bcder.specs.Inside.{limit_inside}
-use Rattle.bcder.specs.Skipping.{IsEndOf, HeaderStands, HeadersStand}
-use Rattle.bcder.specs.Stacked.{Reached, after, lack, joined, unwound, restored, HasLimit, AreLimited, TopIs, is_indefinite, ends, next_to, remain, due, heading, Passes, entry_of, GoesInto, octets, values as open_values, Leaves, IsPart, PassesCalls, IsUnderWay, IsBroken}
+use Rattle.bcder.specs.steps.Stacked.{Entry, Definite, Indefinite, Reached, after, lack, joined, unwound, restored, HasLimit, AreLimited, TopIs, is_indefinite, ends, next_to, remain, due, heading, Passes, entry_of, GoesInto, octets, values as open_values, Leaves, IsPart, PassesCalls, IsUnderWay, IsBroken}
+use Rattle.bcder.specs.x690.Identifier.{AreOctets, Tag}
+use Rattle.bcder.specs.x690.Tree.{Tree, primitive, constructed, Trees, no_trees, ◌∷ₜ◌}
+use Rattle.bcder.specs.x690.Encoding.{IsHeader, IsEncoding, Header}
+use Rattle.bcder.specs.x690.Preorder.{Heading, preorder, preorders}
+use Rattle.bcder.specs.steps.Growing.{AreOpen, grown}
+use Rattle.bcder.specs.steps.Reading.{read_header, read_end, read_contents, at_end, read_list, read_tree}
+use Rattle.bcder.specs.calls.Stream.{Layer, Stream, cut, past, limit_left}
+use Rattle.bcder.specs.calls.Content.{Reading, values, Octets, Falls, FitsOwed, Form, HasMarker, of_octets, of_definite, of_indefinite, of_unbounded, EndsAt, NotAtEnd}
+use Rattle.bcder.specs.calls.Walking.{NoValue}
+use Rattle.bcder.specs.x690.Length.{IsEndOfContents}
+use Rattle.bcder.specs.calls.Calls.{popped}
+use Rattle.bcder.specs.steps.Inside.{limit_inside}
+use Rattle.bcder.specs.calls.Skipping.{IsEndOf, HeaderStands, HeadersStand}
 use Rattle.bcder.specs.laws.Complete.{header_complete, header_size}
 use Rattle.bcder.specs.laws.Identifiers.{BeginsValue, BeginsValue-identifier}
 use Rattle.bcder.specs.laws.Lengths.{read_end-complete}

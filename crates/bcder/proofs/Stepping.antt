@@ -7,16 +7,17 @@ use Rattle.bcder.specs.declared.mode.Mode.{Mode}
 use Rattle.bcder.specs.declared.length.Length.TheVariants.{Definite}
 use Rattle.bcder.specs.declared.decode.content.State.TheVariants.{Open}
 use Rattle.bcder.specs.declared.decode.error.ContentError.{ContentError}
-use Rattle.bcder.specs.Cause.{Cause, of_source, IsOfContent, stop_cause, MatchStop}
+use Rattle.bcder.specs.calls.Cause.{Cause, of_source, IsOfContent}
+use Rattle.bcder.specs.steps.StopCause.{stop_cause, MatchStop}
 use Rattle.bcder.specs.declared.decode.stop.Stop.{Stop}
 use Rattle.bcder.specs.declared.decode.stop.Stop.TheVariants as stop
-use Rattle.bcder.specs.Identifier.{Tag, AreOctets}
-use Rattle.bcder.specs.Reading.{Header}
-use Rattle.bcder.specs.Stream.{Stream, IsSound, Grew, past, limited}
-use Rattle.bcder.specs.Content.{Reading, Form, octets, Octets, any, Enters, RefusesHeader, Moves, Advances, FitsOwed, IsDone}
-use Rattle.bcder.specs.Calls.{IsFormOf, Answered, AnswersDone, RefusesContent, by_closure, RanOver, TakesContent, RefusesValue, popped}
-use Rattle.bcder.specs.Walking.{WalksBy, itself, walked}
-use Rattle.bcder.specs.Walking as walking
+use Rattle.bcder.specs.x690.Identifier.{Tag, AreOctets}
+use Rattle.bcder.specs.x690.Encoding.{Header}
+use Rattle.bcder.specs.calls.Stream.{Stream, IsSound, Grew, past, limited}
+use Rattle.bcder.specs.calls.Content.{Reading, Form, octets, Octets, any, Enters, RefusesHeader, Moves, Advances, FitsOwed, IsDone}
+use Rattle.bcder.specs.calls.Calls.{IsFormOf, Answered, AnswersDone, RefusesContent, by_closure, RanOver, TakesContent, RefusesValue, popped}
+use Rattle.bcder.specs.steps.WalkSteps.{WalksBy, itself, walked}
+use Rattle.bcder.specs.calls.Walking as walking
 use Rattle.bcder.specs.laws.Limits.{limited_sound}
 use Rattle.bcder.specs.laws.Moved.{untouched_is_moved, moved_keeps_kind}
 use Rattle.bcder.proofs.Moving.{moves_still, moves_octets}

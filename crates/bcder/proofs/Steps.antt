@@ -4,9 +4,10 @@ use Rattle.std.proofs.lemmas.List.{length-append, length-take}
 use Rattle.bcder.specs.declared.mode.Mode.{Mode}
 use Rattle.bcder.specs.declared.length.Length.{Length}
 use Rattle.bcder.specs.declared.length.Length.TheVariants.{Definite, Indefinite}
-use Rattle.bcder.specs.Identifier.{AreOctets, Tag}
-use Rattle.bcder.specs.Tree.{Tree, Trees, ◌∷ₜ◌}
-use Rattle.bcder.specs.Reading.{Header, Inside, read_header, read_contents, read_value, at_end, if_not_at_end, read_trees, read_list, read_tree}
+use Rattle.bcder.specs.x690.Identifier.{AreOctets, Tag}
+use Rattle.bcder.specs.x690.Tree.{Tree, Trees, ◌∷ₜ◌}
+use Rattle.bcder.specs.x690.Encoding.{Header}
+use Rattle.bcder.specs.steps.Reading.{Inside, read_header, read_contents, read_value, at_end, if_not_at_end, read_trees, read_list, read_tree}
 use Rattle.bcder.specs.laws.Complete.{header_size, two_octets, trees_complete}
 use Rattle.bcder.specs.laws.Sound.{AreOctets-take}
 use Rattle.bcder.specs.laws.Stands.{AreOctets-after, header_sound, value_sound, trees_sound, before}

@@ -1,11 +1,11 @@
 -- A step that stopped is an error for the same reason.
 use Rattle.std.proofs.Common.{◌≡◌}
 use Rattle.bcder.specs.declared.decode.error.ContentError.{ContentError}
-use Rattle.bcder.specs.Cause.{Cause, of_source, IsOfContent}
-use Rattle.bcder.specs.Content.{Reading, Asked}
-use Rattle.bcder.specs.Content as content
-use Rattle.bcder.specs.Calls as calls
-use Rattle.bcder.specs.Walking as walking
+use Rattle.bcder.specs.calls.Cause.{Cause, of_source, IsOfContent}
+use Rattle.bcder.specs.calls.Content.{Reading, Asked}
+use Rattle.bcder.specs.calls.Content as content
+use Rattle.bcder.specs.calls.Calls as calls
+use Rattle.bcder.specs.calls.Walking as walking
 
 module _ {E F : Type 0} (stopped : E → Cause ContentError) (why : F → Cause ContentError) (s : E) (e : F) (own : IsOfContent (stopped s) → IsOfContent (why e)) (source : stopped s ≡ of_source → why e ≡ of_source) (c d : Reading) where
   pub header_stopped : (asked : Asked) → content.RefusesHeader stopped asked c s d → content.RefusesHeader why asked c e d

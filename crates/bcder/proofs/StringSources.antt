@@ -3,8 +3,8 @@ use Rattle.std.proofs.Common.{◌≡◌, ℕ, zero, suc, ◌+◌, ◌-◌, ◌<�
 use Rattle.std.specs.List.{concat}
 use Rattle.std.proofs.lemmas.List.{length-append, length-drop, drop-append-le}
 use Rattle.bcder.specs.declared.string.octet.Segment.{Segment}
-use Rattle.bcder.specs.Identifier.{AreOctets}
-use Rattle.bcder.specs.OctetString.{AreWithin, segments_at}
+use Rattle.bcder.specs.x690.Identifier.{AreOctets}
+use Rattle.bcder.specs.steps.SegmentTable.{AreWithin, segments_at}
 use Rattle.bcder.specs.laws.Limits.{AreOctets-drop}
 
 pub AreWithin-drop : (w : List ℕ) (ss : List Segment) (n : ℕ) → AreWithin w ss → AreWithin w (drop n ss)

@@ -8,21 +8,23 @@ use Rattle.bcder.specs.declared.decode.content.State.{State}
 use Rattle.bcder.specs.declared.decode.content.State.TheVariants.{Open, Ended, Failed}
 use Rattle.bcder.specs.declared.decode.error.DecodeError.{DecodeError}
 use Rattle.bcder.specs.declared.string.octet.Segment.{Segment}
-use Rattle.bcder.specs.Identifier.{Tag}
-use Rattle.bcder.specs.Tree.{Tree, primitive, constructed, Trees}
-use Rattle.bcder.specs.Encoding.{AreEncodings}
-use Rattle.bcder.specs.Cause.{IsRefusal}
-use Rattle.bcder.specs.Stream.{limit_or}
-use Rattle.bcder.specs.Captured.{Kept}
-use Rattle.bcder.specs.Content.{Reading, Octets, Closes, IsDone, IsUsedUp}
-use Rattle.bcder.specs.Walking.{HasValues, IsShort}
-use Rattle.bcder.specs.Readers.{Reads, RefusesReading, FindNoMemory}
-use Rattle.bcder.specs.Readers as readers
-use Rattle.bcder.specs.CapturingValues.{CapturesBy, CapturesValues, HasOthers, RefusesWhere}
-use Rattle.bcder.specs.CapturingValues as capturing
-use Rattle.bcder.specs.OctetString.{StringOctets, whole, cut, segments_of, AreSegmentsIn, MayBeWhole, AreCut, segments_at, IsTable, MeansString}
-use Rattle.bcder.specs.Valued.{HoldsValues, HoldsNone, ReadsTree, RefusesToRead, ReadsContent}
-use Rattle.bcder.specs.Valued as valued
+use Rattle.bcder.specs.x690.Identifier.{Tag}
+use Rattle.bcder.specs.x690.Tree.{Tree, primitive, constructed, Trees}
+use Rattle.bcder.specs.x690.Encoding.{AreEncodings}
+use Rattle.bcder.specs.calls.Cause.{IsRefusal}
+use Rattle.bcder.specs.calls.Stream.{limit_or}
+use Rattle.bcder.specs.calls.Captured.{Kept}
+use Rattle.bcder.specs.calls.Content.{Reading, Octets, Closes, IsDone, IsUsedUp}
+use Rattle.bcder.specs.calls.Walking.{HasValues, IsShort}
+use Rattle.bcder.specs.calls.Readers.{Reads, RefusesReading, FindNoMemory}
+use Rattle.bcder.specs.calls.Readers as readers
+use Rattle.bcder.specs.calls.CapturingValues.{CapturesBy, CapturesValues, HasOthers, RefusesWhere}
+use Rattle.bcder.specs.calls.CapturingValues as capturing
+use Rattle.bcder.specs.calls.StringOctets.{StringOctets, whole, cut, MeansString}
+use Rattle.bcder.specs.x690.OctetString.{segments_of, AreSegmentsIn, MayBeWhole, AreCut}
+use Rattle.bcder.specs.steps.SegmentTable.{segments_at, IsTable}
+use Rattle.bcder.specs.calls.Valued.{HoldsValues, HoldsNone, ReadsTree, RefusesToRead, ReadsContent}
+use Rattle.bcder.specs.calls.Valued as valued
 use Rattle.bcder.specs.laws.Lists.{empty_list}
 use Rattle.bcder.proofs.Moving.{open_not_ended, open_not_failed}
 use Rattle.bcder.proofs.Valued.{one_values, no_values_of_octets}

@@ -7,19 +7,20 @@ use Rattle.bcder.specs.declared.length.Length.{Length}
 use Rattle.bcder.specs.declared.length.Length.TheVariants.{Definite, Indefinite}
 use Rattle.bcder.specs.declared.decode.content.State.TheVariants.{Open}
 use Rattle.bcder.specs.declared.decode.error.DecodeError.{DecodeError}
-use Rattle.bcder.specs.Identifier.{Tag}
-use Rattle.bcder.specs.Tree.{Tree, primitive, constructed}
-use Rattle.bcder.specs.Encoding.{IsHeader, IsEncoding, AreEncodings}
-use Rattle.bcder.specs.Captured.{Kept}
-use Rattle.bcder.specs.OctetString.{StringOctets, whole, cut, octets_of, segments_of, flat, IsOctetString, MeansString, AreSegmented, AreSegmentsIn}
-use Rattle.bcder.specs.Meaning.{Encoded}
-use Rattle.bcder.specs.Content.{Reading, tagged, IsAbsent, IsElsewhere, none_left, other, marker}
-use Rattle.bcder.specs.Walking.{HasValue}
-use Rattle.bcder.specs.Takes.{HasNone}
-use Rattle.bcder.specs.Valued.{tag_of, HasTagged, TakesTree, RefusesTree, TakesNextTree, TakesOneTree}
-use Rattle.bcder.specs.Valued as valued
-use Rattle.bcder.specs.TakenBack.{StandsIn, SourceFailedOrNoMemory}
-use Rattle.bcder.specs.WrittenStrings.{IsWrittenString, HasOctets, HasSomeOctets, AnswersSuch, IsTakenString, IsMadeUp, WrittenAsRead}
+use Rattle.bcder.specs.x690.Identifier.{Tag}
+use Rattle.bcder.specs.x690.Tree.{Tree, primitive, constructed}
+use Rattle.bcder.specs.x690.Encoding.{IsHeader, IsEncoding, AreEncodings}
+use Rattle.bcder.specs.calls.Captured.{Kept}
+use Rattle.bcder.specs.calls.StringOctets.{StringOctets, whole, cut, octets_of, MeansString}
+use Rattle.bcder.specs.x690.OctetString.{segments_of, flat, IsOctetString, AreSegmented, AreSegmentsIn}
+use Rattle.bcder.specs.calls.Meaning.{Encoded}
+use Rattle.bcder.specs.calls.Content.{Reading, tagged, IsAbsent, IsElsewhere, none_left, other, marker}
+use Rattle.bcder.specs.calls.Walking.{HasValue}
+use Rattle.bcder.specs.calls.Takes.{HasNone}
+use Rattle.bcder.specs.calls.Valued.{tag_of, HasTagged, TakesTree, RefusesTree, TakesNextTree, TakesOneTree}
+use Rattle.bcder.specs.calls.Valued as valued
+use Rattle.bcder.specs.calls.TakenBack.{StandsIn, SourceFailedOrNoMemory}
+use Rattle.bcder.specs.calls.WrittenStrings.{IsWrittenString, HasOctets, HasSomeOctets, AnswersSuch, IsTakenString, IsMadeUp, WrittenAsRead}
 use Rattle.bcder.specs.laws.Complete.{only_at_front, two_octets}
 use Rattle.bcder.proofs.Headers.{front_of_header, no_other_front}
 use Rattle.bcder.proofs.Moving.{open_not_ended, open_not_failed}

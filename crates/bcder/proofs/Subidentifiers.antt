@@ -2,7 +2,7 @@
 use Rattle.std.proofs.Common.{◌≡◌, ℕ, ◌+◌, ◌*◌, ◌-◌, ◌%◌, ◌<◌, ◌≤◌, List, [], ◌∷◌, length, get_or, drop, refl, arith, add-one, drop-cons, nat_lt}
 use Rattle.std.specs.Prelude.{IsTrue}
 use Rattle.std.proofs.lemmas.Bool.Decides.{nat_tests}
-use Rattle.bcder.specs.ObjectIdentifier.{number_after, IsComplete}
+use Rattle.bcder.specs.x690.ObjectIdentifier.{number_after, IsComplete}
 
 -- a number is no less than what stands before its last digits
 pub number_grows : (high : ℕ) (w : List ℕ) → high ≤ number_after high w

@@ -8,32 +8,32 @@ use Rattle.bcder.specs.declared.length.Length.TheVariants.{Definite}
 use Rattle.bcder.specs.declared.decode.content.State.TheVariants.{Open}
 use Rattle.bcder.specs.declared.decode.error.DecodeError.{DecodeError}
 use Rattle.std.specs.Int.{FitsUnsignedBits}
-use Rattle.bcder.specs.Identifier.{universal, Tag, IsValueTag, AreOctets, boolean_tag, integer_tag, null_tag}
-use Rattle.bcder.specs.Cause.{cause_of, of_source, of_memory}
-use Rattle.bcder.specs.Decoding.{IsAllOf, AnsweredOn, by_closure, left_failed, Decodes, RefusesDecode}
-use Rattle.bcder.specs.Encoders.{Writes}
-use Rattle.bcder.specs.Stream.{Stream}
+use Rattle.bcder.specs.x690.Identifier.{universal, Tag, IsValueTag, AreOctets, boolean_tag, integer_tag, null_tag}
+use Rattle.bcder.specs.calls.Cause.{cause_of, of_source, of_memory}
+use Rattle.bcder.specs.calls.Decoding.{IsAllOf, AnsweredOn, by_closure, left_failed, Decodes, RefusesDecode}
+use Rattle.bcder.specs.calls.Encoders.{Writes}
+use Rattle.bcder.specs.calls.Stream.{Stream}
 use Rattle.std.specs.Borrow.{MutBor}
 use Rattle.std.specs.Io.KnownBytes.{Appends}
-use Rattle.bcder.specs.Integer.{AreInteger, octet, octets_within, integer_octets}
-use Rattle.bcder.specs.Number.{HasMagnitude}
-use Rattle.bcder.specs.Tree.{Tree, primitive}
-use Rattle.bcder.specs.Encoding.{IsEncoding}
-use Rattle.bcder.specs.Octets.{definite}
-use Rattle.bcder.specs.Meaning.{Encoded, Meaning, octets_of, ContentsMeaning, IsLawfulContents, Exactly, ExactlyOctets, truth_octets, fits_primitive, BitsMean, ValueMeans, primitive_encoded, primitive_meaning}
+use Rattle.bcder.specs.x690.Integer.{AreInteger, octet, octets_within, integer_octets}
+use Rattle.bcder.specs.x690.Number.{HasMagnitude}
+use Rattle.bcder.specs.x690.Tree.{Tree, primitive}
+use Rattle.bcder.specs.x690.Encoding.{IsEncoding}
+use Rattle.bcder.specs.x690.Octets.{definite}
+use Rattle.bcder.specs.calls.Meaning.{Encoded, Meaning, octets_of, ContentsMeaning, IsLawfulContents, Exactly, ExactlyOctets, truth_octets, fits_primitive, BitsMean, ValueMeans, primitive_encoded, primitive_meaning}
 use Rattle.bcder.specs.declared.oid.Oid.{Oid}
-use Rattle.bcder.specs.ObjectIdentifier.{IsComplete, identifier_tag}
-use Rattle.bcder.specs.ReadIdentifiers.{NoIdentifier}
+use Rattle.bcder.specs.x690.ObjectIdentifier.{IsComplete, identifier_tag}
+use Rattle.bcder.specs.calls.ReadIdentifiers.{NoIdentifier}
 use Rattle.bcder.specs.declared.encode.error.EncodeError.{EncodeError}
-use Rattle.bcder.specs.BitString.{Bits, IsBits, bit_string_tag, as_written, IsBitString}
-use Rattle.bcder.specs.ReadBits.{HoldBits, NoBits}
-use Rattle.bcder.specs.ReadBack.{IsReadBack}
-use Rattle.bcder.specs.Content.{Reading, tagged, IsAbsent, IsElsewhere, none_left, other, marker}
-use Rattle.bcder.specs.Takes.{HasNone}
-use Rattle.bcder.specs.Readers.{MeanNothing, MeanAnother, NoInteger, NoUnsigned, IsThis, IsUnsigned, IsTruth, IsNull}
-use Rattle.bcder.specs.Typed.{HasPrimitive, TakesAs, RefusesAs, TakesNextAs, PassesNextAs, TakesOneAs}
-use Rattle.bcder.specs.Typed as typed
-use Rattle.bcder.specs.TakenBack.{StandsIn, SourceFailed, SourceFailedOrNoMemory, Answers, TakesBack, IsTakenBackBy, IsTakenBack}
+use Rattle.bcder.specs.x690.BitString.{Bits, IsBits, bit_string_tag, as_written, IsBitString}
+use Rattle.bcder.specs.calls.ReadBits.{HoldBits, NoBits}
+use Rattle.bcder.specs.calls.ReadBack.{IsReadBack}
+use Rattle.bcder.specs.calls.Content.{Reading, tagged, IsAbsent, IsElsewhere, none_left, other, marker}
+use Rattle.bcder.specs.calls.Takes.{HasNone}
+use Rattle.bcder.specs.calls.Readers.{MeanNothing, MeanAnother, NoInteger, NoUnsigned, IsThis, IsUnsigned, IsTruth, IsNull}
+use Rattle.bcder.specs.calls.Typed.{HasPrimitive, TakesAs, RefusesAs, TakesNextAs, PassesNextAs, TakesOneAs}
+use Rattle.bcder.specs.calls.Typed as typed
+use Rattle.bcder.specs.calls.TakenBack.{StandsIn, SourceFailed, SourceFailedOrNoMemory, Answers, TakesBack, IsTakenBackBy, IsTakenBack}
 use Rattle.bcder.specs.laws.Complete.{only_at_front, definite_size}
 use Rattle.bcder.specs.laws.Integers.{integer_octets_are}
 use Rattle.bcder.specs.laws.Meanings.{primitive_lawful, Exactly_lawful, ExactlyOctets_lawful, BitsMean_lawful, truth_octets_are}

@@ -7,19 +7,18 @@ use Rattle.bcder.specs.declared.length.Length.{Length}
 use Rattle.bcder.specs.declared.length.Length.TheVariants.{Definite, Indefinite}
 use Rattle.bcder.specs.declared.decode.content.State.TheVariants.{Open, Failed}
 use Rattle.bcder.specs.declared.decode.error.DecodeError.{DecodeError}
-use Rattle.bcder.specs.Identifier.{Tag}
+use Rattle.bcder.specs.x690.Identifier.{Tag}
 use Rattle.bcder.specs.declared.decode.error.ContentError.{ContentError}
-use Rattle.bcder.specs.Cause.{Cause, cause_of}
-use Rattle.bcder.specs.Tree.{Tree}
-use Rattle.bcder.specs.Encoding.{may_have, IsHeader, IsEncoding}
-use Rattle.bcder.specs.Reading.{Header}
-use Rattle.bcder.specs.Content.{Reading, Form, Octets, DefiniteValues, IndefiniteValues, UnboundedValues, label, Moves, Advances, Asked, IsAsked, HasHeader, Enters, RefusesHeader}
-use Rattle.bcder.specs.Content as content
-use Rattle.bcder.specs.Decoding.{AnsweredOn}
-use Rattle.bcder.specs.Calls.{IsFormOf, ContentOf, Hands, Untagged, Answered, AnswersDone, RefusesContent, by_closure, unfinished, TakesContent, TakesValue, RefusesFront, RefusesValue, IsInside}
-use Rattle.bcder.specs.Calls as calls
-use Rattle.bcder.specs.Inside.{TakesBehind, of_form, refused, taken}
-use Rattle.bcder.specs.Takes.{HasNone, HasRefusedForm, by_header, by_form, by_content, TakesNext}
+use Rattle.bcder.specs.calls.Cause.{Cause, cause_of}
+use Rattle.bcder.specs.x690.Tree.{Tree}
+use Rattle.bcder.specs.x690.Encoding.{may_have, IsHeader, IsEncoding, Header}
+use Rattle.bcder.specs.calls.Content.{Reading, Form, Octets, DefiniteValues, IndefiniteValues, UnboundedValues, label, Moves, Advances, Asked, IsAsked, HasHeader, Enters, RefusesHeader}
+use Rattle.bcder.specs.calls.Content as content
+use Rattle.bcder.specs.calls.Decoding.{AnsweredOn}
+use Rattle.bcder.specs.calls.Calls.{IsFormOf, ContentOf, Hands, Untagged, Answered, AnswersDone, RefusesContent, by_closure, unfinished, TakesContent, TakesValue, RefusesFront, RefusesValue, IsInside}
+use Rattle.bcder.specs.calls.Calls as calls
+use Rattle.bcder.specs.steps.Inside.{TakesBehind, of_form, refused, taken}
+use Rattle.bcder.specs.calls.Takes.{HasNone, HasRefusedForm, by_header, by_form, by_content, TakesNext}
 use Rattle.bcder.specs.laws.Complete.{header_size}
 use Rattle.bcder.proofs.Moving.{moves_value, moves_failed, advances_trans, open_not_ended}
 use Rattle.bcder.proofs.Entering.{advances_to, header_entered}

@@ -7,8 +7,8 @@ use Rattle.std.specs.Cmp.{signed_Decides}
 use Rattle.std.specs.Cmp.Lexicographic.{pointwise, same_text, nat_list_eq_equiv}
 use Rattle.std.proofs.lemmas.Int.{ints}
 use Rattle.std.proofs.lemmas.Bool.Decides.{nat_tests}
-use Rattle.bcder.specs.Identifier.{AreOctets}
-use Rattle.bcder.specs.Integer.{AreInteger, Leads, number, is_negative}
+use Rattle.bcder.specs.x690.Identifier.{AreOctets}
+use Rattle.bcder.specs.x690.Integer.{AreInteger, Leads, number, is_negative}
 use Rattle.bcder.specs.laws.Integers.{Told, positive, negative, told_by, one_integer, AreOctets-nil, AreOctets-cons}
 use Rattle.bcder.specs.laws.Order.{leads_tested, leads_tested_negative}
 

@@ -8,22 +8,22 @@ use Rattle.bcder.specs.declared.length.Length.{Length}
 use Rattle.bcder.specs.declared.length.Length.TheVariants.{Definite, Indefinite}
 use Rattle.bcder.specs.declared.decode.content.State.TheVariants.{Open}
 use Rattle.bcder.specs.declared.decode.error.DecodeError.{DecodeError}
-use Rattle.bcder.specs.Identifier.{AreOctets, Tag}
-use Rattle.bcder.specs.Tree.{Tree, primitive}
-use Rattle.bcder.specs.Encoding.{IsHeader, IsEncoding}
-use Rattle.bcder.specs.Stream.{Stream}
+use Rattle.bcder.specs.x690.Identifier.{AreOctets, Tag}
+use Rattle.bcder.specs.x690.Tree.{Tree, primitive}
+use Rattle.bcder.specs.x690.Encoding.{IsHeader, IsEncoding}
+use Rattle.bcder.specs.calls.Stream.{Stream}
 use Rattle.bcder.specs.declared.decode.content.Primitive.{Primitive}
-use Rattle.bcder.specs.Views.{of_primitive}
-use Rattle.bcder.specs.Cause.{cause_of}
-use Rattle.bcder.specs.Content.{Reading, Form, Octets, DefiniteValues, IndefiniteValues, any, tagged, label, HasHeader, IsAbsent, IsElsewhere, none_left, other, marker, of_octets}
-use Rattle.bcder.specs.Content as content
-use Rattle.bcder.specs.Calls.{Hands, IsFormOf, ContentOf, Answered, TakesValue, RefusesFront, RefusesContent, by_closure, unfinished, RefusesEnd, left_failed, source_failed, left_open, HasForm}
-use Rattle.bcder.specs.Takes.{HasNone, TakesNext, Takes, RefusesTake, by_header, by_form, by_content}
-use Rattle.bcder.specs.Walking.{IsShort}
-use Rattle.bcder.specs.Readers.{HasAll, Reads, RefusesReading}
-use Rattle.bcder.specs.Readers as readers
-use Rattle.bcder.specs.Typed.{HasPrimitive, HasBroken, TakesAs, RefusesAs, TakesNextAs, PassesNextAs, TakesOneAs}
-use Rattle.bcder.specs.Typed as typed
+use Rattle.bcder.specs.calls.Views.{of_primitive}
+use Rattle.bcder.specs.calls.Cause.{cause_of}
+use Rattle.bcder.specs.calls.Content.{Reading, Form, Octets, DefiniteValues, IndefiniteValues, any, tagged, label, HasHeader, IsAbsent, IsElsewhere, none_left, other, marker, of_octets}
+use Rattle.bcder.specs.calls.Content as content
+use Rattle.bcder.specs.calls.Calls.{Hands, IsFormOf, ContentOf, Answered, TakesValue, RefusesFront, RefusesContent, by_closure, unfinished, RefusesEnd, left_failed, source_failed, left_open, HasForm}
+use Rattle.bcder.specs.calls.Takes.{HasNone, TakesNext, Takes, RefusesTake, by_header, by_form, by_content}
+use Rattle.bcder.specs.calls.Walking.{IsShort}
+use Rattle.bcder.specs.calls.Readers.{HasAll, Reads, RefusesReading}
+use Rattle.bcder.specs.calls.Readers as readers
+use Rattle.bcder.specs.calls.Typed.{HasPrimitive, HasBroken, TakesAs, RefusesAs, TakesNextAs, PassesNextAs, TakesOneAs}
+use Rattle.bcder.specs.calls.Typed as typed
 use Rattle.bcder.specs.laws.Complete.{one_header}
 use Rattle.bcder.specs.laws.Sound.{AreOctets-take}
 use Rattle.bcder.specs.laws.Stands.{AreOctets-after}

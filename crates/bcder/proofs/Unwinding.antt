@@ -1,8 +1,7 @@
 -- The limit around open values.
 use Rattle.std.proofs.Common.{◌≡◌, ℕ, zero, suc, ◌+◌, ◌^◌, ◌<◌, ◌≤◌, true, List, [], ◌∷◌, ◌++◌, Option, Some, None, is_some, IfSome, length, reverse, sym, ap, ◌∙◌, refl, arith}
 use Rattle.std.proofs.lemmas.List.{length-reverse, reverse-append}
-use Rattle.bcder.specs.Stacked.{Entry}
-use Rattle.bcder.specs.Stacked.{Definite, Indefinite}
+use Rattle.bcder.specs.steps.Stacked.{Entry, Definite, Indefinite, joined, unwound, Counts, indefinites, around, framed, IsCounted, TopIs}
 use Rattle.bcder.specs.declared.decode.content.Kind.{Kind}
 use Rattle.bcder.specs.declared.decode.content.Kind.TheVariants as kind
 use Rattle.smallvec.specs.SmallVec.{SmallVec, HasRoomFor, small_vec_len}
@@ -10,8 +9,7 @@ use Rattle.std.proofs.Common.{inl, inr, Ok, Err, Result, is_err, IsOk}
 use Rattle.std.proofs.lemmas.Bool.{cases_lt}
 use Rattle.bcder.specs.declared.decode.content.skip.Frame.{Frame}
 use Rattle.bcder.specs.declared.decode.content.skip.Opened.{Opened}
-use Rattle.bcder.specs.Stacked.{joined, unwound, Counts, indefinites, around, framed, IsCounted, TopIs}
-use Rattle.bcder.specs.Content.{Falls}
+use Rattle.bcder.specs.calls.Content.{Falls}
 use Rattle.bcder.specs.laws.Sound.{none_is, some_inj}
 
 -- what was put on the stack last is the innermost

@@ -9,8 +9,9 @@ use Rattle.std.proofs.lemmas.Str.{IsUtf8-append, IsUtf8-drop, IsUtf8-from_ascii,
 use Rattle.std.specs.Int.{is_in_range}
 use Rattle.std.specs.Str.{IsAscii, IsUtf8, chars}
 use Rattle.bcder.specs.declared.string.restricted.char_set.CharSetError.{CharSetError}
-use Rattle.bcder.specs.CharSet.{Front, Spells, Accepts, NextChar}
-use Rattle.bcder.specs.Utf8.{Lead, lead, six_more, read_tails, read_behind, read_led, utf8_step}
+use Rattle.bcder.specs.x690.CharSet.{Front, Spells, Accepts}
+use Rattle.bcder.specs.calls.CharSetCalls.{NextChar}
+use Rattle.bcder.specs.x690.Utf8.{Lead, lead, six_more, read_tails, read_behind, read_led, utf8_step}
 use Rattle.bcder.specs.laws.Utf8.{utf8_accepts, encodes_utf8}
 
 abbrev front : ℕ → List ℕ → Front

@@ -10,18 +10,18 @@ use Rattle.bcder.specs.declared.decode.content.Kind.TheVariants as kind
 use Rattle.bcder.specs.declared.decode.content.State.{State}
 use Rattle.bcder.specs.declared.decode.content.State.TheVariants.{Ended, Failed}
 use Rattle.bcder.specs.declared.decode.error.DecodeError.{DecodeError}
-use Rattle.bcder.specs.Identifier.{Tag}
-use Rattle.bcder.specs.Length.{IsEndOfContents}
-use Rattle.bcder.specs.Tree.{Tree, primitive, constructed, Trees}
-use Rattle.bcder.specs.Encoding.{IsHeader, IsDefinite, IsFramed, IsEncoding, AreEncodings}
-use Rattle.bcder.specs.Cause.{cause_of}
-use Rattle.bcder.specs.Content.{Reading, Form, octets, values, Octets, DefiniteValues, IndefiniteValues, tagged, label, HasHeader, HasMarker, IsDone}
-use Rattle.bcder.specs.Content as content
-use Rattle.bcder.specs.Calls.{Hands, IsFormOf, ContentOf, Answered, TakesValue, RefusesFront, RefusesContent, by_closure, unfinished, RefusesEnd, left_failed, source_failed, left_open}
-use Rattle.bcder.specs.Takes.{HasNone, TakesNext, Takes, RefusesTake, by_header, by_form, by_content}
-use Rattle.bcder.specs.Walking.{HasValues, ClosesBefore}
-use Rattle.bcder.specs.Valued.{HoldsOctets, HoldsValues, HoldsTree, ReadsTree, RefusesToRead, ReadsContent, ReadsAny, tag_of, HasTagged, TakesTree, RefusesTree, TakesNextTree, TakesOneTree}
-use Rattle.bcder.specs.Valued as valued
+use Rattle.bcder.specs.x690.Identifier.{Tag}
+use Rattle.bcder.specs.x690.Length.{IsEndOfContents}
+use Rattle.bcder.specs.x690.Tree.{Tree, primitive, constructed, Trees}
+use Rattle.bcder.specs.x690.Encoding.{IsHeader, IsDefinite, IsFramed, IsEncoding, AreEncodings}
+use Rattle.bcder.specs.calls.Cause.{cause_of}
+use Rattle.bcder.specs.calls.Content.{Reading, Form, octets, values, Octets, DefiniteValues, IndefiniteValues, tagged, label, HasHeader, HasMarker, IsDone}
+use Rattle.bcder.specs.calls.Content as content
+use Rattle.bcder.specs.calls.Calls.{Hands, IsFormOf, ContentOf, Answered, TakesValue, RefusesFront, RefusesContent, by_closure, unfinished, RefusesEnd, left_failed, source_failed, left_open}
+use Rattle.bcder.specs.calls.Takes.{HasNone, TakesNext, Takes, RefusesTake, by_header, by_form, by_content}
+use Rattle.bcder.specs.calls.Walking.{HasValues, ClosesBefore}
+use Rattle.bcder.specs.calls.Valued.{HoldsOctets, HoldsValues, HoldsTree, ReadsTree, RefusesToRead, ReadsContent, ReadsAny, tag_of, HasTagged, TakesTree, RefusesTree, TakesNextTree, TakesOneTree}
+use Rattle.bcder.specs.calls.Valued as valued
 use Rattle.bcder.specs.laws.Complete.{one_header, one_list, one_end_of_list}
 use Rattle.bcder.proofs.Moving.{open_not_ended, open_not_failed}
 use Rattle.bcder.proofs.Entering.{Within, no_fewer}

@@ -3,18 +3,19 @@ use Rattle.std.proofs.Common.{◌≡◌, ℕ, true, false, List, ◌++◌, Optio
 use Rattle.std.specs.Prelude.{◌⊎◌, Result, Ok, Err, IfOk, IfErr, IfSome, IfNone, is_some}
 use Rattle.std.specs.Borrow.{MutBor}
 use Rattle.bcder.specs.declared.decode.content.State.TheVariants.{Ended, Failed}
-use Rattle.bcder.specs.Identifier.{Tag}
-use Rattle.bcder.specs.Tree.{Tree}
-use Rattle.bcder.specs.Encoding.{IsEncoding}
-use Rattle.bcder.specs.Grammar.{IsOnly}
-use Rattle.bcder.specs.Stream.{Grew}
+use Rattle.bcder.specs.x690.Identifier.{Tag}
+use Rattle.bcder.specs.x690.Tree.{Tree}
+use Rattle.bcder.specs.x690.Encoding.{IsEncoding}
+use Rattle.bcder.specs.x690.Grammar.{IsOnly}
+use Rattle.bcder.specs.calls.Stream.{Grew}
 use Rattle.bcder.specs.declared.decode.error.ContentError.{ContentError}
-use Rattle.bcder.specs.Cause.{Cause, of_source, IsOfContent}
-use Rattle.bcder.specs.Content.{Reading, any, label, EndsBefore, EndsAt}
-use Rattle.bcder.specs.Calls.{Answered, TakesValue, RefusesContent, by_closure, unfinished, RefusesFront, RefusesValue}
-use Rattle.bcder.specs.Calls as calls
-use Rattle.bcder.specs.Walking.{HasValue, NoValue, PassesValue, AnswersNext, WalksBy}
-use Rattle.bcder.specs.Walking as walking
+use Rattle.bcder.specs.calls.Cause.{Cause, of_source, IsOfContent}
+use Rattle.bcder.specs.calls.Content.{Reading, any, label, EndsBefore, EndsAt}
+use Rattle.bcder.specs.calls.Calls.{Answered, TakesValue, RefusesContent, by_closure, unfinished, RefusesFront, RefusesValue}
+use Rattle.bcder.specs.calls.Calls as calls
+use Rattle.bcder.specs.calls.Walking.{HasValue, NoValue, PassesValue, AnswersNext}
+use Rattle.bcder.specs.steps.WalkSteps.{WalksBy}
+use Rattle.bcder.specs.calls.Walking as walking
 use Rattle.bcder.specs.laws.Complete.{only_at_front}
 use Rattle.bcder.proofs.Moving.{open_not_failed}
 use Rattle.bcder.proofs.Entering.{Within, header_not_at_end, no_fewer}

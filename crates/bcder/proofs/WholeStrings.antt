@@ -4,9 +4,9 @@ use Rattle.std.specs.Prelude.{Ok, Err}
 use Rattle.bcder.specs.declared.encode.error.EncodeError.{EncodeError}
 use Rattle.bcder.specs.declared.encode.error.EncodeError.TheVariants.{NoMemory}
 use Rattle.bcder.specs.declared.mode.Mode.{Mode}
-use Rattle.bcder.specs.Identifier.{AreOctets}
-use Rattle.bcder.specs.Meaning.{fits_primitive, PieceMeans}
-use Rattle.bcder.specs.Encoders.{RefusesBy}
+use Rattle.bcder.specs.x690.Identifier.{AreOctets}
+use Rattle.bcder.specs.calls.Meaning.{fits_primitive, PieceMeans}
+use Rattle.bcder.specs.calls.Encoders.{RefusesBy}
 
 module _ (refusal : EncodeError) (mode : Mode) (w : List ℕ) where
   pub string_fits : AreOctets w → fits_primitive mode (length w) ≡ true → PieceMeans refusal mode w (Ok w)

@@ -1,17 +1,17 @@
 -- Encodings inside an octet string.
 use Rattle.std.proofs.Common.{◌≡◌, ℕ, ◌+◌, ◌<◌, ◌^◌, Bool, true, false, List, length, nat_lt, Some, Result, Ok, Err, ◌⊎◌, inl, inr, refl, sym, ap, ◌∙◌, subst, arith, ltb-true, IsErr, IsErrAnd, if◌then◌else◌}
-use Rattle.bcder.specs.OctetString.{octet_string_tag}
-use Rattle.bcder.specs.Segmenting.{InsideSize}
+use Rattle.bcder.specs.x690.OctetString.{octet_string_tag}
+use Rattle.bcder.specs.steps.Segmenting.{InsideSize}
 use Rattle.bcder.specs.declared.encode.error.EncodeError.{EncodeError}
 use Rattle.bcder.specs.declared.encode.error.EncodeError.TheVariants.{LengthTooLarge}
 use Rattle.bcder.specs.declared.length.Length.TheVariants.{Definite}
 use Rattle.bcder.specs.declared.mode.Mode.{Mode}
 use Rattle.bcder.specs.declared.mode.Mode.TheVariants.{Ber, Cer, Der}
-use Rattle.bcder.specs.Identifier.{AreOctets, Tag}
-use Rattle.bcder.specs.Octets.{header}
-use Rattle.bcder.specs.Meaning.{Encoded, Meaning, IsOne, IsLawful, primitive_encoded, primitive_meaning}
-use Rattle.bcder.specs.Encoders.{HasEncoding, HasSize, RefusesBy, SizeOfValues}
-use Rattle.bcder.specs.StringMeaning.{string_meaning, contents_of, OctetsMean, WrappedMeans, is_cut, IsGathered}
+use Rattle.bcder.specs.x690.Identifier.{AreOctets, Tag}
+use Rattle.bcder.specs.x690.Octets.{header}
+use Rattle.bcder.specs.calls.Meaning.{Encoded, Meaning, IsOne, IsLawful, primitive_encoded, primitive_meaning}
+use Rattle.bcder.specs.calls.Encoders.{HasEncoding, HasSize, RefusesBy, SizeOfValues}
+use Rattle.bcder.specs.calls.StringMeaning.{string_meaning, contents_of, OctetsMean, WrappedMeans, is_cut, IsGathered}
 use Rattle.bcder.specs.laws.Octets.{AreOctets-encodings}
 use Rattle.bcder.proofs.Enclosing.{header-length, definite-length}
 use Rattle.bcder.proofs.Joining.{one_size}

@@ -8,12 +8,12 @@ use Rattle.bcder.specs.declared.encode.error.EncodeError.TheVariants.{NoMemory}
 use Rattle.bcder.specs.declared.encode.error.WriteError.{WriteError}
 use Rattle.bcder.specs.declared.encode.error.WriteError.TheVariants.{Refused, Target}
 use Rattle.bcder.specs.declared.mode.Mode.{Mode}
-use Rattle.bcder.specs.Identifier.{Tag}
-use Rattle.bcder.specs.Tree.{Tree, constructed, no_trees, ◌∷ₜ◌}
-use Rattle.bcder.specs.Encoding.{IsEncoding, AreEncodings}
-use Rattle.bcder.specs.Meaning.{Encoded, Meaning, octets_of, ValueMeans, constructed_meaning, constructed_encoded, fits_enclosed, enclosed_refusal}
-use Rattle.bcder.specs.Encoders.{Writes, WritesValues}
-use Rattle.bcder.specs.Written.{WritesEncodings, EncodesConstructed, AppendsConstructed, WroteConstructed}
+use Rattle.bcder.specs.x690.Identifier.{Tag}
+use Rattle.bcder.specs.x690.Tree.{Tree, constructed, no_trees, ◌∷ₜ◌}
+use Rattle.bcder.specs.x690.Encoding.{IsEncoding, AreEncodings}
+use Rattle.bcder.specs.calls.Meaning.{Encoded, Meaning, octets_of, ValueMeans, constructed_meaning, constructed_encoded, fits_enclosed, enclosed_refusal}
+use Rattle.bcder.specs.calls.Encoders.{Writes, WritesValues}
+use Rattle.bcder.specs.calls.Written.{WritesEncodings, EncodesConstructed, AppendsConstructed, WroteConstructed}
 
 pub one_of : (mode : Mode) (t : Tree) (w : List ℕ) → AreEncodings mode (t ∷ₜ no_trees) w → IsEncoding mode t w
 one_of mode t w h = subst (IsEncoding mode t) (sym (h.4 ∙ ap (λ z. h.0 ++ z) h.3 ∙ append-nil h.0)) h.2

@@ -7,10 +7,10 @@ use Rattle.bcder.specs.declared.encode.error.EncodeError.TheVariants.{NoMemory, 
 use Rattle.bcder.specs.declared.encode.error.WriteError.{WriteError}
 use Rattle.bcder.specs.declared.encode.error.WriteError.TheVariants.{Refused, Target}
 use Rattle.bcder.specs.declared.encode.slot.Failed.{Failed}
-use Rattle.bcder.specs.Identifier.{Tag}
-use Rattle.bcder.specs.Octets.{definite}
-use Rattle.bcder.specs.Meaning.{Exactly}
-use Rattle.bcder.specs.Encoders.{RefusesBy, DoneOf, WroteOf, Writes, told}
+use Rattle.bcder.specs.x690.Identifier.{Tag}
+use Rattle.bcder.specs.x690.Octets.{definite}
+use Rattle.bcder.specs.calls.Meaning.{Exactly}
+use Rattle.bcder.specs.calls.Encoders.{RefusesBy, DoneOf, WroteOf, Writes, told}
 
 pub append_not_nil : (a b : List ℕ) → a ≢ [] → a ++ b ≢ []
 append_not_nil [] b h = absurd (h refl)

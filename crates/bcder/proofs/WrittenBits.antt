@@ -6,13 +6,13 @@ use Rattle.bcder.specs.declared.mode.Mode.TheVariants.{Ber, Cer, Der}
 use Rattle.bcder.specs.declared.encode.error.EncodeError.{EncodeError}
 use Rattle.bcder.specs.declared.encode.error.EncodeError.TheVariants.{NoMemory}
 use Rattle.bcder.specs.declared.length.Length.TheVariants.{Definite}
-use Rattle.bcder.specs.Identifier.{AreOctets, Tag}
-use Rattle.bcder.specs.Octets.{header, definite}
-use Rattle.bcder.specs.Encoders.{RefusesBy}
-use Rattle.bcder.specs.BitString.{Bits, IsBits, bits, cleared, contents_octets, as_written, MayHave, BitShape, IsBitString}
-use Rattle.bcder.specs.Meaning.{fits_primitive, BitsMean}
-use Rattle.bcder.specs.ReadBack.{IsReadBack}
-use Rattle.bcder.specs.ReadBits.{HoldBits}
+use Rattle.bcder.specs.x690.Identifier.{AreOctets, Tag}
+use Rattle.bcder.specs.x690.Octets.{header, definite}
+use Rattle.bcder.specs.calls.Encoders.{RefusesBy}
+use Rattle.bcder.specs.x690.BitString.{Bits, IsBits, bits, cleared, contents_octets, as_written, MayHave, BitShape, IsBitString}
+use Rattle.bcder.specs.calls.Meaning.{fits_primitive, BitsMean}
+use Rattle.bcder.specs.calls.ReadBack.{IsReadBack}
+use Rattle.bcder.specs.calls.ReadBits.{HoldBits}
 use Rattle.std.proofs.lemmas.Nat.{shr_high, pow_pos}
 use Rattle.std.proofs.lemmas.Bool.{leb-true}
 use Rattle.bcder.proofs.Bits.{cleared_length, cleared_push, as_many_octets, written_octets}

@@ -7,16 +7,17 @@ use Rattle.std.proofs.lemmas.List.{length-take-le, length-drop, take-append-drop
 use Rattle.bcder.specs.declared.encode.error.EncodeError.TheVariants.{LengthTooLarge}
 use Rattle.bcder.specs.declared.mode.Mode.{Mode}
 use Rattle.bcder.specs.declared.mode.Mode.TheVariants.{Ber, Cer, Der}
-use Rattle.bcder.specs.Identifier.{Tag}
-use Rattle.bcder.specs.Tree.{Tree, primitive, constructed, Trees, no_trees, ◌∷ₜ◌}
-use Rattle.bcder.specs.Encoding.{AreEncodings}
-use Rattle.bcder.specs.Captured.{Kept}
-use Rattle.bcder.specs.Gathered.{KeptMeans}
-use Rattle.bcder.specs.OctetString.{StringOctets, whole, cut, octets_of, segments_of, flat, MayBeWhole, FollowFull, AreSegments, AreSegmentsIn, IsOctetString, AreSegmented}
-use Rattle.bcder.specs.Meaning.{Encoded, Meaning, IsLawful, ValueMeans, primitive_meaning, constructed_meaning, primitive_encoded, constructed_encoded, fits_enclosed, enclosed_refusal}
-use Rattle.bcder.specs.StringMeaning.{full_segments, segmented, segments_in_cer, is_cut, string_meaning, OctetsMean, StringMeans, WrappedMeans}
-use Rattle.bcder.specs.WrittenStrings.{IsWrittenString, WritesString, WritesAlike, IsMadeUp}
-use Rattle.bcder.specs.Valued.{tag_of}
+use Rattle.bcder.specs.x690.Identifier.{Tag}
+use Rattle.bcder.specs.x690.Tree.{Tree, primitive, constructed, Trees, no_trees, ◌∷ₜ◌}
+use Rattle.bcder.specs.x690.Encoding.{AreEncodings}
+use Rattle.bcder.specs.calls.Captured.{Kept}
+use Rattle.bcder.specs.calls.Gathered.{KeptMeans}
+use Rattle.bcder.specs.calls.StringOctets.{StringOctets, whole, cut, octets_of}
+use Rattle.bcder.specs.x690.OctetString.{segments_of, flat, MayBeWhole, FollowFull, AreSegments, AreSegmentsIn, IsOctetString, AreSegmented}
+use Rattle.bcder.specs.calls.Meaning.{Encoded, Meaning, IsLawful, ValueMeans, primitive_meaning, constructed_meaning, primitive_encoded, constructed_encoded, fits_enclosed, enclosed_refusal}
+use Rattle.bcder.specs.calls.StringMeaning.{full_segments, segmented, segments_in_cer, is_cut, string_meaning, OctetsMean, StringMeans, WrappedMeans}
+use Rattle.bcder.specs.calls.WrittenStrings.{IsWrittenString, WritesString, WritesAlike, IsMadeUp}
+use Rattle.bcder.specs.calls.Valued.{tag_of}
 use Rattle.bcder.specs.laws.Complete.{one_list}
 use Rattle.bcder.specs.laws.StringMeanings.{OctetsMean_lawful, StringMeans_lawful}
 use Rattle.bcder.proofs.Enclosing.{inside_of}

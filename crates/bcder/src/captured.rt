@@ -1,9 +1,10 @@
 //! Values that are kept as their octets.
 ghost use Rattle.std.specs.Prelude.{◌≡◌, [], IfOk, OnErr};
-ghost use Rattle.bcder.specs.Captured.{AreWhole, kept_stream};
-ghost use Rattle.bcder.specs.Captured.{CallableOnKept, LawfulOnKept, DecodesPart, RefusesPart};
-ghost use Rattle.bcder.specs.Decoding.{CallableOnAll, LawfulOnAll, DecodesAll, RefusesAll};
-ghost use Rattle.bcder.specs.Gathered.{none_kept, from_start, GathersValues};
+ghost use Rattle.bcder.specs.calls.Captured.{AreWhole, kept_stream};
+ghost use Rattle.bcder.specs.calls.Captured.{CallableOnKept, LawfulOnKept, DecodesPart};
+ghost use Rattle.bcder.specs.calls.Captured.{RefusesPart};
+ghost use Rattle.bcder.specs.calls.Decoding.{CallableOnAll, LawfulOnAll, DecodesAll, RefusesAll};
+ghost use Rattle.bcder.specs.calls.Gathered.{none_kept, from_start, GathersValues};
 
 mod builder;
 mod values;
@@ -32,7 +33,7 @@ pub struct Captured {
 }
 
 impl Model for Captured {
-    ghost use Rattle.bcder.specs.Captured.{Kept, AreWhole};
+    ghost use Rattle.bcder.specs.calls.Captured.{Kept, AreWhole};
 
     ghost Value = { Kept };
 

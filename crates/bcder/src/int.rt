@@ -2,13 +2,13 @@
 ghost use Rattle.std.specs.Prelude.{◌≡◌, ◌≢◌, ◌↔◌, ◌<ℤ◌, ◌≤ℤ◌, ◌≤◌, ◌<◌, ◌^◌, ℤ, ℕ, pos, IsTrue};
 ghost use Rattle.std.specs.Prelude.{IfOk, MatchResult, length};
 ghost use Rattle.std.specs.Int.{w8, w16, w32, w64, w128};
-ghost use Rattle.bcder.specs.Identifier.{AreOctets, integer_tag};
-ghost use Rattle.bcder.specs.Integer.{AreInteger, IsSmallest, integer_octets, is_negative};
-ghost use Rattle.bcder.specs.Integer.{integer_order, same_sign_order};
-ghost use Rattle.bcder.specs.Number.{ConvertsTo};
-ghost use Rattle.bcder.specs.Readers.{ReadBy, ReadOctets, IsSigned, MeanNothing, NoInteger};
-ghost use Rattle.bcder.specs.Typed.{TookOneBy};
-ghost use Rattle.bcder.specs.Views.{Moved, MovedOctets};
+ghost use Rattle.bcder.specs.x690.Identifier.{AreOctets, integer_tag};
+ghost use Rattle.bcder.specs.x690.Integer.{AreInteger, IsSmallest, integer_octets, is_negative};
+ghost use Rattle.bcder.specs.x690.Integer.{integer_order, same_sign_order};
+ghost use Rattle.bcder.specs.x690.Number.{ConvertsTo};
+ghost use Rattle.bcder.specs.calls.Readers.{ReadBy, ReadOctets, IsSigned, MeanNothing, NoInteger};
+ghost use Rattle.bcder.specs.calls.Typed.{TookOneBy};
+ghost use Rattle.bcder.specs.calls.Views.{Moved, MovedOctets};
 
 mod compare;
 mod convert;
@@ -39,8 +39,8 @@ pub struct Integer {
 /// The clauses see the number.
 impl Model for Integer {
     ghost use Rattle.std.specs.Prelude.{ℤ};
-    ghost use Rattle.bcder.specs.Identifier.{AreOctets};
-    ghost use Rattle.bcder.specs.Integer.{number, IsSmallest};
+    ghost use Rattle.bcder.specs.x690.Identifier.{AreOctets};
+    ghost use Rattle.bcder.specs.x690.Integer.{number, IsSmallest};
 
     ghost Value = { ℤ };
 

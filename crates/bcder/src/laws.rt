@@ -2,10 +2,10 @@
 //! the constants of `Tag`, each beside what it stands for.
 ghost use Rattle.std.specs.Prelude.{◌≡◌, ◌++◌, map};
 ghost use Rattle.std.specs.List.{range_with_len};
-ghost use Rattle.bcder.specs.Identifier.{universal, context_specific};
-ghost use Rattle.bcder.specs.Grammar.{OneIdentifier, OneLength, OneEnd, OneFront, OneList};
-ghost use Rattle.bcder.specs.Grammar.{OneEncoding, ValueInBer, ListInBer};
-ghost use Rattle.bcder.specs.Grammar.{ValueHasTwo, ListHasTwo, ValueIsOctets, ListIsOctets};
+ghost use Rattle.bcder.specs.x690.Identifier.{universal, context_specific};
+ghost use Rattle.bcder.specs.x690.Grammar.{OneIdentifier, OneLength, OneEnd, OneFront, OneList};
+ghost use Rattle.bcder.specs.x690.Grammar.{OneEncoding, ValueInBer, ListInBer};
+ghost use Rattle.bcder.specs.x690.Grammar.{ValueHasTwo, ListHasTwo, ValueIsOctets, ListIsOctets};
 
 pub mod bit_strings;
 pub mod char_sets;

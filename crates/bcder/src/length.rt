@@ -2,9 +2,9 @@
 ghost use Rattle.std.specs.Prelude.{◌≡◌, ℕ, ◌<◌, ◌≤◌, ◌^◌, ◌↔◌, Bool, List, ◌++◌, length, IsTrue};
 ghost use Rattle.std.specs.Prelude.{false, Some, None, IfSome, IfNone, MatchOption};
 ghost use Rattle.bcder.specs.declared.mode.Mode.{Mode as ModeValue};
-ghost use Rattle.bcder.specs.Answers.{Answers};
-ghost use Rattle.bcder.specs.Length.{big_endian};
-ghost use Rattle.bcder.specs.Reading.{least, may_tell, read_length, read_long, read_end};
+ghost use Rattle.bcder.specs.steps.Answers.{Answers};
+ghost use Rattle.bcder.specs.x690.Length.{big_endian};
+ghost use Rattle.bcder.specs.steps.Reading.{least, may_tell, read_length, read_long, read_end};
 
 use crate::mode::Mode;
 
@@ -38,7 +38,7 @@ fn number_of(octets: &[u8]) -> usize
 }
 
 /// Whether that many octets may tell the number: in CER and DER no fewer can (9.1, 10.1).
-#[tactic(auto, using(crate::proofs::nat_tests), unfolding(crate::specs::Reading::may_tell))]
+#[tactic(auto, using(crate::proofs::nat_tests), unfolding(crate::specs::steps::Reading::may_tell))]
 fn may_be_told(mode: Mode, count: usize, len: usize) -> bool
     requires some { 1 ≤ count }
     requires limit { count ≤ 4 }
@@ -56,7 +56,7 @@ fn may_be_told(mode: Mode, count: usize, len: usize) -> bool
 }
 
 /// The length that the first `count` octets are, and the octets after them (8.1.3.5).
-#[tactic(auto, using(crate::proofs::nat_tests), unfolding(crate::specs::Reading::read_long))]
+#[tactic(auto, using(crate::proofs::nat_tests), unfolding(crate::specs::steps::Reading::read_long))]
 fn long_at(mode: Mode, count: usize, octets: &[u8]) -> Option<(Length, &[u8])>
     requires { 1 ≤ count }
     ensures { Answers result (read_long mode count octets.now) }
@@ -77,7 +77,7 @@ fn long_at(mode: Mode, count: usize, octets: &[u8]) -> Option<(Length, &[u8])>
 }
 
 /// The length at the front, and the octets after it.
-#[tactic(auto, using(crate::proofs::nat_tests), unfolding(crate::specs::Reading::read_length))]
+#[tactic(auto, using(crate::proofs::nat_tests), unfolding(crate::specs::steps::Reading::read_length))]
 #[inline(always)]
 pub(crate) fn length_at(mode: Mode, octets: &[u8]) -> Option<(Length, &[u8])>
     ensures { Answers result (read_length mode octets.now) }
@@ -110,7 +110,7 @@ pub(crate) fn length_goes_on(octets: &[u8]) -> bool
 }
 
 /// The octets after the end marker at the front.
-#[tactic(auto, unfolding(crate::specs::Reading::read_end))]
+#[tactic(auto, unfolding(crate::specs::steps::Reading::read_end))]
 pub(crate) fn after_end(mode: Mode, octets: &[u8]) -> Option<&[u8]>
     ensures { MatchOption result
         (read_end mode octets.now ≡ None)

@@ -1,7 +1,8 @@
 //! The three sets of encoding rules.
 ghost use Rattle.std.specs.Prelude.{◌≡◌, ◌↔◌, ◌≤◌, ◌++◌, ℕ, List, IsTrue};
-ghost use Rattle.bcder.specs.Decoding.{CallableOnAll, LawfulOnAll, CallableOnLent, LawfulOnLent};
-ghost use Rattle.bcder.specs.Decoding.{DecodesAll, RefusesAll, DecodesLent, RefusesLent};
+ghost use Rattle.bcder.specs.calls.Decoding.{CallableOnAll, LawfulOnAll, CallableOnLent};
+ghost use Rattle.bcder.specs.calls.Decoding.{LawfulOnLent};
+ghost use Rattle.bcder.specs.calls.Decoding.{DecodesAll, RefusesAll, DecodesLent, RefusesLent};
 
 use crate::decode::{Constructed, DecodeError, IntoSource, Source};
 

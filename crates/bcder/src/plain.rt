@@ -5,14 +5,15 @@ ghost use Rattle.std.specs.Prelude.{◌≡◌, ℕ, ◌+◌, ◌<◌, ◌≤◌,
 ghost use Rattle.std.specs.Prelude.{Bool, false, IsTrue, IsFalse};
 ghost use Rattle.std.specs.Prelude.{Option, Some, None, IfSome, IfNone, MatchOption};
 ghost use Rattle.bcder.specs.declared.mode.Mode.{Mode as ModeValue};
-ghost use Rattle.bcder.specs.Tree.{Tree, Trees};
-ghost use Rattle.bcder.specs.Length.{IsEndOfContents};
-ghost use Rattle.bcder.specs.Encoding.{IsEncoding, AreEncodings, IsHeader, may_have};
-ghost use Rattle.bcder.specs.Told.{told};
-ghost use Rattle.bcder.specs.Identifier.{Tag as TagValue};
-ghost use Rattle.bcder.specs.Reading.{is_value_tag, BeginPrimitive};
-ghost use Rattle.bcder.specs.Reading.{read_header, after_tree, after_list, Leaves};
-ghost use Rattle.bcder.specs.Grammar.{IsOnly, BeginsWhole};
+ghost use Rattle.bcder.specs.x690.Tree.{Tree, Trees};
+ghost use Rattle.bcder.specs.x690.Length.{IsEndOfContents};
+ghost use Rattle.bcder.specs.x690.Encoding.{IsEncoding, AreEncodings, IsHeader, may_have};
+ghost use Rattle.bcder.specs.calls.ContentsLen.{told};
+ghost use Rattle.bcder.specs.x690.Identifier.{Tag as TagValue};
+ghost use Rattle.bcder.specs.x690.Identifier.{is_value_tag};
+ghost use Rattle.bcder.specs.steps.Reading.{BeginPrimitive};
+ghost use Rattle.bcder.specs.steps.Reading.{read_header, after_tree, after_list, Leaves};
+ghost use Rattle.bcder.specs.x690.Grammar.{IsOnly, BeginsWhole};
 
 use crate::length::{Length, after_end, length_at};
 use crate::mode::Mode;
@@ -31,7 +32,7 @@ pub(crate) fn may_have(mode: Mode, constructed: bool, len: Length) -> bool
 }
 
 /// The identifier and length octets at the front, and the octets after them.
-#[tactic(auto, unfolding(crate::specs::Reading::read_header))]
+#[tactic(auto, unfolding(crate::specs::steps::Reading::read_header))]
 #[inline(always)]
 pub(crate) fn header_at(mode: Mode, octets: &[u8]) -> Option<(Tag, bool, Length, &[u8])>
     ensures less { IfSome result (λ r. length r.3.now + 2 ≤ length octets.now) }

@@ -1,14 +1,15 @@
 //! Tags and identifier octets (X.690, 8.1.2).
 ghost use Rattle.std.specs.Prelude.{◌≡◌, ℕ, ◌<◌, ◌≤◌, ◌^◌, ◌%◌, ◌↔◌, Bool, false, IsTrue};
 ghost use Rattle.std.specs.Prelude.{Some, None, IfSome, MatchOption};
-ghost use Rattle.bcder.specs.Answers.{Answers};
-ghost use Rattle.bcder.specs.Identifier.{universal as universal_class};
-ghost use Rattle.bcder.specs.Identifier.{application as application_class};
-ghost use Rattle.bcder.specs.Identifier.{context_specific as context_specific_class};
-ghost use Rattle.bcder.specs.Identifier.{private as private_class};
-ghost use Rattle.bcder.specs.Reading.{is_value_tag, class_of, is_marked, read_identifier};
-ghost use Rattle.bcder.specs.Reading.{read_number, second_digit, third_digit};
-ghost use Rattle.bcder.specs.Classes.{class_meant};
+ghost use Rattle.bcder.specs.steps.Answers.{Answers};
+ghost use Rattle.bcder.specs.x690.Identifier.{universal as universal_class};
+ghost use Rattle.bcder.specs.x690.Identifier.{application as application_class};
+ghost use Rattle.bcder.specs.x690.Identifier.{context_specific as context_specific_class};
+ghost use Rattle.bcder.specs.x690.Identifier.{private as private_class};
+ghost use Rattle.bcder.specs.x690.Identifier.{is_value_tag};
+ghost use Rattle.bcder.specs.steps.Reading.{class_of, is_marked, read_identifier};
+ghost use Rattle.bcder.specs.steps.Reading.{read_number, second_digit, third_digit};
+ghost use Rattle.bcder.specs.calls.Classes.{class_meant};
 
 mod display;
 
@@ -36,11 +37,11 @@ pub struct Tag {
 
 impl Model for Tag {
     ghost use Rattle.std.specs.Prelude.{◌<◌, ◌^◌};
-    ghost use Rattle.bcder.specs.Identifier.{Tag as TagValue};
+    ghost use Rattle.bcder.specs.x690.Identifier.{Tag as TagValue};
 
     ghost Value = { TagValue };
 
-    ghost use Rattle.bcder.specs.Classes.{class_meant, class_kept};
+    ghost use Rattle.bcder.specs.calls.Classes.{class_meant, class_kept};
 
     ghost view = { λ a. record { class = class_meant a.class; number = a.number } };
 
@@ -398,7 +399,7 @@ impl Tag {
 }
 
 /// The class that bits 8 and 7 of the leading octet tell (8.1.2.2, table 1).
-#[tactic(auto, using(crate::proofs::nat_tests), unfolding(crate::specs::Reading::class_of))]
+#[tactic(auto, using(crate::proofs::nat_tests), unfolding(crate::specs::steps::Reading::class_of))]
 #[inline(always)]
 fn class_at(octet: u8) -> Class
     ensures { class_meant result ≡ class_of octet }
@@ -416,7 +417,7 @@ fn class_at(octet: u8) -> Class
 
 /// A number from 31 on in base 128 at the front, most significant digit first and not 0 (8.1.2.4),
 /// and the octets after it.
-#[tactic(auto, using(crate::proofs::nat_tests), unfolding(crate::specs::Reading::read_number))]
+#[tactic(auto, using(crate::proofs::nat_tests), unfolding(crate::specs::steps::Reading::read_number))]
 fn number_at(octets: &[u8]) -> Option<(u32, &[u8])>
     ensures limit { IfSome result (λ r. r.0 ≤ 2097151) }
     ensures read { Answers result (read_number octets.now) }
@@ -436,7 +437,7 @@ fn number_at(octets: &[u8]) -> Option<(u32, &[u8])>
 }
 
 /// The number whose digits before the octets are `high`, and the octets after it.
-#[tactic(auto, using(crate::proofs::nat_tests), unfolding(crate::specs::Reading::second_digit))]
+#[tactic(auto, using(crate::proofs::nat_tests), unfolding(crate::specs::steps::Reading::second_digit))]
 fn second_digit(high: u32, octets: &[u8]) -> Option<(u32, &[u8])>
     requires { high < 128 }
     ensures limit { IfSome result (λ r. r.0 ≤ 2097151) }
@@ -455,7 +456,7 @@ fn second_digit(high: u32, octets: &[u8]) -> Option<(u32, &[u8])>
 }
 
 /// The number whose digits before the octets are `high`, if one more ends it.
-#[tactic(auto, using(crate::proofs::nat_tests), unfolding(crate::specs::Reading::third_digit))]
+#[tactic(auto, using(crate::proofs::nat_tests), unfolding(crate::specs::steps::Reading::third_digit))]
 fn third_digit(high: u32, octets: &[u8]) -> Option<(u32, &[u8])>
     requires { high < 16384 }
     ensures limit { IfSome result (λ r. r.0 ≤ 2097151) }
@@ -480,7 +481,7 @@ pub(crate) fn tag_of_leading(octet: u8) -> Tag
 }
 
 /// The constructed mark of a leading octet, its bit 6 (8.1.2.5).
-#[tactic(auto, using(crate::proofs::nat_tests), unfolding(crate::specs::Reading::is_marked),)]
+#[tactic(auto, using(crate::proofs::nat_tests), unfolding(crate::specs::steps::Reading::is_marked),)]
 #[inline(always)]
 pub(crate) fn mark_of_leading(octet: u8) -> bool
     ensures { result ≡ is_marked octet }
@@ -504,7 +505,7 @@ pub(crate) fn leads_primitive(tag: Tag, octet: u8) -> bool
 
 /// The tag and the constructed mark of the identifier octets at the front, and the octets after
 /// them.
-#[tactic(auto, using(crate::proofs::nat_tests), unfolding(crate::specs::Reading::read_identifier))]
+#[tactic(auto, using(crate::proofs::nat_tests), unfolding(crate::specs::steps::Reading::read_identifier))]
 #[inline(always)]
 pub(crate) fn identifier_at(octets: &[u8]) -> Option<(Tag, bool, &[u8])>
     ensures { MatchOption result

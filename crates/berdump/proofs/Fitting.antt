@@ -3,11 +3,11 @@ use Rattle.std.proofs.Common.{◌≡◌, ◌≢◌, ℕ, ◌<◌, ◌≤◌, Boo
 use Rattle.std.proofs.lemmas.List.{take_at, drop_at}
 use Rattle.std.specs.Borrow.{Bor}
 use Rattle.bcder.specs.declared.mode.Mode.{Mode}
-use Rattle.bcder.specs.Identifier.{Tag}
-use Rattle.bcder.specs.Length.{IsEndOfContents}
-use Rattle.bcder.specs.Tree.{Tree, primitive, constructed, no_trees, ◌∷ₜ◌}
-use Rattle.bcder.specs.Encoding.{IsHeader, IsFramed, IsEncoding}
-use Rattle.bcder.specs.Told.{told}
+use Rattle.bcder.specs.x690.Identifier.{Tag}
+use Rattle.bcder.specs.x690.Length.{IsEndOfContents}
+use Rattle.bcder.specs.x690.Tree.{Tree, primitive, constructed, no_trees, ◌∷ₜ◌}
+use Rattle.bcder.specs.x690.Encoding.{IsHeader, IsFramed, IsEncoding}
+use Rattle.bcder.specs.calls.ContentsLen.{told}
 use Rattle.bcder.specs.laws.Complete.{one_header, one_end_of_list}
 use Rattle.berdump.specs.declared.opened.Open.{Open}
 use Rattle.berdump.specs.declared.opened.Open.TheVariants as level

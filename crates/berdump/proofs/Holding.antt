@@ -6,20 +6,20 @@ use Rattle.bcder.specs.declared.decode.content.State.TheVariants.{Open, Failed}
 use Rattle.bcder.specs.declared.decode.content.Constructed.{Constructed}
 use Rattle.bcder.specs.declared.decode.error.DecodeError.{DecodeError}
 use Rattle.bcder.specs.declared.decode.source.slice.SliceSource.{SliceSource}
-use Rattle.bcder.specs.Identifier.{Tag}
-use Rattle.bcder.specs.BitString.{bit_string_tag}
-use Rattle.bcder.specs.OctetString.{octet_string_tag}
-use Rattle.bcder.specs.Tree.{Trees}
-use Rattle.bcder.specs.Encoding.{AreEncodings}
-use Rattle.bcder.specs.Stream.{Stream, Grew}
-use Rattle.bcder.specs.Content.{Reading, UnboundedValues, IsDone}
-use Rattle.bcder.specs.Walking.{ClosesBefore, HasValues, RefusesValues}
-use Rattle.bcder.specs.Skipping.{SkippedAllBy}
-use Rattle.bcder.specs.Skipping as skipping
-use Rattle.bcder.specs.Decoding.{IsAllOf, Decodes, RefusesOn, RefusesDecode}
-use Rattle.bcder.specs.Decoding as decoding
-use Rattle.bcder.specs.Views.{of_constructed}
-use Rattle.bcder.specs.Cause.{cause_of, of_memory}
+use Rattle.bcder.specs.x690.Identifier.{Tag}
+use Rattle.bcder.specs.x690.BitString.{bit_string_tag}
+use Rattle.bcder.specs.x690.OctetString.{octet_string_tag}
+use Rattle.bcder.specs.x690.Tree.{Trees}
+use Rattle.bcder.specs.x690.Encoding.{AreEncodings}
+use Rattle.bcder.specs.calls.Stream.{Stream, Grew}
+use Rattle.bcder.specs.calls.Content.{Reading, UnboundedValues, IsDone}
+use Rattle.bcder.specs.calls.Walking.{ClosesBefore, HasValues, RefusesValues}
+use Rattle.bcder.specs.calls.Skipping.{SkippedAllBy}
+use Rattle.bcder.specs.calls.Skipping as skipping
+use Rattle.bcder.specs.calls.Decoding.{IsAllOf, Decodes, RefusesOn, RefusesDecode}
+use Rattle.bcder.specs.calls.Decoding as decoding
+use Rattle.bcder.specs.calls.Views.{of_constructed}
+use Rattle.bcder.specs.calls.Cause.{cause_of, of_memory}
 use Rattle.berdump.specs.Listing.{IsFront, IsList, IsNoList, Holds, HoldsNone}
 
 -- ---- strings

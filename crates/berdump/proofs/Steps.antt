@@ -3,10 +3,10 @@ use Rattle.std.proofs.Common.{◌≡◌, ◌≢◌, ℕ, ◌+◌, ◌-◌, ◌<�
 use Rattle.std.proofs.lemmas.List.{length-take-le}
 use Rattle.std.specs.Borrow.{Bor}
 use Rattle.bcder.specs.declared.mode.Mode.{Mode}
-use Rattle.bcder.specs.Identifier.{Tag}
-use Rattle.bcder.specs.BitString.{bit_string_tag}
-use Rattle.bcder.specs.Encoding.{IsHeader}
-use Rattle.bcder.specs.Told.{told}
+use Rattle.bcder.specs.x690.Identifier.{Tag}
+use Rattle.bcder.specs.x690.BitString.{bit_string_tag}
+use Rattle.bcder.specs.x690.Encoding.{IsHeader}
+use Rattle.bcder.specs.calls.ContentsLen.{told}
 use Rattle.bcder.specs.laws.Complete.{header_size}
 use Rattle.berdump.specs.declared.heading.Heading.{Heading}
 use Rattle.berdump.specs.declared.opened.Open.{Open}

@@ -2,8 +2,8 @@
 use Rattle.std.specs.Prelude.{◌≡◌, ◌≤◌, ℕ, Bool, List, [], ◌∷◌, ◌++◌, Option, length}
 use Rattle.std.specs.Io.KnownBytes.{Appends, Keeps}
 use Rattle.bcder.specs.declared.mode.Mode.{Mode}
-use Rattle.bcder.specs.Encoding.{IsHeader}
-use Rattle.bcder.specs.Told.{told}
+use Rattle.bcder.specs.x690.Encoding.{IsHeader}
+use Rattle.bcder.specs.calls.ContentsLen.{told}
 use Rattle.berdump.specs.declared.heading.Heading.{Heading}
 use Rattle.berdump.specs.declared.list.ListError.{ListError}
 use Rattle.berdump.specs.declared.list.ListError.TheVariants.{Refused, NoMemory, Target}

@@ -1,7 +1,7 @@
 -- The lines that show values.
 use Rattle.std.specs.Prelude.{◌≡◌, ℕ, ◌^◌, ◌-◌, Bool, true, false, List, [], ◌∷◌, ◌++◌, Option, Some, None, codes, decimal, min}
 use Rattle.std.specs.Fmt.{format_spec, padded_integral, styled_text}
-use Rattle.bcder.specs.TagText.{tag_text}
+use Rattle.bcder.specs.calls.TagText.{tag_text}
 use Rattle.berdump.specs.declared.heading.Heading.{Heading}
 
 -- a number to the right of a column of so many characters, as a hole `{:5}` writes it, and to the left, as `{:<2}`

@@ -1,13 +1,13 @@
 -- The headings of the values that octets encode, with the places where they stand (ITU-T X.690, 8.1.1).
 use Rattle.std.specs.Prelude.{◌≡◌, ◌≢◌, ◌⊎◌, ℕ, ◌+◌, Bool, true, false, List, [], ◌∷◌, ◌++◌, Option, Some, None, length}
 use Rattle.bcder.specs.declared.mode.Mode.{Mode}
-use Rattle.bcder.specs.Identifier.{Tag}
-use Rattle.bcder.specs.BitString.{bit_string_tag}
-use Rattle.bcder.specs.OctetString.{octet_string_tag}
-use Rattle.bcder.specs.Length.{IsEndOfContents}
-use Rattle.bcder.specs.Told.{told}
-use Rattle.bcder.specs.Tree.{Trees}
-use Rattle.bcder.specs.Encoding.{IsHeader, AreEncodings}
+use Rattle.bcder.specs.x690.Identifier.{Tag}
+use Rattle.bcder.specs.x690.BitString.{bit_string_tag}
+use Rattle.bcder.specs.x690.OctetString.{octet_string_tag}
+use Rattle.bcder.specs.x690.Length.{IsEndOfContents}
+use Rattle.bcder.specs.calls.ContentsLen.{told}
+use Rattle.bcder.specs.x690.Tree.{Trees}
+use Rattle.bcder.specs.x690.Encoding.{IsHeader, AreEncodings}
 use Rattle.berdump.specs.declared.heading.Heading.{Heading}
 
 abbrev pub heading : Tag → Bool → (depth offset header : ℕ) → Option ℕ → Heading

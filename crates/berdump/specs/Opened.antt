@@ -1,9 +1,9 @@
 -- The open values while octets are listed, the innermost first, and what is still to be listed.
 use Rattle.std.specs.Prelude.{◌≡◌, ◌≢◌, ℕ, ◌+◌, Bool, List, [], ◌∷◌, ◌++◌, length}
 use Rattle.bcder.specs.declared.mode.Mode.{Mode}
-use Rattle.bcder.specs.Tree.{Trees}
-use Rattle.bcder.specs.Length.{IsEndOfContents}
-use Rattle.bcder.specs.Encoding.{AreEncodings}
+use Rattle.bcder.specs.x690.Tree.{Trees}
+use Rattle.bcder.specs.x690.Length.{IsEndOfContents}
+use Rattle.bcder.specs.x690.Encoding.{AreEncodings}
 use Rattle.berdump.specs.declared.heading.Heading.{Heading}
 use Rattle.berdump.specs.declared.opened.Open.{Open}
 use Rattle.berdump.specs.declared.opened.Open.TheVariants.{Definite, Indefinite}

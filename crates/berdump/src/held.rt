@@ -4,8 +4,8 @@
 ghost use Rattle.std.specs.Prelude.{◌≡◌, ◌∷◌, ◌++◌, ℕ, List, true, false};
 ghost use Rattle.std.specs.Prelude.{Some, None, IfOk, IfSome, IfNone};
 ghost use Rattle.bcder.specs.contracts.decode.source.slice.SliceSourceSource.TheImpl.{ghosts};
-ghost use Rattle.bcder.specs.Skipping.{SkippedAll};
-ghost use Rattle.bcder.specs.Views.{Moved};
+ghost use Rattle.bcder.specs.calls.Skipping.{SkippedAll};
+ghost use Rattle.bcder.specs.calls.Views.{Moved};
 ghost use Rattle.berdump.specs.Listing.{IsFront, IsList, IsNoList, Holds, HoldsNone};
 
 use bcder::decode::SliceSource;

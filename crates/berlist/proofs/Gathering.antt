@@ -10,18 +10,18 @@ use Rattle.bcder.specs.declared.decode.error.ContentError.{ContentError}
 use Rattle.bcder.specs.declared.decode.error.DecodeError.{DecodeError}
 use Rattle.bcder.specs.declared.decode.error.DecodeError.TheVariants as error
 use Rattle.bcder.specs.declared.decode.source.slice.SliceSource.{SliceSource}
-use Rattle.bcder.specs.Tree.{Tree, Trees, no_trees, ◌∷ₜ◌}
-use Rattle.bcder.specs.Encoding.{AreEncodings}
-use Rattle.bcder.specs.Preorder.{Heading, preorder, preorders}
-use Rattle.bcder.specs.Content.{Reading, Octets, UnboundedValues, Moves, IsDone, EndsAt}
-use Rattle.bcder.specs.Walking.{PassesValue, ClosesBefore, HasValues, RefusesWalk, RefusesValues, Walks}
-use Rattle.bcder.specs.Skipping.{Steps, Called, SkipsValue, RefusesSkip}
-use Rattle.bcder.specs.Skipping as skipping
-use Rattle.bcder.specs.Decoding.{IsAllOf, RefusesOn, RefusesDecode}
-use Rattle.bcder.specs.Decoding as decoding
-use Rattle.bcder.specs.Stream.{Stream, Grew}
-use Rattle.bcder.specs.Views.{of_constructed}
-use Rattle.bcder.specs.Cause.{Cause, cause_of, of_memory}
+use Rattle.bcder.specs.x690.Tree.{Tree, Trees, no_trees, ◌∷ₜ◌}
+use Rattle.bcder.specs.x690.Encoding.{AreEncodings}
+use Rattle.bcder.specs.x690.Preorder.{Heading, preorder, preorders}
+use Rattle.bcder.specs.calls.Content.{Reading, Octets, UnboundedValues, Moves, IsDone, EndsAt}
+use Rattle.bcder.specs.calls.Walking.{PassesValue, ClosesBefore, HasValues, RefusesWalk, RefusesValues, Walks}
+use Rattle.bcder.specs.calls.Skipping.{Steps, Called, SkipsValue, RefusesSkip}
+use Rattle.bcder.specs.calls.Skipping as skipping
+use Rattle.bcder.specs.calls.Decoding.{IsAllOf, RefusesOn, RefusesDecode}
+use Rattle.bcder.specs.calls.Decoding as decoding
+use Rattle.bcder.specs.calls.Stream.{Stream, Grew}
+use Rattle.bcder.specs.calls.Views.{of_constructed}
+use Rattle.bcder.specs.calls.Cause.{Cause, cause_of, of_memory}
 use Rattle.bcder.specs.laws.Moved.{moved_keeps_kind}
 use Rattle.bcder.proofs.Lemmas.{open_has_not_ended, IsWithinOwed, values_with_one_more, trees_with_one_more, refused_on_the_way, no_values_at_the_end, no_trees_at_the_end, walks_nothing, walks_one_more}
 use Rattle.berlist.specs.Lines.{line, lines}

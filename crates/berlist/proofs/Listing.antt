@@ -1,7 +1,7 @@
 -- Lines of lists, and lists read one value after another.
 use Rattle.std.proofs.Common.{◌≡◌, ℕ, List, [], ◌∷◌, ◌++◌, refl, sym, ap, ◌∙◌, append_assoc}
-use Rattle.bcder.specs.Tree.{Tree, Trees, ◌∷ₜ◌}
-use Rattle.bcder.specs.Preorder.{Heading, preorder, preorders}
+use Rattle.bcder.specs.x690.Tree.{Tree, Trees, ◌∷ₜ◌}
+use Rattle.bcder.specs.x690.Preorder.{Heading, preorder, preorders}
 use Rattle.berlist.specs.Lines.{line, lines}
 
 pub lines-append : (hs gs : List Heading) → lines (hs ++ gs) ≡ lines hs ++ lines gs

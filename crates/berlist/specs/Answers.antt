@@ -2,9 +2,9 @@
 use Rattle.std.specs.Prelude.{◌≡◌, ℕ, List, Option, MatchOption}
 use Rattle.std.specs.Io.KnownBytes.{Appends, Keeps}
 use Rattle.bcder.specs.declared.mode.Mode.{Mode}
-use Rattle.bcder.specs.Tree.{Trees}
-use Rattle.bcder.specs.Encoding.{AreEncodings}
-use Rattle.bcder.specs.Preorder.{preorders}
+use Rattle.bcder.specs.x690.Tree.{Trees}
+use Rattle.bcder.specs.x690.Encoding.{AreEncodings}
+use Rattle.bcder.specs.x690.Preorder.{preorders}
 use Rattle.berlist.specs.declared.ListError.{ListError}
 use Rattle.berlist.specs.declared.ListError.TheVariants.{Refused, NoMemory, Target}
 use Rattle.berlist.specs.Front.{AppendsShorter}

@@ -4,10 +4,10 @@ use Rattle.std.specs.Borrow.{MutBor}
 use denote.Triple.Both.{Both}
 use Rattle.bcder.specs.declared.decode.content.State.TheVariants.{Open}
 use Rattle.bcder.specs.declared.decode.error.DecodeError.{DecodeError}
-use Rattle.bcder.specs.Preorder.{preorder, preorders}
-use Rattle.bcder.specs.Cause.{cause_of, of_memory}
-use Rattle.bcder.specs.Content.{Reading, IsDone, EndsAt}
-use Rattle.bcder.specs.Walking.{PassesValue, HasValues, RefusesWalk, RefusesValues}
+use Rattle.bcder.specs.x690.Preorder.{preorder, preorders}
+use Rattle.bcder.specs.calls.Cause.{cause_of, of_memory}
+use Rattle.bcder.specs.calls.Content.{Reading, IsDone, EndsAt}
+use Rattle.bcder.specs.calls.Walking.{PassesValue, HasValues, RefusesWalk, RefusesValues}
 use Rattle.berlist.specs.Lines.{lines}
 
 -- there was no memory

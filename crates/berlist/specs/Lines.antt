@@ -1,7 +1,7 @@
 -- The lines that show headings.
 use Rattle.std.specs.Prelude.{ℕ, Bool, true, false, List, [], ◌∷◌, ◌++◌, codes, decimal}
-use Rattle.bcder.specs.Preorder.{Heading}
-use Rattle.bcder.specs.TagText.{tag_text}
+use Rattle.bcder.specs.x690.Preorder.{Heading}
+use Rattle.bcder.specs.calls.TagText.{tag_text}
 
 abbrev pub form_text : Bool → List ℕ
 form_text false = codes "primitive"

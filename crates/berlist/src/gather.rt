@@ -1,6 +1,6 @@
 //! The lines of all values, gathered.
 ghost use Rattle.std.specs.Prelude.{◌≡◌, ◌++◌, [], IfOk, IfErr, IfSome, IfNone, OnOk, string_bytes};
-ghost use Rattle.bcder.specs.Views.{Moved, of_constructed};
+ghost use Rattle.bcder.specs.calls.Views.{Moved, of_constructed};
 ghost use Rattle.berlist.specs.Lines.{line};
 ghost use Rattle.berlist.specs.Gather.{Ends, IsLeftDone, KeepsMark, KeepsMode, ListsAll};
 ghost use Rattle.berlist.specs.Gather.{ListsNext, Refuses, RefusesOne};

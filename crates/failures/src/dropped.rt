@@ -1,7 +1,7 @@
 //! Refusals that a closure drops, at any depth.
 #![tactic(auto, using(bcder::specs::laws::Moved::steps))]
 
-ghost use Rattle.bcder.specs.Views.{Moved, MovedContent};
+ghost use Rattle.bcder.specs.calls.Views.{Moved, MovedContent};
 
 use crate::asserts::holds;
 use crate::over::{shared, sip};

@@ -1,5 +1,5 @@
 //! Bit strings: taken, shared and cloned.
-ghost use Rattle.bcder.specs.Views.{Moved};
+ghost use Rattle.bcder.specs.calls.Views.{Moved};
 
 use crate::end::{End, answered, read, refused, tell, tell_over};
 use anyhow::Error;

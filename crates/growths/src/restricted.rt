@@ -1,5 +1,5 @@
 //! Restricted character strings: made of texts, read, cloned, and given up for their octets.
-ghost use Rattle.bcder.specs.Views.{Moved};
+ghost use Rattle.bcder.specs.calls.Views.{Moved};
 
 use crate::end::{End, answered, made, read, tell};
 use anyhow::Error;

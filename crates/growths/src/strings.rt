@@ -1,5 +1,5 @@
 //! Octet strings in one piece and cut into segments: read, cloned, joined, and as a source.
-ghost use Rattle.bcder.specs.Views.{Moved};
+ghost use Rattle.bcder.specs.calls.Views.{Moved};
 
 use crate::end::{End, answered, read, refused, tell_over};
 use anyhow::Error;

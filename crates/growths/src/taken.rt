@@ -1,5 +1,5 @@
 //! What is taken of content, captured and skipped.
-ghost use Rattle.bcder.specs.Views.{Moved};
+ghost use Rattle.bcder.specs.calls.Views.{Moved};
 
 use crate::end::{End, answered, read, refused, tell, tell_over};
 use anyhow::Error;

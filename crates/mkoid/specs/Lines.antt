@@ -3,7 +3,7 @@ use Rattle.std.specs.Prelude.{◌≡◌, ◌≢◌, ℕ, List, [], ◌∷◌, �
 use Rattle.std.specs.Io.KnownBytes.{Appends}
 use Rattle.mkoid.specs.Front.{AppendsShorter}
 use Rattle.bcder.specs.declared.oid.text.OidError.{OidError}
-use Rattle.bcder.specs.IdentifierText.{IsTextOf, RefusesText, error_text}
+use Rattle.bcder.specs.calls.IdentifierText.{IsTextOf, RefusesText, error_text}
 
 -- an octet in decimal and a comma
 abbrev pub with_comma : ℕ → List ℕ

@@ -2,7 +2,7 @@
 //! is expected is what openssl wrote, and what `openssl crl` shows of it.
 #![tactic(auto, using(bcder::specs::laws::Moved::untouched_is_moved))]
 
-ghost use Rattle.bcder.specs.Views.{Moved};
+ghost use Rattle.bcder.specs.calls.Views.{Moved};
 
 use crate::asserts::{done, holds};
 use bcder::decode::{Constructed, DecodeError, Source};

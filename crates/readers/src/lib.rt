@@ -2,7 +2,7 @@
 //! asn1parse` shows of it.
 #![tactic(auto)]
 
-ghost use Rattle.bcder.specs.Views.{Moved};
+ghost use Rattle.bcder.specs.calls.Views.{Moved};
 
 #[cfg(test)]
 mod asserts;

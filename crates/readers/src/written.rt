@@ -1,7 +1,7 @@
 //! Tests that write a request as `writers` does, read what extensions say, and write and read
 //! numbers, identifiers and octets. What is expected of the first two is what openssl wrote, and
 //! what `openssl asn1parse` shows of it; of the others it is worked out by hand.
-ghost use Rattle.bcder.specs.Views.{Moved, MovedOctets};
+ghost use Rattle.bcder.specs.calls.Views.{Moved, MovedOctets};
 
 use crate::asserts::holds;
 use bcder::decode::{Constructed, DecodeError, Primitive, SliceSource, Source};

@@ -5,11 +5,11 @@ use Rattle.std.specs.Io.KnownBytes.{Appends}
 use Rattle.bcder.specs.declared.encode.error.EncodeError.TheVariants.{SizeOverflow}
 use Rattle.bcder.specs.declared.encode.error.WriteError.{WriteError}
 use Rattle.bcder.specs.declared.mode.Mode.TheVariants.{Ber}
-use Rattle.bcder.specs.Identifier.{Tag, identifier, null_tag, IsValueTag}
-use Rattle.bcder.specs.Octets.{definite_length}
-use Rattle.bcder.specs.Meaning.{Encoded, IsOne, Exactly, octets_of, ValueMeans, primitive_encoded, primitive_meaning}
-use Rattle.bcder.specs.Joined.{nothing, join, Then, NoValues, Joined}
-use Rattle.bcder.specs.Encoders.{WroteOf, Writes, WritesEncoding, SizeOfValues, RefusesBy}
+use Rattle.bcder.specs.x690.Identifier.{Tag, identifier, null_tag, IsValueTag}
+use Rattle.bcder.specs.x690.Octets.{definite_length}
+use Rattle.bcder.specs.calls.Meaning.{Encoded, IsOne, Exactly, octets_of, ValueMeans, primitive_encoded, primitive_meaning}
+use Rattle.bcder.specs.calls.Joined.{nothing, join, Then, NoValues, Joined}
+use Rattle.bcder.specs.calls.Encoders.{WroteOf, Writes, WritesEncoding, SizeOfValues, RefusesBy}
 use Rattle.bcder.specs.laws.Octets.{AreOctets-nil}
 use Rattle.bcder.specs.laws.Meanings.{Exactly_lawful, primitive_lawful}
 use Rattle.bcder.proofs.Lemmas.{primitive_means, wrote_what_is_meant, wrote_after, wrote_no_further, wrote_same}

@@ -2,8 +2,8 @@
 use Rattle.std.specs.Prelude.{◌+◌, ◌<◌, ◌≤◌, ◌^◌, ℕ, List, [], length, drop}
 use Rattle.std.proofs.Common.{arith}
 use Rattle.std.proofs.lemmas.Grind.{common_steps}
-use Rattle.bcder.specs.Identifier.{AreOctets}
-use Rattle.bcder.specs.Stream.{Stream, IsSound}
+use Rattle.bcder.specs.x690.Identifier.{AreOctets}
+use Rattle.bcder.specs.calls.Stream.{Stream, IsSound}
 use Rattle.bcder.specs.laws.Limits.{AreOctets-drop}
 
 -- octets from a place on, so many of them at hand, after so many failures

@@ -2,7 +2,7 @@
 ghost use Rattle.std.specs.Prelude.{◌≡◌, ◌<◌, ◌≤◌, ◌++◌, length, take, drop, Some};
 ghost use Rattle.std.specs.Prelude.{IfOk, IfErr, IfSome, OnOk, OnErr, if◌then◌else◌};
 ghost use Rattle.std.specs.Bool.{OnTrue};
-ghost use Rattle.bcder.specs.Stream.{Grew};
+ghost use Rattle.bcder.specs.calls.Stream.{Grew};
 ghost use Rattle.rows.specs.Taken.{MatchTakeError};
 
 use bcder::decode::{CaptureSource, DecodeError, LimitedSource, Source};

@@ -1,7 +1,7 @@
 //! Captured values: what they are written as and where they are refused, and how they are built.
 #![tactic(auto, using(bcder::specs::laws::Moved::untouched_is_moved))]
 
-ghost use Rattle.bcder.specs.Views.{Moved};
+ghost use Rattle.bcder.specs.calls.Views.{Moved};
 
 use crate::asserts::{done, holds, same, shows};
 use crate::encodes::{refuses, writes};

@@ -1,7 +1,7 @@
 //! Captures, and captured values, beside the typed readers.
 #![tactic(auto, using(bcder::specs::laws::Moved::steps))]
 
-ghost use Rattle.bcder.specs.Views.{Moved};
+ghost use Rattle.bcder.specs.calls.Views.{Moved};
 
 use crate::asserts::{done, holds, same};
 use crate::over::{shared, sip};

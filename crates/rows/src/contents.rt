@@ -1,7 +1,7 @@
 //! Content: what it says of itself, why it refuses, and what stands after its source failed.
 #![tactic(auto, using(bcder::specs::laws::Moved::untouched_is_moved))]
 
-ghost use Rattle.bcder.specs.Views.{Moved, MovedContent, MovedOctets};
+ghost use Rattle.bcder.specs.calls.Views.{Moved, MovedContent, MovedOctets};
 
 use crate::asserts::{done, holds, same};
 use crate::over::{failing_sip, sip};

@@ -1,6 +1,6 @@
 //! Decoding: what the owner of a borrowed source knows afterwards.
 ghost use Rattle.std.specs.Prelude.{◌≡◌, ℕ, ◌+◌, ◌≤◌, List, ◌++◌, ◌∷◌, length, IfOk, OnOk};
-ghost use Rattle.bcder.specs.Views.{Moved};
+ghost use Rattle.bcder.specs.calls.Views.{Moved};
 
 use bcder::Mode;
 use bcder::decode::{Constructed, DecodeError, Source};

@@ -1,7 +1,7 @@
 //! Values in values, deeper than calls may be in calls: skipping takes no level of calls for one.
 #![tactic(auto, using(bcder::specs::laws::Moved::untouched_is_moved))]
 
-ghost use Rattle.bcder.specs.Views.{Moved};
+ghost use Rattle.bcder.specs.calls.Views.{Moved};
 
 use crate::asserts::{done, holds, same};
 use crate::over::sip;

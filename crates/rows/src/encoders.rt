@@ -1,9 +1,9 @@
 //! Encoders for tests: values of any size.
 ghost use Rattle.std.specs.Prelude.{◌≡◌};
-ghost use Rattle.bcder.specs.Identifier.{universal};
-ghost use Rattle.bcder.specs.Encoders.{SizeOfValues, WritesParts};
-ghost use Rattle.bcder.specs.Meaning.{Exactly};
-ghost use Rattle.bcder.specs.Joined.{Joined};
+ghost use Rattle.bcder.specs.x690.Identifier.{universal};
+ghost use Rattle.bcder.specs.calls.Encoders.{SizeOfValues, WritesParts};
+ghost use Rattle.bcder.specs.calls.Meaning.{Exactly};
+ghost use Rattle.bcder.specs.calls.Joined.{Joined};
 ghost use Rattle.bcder.specs.laws.Meanings.{Exactly_lawful};
 ghost use Rattle.bcder.specs.laws.Joined.{Joined_lawful};
 ghost use Rattle.rows.specs.Counted.{zeros, zeros_are, NullsMean, nulls_lawful};

@@ -1,7 +1,7 @@
 //! Integers, booleans and null: worked values.
 #![tactic(auto, using(bcder::specs::laws::Moved::steps))]
 
-ghost use Rattle.bcder.specs.Views.{Moved, MovedOctets};
+ghost use Rattle.bcder.specs.calls.Views.{Moved, MovedOctets};
 
 use crate::asserts::{done, holds, same, shows};
 use crate::over::{shared, sip};

@@ -1,7 +1,7 @@
 //! Loops that collect values.
 #![tactic(auto, using(bcder::specs::laws::Moved::steps))]
 
-ghost use Rattle.bcder.specs.Views.{Moved};
+ghost use Rattle.bcder.specs.calls.Views.{Moved};
 
 use crate::asserts::{done, holds, same, shows};
 use crate::over::{failing_sip, shared, sip};

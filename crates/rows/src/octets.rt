@@ -2,7 +2,7 @@
 //! and from a source that fails.
 #![tactic(auto, using(bcder::specs::laws::Moved::steps))]
 
-ghost use Rattle.bcder.specs.Views.{MovedOctets};
+ghost use Rattle.bcder.specs.calls.Views.{MovedOctets};
 
 use crate::asserts::{done, holds, same};
 use crate::calls::Answer;

@@ -1,6 +1,6 @@
 //! A source for tests, which makes available exactly what is asked for, and can fail.
 ghost use Rattle.std.specs.Prelude.{◌≡◌, ℕ, ◌+◌, ◌-◌, ◌^◌, ◌<◌, ◌≤◌, length, drop};
-ghost use Rattle.bcder.specs.Identifier.{AreOctets};
+ghost use Rattle.bcder.specs.x690.Identifier.{AreOctets};
 ghost use Rattle.rows.specs.Sip.{sipped, sipped_sound};
 
 use bcder::NoMemory;

@@ -1,7 +1,7 @@
 //! Skipping: the calls that a closure gets, and how the skip ends.
 #![tactic(auto, using(bcder::specs::laws::Moved::untouched_is_moved))]
 
-ghost use Rattle.bcder.specs.Views.{Moved};
+ghost use Rattle.bcder.specs.calls.Views.{Moved};
 
 use crate::asserts::{done, same};
 use crate::over::sip;

@@ -1,6 +1,6 @@
 //! What a caller knows of tags and modes from their contracts alone.
 ghost use Rattle.std.specs.Prelude.{◌≡◌, ◌↔◌, IsTrue, IfOk, string_bytes};
-ghost use Rattle.bcder.specs.TagText.{tag_text};
+ghost use Rattle.bcder.specs.calls.TagText.{tag_text};
 
 use bcder::{Mode, Tag};
 use std::alloc::{AllocError, Global};

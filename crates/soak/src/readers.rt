@@ -1,5 +1,5 @@
 //! Each way over the value at the front, over each source, against the plain reader.
-ghost use Rattle.bcder.specs.Views.{Moved};
+ghost use Rattle.bcder.specs.calls.Views.{Moved};
 
 use crate::headings::{Heading, headings_of, size_of};
 use crate::tally::Tally;

@@ -1,5 +1,5 @@
 //! Structures that the encoders write, and that are read back.
-ghost use Rattle.bcder.specs.Views.{Moved};
+ghost use Rattle.bcder.specs.calls.Views.{Moved};
 
 use crate::random::Random;
 use crate::structures::{Kind, Part, octets_of, padded, structure, unsigned};

@@ -1,7 +1,7 @@
 //! Bit strings: worked values, as they are read and written.
 #![tactic(auto, using(bcder::specs::laws::Moved::steps))]
 
-ghost use Rattle.bcder.specs.Views.{Moved};
+ghost use Rattle.bcder.specs.calls.Views.{Moved};
 
 use crate::asserts::{done, holds, same};
 use crate::encodes::{refuses, writes};

@@ -2,7 +2,7 @@
 //! what stands where none is read. What a row of octets holds is data, in `vectors`.
 #![tactic(auto, using(bcder::specs::laws::Moved::steps))]
 
-ghost use Rattle.bcder.specs.Views.{Moved};
+ghost use Rattle.bcder.specs.calls.Views.{Moved};
 
 use crate::asserts::{done, holds, same};
 use crate::over::{failing_sip, shared, sip};

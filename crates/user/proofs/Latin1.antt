@@ -1,8 +1,8 @@
 -- Octets of a set of single octets, each of which is a character.
 use Rattle.std.proofs.Common.{◌≡◌, ℕ, zero, suc, ◌<◌, List, [], ◌∷◌, ◌++◌, length, get_or, Bool, true, refl, arith}
 use Rattle.std.proofs.lemmas.Bool.Decides.{nat_tests}
-use Rattle.bcder.specs.AsciiSets.{one_octet_step}
-use Rattle.bcder.specs.CharSet.{Spells}
+use Rattle.bcder.specs.x690.AsciiSets.{one_octet_step}
+use Rattle.bcder.specs.x690.CharSet.{Spells}
 use Rattle.bcder.specs.laws.CharSets.{AllHave}
 use Rattle.user.specs.Latin1.{is_octet}
 

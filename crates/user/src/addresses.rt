@@ -1,5 +1,5 @@
 //! Blocks of addresses that a certificate's holder may use (RFC 3779, section 2.2.3).
-ghost use Rattle.bcder.specs.Views.{Moved};
+ghost use Rattle.bcder.specs.calls.Views.{Moved};
 
 use crate::lists::{List, take_list};
 use bcder::decode::{Constructed, DecodeError, Source};

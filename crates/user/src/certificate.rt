@@ -1,6 +1,6 @@
 //! Certificates (RFC 5280, section 4.1).
 ghost use Rattle.std.specs.Prelude.{◌≡◌, ℕ, List, ◌++◌};
-ghost use Rattle.bcder.specs.Views.{Moved, MovedOctets};
+ghost use Rattle.bcder.specs.calls.Views.{Moved, MovedOctets};
 
 use crate::lists::{List, take_list};
 use crate::names::Name;

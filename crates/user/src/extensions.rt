@@ -1,6 +1,6 @@
 //! What the extensions of a certificate say, chosen by their object identifiers (RFC 5280, section
 //! 4.2).
-ghost use Rattle.bcder.specs.Views.{Moved};
+ghost use Rattle.bcder.specs.calls.Views.{Moved};
 
 use crate::{skip_octets, take_len_of};
 use bcder::decode::{Constructed, ContentError, DecodeError, SliceSource, Source};

@@ -2,7 +2,7 @@
 //! to a depth that the caller allows.
 #![tactic(auto, using(bcder::specs::laws::Moved::measures))]
 
-ghost use Rattle.bcder.specs.Views.{Moved, MovedContent, MovedOctets};
+ghost use Rattle.bcder.specs.calls.Views.{Moved, MovedContent, MovedOctets};
 
 use bcder::decode::{Constructed, Content, ContentError, DecodeError, Primitive, Source};
 use bcder::{Mode, Tag};

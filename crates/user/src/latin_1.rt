@@ -3,8 +3,8 @@
 #![tactic(auto)]
 
 ghost use Rattle.std.specs.Prelude.{⊤};
-ghost use Rattle.bcder.specs.Identifier.{universal};
-ghost use Rattle.bcder.specs.AsciiSets.{one_octet_step};
+ghost use Rattle.bcder.specs.x690.Identifier.{universal};
+ghost use Rattle.bcder.specs.x690.AsciiSets.{one_octet_step};
 ghost use Rattle.bcder.specs.laws.CharSets.{one_octet_lawful};
 ghost use Rattle.user.specs.Latin1.{is_octet, octet_scalar};
 

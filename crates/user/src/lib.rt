@@ -10,7 +10,7 @@
 //! itself, with measures in one.
 #![tactic(auto, using(bcder::specs::laws::Moved::untouched_is_moved))]
 
-ghost use Rattle.bcder.specs.Views.{Moved, MovedContent, MovedOctets};
+ghost use Rattle.bcder.specs.calls.Views.{Moved, MovedContent, MovedOctets};
 
 mod addresses;
 mod certificate;

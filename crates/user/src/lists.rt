@@ -1,5 +1,5 @@
 //! Lists of SEQUENCEs, which are read one by one.
-ghost use Rattle.bcder.specs.Views.{Moved};
+ghost use Rattle.bcder.specs.calls.Views.{Moved};
 
 use bcder::Tag;
 use bcder::decode::{Constructed, DecodeError, Source};

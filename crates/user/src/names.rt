@@ -1,5 +1,5 @@
 //! Names, as text (RFC 5280, section 4.1.2.4).
-ghost use Rattle.bcder.specs.Views.{Moved};
+ghost use Rattle.bcder.specs.calls.Views.{Moved};
 
 use bcder::decode::{Constructed, DecodeError, Source, walk};
 use bcder::string::{Ia5String, PrintableString, Utf8String};

@@ -1,5 +1,5 @@
 //! What a revocation list says of each certificate (RFC 5280, section 5.1): lists that are kept.
-ghost use Rattle.bcder.specs.Views.{Moved};
+ghost use Rattle.bcder.specs.calls.Views.{Moved};
 
 use crate::certificate::Time;
 use bcder::decode::{Constructed, DecodeError, Source};

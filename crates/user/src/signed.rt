@@ -1,5 +1,5 @@
 //! Signed messages (RFC 5652, section 5).
-ghost use Rattle.bcder.specs.Views.{Moved};
+ghost use Rattle.bcder.specs.calls.Views.{Moved};
 
 use crate::certificate::{Certificate, skip_algorithm, skip_algorithm_parts};
 use crate::lists::{List, take_list, take_opt_list};

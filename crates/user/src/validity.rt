@@ -1,6 +1,6 @@
 //! The validity of a certificate (RFC 5280, section 4.1.2.5), and nothing else of it: a whole reader,
 //! from octets to what was wanted, with which docs/GUIDE.md begins.
-ghost use Rattle.bcder.specs.Views.{Moved};
+ghost use Rattle.bcder.specs.calls.Views.{Moved};
 
 use bcder::decode::{Constructed, ContentError, DecodeError, IntoSource, Source};
 use bcder::{Mode, Tag};

@@ -1,5 +1,5 @@
 //! Capturing: what is captured and by which rules, what is refused, and what stands then.
-ghost use Rattle.bcder.specs.Views.{Moved};
+ghost use Rattle.bcder.specs.calls.Views.{Moved};
 
 use anyhow::Error;
 use bcder::decode::{

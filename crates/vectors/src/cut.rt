@@ -1,5 +1,5 @@
 //! Values that are cut: no reader finds one in a front of a value.
-ghost use Rattle.bcder.specs.Views.{Moved};
+ghost use Rattle.bcder.specs.calls.Views.{Moved};
 
 use anyhow::Error;
 use bcder::decode::{

@@ -1,5 +1,5 @@
 //! The rules that a capture is labelled by, where they are changed inside it.
-ghost use Rattle.bcder.specs.Views.{Moved, MovedOctets};
+ghost use Rattle.bcder.specs.calls.Views.{Moved, MovedOctets};
 
 use crate::captures::label_of;
 use anyhow::Error;

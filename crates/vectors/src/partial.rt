@@ -1,5 +1,5 @@
 //! Decoding captured values in part: what is taken, and what is left of them.
-ghost use Rattle.bcder.specs.Views.{Moved};
+ghost use Rattle.bcder.specs.calls.Views.{Moved};
 
 use crate::takes::perform;
 use anyhow::Error;

@@ -1,5 +1,5 @@
 //! At which position content says that it is refused.
-ghost use Rattle.bcder.specs.Views.{Moved, MovedContent, MovedOctets};
+ghost use Rattle.bcder.specs.calls.Views.{Moved, MovedContent, MovedOctets};
 
 use crate::takes::{use_content, use_octets};
 use anyhow::Error;

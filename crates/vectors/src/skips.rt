@@ -1,5 +1,5 @@
 //! Skipping: the headings that a closure is told, and the answer.
-ghost use Rattle.bcder.specs.Views.{Moved};
+ghost use Rattle.bcder.specs.calls.Views.{Moved};
 
 use crate::walks::{self, compare_ways, compare_whole};
 use anyhow::Error;

@@ -1,5 +1,5 @@
 //! Taking values from content: which are taken, which are refused and how, and what stands then.
-ghost use Rattle.bcder.specs.Views.{Moved, MovedOctets, MovedContent};
+ghost use Rattle.bcder.specs.calls.Views.{Moved, MovedOctets, MovedContent};
 
 use anyhow::Error;
 use bcder::decode::{

@@ -1,5 +1,5 @@
 //! Passing over the value at the front, in each way, and the plain reader.
-ghost use Rattle.bcder.specs.Views.{Moved};
+ghost use Rattle.bcder.specs.calls.Views.{Moved};
 
 use anyhow::Error;
 use bcder::Mode;

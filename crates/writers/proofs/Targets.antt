@@ -9,13 +9,13 @@ use Rattle.bcder.specs.declared.encode.error.WriteError.{WriteError}
 use Rattle.bcder.specs.declared.encode.error.WriteError.TheVariants.{Refused, Target}
 use Rattle.bcder.specs.declared.decode.error.DecodeError.{DecodeError}
 use Rattle.bcder.specs.declared.decode.error.DecodeError.TheVariants as decoding
-use Rattle.bcder.specs.Cause.{cause_of, of_source}
+use Rattle.bcder.specs.calls.Cause.{cause_of, of_source}
 use Rattle.bcder.specs.declared.mode.Mode.{Mode}
 use Rattle.bcder.specs.declared.encode.primitive.Primitive.{Primitive}
-use Rattle.bcder.specs.Integer.{integer_octets}
-use Rattle.bcder.specs.Meaning.{Encoded, Meaning, Exactly, ValueMeans, primitive_meaning, octets_of}
+use Rattle.bcder.specs.x690.Integer.{integer_octets}
+use Rattle.bcder.specs.calls.Meaning.{Encoded, Meaning, Exactly, ValueMeans, primitive_meaning, octets_of}
 use Rattle.bcder.proofs.Lemmas.{written_as_meant}
-use Rattle.bcder.specs.Encoders.{Writes, RefusesBy}
+use Rattle.bcder.specs.calls.Encoders.{Writes, RefusesBy}
 use Rattle.writers.specs.Numbers.{IsOfTarget}
 
 -- one that means octets refuses none

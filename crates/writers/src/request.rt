@@ -1,8 +1,8 @@
 //! Requests for certificates (RFC 2986, section 4), as they are written.
 ghost use Rattle.std.specs.Prelude.{◌≡◌};
-ghost use Rattle.bcder.specs.Identifier.{universal, sequence_tag};
-ghost use Rattle.bcder.specs.Meaning.{PieceMeans};
-ghost use Rattle.bcder.specs.Written.{WroteConstructed};
+ghost use Rattle.bcder.specs.x690.Identifier.{universal, sequence_tag};
+ghost use Rattle.bcder.specs.calls.Meaning.{PieceMeans};
+ghost use Rattle.bcder.specs.calls.Written.{WroteConstructed};
 ghost use Rattle.bcder.specs.declared.encode.error.EncodeError.TheVariants.{LongCerPrimitive};
 ghost use Rattle.bcder.specs.laws.Meanings.{PieceMeans_lawful};
 

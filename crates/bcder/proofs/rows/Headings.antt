@@ -1,8 +1,8 @@
 -- The headings of values, each before those inside it.
 use Rattle.std.proofs.Common.{◌≡◌, ℕ, Bool, true, false, [], ◌∷◌, refl}
-use Rattle.bcder.specs.Identifier.{universal}
-use Rattle.bcder.specs.Tree.{no_trees, ◌∷ₜ◌}
-use Rattle.bcder.specs.Preorder.{Heading, preorder, preorders}
+use Rattle.bcder.specs.x690.Identifier.{universal}
+use Rattle.bcder.specs.x690.Tree.{no_trees, ◌∷ₜ◌}
+use Rattle.bcder.specs.x690.Preorder.{Heading, preorder, preorders}
 use Rattle.bcder.proofs.rows.Values.{boolean, integer, octet_string, sequence}
 
 abbrev heading : ℕ → Bool → ℕ → Heading

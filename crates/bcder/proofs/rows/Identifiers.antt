@@ -1,7 +1,7 @@
 -- Identifier octets (X.690, 8.1.2).
 use Rattle.std.proofs.Common.{◌≡◌, ℕ, true, false, List, [], ◌∷◌, refl}
-use Rattle.bcder.specs.Identifier.{Class, universal, application, context_specific, private, base128, identifier}
-use Rattle.bcder.specs.Reading.{third_digit, second_digit, read_number, class_of, is_marked, read_identifier}
+use Rattle.bcder.specs.x690.Identifier.{Class, universal, application, context_specific, private, base128, identifier}
+use Rattle.bcder.specs.steps.Reading.{third_digit, second_digit, read_number, class_of, is_marked, read_identifier}
 use Rattle.bcder.proofs.rows.Shown.{NoIdentifier, no_identifier}
 
 opened : ℕ

@@ -2,8 +2,8 @@
 use Rattle.std.proofs.Common.{ℕ, [], ◌∷◌, refl}
 use Rattle.bcder.specs.declared.mode.Mode.{Mode}
 use Rattle.bcder.specs.declared.length.Length.TheVariants.{Indefinite}
-use Rattle.bcder.specs.Length.{AreLengthOctets}
-use Rattle.bcder.specs.Reading.{may_tell, read_long, read_length, read_end}
+use Rattle.bcder.specs.x690.Length.{AreLengthOctets}
+use Rattle.bcder.specs.steps.Reading.{may_tell, read_long, read_length, read_end}
 use Rattle.bcder.proofs.rows.Shown.{TellsInAll, tells_in_all, TellsInBer, tells_in_ber, TellsInNone, tells_in_none, EndsInAll, ends_in_all, EndsInBer, ends_in_ber, EndsInNone, ends_in_none}
 
 opened : ℕ

@@ -5,11 +5,11 @@ use Rattle.bcder.specs.declared.mode.Mode.{Mode}
 use Rattle.bcder.specs.declared.mode.Mode.TheVariants.{Ber, Cer, Der}
 use Rattle.bcder.specs.declared.length.Length.{Length}
 use Rattle.bcder.specs.declared.length.Length.TheVariants.{Definite}
-use Rattle.bcder.specs.Identifier.{AreOctets, Tag, IsTag, identifier}
-use Rattle.bcder.specs.Length.{IsDefiniteLength, AreLengthOctets, IsEndOfContents}
-use Rattle.bcder.specs.Tree.{Tree, Trees}
-use Rattle.bcder.specs.Encoding.{IsEncoding, AreEncodings}
-use Rattle.bcder.specs.Reading.{read_identifier, read_length, read_end, read_list, read_tree}
+use Rattle.bcder.specs.x690.Identifier.{AreOctets, Tag, IsTag, identifier}
+use Rattle.bcder.specs.x690.Length.{IsDefiniteLength, AreLengthOctets, IsEndOfContents}
+use Rattle.bcder.specs.x690.Tree.{Tree, Trees}
+use Rattle.bcder.specs.x690.Encoding.{IsEncoding, AreEncodings}
+use Rattle.bcder.specs.steps.Reading.{read_identifier, read_length, read_end, read_list, read_tree}
 use Rattle.bcder.specs.laws.Octets.{AreOctets-nil, AreOctets-cons}
 use Rattle.bcder.specs.laws.Identifiers.{read_identifier-identifier}
 use Rattle.bcder.specs.laws.Lengths.{read_length-tells, read_end-complete}

@@ -1,8 +1,8 @@
 -- Values and their encodings (X.690, 8.1.1 to 8.1.5, 9.1, 10.1).
 use Rattle.std.proofs.Common.{ℕ, List, [], ◌∷◌, refl}
-use Rattle.bcder.specs.Identifier.{universal, context_specific}
-use Rattle.bcder.specs.Tree.{Tree, primitive, constructed, Trees, no_trees, ◌∷ₜ◌}
-use Rattle.bcder.specs.Reading.{third_digit, second_digit, read_number, class_of, is_marked, read_identifier, may_tell, read_long, read_length, read_end, read_header, read_value, at_end, read_trees, read_list, read_tree}
+use Rattle.bcder.specs.x690.Identifier.{universal, context_specific}
+use Rattle.bcder.specs.x690.Tree.{Tree, primitive, constructed, Trees, no_trees, ◌∷ₜ◌}
+use Rattle.bcder.specs.steps.Reading.{third_digit, second_digit, read_number, class_of, is_marked, read_identifier, may_tell, read_long, read_length, read_end, read_header, read_value, at_end, read_trees, read_list, read_tree}
 use Rattle.bcder.proofs.rows.Shown.{TakenInAll, taken_in_all, TakenInBerAndCer, taken_in_ber_and_cer, TakenInBerAndDer, taken_in_ber_and_der, TakenInBer, taken_in_ber, TakenInNone, taken_in_none, ListedInAll, listed_in_all, ListedInNone, listed_in_none}
 
 opened : ℕ

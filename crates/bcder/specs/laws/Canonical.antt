@@ -5,10 +5,10 @@ use Rattle.bcder.specs.declared.mode.Mode.{Mode}
 use Rattle.bcder.specs.declared.mode.Mode.TheVariants.{Ber, Cer, Der}
 use Rattle.bcder.specs.declared.length.Length.{Length}
 use Rattle.bcder.specs.declared.length.Length.TheVariants.{Definite, Indefinite}
-use Rattle.bcder.specs.Identifier.{AreOctets, Tag, identifier}
-use Rattle.bcder.specs.Length.{big_endian, IsLengthForm, IsShortest, IsDefiniteLength, IsEndOfContents, AreLengthOctets}
-use Rattle.bcder.specs.Tree.{Tree, primitive, constructed, Trees, no_trees, ◌∷ₜ◌}
-use Rattle.bcder.specs.Encoding.{may_have, IsHeader, IsDefinite, IsIndefinite, IsFramed, IsEncoding, AreEncodings}
+use Rattle.bcder.specs.x690.Identifier.{AreOctets, Tag, identifier}
+use Rattle.bcder.specs.x690.Length.{big_endian, IsLengthForm, IsShortest, IsDefiniteLength, IsEndOfContents, AreLengthOctets}
+use Rattle.bcder.specs.x690.Tree.{Tree, primitive, constructed, Trees, no_trees, ◌∷ₜ◌}
+use Rattle.bcder.specs.x690.Encoding.{may_have, IsHeader, IsDefinite, IsIndefinite, IsFramed, IsEncoding, AreEncodings}
 use Rattle.bcder.specs.laws.Lengths.{IsLengthForm-from_length}
 
 pub big_endian-lt : (w : List ℕ) → AreOctets w → big_endian w < 256 ^ length w

@@ -5,9 +5,9 @@ use Rattle.std.proofs.lemmas.Bool.Decides.{nat_tests}
 use Rattle.std.proofs.lemmas.Str.{chars-IsAscii, IsUtf8-from_ascii}
 use Rattle.std.specs.Char.{IsScalar}
 use Rattle.std.specs.Str.{IsUtf8, IsAscii, chars}
-use Rattle.bcder.specs.CharSet.{Front, IsStep, Spells}
-use Rattle.bcder.specs.TextSets.{AreTexts}
-use Rattle.bcder.specs.AsciiSets.{one_octet_step, is_numeric, is_printable, is_ia5}
+use Rattle.bcder.specs.x690.CharSet.{Front, IsStep, Spells}
+use Rattle.bcder.specs.x690.TextSets.{AreTexts}
+use Rattle.bcder.specs.x690.AsciiSets.{one_octet_step, is_numeric, is_printable, is_ia5}
 
 -- ---- sets of single octets
 

@@ -5,11 +5,11 @@ use Rattle.std.proofs.lemmas.List.{take_at, drop_at, length-append, append_cance
 use Rattle.bcder.specs.declared.mode.Mode.{Mode}
 use Rattle.bcder.specs.declared.length.Length.{Length}
 use Rattle.bcder.specs.declared.length.Length.TheVariants.{Definite, Indefinite}
-use Rattle.bcder.specs.Identifier.{Class, universal, application, context_specific, private, Tag, IsValueTag, end_of_contents, identifier}
-use Rattle.bcder.specs.Length.{IsEndOfContents}
-use Rattle.bcder.specs.Tree.{Tree, primitive, constructed, Trees, no_trees, ◌∷ₜ◌}
-use Rattle.bcder.specs.Encoding.{IsHeader, IsDefinite, IsFramed, IsEncoding, AreEncodings}
-use Rattle.bcder.specs.Reading.{is_value_tag, Header, Inside, read_end, read_header, read_contents, read_value, at_end, read_trees, read_tree}
+use Rattle.bcder.specs.x690.Identifier.{Class, universal, application, context_specific, private, Tag, IsValueTag, end_of_contents, identifier, is_value_tag}
+use Rattle.bcder.specs.x690.Length.{IsEndOfContents}
+use Rattle.bcder.specs.x690.Tree.{Tree, primitive, constructed, Trees, no_trees, ◌∷ₜ◌}
+use Rattle.bcder.specs.x690.Encoding.{IsHeader, IsDefinite, IsFramed, IsEncoding, AreEncodings, Header}
+use Rattle.bcder.specs.steps.Reading.{Inside, read_end, read_header, read_contents, read_value, at_end, read_trees, read_tree}
 use Rattle.bcder.specs.laws.Identifiers.{read_identifier-identifier, BeginsValue, BeginsValue-identifier, identifier_some}
 use Rattle.bcder.specs.laws.Lengths.{read_length-tells, tells_some, read_end-complete}
 

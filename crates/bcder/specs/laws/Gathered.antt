@@ -3,11 +3,11 @@ use Rattle.std.specs.Prelude.{◌≡◌, ℕ, List, true, Ok, Err}
 use Rattle.std.proofs.Common.{sym, ap, ◌∙◌, subst}
 use Rattle.bcder.specs.declared.mode.Mode.{Mode}
 use Rattle.bcder.specs.declared.mode.Mode.TheVariants.{Ber, Cer, Der}
-use Rattle.bcder.specs.Tree.{Trees}
-use Rattle.bcder.specs.Encoding.{AreEncodings}
-use Rattle.bcder.specs.Captured.{Kept}
-use Rattle.bcder.specs.Meaning.{Encoded, Meaning, IsLawful}
-use Rattle.bcder.specs.Gathered.{suits, KeptMeans, AreTheEncodings}
+use Rattle.bcder.specs.x690.Tree.{Trees}
+use Rattle.bcder.specs.x690.Encoding.{AreEncodings}
+use Rattle.bcder.specs.calls.Captured.{Kept}
+use Rattle.bcder.specs.calls.Meaning.{Encoded, Meaning, IsLawful}
+use Rattle.bcder.specs.calls.Gathered.{suits, KeptMeans, AreTheEncodings}
 use Rattle.bcder.specs.laws.Complete.{one_list}
 use Rattle.bcder.specs.laws.Canonical.{AreEncodings-in_ber, one_spelling_each}
 

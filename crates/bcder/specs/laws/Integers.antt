@@ -4,9 +4,9 @@ use Rattle.std.specs.Prelude.{ℤ, pos, negsuc, ◌-ℤ◌}
 use Rattle.std.proofs.lemmas.Bool.{cases_lt, lt-ltb, le-ltb}
 use Rattle.std.proofs.lemmas.Nat.{mul-le}
 use Rattle.std.proofs.Math.Nat.{pow-le-pow_right}
-use Rattle.bcder.specs.Identifier.{AreOctets}
-use Rattle.bcder.specs.Length.{big_endian}
-use Rattle.bcder.specs.Integer.{number, IsSmallest, AreInteger, octet, octets_within, integer_octets, Leads, OneInteger, SomeInteger}
+use Rattle.bcder.specs.x690.Identifier.{AreOctets}
+use Rattle.bcder.specs.x690.Length.{big_endian}
+use Rattle.bcder.specs.x690.Integer.{number, IsSmallest, AreInteger, octet, octets_within, integer_octets, Leads, OneInteger, SomeInteger}
 use Rattle.bcder.specs.laws.Canonical.{big_endian-lt, same_digits}
 
 pub AreOctets-nil : AreOctets []

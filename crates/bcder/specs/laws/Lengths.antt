@@ -6,9 +6,9 @@ use Rattle.bcder.specs.declared.mode.Mode.{Mode}
 use Rattle.bcder.specs.declared.mode.Mode.TheVariants.{Ber, Cer, Der}
 use Rattle.bcder.specs.declared.length.Length.{Length}
 use Rattle.bcder.specs.declared.length.Length.TheVariants.{Definite, Indefinite}
-use Rattle.bcder.specs.Identifier.{AreOctets}
-use Rattle.bcder.specs.Length.{big_endian, IsLongForm, IsLengthForm, IsShortest, IsDefiniteLength, IsEndOfContents, AreLengthOctets}
-use Rattle.bcder.specs.Reading.{least, may_tell, read_long, read_length, read_end}
+use Rattle.bcder.specs.x690.Identifier.{AreOctets}
+use Rattle.bcder.specs.x690.Length.{big_endian, IsLongForm, IsLengthForm, IsShortest, IsDefiniteLength, IsEndOfContents, AreLengthOctets}
+use Rattle.bcder.specs.steps.Reading.{least, may_tell, read_long, read_length, read_end}
 
 pub IsLengthForm-from_length : (mode : Mode) (n : ℕ) (w : List ℕ) → IsDefiniteLength mode n w → IsLengthForm n w
 IsLengthForm-from_length Ber n w h = h

@@ -3,8 +3,8 @@ use Rattle.std.specs.Prelude.{◌≡◌, ◌-◌, ◌^◌, ◌<◌, ◌≤◌, �
 use Rattle.std.proofs.Common.{arith, ap, sym, ◌∙◌, append_assoc, zero, suc}
 use Rattle.std.proofs.lemmas.Grind.{common_steps}
 use Rattle.std.proofs.lemmas.List.{length-append}
-use Rattle.bcder.specs.Identifier.{AreOctets}
-use Rattle.bcder.specs.Stream.{Layer, Stream, IsSound, cut, capped, past, limited, ahead, borrowed, smaller_limit, limit_left}
+use Rattle.bcder.specs.x690.Identifier.{AreOctets}
+use Rattle.bcder.specs.calls.Stream.{Layer, Stream, IsSound, cut, capped, past, limited, ahead, borrowed, smaller_limit, limit_left}
 use Rattle.bcder.specs.laws.Sound.{AreOctets-take}
 
 -- what a limited source has to give is sound where the wrapped source is

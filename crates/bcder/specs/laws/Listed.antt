@@ -5,8 +5,8 @@ use denote.Ref.{Bor}
 use Rattle.std.specs.Slice.Iter.{iter_rest, iter_steps}
 use Rattle.std.specs.Iterator.{Count, IsFinite, Yields}
 use Rattle.bcder.specs.declared.mode.Mode.{Mode}
-use Rattle.bcder.specs.Meaning.{Meaning}
-use Rattle.bcder.specs.Iterated.{AlwaysGives, GivesOneList, RunsLack}
+use Rattle.bcder.specs.calls.Meaning.{Meaning}
+use Rattle.bcder.specs.calls.Iterated.{AlwaysGives, GivesOneList, RunsLack}
 
 -- an item behind some reference
 abbrev shown_one : {V : Type 0} → V → Bor V

@@ -2,8 +2,8 @@
 use Rattle.std.proofs.Common.{◌≡◌, ℕ, List, [], ◌++◌, length, refl, sym, ap, append_assoc, append-nil, arith}
 use Rattle.std.proofs.lemmas.List.{length-append}
 use Rattle.bcder.specs.declared.mode.Mode.{Mode}
-use Rattle.bcder.specs.Tree.{Tree, Trees, no_trees, ◌∷ₜ◌, ◌+++◌}
-use Rattle.bcder.specs.Encoding.{IsEncoding, AreEncodings}
+use Rattle.bcder.specs.x690.Tree.{Tree, Trees, no_trees, ◌∷ₜ◌, ◌+++◌}
+use Rattle.bcder.specs.x690.Encoding.{IsEncoding, AreEncodings}
 use Rattle.bcder.specs.laws.Complete.{two_octets}
 
 pub AreEncodings-join : (mode : Mode) (ts us : Trees) (v w : List ℕ) → AreEncodings mode ts v → AreEncodings mode us w → AreEncodings mode (ts +++ us) (v ++ w)

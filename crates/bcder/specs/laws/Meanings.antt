@@ -4,12 +4,12 @@ use Rattle.std.proofs.Common.{inl, inr, sym, ap, ◌∙◌, subst, ltb-true, ari
 use Rattle.bcder.specs.declared.encode.error.EncodeError.{EncodeError}
 use Rattle.bcder.specs.declared.encode.error.EncodeError.TheVariants.{LengthTooLarge}
 use Rattle.bcder.specs.declared.mode.Mode.{Mode}
-use Rattle.bcder.specs.Identifier.{Tag, AreOctets, IsValueTag}
-use Rattle.bcder.specs.BitString.{Bits, contents_octets, as_written}
-use Rattle.bcder.specs.Octets.{definite, enclosed}
-use Rattle.bcder.specs.Tree.{primitive, constructed}
-use Rattle.bcder.specs.Encoding.{AreEncodings}
-use Rattle.bcder.specs.Meaning.{Encoded, Meaning, ContentsMeaning, IsOne, IsLawful, IsLawfulContents, Exactly, ExactlyOctets, fits_primitive, PieceMeans, BitsMean, truth_octets, ValueMeans, primitive_encoded, primitive_meaning, constructed_encoded, constructed_meaning, fits_enclosed, enclosed_refusal}
+use Rattle.bcder.specs.x690.Identifier.{Tag, AreOctets, IsValueTag}
+use Rattle.bcder.specs.x690.BitString.{Bits, contents_octets, as_written}
+use Rattle.bcder.specs.x690.Octets.{definite, enclosed}
+use Rattle.bcder.specs.x690.Tree.{primitive, constructed}
+use Rattle.bcder.specs.x690.Encoding.{AreEncodings}
+use Rattle.bcder.specs.calls.Meaning.{Encoded, Meaning, ContentsMeaning, IsOne, IsLawful, IsLawfulContents, Exactly, ExactlyOctets, fits_primitive, PieceMeans, BitsMean, truth_octets, ValueMeans, primitive_encoded, primitive_meaning, constructed_encoded, constructed_meaning, fits_enclosed, enclosed_refusal}
 use Rattle.bcder.specs.laws.Octets.{AreOctets-nil, AreOctets-cons}
 use Rattle.bcder.specs.laws.Lists.{AreEncodings-one}
 use Rattle.bcder.specs.laws.Written.{primitive_written, constructed_written}

@@ -5,9 +5,9 @@ use Rattle.std.proofs.lemmas.Grind.{common_steps}
 use Rattle.bcder.specs.declared.mode.Mode.{Mode}
 use Rattle.bcder.specs.declared.mode.Mode.TheVariants.{Ber}
 use Rattle.bcder.specs.declared.decode.content.State.TheVariants.{Ended, Failed}
-use Rattle.bcder.specs.Length.{IsEndOfContents}
-use Rattle.bcder.specs.Tree.{no_trees, ◌+++◌}
-use Rattle.bcder.specs.Content.{Reading, IndefiniteValues, label, Moves, Carries, Whole, Falls, Closes}
+use Rattle.bcder.specs.x690.Length.{IsEndOfContents}
+use Rattle.bcder.specs.x690.Tree.{no_trees, ◌+++◌}
+use Rattle.bcder.specs.calls.Content.{Reading, IndefiniteValues, label, Moves, Carries, Whole, Falls, Closes}
 use Rattle.bcder.specs.laws.Lists.{AreEncodings-join}
 use Rattle.bcder.specs.laws.Canonical.{AreEncodings-in_ber}
 use Rattle.bcder.specs.laws.Lengths.{IsLengthForm-from_length}

@@ -5,7 +5,7 @@ use Rattle.std.specs.Int.{Width, w8, w16, w32, w64, w128, FitsUnsignedBits}
 use Rattle.std.specs.Int.RustNames.{FitsSigned}
 use Rattle.std.proofs.Math.Nat.{pow-le-pow_right}
 use mir.Val.{hbits}
-use Rattle.bcder.specs.Number.{HasMagnitude}
+use Rattle.bcder.specs.x690.Number.{HasMagnitude}
 
 unsigned_magnitude : (k : ℕ) → k ≤ 128 → (z : ℤ) → FitsUnsignedBits k z → HasMagnitude z
 unsigned_magnitude k l (pos n) h = let p : 2 ^ k ≤ 2 ^ 128 = pow-le-pow_right (omega arith) l in omega arith

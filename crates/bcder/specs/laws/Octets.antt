@@ -4,10 +4,10 @@ use Rattle.std.proofs.lemmas.Bool.{cases_lt, lt-ltb, le-ltb}
 use Rattle.bcder.specs.declared.mode.Mode.{Mode}
 use Rattle.bcder.specs.declared.length.Length.{Length}
 use Rattle.bcder.specs.declared.length.Length.TheVariants.{Definite, Indefinite}
-use Rattle.bcder.specs.Identifier.{AreOctets, Class, universal, application, context_specific, private, Tag, IsTag, class_bits, form_bit, base128, identifier}
-use Rattle.bcder.specs.Length.{IsLengthForm, AreLengthOctets, IsEndOfContents}
-use Rattle.bcder.specs.Tree.{Tree, primitive, constructed, Trees, no_trees, ◌∷ₜ◌}
-use Rattle.bcder.specs.Encoding.{IsHeader, IsFramed, IsEncoding, AreEncodings}
+use Rattle.bcder.specs.x690.Identifier.{AreOctets, Class, universal, application, context_specific, private, Tag, IsTag, class_bits, form_bit, base128, identifier}
+use Rattle.bcder.specs.x690.Length.{IsLengthForm, AreLengthOctets, IsEndOfContents}
+use Rattle.bcder.specs.x690.Tree.{Tree, primitive, constructed, Trees, no_trees, ◌∷ₜ◌}
+use Rattle.bcder.specs.x690.Encoding.{IsHeader, IsFramed, IsEncoding, AreEncodings}
 use Rattle.bcder.specs.laws.Lengths.{IsLengthForm-from_length}
 
 pub AreOctets-nil : AreOctets []

@@ -7,9 +7,9 @@ use Rattle.std.specs.Cmp.Lexicographic.{slice_cmp}
 use Rattle.std.proofs.lemmas.Bool.{cases_lt, lt-leb, le-leb}
 use Rattle.std.proofs.lemmas.Bool.Decides.{nat_tests}
 use Rattle.std.proofs.lemmas.Nat.{mul-le}
-use Rattle.bcder.specs.Identifier.{AreOctets}
-use Rattle.bcder.specs.Length.{big_endian}
-use Rattle.bcder.specs.Integer.{Leads, is_negative, same_sign_order, integer_order, OrderOfIntegers}
+use Rattle.bcder.specs.x690.Identifier.{AreOctets}
+use Rattle.bcder.specs.x690.Length.{big_endian}
+use Rattle.bcder.specs.x690.Integer.{Leads, is_negative, same_sign_order, integer_order, OrderOfIntegers}
 use Rattle.bcder.specs.laws.Canonical.{big_endian-lt}
 use Rattle.bcder.specs.laws.Integers.{Sized, Told, positive, negative, told_by, nearer}
 

@@ -2,9 +2,9 @@
 use Rattle.std.proofs.Common.{ℕ, ◌+◌, ◌*◌, ◌≤◌, List, length, ap, arith}
 use Rattle.std.proofs.lemmas.List.{length-append}
 use Rattle.bcder.specs.declared.mode.Mode.{Mode}
-use Rattle.bcder.specs.Tree.{Tree, primitive, constructed, Trees, no_trees, ◌∷ₜ◌}
-use Rattle.bcder.specs.Encoding.{IsEncoding, AreEncodings}
-use Rattle.bcder.specs.Preorder.{preorder, preorders}
+use Rattle.bcder.specs.x690.Tree.{Tree, primitive, constructed, Trees, no_trees, ◌∷ₜ◌}
+use Rattle.bcder.specs.x690.Encoding.{IsEncoding, AreEncodings}
+use Rattle.bcder.specs.x690.Preorder.{preorder, preorders}
 use Rattle.bcder.specs.laws.Complete.{framed_size, two_octets}
 
 mutual

@@ -6,10 +6,10 @@ use Rattle.bcder.specs.declared.mode.Mode.{Mode}
 use Rattle.bcder.specs.declared.mode.Mode.TheVariants.{Ber, Cer, Der}
 use Rattle.bcder.specs.declared.length.Length.{Length}
 use Rattle.bcder.specs.declared.length.Length.TheVariants.{Definite, Indefinite}
-use Rattle.bcder.specs.Identifier.{AreOctets, Tag, IsTag, class_bits, form_bit, base128, identifier}
-use Rattle.bcder.specs.Length.{big_endian, IsLongForm, IsLengthForm, IsShortest, IsDefiniteLength, IsEndOfContents, AreLengthOctets}
+use Rattle.bcder.specs.x690.Identifier.{AreOctets, Tag, IsTag, class_bits, form_bit, base128, identifier}
+use Rattle.bcder.specs.x690.Length.{big_endian, IsLongForm, IsLengthForm, IsShortest, IsDefiniteLength, IsEndOfContents, AreLengthOctets}
 use Rattle.bcder.specs.laws.Canonical.{big_endian-lt}
-use Rattle.bcder.specs.Reading.{least, may_tell, read_long, read_length, read_end, if_zero, third_digit, second_digit, read_number, class_of, is_marked, read_identifier}
+use Rattle.bcder.specs.steps.Reading.{least, may_tell, read_long, read_length, read_end, if_zero, third_digit, second_digit, read_number, class_of, is_marked, read_identifier}
 
 -- the first octet is its three parts
 first_octet_is : (b : ℕ) → b < 256 → class_bits (class_of b) + form_bit (is_marked b) + b % 32 ≡ b

@@ -5,11 +5,11 @@ use Rattle.std.proofs.lemmas.List.{take-append-drop, length-take-le, get_or-appe
 use Rattle.bcder.specs.declared.mode.Mode.{Mode}
 use Rattle.bcder.specs.declared.length.Length.{Length}
 use Rattle.bcder.specs.declared.length.Length.TheVariants.{Definite, Indefinite}
-use Rattle.bcder.specs.Identifier.{AreOctets, Class, universal, application, context_specific, private, Tag, IsTag, IsValueTag, end_of_contents, identifier}
-use Rattle.bcder.specs.Length.{IsEndOfContents}
-use Rattle.bcder.specs.Tree.{Tree, primitive, constructed, Trees, ◌∷ₜ◌}
-use Rattle.bcder.specs.Encoding.{may_have, IsHeader, IsEncoding, AreEncodings}
-use Rattle.bcder.specs.Reading.{is_value_tag, Header, Inside, read_length, read_identifier, read_header, read_contents, read_value, at_end, if_not_at_end, read_trees, read_list, read_tree}
+use Rattle.bcder.specs.x690.Identifier.{AreOctets, Class, universal, application, context_specific, private, Tag, IsTag, IsValueTag, end_of_contents, identifier, is_value_tag}
+use Rattle.bcder.specs.x690.Length.{IsEndOfContents}
+use Rattle.bcder.specs.x690.Tree.{Tree, primitive, constructed, Trees, ◌∷ₜ◌}
+use Rattle.bcder.specs.x690.Encoding.{may_have, IsHeader, IsEncoding, AreEncodings, Header}
+use Rattle.bcder.specs.steps.Reading.{Inside, read_length, read_identifier, read_header, read_contents, read_value, at_end, if_not_at_end, read_trees, read_list, read_tree}
 use Rattle.bcder.specs.laws.Complete.{reads_all, trees_complete}
 use Rattle.bcder.specs.laws.Sound.{mapped, chained, passed, not_refused, some_inj, none_is, AreOctets-take, IsIdentified, identifier_sound, TellsLength, length_sound, IsEnded, end_sound}
 

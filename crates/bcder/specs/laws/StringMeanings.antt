@@ -4,13 +4,14 @@ use Rattle.std.proofs.Common.{inl, inr, ap, subst, ltb-true, arith}
 use Rattle.std.proofs.lemmas.List.{length-take, length-drop}
 use Rattle.bcder.specs.declared.mode.Mode.{Mode}
 use Rattle.bcder.specs.declared.mode.Mode.TheVariants.{Ber, Cer, Der}
-use Rattle.bcder.specs.Identifier.{Tag, AreOctets, IsValueTag}
-use Rattle.bcder.specs.Octets.{definite}
-use Rattle.bcder.specs.Tree.{primitive, no_trees, ◌∷ₜ◌}
-use Rattle.bcder.specs.Encoding.{AreEncodings}
-use Rattle.bcder.specs.OctetString.{octet_string_tag, StringOctets, whole, cut, octets_of}
-use Rattle.bcder.specs.Meaning.{Encoded, Meaning, ContentsMeaning, IsLawful, IsLawfulContents, ValueMeans, primitive_meaning, constructed_meaning}
-use Rattle.bcder.specs.StringMeaning.{full_segments, segmented, segments_in_cer, is_cut, string_meaning, OctetsMean, StringMeans, contents_of, WrappedMeans}
+use Rattle.bcder.specs.x690.Identifier.{Tag, AreOctets, IsValueTag}
+use Rattle.bcder.specs.x690.Octets.{definite}
+use Rattle.bcder.specs.x690.Tree.{primitive, no_trees, ◌∷ₜ◌}
+use Rattle.bcder.specs.x690.Encoding.{AreEncodings}
+use Rattle.bcder.specs.x690.OctetString.{octet_string_tag}
+use Rattle.bcder.specs.calls.StringOctets.{StringOctets, whole, cut, octets_of}
+use Rattle.bcder.specs.calls.Meaning.{Encoded, Meaning, ContentsMeaning, IsLawful, IsLawfulContents, ValueMeans, primitive_meaning, constructed_meaning}
+use Rattle.bcder.specs.calls.StringMeaning.{full_segments, segmented, segments_in_cer, is_cut, string_meaning, OctetsMean, StringMeans, contents_of, WrappedMeans}
 use Rattle.bcder.specs.laws.Lists.{AreEncodings-one, AreEncodings-join}
 use Rattle.bcder.specs.laws.Octets.{AreOctets-encodings}
 use Rattle.bcder.specs.laws.Written.{primitive_written}

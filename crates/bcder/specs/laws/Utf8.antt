@@ -7,8 +7,8 @@ use Rattle.std.proofs.lemmas.Str.{encode_ascii, chars-encodes}
 use Rattle.std.specs.Int.{is_in_range}
 use Rattle.std.specs.Char.{IsScalar, encode_utf8}
 use Rattle.std.specs.Str.{IsUtf8, chars, encode_utf8_all, all_scalars}
-use Rattle.bcder.specs.CharSet.{Front, IsStep, Spells, Accepts}
-use Rattle.bcder.specs.Utf8.{Lead, lead, six_more, read_tails, read_behind, read_led, utf8_step}
+use Rattle.bcder.specs.x690.CharSet.{Front, IsStep, Spells, Accepts}
+use Rattle.bcder.specs.x690.Utf8.{Lead, lead, six_more, read_tails, read_behind, read_led, utf8_step}
 use Rattle.bcder.specs.laws.CharSets.{low_scalar}
 
 in_range : (lo hi b : ℕ) → lo ≤ b → b ≤ hi → is_in_range lo hi b ≡ true

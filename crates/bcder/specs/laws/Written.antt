@@ -5,13 +5,13 @@ use Rattle.bcder.specs.declared.mode.Mode.{Mode}
 use Rattle.bcder.specs.declared.mode.Mode.TheVariants.{Ber, Cer, Der}
 use Rattle.bcder.specs.declared.length.Length.{Length}
 use Rattle.bcder.specs.declared.length.Length.TheVariants.{Definite, Indefinite}
-use Rattle.bcder.specs.Identifier.{AreOctets, Tag, IsValueTag}
-use Rattle.bcder.specs.Length.{big_endian, IsDefiniteLength, AreLengthOctets, IsEndOfContents}
-use Rattle.bcder.specs.Octets.{definite_length, length_octets, fits_length, header, definite, enclosed}
-use Rattle.bcder.specs.Tree.{primitive, constructed, Trees}
-use Rattle.bcder.specs.Encoding.{may_have, IsHeader, IsDefinite, IsIndefinite, IsEncoding, AreEncodings}
-use Rattle.bcder.specs.Meaning.{fits_enclosed}
-use Rattle.bcder.specs.Reading.{least, may_tell}
+use Rattle.bcder.specs.x690.Identifier.{AreOctets, Tag, IsValueTag}
+use Rattle.bcder.specs.x690.Length.{big_endian, IsDefiniteLength, AreLengthOctets, IsEndOfContents}
+use Rattle.bcder.specs.x690.Octets.{definite_length, length_octets, fits_length, header, definite, enclosed}
+use Rattle.bcder.specs.x690.Tree.{primitive, constructed, Trees}
+use Rattle.bcder.specs.x690.Encoding.{may_have, IsHeader, IsDefinite, IsIndefinite, IsEncoding, AreEncodings}
+use Rattle.bcder.specs.calls.Meaning.{fits_enclosed}
+use Rattle.bcder.specs.steps.Reading.{least, may_tell}
 use Rattle.bcder.specs.laws.Octets.{AreOctets-nil, AreOctets-cons, two, three}
 use Rattle.bcder.specs.laws.Sound.{short_is, long_is}
 

@@ -1,7 +1,7 @@
 //! Values that are put one behind the other, as their octets.
 ghost use Rattle.std.specs.Prelude.{◌≡◌, IfOk, OnErr};
-ghost use Rattle.bcder.specs.Captured.{AreWhole};
-ghost use Rattle.bcder.specs.Gathered.{none_kept, kept_from_start, ExtendsBy};
+ghost use Rattle.bcder.specs.calls.Captured.{AreWhole};
+ghost use Rattle.bcder.specs.calls.Gathered.{none_kept, kept_from_start, ExtendsBy};
 
 use crate::NoMemory;
 use crate::captured::Captured;
@@ -22,8 +22,8 @@ pub struct CapturedBuilder {
 
 /// It is what it would be captured as.
 impl Model for CapturedBuilder {
-    ghost use Rattle.bcder.specs.Captured.{Kept, AreWhole};
-    ghost use Rattle.bcder.specs.Gathered.{kept_from_start};
+    ghost use Rattle.bcder.specs.calls.Captured.{Kept, AreWhole};
+    ghost use Rattle.bcder.specs.calls.Gathered.{kept_from_start};
 
     ghost Value = { Kept };
 

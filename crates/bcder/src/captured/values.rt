@@ -1,6 +1,6 @@
 //! Captured values as an encoder.
 ghost use Rattle.std.specs.Prelude.{◌≡◌};
-ghost use Rattle.bcder.specs.Gathered.{suits, KeptMeans, MayWrite};
+ghost use Rattle.bcder.specs.calls.Gathered.{suits, KeptMeans, MayWrite};
 ghost use Rattle.bcder.specs.laws.Gathered.{kept_lawful};
 
 use crate::captured::Captured;

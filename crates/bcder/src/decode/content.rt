@@ -1,9 +1,10 @@
 //! Content: the values inside a value, or at top level, and the octets inside a primitive value.
 ghost use Rattle.std.specs.Prelude.{◌≡◌, ◌≢◌, ℕ, ◌↔◌, true, IsTrue, Some};
-ghost use Rattle.bcder.specs.Cause.{cause_of, position_of, of_content as of_refusal};
-ghost use Rattle.bcder.specs.Content.{Octets};
-ghost use Rattle.bcder.specs.Views.{of_constructed, of_primitive, of_content, content_start};
-ghost use Rattle.bcder.specs.Views.{before, after, octets_before, octets_after, Moved, MovedOctets};
+ghost use Rattle.bcder.specs.calls.Cause.{cause_of, position_of, of_content as of_refusal};
+ghost use Rattle.bcder.specs.calls.Content.{Octets};
+ghost use Rattle.bcder.specs.calls.Views.{of_constructed, of_primitive, of_content, content_start};
+ghost use Rattle.bcder.specs.calls.Views.{before, after, octets_before, octets_after, Moved};
+ghost use Rattle.bcder.specs.calls.Views.{MovedOctets};
 
 mod alone;
 mod capture;
@@ -84,7 +85,7 @@ pub enum Content<'a, S> {
     Constructed(Constructed<'a, S>),
 }
 
-#[tactic(auto, using(crate::proofs::moves), unfolding(crate::specs::Views::of_constructed))]
+#[tactic(auto, using(crate::proofs::moves), unfolding(crate::specs::calls::Views::of_constructed))]
 impl<'a, S: Source> Constructed<'a, S> {
     /// The rules that the content is read by.
     pub fn mode(&self) -> Mode
@@ -121,7 +122,7 @@ impl<'a, S: Source> Constructed<'a, S> {
     }
 }
 
-#[tactic(auto, using(crate::proofs::moves), unfolding(crate::specs::Views::of_primitive))]
+#[tactic(auto, using(crate::proofs::moves), unfolding(crate::specs::calls::Views::of_primitive))]
 impl<'a, S: Source> Primitive<'a, S> {
     /// The rules that the content is read by.
     pub fn mode(&self) -> Mode
@@ -160,7 +161,7 @@ impl<'a, S: Source> Primitive<'a, S> {
     }
 }
 
-#[tactic(auto, unfolding(crate::specs::Views::views))]
+#[tactic(auto, unfolding(crate::specs::calls::Views::views))]
 impl<'a, S: Source> Content<'a, S> {
     /// The rules that the content is read by.
     pub fn mode(&self) -> Mode

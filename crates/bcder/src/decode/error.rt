@@ -1,8 +1,9 @@
 //! Errors: why decoding failed.
 ghost use Rattle.std.specs.Prelude.{◌≡◌, ℕ, List, Some, IfSome, IsNone, IfOk, IfErr};
-ghost use Rattle.bcder.specs.Cause.{Cause, of_source, of_content, of_memory, cause_of, position_of};
-ghost use Rattle.bcder.specs.Cause.{is_source_cause, is_memory_cause, IsContentless, IsBoxed};
-ghost use Rattle.bcder.specs.Cause.{content_text, decode_text};
+ghost use Rattle.bcder.specs.calls.Cause.{Cause, of_source, of_content, of_memory, cause_of};
+ghost use Rattle.bcder.specs.calls.Cause.{position_of};
+ghost use Rattle.bcder.specs.calls.Cause.{is_source_cause, is_memory_cause, IsContentless, IsBoxed};
+ghost use Rattle.bcder.specs.calls.Cause.{content_text, decode_text};
 
 use crate::NoMemory;
 use crate::decode::source::Pos;

@@ -1,10 +1,11 @@
 //! Identifier octets and length octets at the front of a source (X.690, 8.1.2, 8.1.3).
 ghost use Rattle.std.specs.Prelude.{◌≡◌, ℕ, ◌<◌, ◌≤◌, List, ◌++◌, length, false, IsTrue};
 ghost use Rattle.std.specs.Prelude.{Some, None, IfSome, IfOk, OnOk, OnErr};
-ghost use Rattle.bcder.specs.Changed.{SameFaults, MoreFaults, SameRest, SamePosition, SameKept};
-ghost use Rattle.bcder.specs.Content.{IsAsked};
-ghost use Rattle.bcder.specs.Peek.{asked, Fronts, Peeks, Sees, IsShort, IsAllHere};
-ghost use Rattle.bcder.specs.Reading.{read_identifier, read_length};
+ghost use Rattle.bcder.specs.calls.Changed.{SameFaults, MoreFaults, SameRest, SamePosition};
+ghost use Rattle.bcder.specs.calls.Changed.{SameKept};
+ghost use Rattle.bcder.specs.calls.Content.{IsAsked};
+ghost use Rattle.bcder.specs.steps.Peek.{asked, Fronts, Peeks, Sees, IsShort, IsAllHere};
+ghost use Rattle.bcder.specs.steps.Reading.{read_identifier, read_length};
 ghost use Rattle.bcder.specs.declared.mode.Mode.{Mode as ModeValue};
 
 use crate::decode::source::Source;

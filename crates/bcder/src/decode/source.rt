@@ -2,8 +2,8 @@
 ghost use Rattle.std.specs.Prelude.{◌≡◌, ℕ, ◌+◌, ◌-◌, ◌<◌, ◌≤◌, [], ◌∷◌};
 ghost use Rattle.std.specs.Prelude.{length, take, drop, min, slice_range};
 ghost use Rattle.std.specs.Prelude.{Some, IfOk, IfErr, OnOk, OnErr, MatchOption, IfNone};
-ghost use Rattle.bcder.specs.Cause.{cause_of, position_of, of_content, MatchCause, IsRefusal};
-ghost use Rattle.bcder.specs.Stream.{Stream, IsSound, Grew, Provides, pos_after, borrowed};
+ghost use Rattle.bcder.specs.calls.Cause.{cause_of, position_of, of_content, MatchCause, IsRefusal};
+ghost use Rattle.bcder.specs.calls.Stream.{Stream, IsSound, Grew, Provides, pos_after, borrowed};
 ghost use Rattle.bcder.specs.laws.Limits.{borrowed_sound};
 
 mod bytes_source;

@@ -14,7 +14,7 @@ pub(crate) struct Front {
 }
 
 impl Front {
-    ghost use Rattle.bcder.specs.Front.{front_of};
+    ghost use Rattle.bcder.specs.steps.Front.{front_of};
 
     /// None yet.
     #[inline(always)]
@@ -52,7 +52,7 @@ impl Front {
 
 /// What is written is added while there is room.
 impl Write for Front {
-    ghost use Rattle.bcder.specs.Front.{front_of};
+    ghost use Rattle.bcder.specs.steps.Front.{front_of};
 
     ghost contents = { λ front. Some (front_of front) };
 

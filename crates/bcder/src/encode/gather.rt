@@ -1,5 +1,5 @@
 //! Encodings in memory.
-ghost use Rattle.bcder.specs.Encoders.{GathersContents};
+ghost use Rattle.bcder.specs.calls.Encoders.{GathersContents};
 
 use crate::encode::primitive::PrimitiveContent;
 use crate::encode::{EncodeError, WriteError};

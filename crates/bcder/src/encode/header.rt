@@ -2,10 +2,10 @@
 ghost use Rattle.std.specs.Prelude.{◌≡◌, ◌+◌, ◌<◌, ◌^◌, [], ◌∷◌, ◌++◌, length, true, false};
 ghost use Rattle.std.specs.Prelude.{IfOk, IfErr};
 ghost use Rattle.bcder.specs.declared.length.Length.TheVariants.{Definite};
-ghost use Rattle.bcder.specs.Identifier.{IsValueTag, end_of_contents};
-ghost use Rattle.bcder.specs.Octets.{header, fits_length};
-ghost use Rattle.bcder.specs.Encoders.{HasHeader, RefusesHeader, HeaderMeans};
-ghost use Rattle.bcder.specs.Encoders.{WroteOctets, WritesContents, told};
+ghost use Rattle.bcder.specs.x690.Identifier.{IsValueTag, end_of_contents};
+ghost use Rattle.bcder.specs.x690.Octets.{header, fits_length};
+ghost use Rattle.bcder.specs.calls.Encoders.{HasHeader, RefusesHeader, HeaderMeans};
+ghost use Rattle.bcder.specs.calls.Encoders.{WroteOctets, WritesContents, told};
 
 use crate::encode::front::Front;
 use crate::encode::slot::{Failed, slot, told};

@@ -1,13 +1,13 @@
 //! What has an encoding as the contents octets of a primitive value.
 ghost use Rattle.std.specs.Prelude.{◌≡◌, ◌<◌, ◌^◌, false, List, ℕ, [], ◌∷◌};
 ghost use Rattle.bcder.specs.declared.mode.Mode.{Mode};
-ghost use Rattle.bcder.specs.Identifier.{Tag as TagValue};
-ghost use Rattle.bcder.specs.Meaning.{ContentsMeaning, IsLawfulContents, ValueMeans};
-ghost use Rattle.bcder.specs.Meaning.{primitive_meaning};
-ghost use Rattle.bcder.specs.Enclosing.{ContentsSize};
-ghost use Rattle.bcder.specs.Encoders.{SizeOfContents, WritesContents, GathersContents};
-ghost use Rattle.bcder.specs.Encoders.{SizeOfValues, WritesValues, HasContents};
-ghost use Rattle.bcder.specs.Encoders.{WritesPrimitive, told};
+ghost use Rattle.bcder.specs.x690.Identifier.{Tag as TagValue};
+ghost use Rattle.bcder.specs.calls.Meaning.{ContentsMeaning, IsLawfulContents, ValueMeans};
+ghost use Rattle.bcder.specs.calls.Meaning.{primitive_meaning};
+ghost use Rattle.bcder.specs.steps.Enclosing.{ContentsSize};
+ghost use Rattle.bcder.specs.calls.Encoders.{SizeOfContents, WritesContents, GathersContents};
+ghost use Rattle.bcder.specs.calls.Encoders.{SizeOfValues, WritesValues, HasContents};
+ghost use Rattle.bcder.specs.calls.Encoders.{WritesPrimitive, told};
 ghost use Rattle.bcder.specs.laws.Meanings.{primitive_lawful};
 
 mod identifier;

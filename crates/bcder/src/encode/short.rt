@@ -1,8 +1,8 @@
 //! Primitive values, written from their contents octets (X.690, 8.1.1.2, 10.1).
 ghost use Rattle.std.specs.Prelude.{◌≡◌, ◌<◌, ◌≤◌, ◌+◌, ◌-◌, ◌^◌, ◌∷◌, [], length, take, drop};
 ghost use Rattle.std.specs.Prelude.{false};
-ghost use Rattle.bcder.specs.Octets.{definite};
-ghost use Rattle.bcder.specs.Encoders.{WroteOctets, told};
+ghost use Rattle.bcder.specs.x690.Octets.{definite};
+ghost use Rattle.bcder.specs.calls.Encoders.{WroteOctets, told};
 
 use crate::encode::WriteError;
 use crate::encode::front::Front;

@@ -5,7 +5,7 @@
 //! handed. The slot is made, and told, where a public call answers.
 ghost use Rattle.std.specs.Prelude.{◌≡◌};
 ghost use Rattle.bcder.specs.declared.encode.error.WriteError.TheVariants.{Refused, Target};
-ghost use Rattle.bcder.specs.Encoders.{told};
+ghost use Rattle.bcder.specs.calls.Encoders.{told};
 
 use crate::encode::{EncodeError, WriteError};
 use std::io;

@@ -1,7 +1,7 @@
 //! The loop that writes octets to a target.
 ghost use Rattle.std.specs.Prelude.{OnOk, OnErr};
-ghost use Rattle.bcder.specs.Encoders.{WroteOctets, told};
-ghost use Rattle.bcder.specs.Target.{Appended, AppendedShorter};
+ghost use Rattle.bcder.specs.calls.Encoders.{WroteOctets, told};
+ghost use Rattle.bcder.specs.calls.Target.{Appended, AppendedShorter};
 
 use crate::encode::WriteError;
 use crate::encode::slot::{Failed, target_failed};

@@ -1,10 +1,10 @@
 //! What has an encoding as a list of values.
 ghost use Rattle.std.specs.Prelude.{◌≡◌, ⊤};
 ghost use Rattle.bcder.specs.declared.mode.Mode.{Mode};
-ghost use Rattle.bcder.specs.Meaning.{Meaning, IsLawful};
-ghost use Rattle.bcder.specs.Encoders.{HasEncoding, SizeOfValues, WritesValues, WritesKnown};
-ghost use Rattle.bcder.specs.Encoders.{HasSize, told};
-ghost use Rattle.bcder.specs.Gathered.{GathersValues};
+ghost use Rattle.bcder.specs.calls.Meaning.{Meaning, IsLawful};
+ghost use Rattle.bcder.specs.calls.Encoders.{HasEncoding, SizeOfValues, WritesValues, WritesKnown};
+ghost use Rattle.bcder.specs.calls.Encoders.{HasSize, told};
+ghost use Rattle.bcder.specs.calls.Gathered.{GathersValues};
 
 pub(crate) mod choice;
 pub(crate) mod constructed;

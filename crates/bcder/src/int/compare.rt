@@ -6,7 +6,7 @@ ghost use Rattle.std.specs.Cmp.Rules.{comparing, hashing};
 ghost use Rattle.std.specs.Hash as fed;
 ghost use Rattle.std.specs.Ordering.{int_cmp, int_eq, nat_cmp};
 ghost use Rattle.std.proofs.Common.{rules};
-ghost use Rattle.bcder.specs.Integer.{integer_octets};
+ghost use Rattle.bcder.specs.x690.Integer.{integer_octets};
 
 use super::{Integer, Unsigned, integer_order};
 use std::cmp::Ordering;

@@ -2,7 +2,7 @@
 ghost use Rattle.std.specs.Prelude.{◌≡◌, ℤ, pos, IfOk};
 ghost use Rattle.std.specs.Int.{w8, w16, w32, w64, w128, complement_if, FitsUnsignedBits};
 ghost use Rattle.std.specs.Int.RustNames.{FitsSigned};
-ghost use Rattle.bcder.specs.Number.{ConvertsTo};
+ghost use Rattle.bcder.specs.x690.Number.{ConvertsTo};
 
 use super::octets::Octets;
 use super::{Integer, OverflowError, Unsigned};

@@ -3,8 +3,8 @@ ghost use Rattle.std.specs.Prelude.{◌≡◌, ◌∷◌, [], ◌≤◌, ◌↔�
 ghost use Rattle.std.specs.Prelude.{IfSome, IfNone, IsTrue, length};
 ghost use Rattle.std.specs.Int.{complement_if, w8, w16, w32, w64, w128, FitsUnsignedBits};
 ghost use Rattle.std.specs.Int.RustNames.{FitsSigned};
-ghost use Rattle.bcder.specs.Integer.{AreInteger, IsSmallest, Leads, octet};
-ghost use Rattle.bcder.specs.Number.{HasMagnitude, IsNumber, IsNoNumber, magnitude};
+ghost use Rattle.bcder.specs.x690.Integer.{AreInteger, IsSmallest, Leads, octet};
+ghost use Rattle.bcder.specs.x690.Number.{HasMagnitude, IsNumber, IsNoNumber, magnitude};
 ghost use Rattle.bcder.specs.laws.Numbers.{u8_magnitude, u16_magnitude, u32_magnitude};
 ghost use Rattle.bcder.specs.laws.Numbers.{u64_magnitude, u128_magnitude, i8_magnitude};
 ghost use Rattle.bcder.specs.laws.Numbers.{i16_magnitude, i32_magnitude, i64_magnitude};

@@ -1,7 +1,7 @@
 //! The contents octets of a number, which readers and encoders share.
 ghost use Rattle.std.specs.Prelude.{◌≡◌, ◌≤◌, ◌<◌, ◌+◌, ◌++◌, ◌∷◌, [], length, drop, replicate};
 ghost use Rattle.std.specs.Int.{complement_if, to_be_bytes, w128};
-ghost use Rattle.bcder.specs.Integer.{AreInteger, IsTurned, integer_octets};
+ghost use Rattle.bcder.specs.x690.Integer.{AreInteger, IsTurned, integer_octets};
 
 use crate::int::number::turned;
 

@@ -1,14 +1,14 @@
 //! Integers of any size that aren't negative.
 ghost use Rattle.std.specs.Prelude.{◌≡◌, ◌≢◌, ◌↔◌, ℤ, ℕ, pos, [], false, IsTrue};
 ghost use Rattle.std.specs.Prelude.{IfOk, IfErr, unsigned_abs};
-ghost use Rattle.bcder.specs.Identifier.{AreOctets, integer_tag};
-ghost use Rattle.bcder.specs.Integer.{AreInteger, IsSmallest, Leads, integer_octets};
-ghost use Rattle.bcder.specs.Length.{big_endian};
-ghost use Rattle.bcder.specs.Number.{ConvertsTo};
-ghost use Rattle.bcder.specs.Readers.{ReadBy, ReadOctets, IsUnsigned, NoUnsigned};
-ghost use Rattle.bcder.specs.Typed.{TookOneBy};
-ghost use Rattle.bcder.specs.Unsigned.{BeginsWithZeros, MatchIntegerError};
-ghost use Rattle.bcder.specs.Views.{Moved, MovedOctets};
+ghost use Rattle.bcder.specs.x690.Identifier.{AreOctets, integer_tag};
+ghost use Rattle.bcder.specs.x690.Integer.{AreInteger, IsSmallest, Leads, integer_octets};
+ghost use Rattle.bcder.specs.x690.Length.{big_endian};
+ghost use Rattle.bcder.specs.x690.Number.{ConvertsTo};
+ghost use Rattle.bcder.specs.calls.Readers.{ReadBy, ReadOctets, IsUnsigned, NoUnsigned};
+ghost use Rattle.bcder.specs.calls.Typed.{TookOneBy};
+ghost use Rattle.bcder.specs.calls.Unsigned.{BeginsWithZeros, MatchIntegerError};
+ghost use Rattle.bcder.specs.calls.Views.{Moved, MovedOctets};
 
 use super::{Integer, IntegerError, InvalidInteger, OverflowError};
 use crate::decode::{Constructed, DecodeError, Primitive, Source};

@@ -1,6 +1,6 @@
 //! What follows from the definitions of bit strings (X.690, 8.6, 11.2.1).
-ghost use Rattle.bcder.specs.BitStrings.{WrittenBitsAreTheSame, SameBitsAreWrittenAlike};
-ghost use Rattle.bcder.specs.BitStrings.{ReadIsWrittenBack};
+ghost use Rattle.bcder.specs.x690.BitStrings.{WrittenBitsAreTheSame, SameBitsAreWrittenAlike};
+ghost use Rattle.bcder.specs.x690.BitStrings.{ReadIsWrittenBack};
 
 /// What is written of a bit string has its bits: unused bits that are set to zero are none of them.
 pub fn written_bits_are_the_same()

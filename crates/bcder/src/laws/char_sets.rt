@@ -1,7 +1,7 @@
 //! Character sets (X.690, 8.23; RFC 3629).
-ghost use Rattle.bcder.specs.TextSets.{AreTexts, AreEncoded, AreAllTexts};
-ghost use Rattle.bcder.specs.Utf8.{utf8_step};
-ghost use Rattle.bcder.specs.AsciiSets.{one_octet_step, is_numeric, is_printable, is_ia5};
+ghost use Rattle.bcder.specs.x690.TextSets.{AreTexts, AreEncoded, AreAllTexts};
+ghost use Rattle.bcder.specs.x690.Utf8.{utf8_step};
+ghost use Rattle.bcder.specs.x690.AsciiSets.{one_octet_step, is_numeric, is_printable, is_ia5};
 
 /// The strings that RFC 3629, 4, gives are the texts of std's `str`: the encodings of characters,
 /// and of the characters that they spell.

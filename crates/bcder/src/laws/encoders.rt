@@ -1,7 +1,7 @@
 //! What follows from the laws of encoders.
-ghost use Rattle.bcder.specs.Grammar.{SameWhereEncodingsAre};
-ghost use Rattle.bcder.specs.Meaning.{IsOne};
-ghost use Rattle.bcder.specs.Written.{WritesEncodings, WritesTheOnlyOne};
+ghost use Rattle.bcder.specs.x690.Grammar.{SameWhereEncodingsAre};
+ghost use Rattle.bcder.specs.calls.Meaning.{IsOne};
+ghost use Rattle.bcder.specs.calls.Written.{WritesEncodings, WritesTheOnlyOne};
 
 use crate::encode::Values;
 use crate::mode::Mode;

@@ -1,8 +1,9 @@
 //! What follows from the definitions of object identifiers alone. Each law is the contract of a
 //! function without a body.
-ghost use Rattle.bcder.specs.Identifiers.{NoFewer, OneFewest, OneOfLength, PartsAreComponents};
-ghost use Rattle.bcder.specs.Identifiers.{OneIdentifierRead, RefusedIsNone, TextIsHeld};
-ghost use Rattle.bcder.specs.Identifiers.{TextIsReadBack};
+ghost use Rattle.bcder.specs.calls.Identifiers.{NoFewer, OneFewest, OneOfLength};
+ghost use Rattle.bcder.specs.calls.Identifiers.{PartsAreComponents};
+ghost use Rattle.bcder.specs.calls.Identifiers.{OneIdentifierRead, RefusedIsNone, TextIsHeld};
+ghost use Rattle.bcder.specs.calls.Identifiers.{TextIsReadBack};
 
 /// The octets of a subidentifier that don't begin with `80` are the fewest that it can have, and
 /// no others are so few or don't begin with `80` (X.690, 8.19.2).

@@ -1,5 +1,5 @@
 //! The contents octets of integers (X.690, 8.3).
-ghost use Rattle.bcder.specs.Integer.{SomeInteger, OneInteger, OrderOfIntegers};
+ghost use Rattle.bcder.specs.x690.Integer.{SomeInteger, OneInteger, OrderOfIntegers};
 
 /// Each integer has contents octets, and no others: the smallest two's complement octets.
 pub fn an_integer_is_its_octets()

@@ -1,7 +1,7 @@
 //! Octet strings (X.690, 8.7, 9.2, 10.2).
-ghost use Rattle.bcder.specs.OctetStrings.{PrimitiveInDer, PrimitiveInCer};
-ghost use Rattle.bcder.specs.OctetStrings.{OneString, OneStringEncoding};
-ghost use Rattle.bcder.specs.OctetStrings.{PartsJoin, MeansFlat, MeansSegments};
+ghost use Rattle.bcder.specs.calls.OctetStrings.{PrimitiveInDer, PrimitiveInCer};
+ghost use Rattle.bcder.specs.calls.OctetStrings.{OneString, OneStringEncoding};
+ghost use Rattle.bcder.specs.calls.OctetStrings.{PartsJoin, MeansFlat, MeansSegments};
 
 /// In DER an octet string is primitive (10.2); in CER it is where it has 1000 octets at most, and
 /// constructed where it has more (9.2).

@@ -3,12 +3,12 @@
 ghost use Rattle.std.specs.Prelude.{◌≡◌, ◌+◌, ⊤, true, length};
 ghost use Rattle.std.specs.Int.{w8, w16, w32, w64, w128, FitsUnsignedBits};
 ghost use Rattle.std.specs.Prelude.{pos, FitsSigned};
-ghost use Rattle.bcder.specs.BitString.{as_written, IsBitString};
-ghost use Rattle.bcder.specs.Integer.{AreInteger};
-ghost use Rattle.bcder.specs.Meaning.{fits_primitive};
-ghost use Rattle.bcder.specs.ObjectIdentifier.{IsComplete};
-ghost use Rattle.bcder.specs.ReadBack.{IsReadBack, AreReadBack};
-ghost use Rattle.bcder.specs.Readers.{IsSigned, IsUnsigned, IsTruth, IsNull};
+ghost use Rattle.bcder.specs.x690.BitString.{as_written, IsBitString};
+ghost use Rattle.bcder.specs.x690.Integer.{AreInteger};
+ghost use Rattle.bcder.specs.calls.Meaning.{fits_primitive};
+ghost use Rattle.bcder.specs.x690.ObjectIdentifier.{IsComplete};
+ghost use Rattle.bcder.specs.calls.ReadBack.{IsReadBack, AreReadBack};
+ghost use Rattle.bcder.specs.calls.Readers.{IsSigned, IsUnsigned, IsTruth, IsNull};
 
 use crate::decode::source::see_octets;
 use crate::encode::PrimitiveContent;

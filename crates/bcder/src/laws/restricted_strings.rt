@@ -1,10 +1,10 @@
 //! What is written of a restricted string is read back, and what is read is written back (X.690,
 //! 8.23, 9.2, 10.2).
-ghost use Rattle.bcder.specs.Meaning.{Encoded};
-ghost use Rattle.bcder.specs.OctetString.{octets_of};
-ghost use Rattle.bcder.specs.WrittenStrings.{WritesString, IsWrittenString};
-ghost use Rattle.bcder.specs.WrittenRestricted.{IsTakenRestricted, WrittenAsReadOf};
-ghost use Rattle.bcder.specs.WrittenRestricted.{OneRestricted};
+ghost use Rattle.bcder.specs.calls.Meaning.{Encoded};
+ghost use Rattle.bcder.specs.calls.StringOctets.{octets_of};
+ghost use Rattle.bcder.specs.calls.WrittenStrings.{WritesString, IsWrittenString};
+ghost use Rattle.bcder.specs.calls.WrittenRestricted.{IsTakenRestricted, WrittenAsReadOf};
+ghost use Rattle.bcder.specs.calls.WrittenRestricted.{OneRestricted};
 
 use crate::encode::Values;
 use crate::mode::Mode;

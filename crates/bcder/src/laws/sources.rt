@@ -1,9 +1,10 @@
 //! What the sources of this crate are, in terms of what they hold. Each law is the contract of a
 //! function without a body.
 ghost use Rattle.std.specs.Prelude.{◌≡◌, ℕ, length, drop, ◌-◌};
-ghost use Rattle.bcder.specs.Sources.{wrapped, limit_of, behind, passed};
-ghost use Rattle.bcder.specs.Sources.{slice_rest, slice_start, shared_rest, shared_start};
-ghost use Rattle.bcder.specs.Stream.{Stream, cut, capped, pos_after, smaller_limit, limit_left};
+ghost use Rattle.bcder.specs.calls.Sources.{wrapped, limit_of, behind, passed};
+ghost use Rattle.bcder.specs.calls.Sources.{slice_rest, slice_start, shared_rest, shared_start};
+ghost use Rattle.bcder.specs.calls.Stream.{Stream, cut, capped, pos_after, smaller_limit};
+ghost use Rattle.bcder.specs.calls.Stream.{limit_left};
 
 use crate::decode::{BytesSource, CaptureSource, LimitedSource, SliceSource, Source};
 

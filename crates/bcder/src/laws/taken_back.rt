@@ -3,17 +3,19 @@
 //! follows.
 ghost use Rattle.std.specs.Prelude.{◌≡◌, ⊤, true, pos, length, ◌+◌, ◌<◌, ◌^◌};
 ghost use Rattle.std.specs.Int.{FitsUnsignedBits};
-ghost use Rattle.bcder.specs.Identifier.{boolean_tag, integer_tag, null_tag};
-ghost use Rattle.bcder.specs.BitString.{as_written, bit_string_tag, IsBits, IsBitString};
-ghost use Rattle.bcder.specs.Integer.{AreInteger, integer_octets};
-ghost use Rattle.bcder.specs.Meaning.{fits_primitive};
-ghost use Rattle.bcder.specs.ReadBits.{HoldBits, NoBits};
-ghost use Rattle.bcder.specs.Readers.{IsUnsigned, IsTruth, IsNull, IsThis, MeanAnother, NoInteger};
-ghost use Rattle.bcder.specs.ObjectIdentifier.{IsComplete, identifier_tag};
-ghost use Rattle.bcder.specs.ReadIdentifiers.{NoIdentifier};
-ghost use Rattle.bcder.specs.Readers.{NoUnsigned};
-ghost use Rattle.bcder.specs.TakenBack.{AreTakenBack, IsTakenBack, IsTakenBackBy, SourceFailed};
-ghost use Rattle.bcder.specs.TakenBack.{SourceFailedOrNoMemory};
+ghost use Rattle.bcder.specs.x690.Identifier.{boolean_tag, integer_tag, null_tag};
+ghost use Rattle.bcder.specs.x690.BitString.{as_written, bit_string_tag, IsBits, IsBitString};
+ghost use Rattle.bcder.specs.x690.Integer.{AreInteger, integer_octets};
+ghost use Rattle.bcder.specs.calls.Meaning.{fits_primitive};
+ghost use Rattle.bcder.specs.calls.ReadBits.{HoldBits, NoBits};
+ghost use Rattle.bcder.specs.calls.Readers.{IsUnsigned, IsTruth, IsNull, IsThis, MeanAnother};
+ghost use Rattle.bcder.specs.calls.Readers.{NoInteger};
+ghost use Rattle.bcder.specs.x690.ObjectIdentifier.{IsComplete, identifier_tag};
+ghost use Rattle.bcder.specs.calls.ReadIdentifiers.{NoIdentifier};
+ghost use Rattle.bcder.specs.calls.Readers.{NoUnsigned};
+ghost use Rattle.bcder.specs.calls.TakenBack.{AreTakenBack, IsTakenBack, IsTakenBackBy};
+ghost use Rattle.bcder.specs.calls.TakenBack.{SourceFailed};
+ghost use Rattle.bcder.specs.calls.TakenBack.{SourceFailedOrNoMemory};
 
 use crate::decode::source::see_octets;
 use crate::encode::{Primitive, Values};

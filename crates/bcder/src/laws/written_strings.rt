@@ -2,12 +2,13 @@
 //! in the mode, and holds the octets (X.690, 8.7, 9.2, 10.2).
 ghost use Rattle.std.specs.Prelude.{ℕ, List, Ok};
 ghost use Rattle.bcder.specs.declared.mode.Mode.{Mode};
-ghost use Rattle.bcder.specs.Identifier.{Tag};
-ghost use Rattle.bcder.specs.Meaning.{Encoded};
-ghost use Rattle.bcder.specs.OctetString.{StringOctets, octet_string_tag, octets_of};
-ghost use Rattle.bcder.specs.WrittenStrings.{WritesString, WritesAlike};
-ghost use Rattle.bcder.specs.WrittenStrings.{WrittenAsRead};
-ghost use Rattle.bcder.specs.WrittenStrings.{IsWrittenString, IsTakenString};
+ghost use Rattle.bcder.specs.x690.Identifier.{Tag};
+ghost use Rattle.bcder.specs.calls.Meaning.{Encoded};
+ghost use Rattle.bcder.specs.calls.StringOctets.{StringOctets, octets_of};
+ghost use Rattle.bcder.specs.x690.OctetString.{octet_string_tag};
+ghost use Rattle.bcder.specs.calls.WrittenStrings.{WritesString, WritesAlike};
+ghost use Rattle.bcder.specs.calls.WrittenStrings.{WrittenAsRead};
+ghost use Rattle.bcder.specs.calls.WrittenStrings.{IsWrittenString, IsTakenString};
 
 use crate::encode::Values;
 use crate::mode::Mode;

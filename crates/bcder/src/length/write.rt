@@ -1,8 +1,8 @@
 //! Writing length octets (X.690, 8.1.3, 10.1).
 ghost use Rattle.std.specs.Prelude.{◌≡◌, ◌<◌, ◌++◌, length, true, IfOk, IfSome, ◌+◌, ◌∷◌, []};
-ghost use Rattle.bcder.specs.Encoders.{LengthMeans, SizeOfContents};
-ghost use Rattle.bcder.specs.Front.{front_of};
-ghost use Rattle.bcder.specs.Octets.{length_octets, fits_length};
+ghost use Rattle.bcder.specs.calls.Encoders.{LengthMeans, SizeOfContents};
+ghost use Rattle.bcder.specs.steps.Front.{front_of};
+ghost use Rattle.bcder.specs.x690.Octets.{length_octets, fits_length};
 
 use super::Length;
 use crate::encode::EncodeError;
@@ -21,7 +21,7 @@ impl Length {
     }
 
     /// How many octets it has.
-    #[tactic(auto, unfolding(crate::specs::Octets::definite_length))]
+    #[tactic(auto, unfolding(crate::specs::x690::Octets::definite_length))]
     pub(crate) fn octet_count(self) -> usize
         requires { fits_length self ≡ true }
         ensures value { result ≡ length (length_octets self) }
@@ -62,7 +62,7 @@ impl Length {
     }
 
     /// The octet that it has, where it is one alone (8.1.3.4, 8.1.3.6).
-    #[tactic(auto, unfolding(crate::specs::Octets::definite_length))]
+    #[tactic(auto, unfolding(crate::specs::x690::Octets::definite_length))]
     #[inline(always)]
     pub(crate) fn single_octet(self) -> Option<u8>
         ensures { IfSome result (λ octet. length_octets self ≡ octet ∷ []) }
@@ -75,7 +75,7 @@ impl Length {
 
     /// Adds its octets to those of a header, the fewest that there are for a definite length
     /// (10.1).
-    #[tactic(auto, unfolding(crate::specs::Octets::definite_length))]
+    #[tactic(auto, unfolding(crate::specs::x690::Octets::definite_length))]
     #[inline(always)]
     pub(crate) fn spell(self, front: &mut Front)
         requires fits { fits_length self ≡ true }

@@ -2,10 +2,11 @@
 ghost use Rattle.std.specs.Prelude.{◌≡◌, ◌<◌, ℕ, List, ◌∷◌, ◌++◌, Some};
 ghost use Rattle.std.specs.Prelude.{MatchOption, IfOk, IfErr, OnOk};
 ghost use Rattle.bcder.specs.declared.oid.text.OidError.TheVariants.{NoMemory as Want};
-ghost use Rattle.bcder.specs.IdentifierText.{between_dots, IsComponentText, IsNoComponent};
-ghost use Rattle.bcder.specs.IdentifierText.{IsTextOf, RefusesText, error_text};
-ghost use Rattle.bcder.specs.Pushed.{texts_of, AppendsDigits, AppendsSubidentifier, AppendsTexts};
-ghost use Rattle.bcder.specs.Pushed.{RefusesOthers};
+ghost use Rattle.bcder.specs.calls.IdentifierText.{between_dots, IsComponentText, IsNoComponent};
+ghost use Rattle.bcder.specs.calls.IdentifierText.{IsTextOf, RefusesText, error_text};
+ghost use Rattle.bcder.specs.steps.Pushed.{texts_of, AppendsDigits, AppendsSubidentifier};
+ghost use Rattle.bcder.specs.steps.Pushed.{AppendsTexts};
+ghost use Rattle.bcder.specs.steps.Pushed.{RefusesOthers};
 
 use crate::memory::NoMemory;
 use std::alloc::Global;

@@ -4,13 +4,13 @@ ghost use Rattle.std.specs.Prelude.{slice_index, nat_eq, IfOk, IsSomeAnd};
 ghost use Rattle.std.specs.Cmp.Lexicographic.{pointwise};
 ghost use Rattle.std.specs.Cmp.Rules.{comparing};
 ghost use Rattle.std.proofs.Common.{rules};
-ghost use Rattle.bcder.specs.BitString.{bits, bit_string_tag, IsBits, IsBitString};
-ghost use Rattle.bcder.specs.BitOctets.{octets_left};
-ghost use Rattle.bcder.specs.Identifier.{AreOctets};
-ghost use Rattle.bcder.specs.ReadBits.{HoldBits, NoBits};
-ghost use Rattle.bcder.specs.Readers.{MeanNothing, ReadContentBy, ReadContent, RefusedValues};
-ghost use Rattle.bcder.specs.Typed.{TookOneAs, TookOneBy};
-ghost use Rattle.bcder.specs.Views.{before, content_before, Moved, MovedContent};
+ghost use Rattle.bcder.specs.x690.BitString.{bits, bit_string_tag, IsBits, IsBitString};
+ghost use Rattle.bcder.specs.calls.BitOctets.{octets_left};
+ghost use Rattle.bcder.specs.x690.Identifier.{AreOctets};
+ghost use Rattle.bcder.specs.calls.ReadBits.{HoldBits, NoBits};
+ghost use Rattle.bcder.specs.calls.Readers.{MeanNothing, ReadContentBy, ReadContent, RefusedValues};
+ghost use Rattle.bcder.specs.calls.Typed.{TookOneAs, TookOneBy};
+ghost use Rattle.bcder.specs.calls.Views.{before, content_before, Moved, MovedContent};
 
 pub(crate) mod contents;
 mod encode;
@@ -36,7 +36,7 @@ pub struct BitString {
 }
 
 impl Model for BitString {
-    ghost use Rattle.bcder.specs.BitString.{Bits, IsBits};
+    ghost use Rattle.bcder.specs.x690.BitString.{Bits, IsBits};
 
     ghost Value = { Bits };
 
@@ -262,7 +262,7 @@ pub struct BitStringIter<'a>(std::slice::Iter<'a, u8>);
 
 impl Iterator for BitStringIter<'_> {
     ghost use Rattle.std.specs.Iterator.{YieldsFirstBy, item_count};
-    ghost use Rattle.bcder.specs.BitOctets.{octets_left};
+    ghost use Rattle.bcder.specs.calls.BitOctets.{octets_left};
 
     type Item = u8;
 

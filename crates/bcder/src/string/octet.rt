@@ -1,6 +1,7 @@
 //! Octet strings (X.690, 8.7).
 ghost use Rattle.std.specs.Prelude.{◌≡◌, ◌↔◌, IsTrue, MatchOption, [], length};
-ghost use Rattle.bcder.specs.OctetString.{whole, cut, segments_at, IsTable, IsCut, octets_of};
+ghost use Rattle.bcder.specs.calls.StringOctets.{whole, cut, IsCut, octets_of};
+ghost use Rattle.bcder.specs.steps.SegmentTable.{segments_at, IsTable};
 
 mod compare;
 pub(crate) mod encode;
@@ -55,7 +56,8 @@ pub struct OctetString {
 impl Model for OctetString {
     ghost use Rattle.std.specs.Prelude.{⊤};
     ghost use Rattle.bcder.specs.declared.string.octet.Octets.TheVariants.{Whole, Cut};
-    ghost use Rattle.bcder.specs.OctetString.{StringOctets, whole, cut, segments_at, IsTable};
+    ghost use Rattle.bcder.specs.calls.StringOctets.{StringOctets, whole, cut};
+    ghost use Rattle.bcder.specs.steps.SegmentTable.{segments_at, IsTable};
 
     ghost Value = { StringOctets };
 

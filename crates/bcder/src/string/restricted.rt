@@ -1,7 +1,7 @@
 //! Restricted character strings (X.690, 8.23).
 ghost use Rattle.std.specs.Prelude.{◌≡◌, MatchResult};
-ghost use Rattle.bcder.specs.OctetString.{parts, octets_of};
-ghost use Rattle.bcder.specs.CharSet.{Accepts};
+ghost use Rattle.bcder.specs.calls.StringOctets.{parts, octets_of};
+ghost use Rattle.bcder.specs.x690.CharSet.{Accepts};
 
 mod ascii;
 mod char_set;
@@ -34,8 +34,8 @@ pub struct RestrictedString<L: CharSet> {
 
 /// The clauses see the octets, as they came.
 impl<L: CharSet> Model for RestrictedString<L> {
-    ghost use Rattle.bcder.specs.OctetString.{StringOctets, octets_of};
-    ghost use Rattle.bcder.specs.CharSet.{Accepts};
+    ghost use Rattle.bcder.specs.calls.StringOctets.{StringOctets, octets_of};
+    ghost use Rattle.bcder.specs.x690.CharSet.{Accepts};
 
     ghost Value = { StringOctets };
 

@@ -1,12 +1,12 @@
 //! How tags are shown.
 ghost use Rattle.std.specs.Prelude.{◌≡◌, Some, option_map};
-ghost use Rattle.bcder.specs.TagText.{universal_name, tag_text};
+ghost use Rattle.bcder.specs.calls.TagText.{universal_name, tag_text};
 
 use super::{Class, Tag};
 use std::fmt;
 
 /// The name of the type that a universal number stands for (X.680, 8.4).
-#[tactic(auto, using(crate::proofs::nat_tests), unfolding(crate::specs::TagText::universal_name))]
+#[tactic(auto, using(crate::proofs::nat_tests), unfolding(crate::specs::calls::TagText::universal_name))]
 fn universal_name(number: u32) -> Option<&'static str>
     ensures { option_map (λ name. name.now) result ≡ universal_name number }
 {
@@ -55,7 +55,7 @@ fn universal_name(number: u32) -> Option<&'static str>
 impl fmt::Display for Tag {
     ghost output = { λ tag. Some (tag_text tag) };
 
-    #[tactic(auto, unfolding(crate::specs::TagText::tag_text))]
+    #[tactic(auto, unfolding(crate::specs::calls::TagText::tag_text))]
     fn fmt<W: fmt::Write>(&self, f: &mut fmt::Formatter<W>) -> fmt::Result {
         match self.class {
             Class::Universal => match universal_name(self.number) {

@@ -1,13 +1,14 @@
 //! Reading identifier octets from a source (X.690, 8.1.2).
 ghost use Rattle.std.specs.Prelude.{◌≡◌, ◌⊎◌, ℕ, ◌<◌, ◌≤◌, List, [], ◌++◌, length, false, IsTrue};
 ghost use Rattle.std.specs.Prelude.{None, IsNone, IfSome, MatchOption, IfOk, IfErr, OnOk, OnErr};
-ghost use Rattle.bcder.specs.Identifier.{IsTag, identifier};
-ghost use Rattle.bcder.specs.Begins.{BeginsOther, BeginsNoIdentifier, HasNoIdentifier};
-ghost use Rattle.bcder.specs.Changed.{SameFaults, MoreFaults, SameRest, SamePosition, SameKept};
-ghost use Rattle.bcder.specs.Changed.{RefusedWhere};
-ghost use Rattle.bcder.specs.Cause.{IsRefusal};
-ghost use Rattle.bcder.specs.Reading.{read_identifier};
-ghost use Rattle.bcder.specs.PeekTag.{PeeksTag, SeesTag};
+ghost use Rattle.bcder.specs.x690.Identifier.{IsTag, identifier};
+ghost use Rattle.bcder.specs.calls.Begins.{BeginsOther, BeginsNoIdentifier, HasNoIdentifier};
+ghost use Rattle.bcder.specs.calls.Changed.{SameFaults, MoreFaults, SameRest, SamePosition};
+ghost use Rattle.bcder.specs.calls.Changed.{SameKept};
+ghost use Rattle.bcder.specs.calls.Changed.{RefusedWhere};
+ghost use Rattle.bcder.specs.calls.Cause.{IsRefusal};
+ghost use Rattle.bcder.specs.steps.Reading.{read_identifier};
+ghost use Rattle.bcder.specs.steps.PeekTag.{PeeksTag, SeesTag};
 
 use super::{Tag, identifier_at};
 use crate::decode::{ContentError, DecodeError, Source};

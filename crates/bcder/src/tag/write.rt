@@ -1,13 +1,13 @@
 //! Writing identifier octets (X.690, 8.1.2).
-#![tactic(auto, using(crate::proofs::nat_tests), unfolding(crate::specs::Identifier::identifier))]
+#![tactic(auto, using(crate::proofs::nat_tests), unfolding(crate::specs::x690::Identifier::identifier))]
 
 ghost use Rattle.std.specs.Prelude.{◌≡◌, ◌<◌, ◌+◌, ◌++◌, Bool, length, OnOk, OnErr};
 ghost use Rattle.std.specs.Prelude.{IfSome, IfNone, [], ◌∷◌};
-ghost use Rattle.bcder.specs.Classes.{class_meant};
-ghost use Rattle.bcder.specs.Front.{front_of};
-ghost use Rattle.bcder.specs.Identifier.{class_bits, form_bit, identifier};
-ghost use Rattle.bcder.specs.Identifier.{IsValueTag, end_of_contents};
-ghost use Rattle.bcder.specs.Target.{Appended, AppendedShorter};
+ghost use Rattle.bcder.specs.calls.Classes.{class_meant};
+ghost use Rattle.bcder.specs.steps.Front.{front_of};
+ghost use Rattle.bcder.specs.x690.Identifier.{class_bits, form_bit, identifier};
+ghost use Rattle.bcder.specs.x690.Identifier.{IsValueTag, end_of_contents};
+ghost use Rattle.bcder.specs.calls.Target.{Appended, AppendedShorter};
 
 use super::{Class, Tag};
 use crate::encode::front::Front;

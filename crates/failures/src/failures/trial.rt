@@ -1,5 +1,5 @@
 //! A call that is tried: alone, with its refusal answered or dropped, and inside of others.
-ghost use Rattle.bcder.specs.Views.{Moved, MovedContent};
+ghost use Rattle.bcder.specs.calls.Views.{Moved, MovedContent};
 
 use crate::asserts::{done, holds, same};
 use crate::over::{failing_sip, failing_whole};

@@ -1,5 +1,5 @@
 //! The calls on content, one list.
-ghost use Rattle.bcder.specs.Views.{Moved};
+ghost use Rattle.bcder.specs.calls.Views.{Moved};
 
 use super::answer::Answer;
 use super::kept::{Kept, Text};

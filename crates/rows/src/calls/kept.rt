@@ -1,5 +1,5 @@
 //! The readers of integers, object identifiers and strings.
-ghost use Rattle.bcder.specs.Views.{Moved};
+ghost use Rattle.bcder.specs.calls.Views.{Moved};
 
 use super::answer::{Answer, count, passed};
 use bcder::decode::{Constructed, DecodeError, Source};

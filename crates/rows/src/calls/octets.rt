@@ -1,5 +1,5 @@
 //! The readers of a primitive value's octets, and those of content of either form.
-ghost use Rattle.bcder.specs.Views.{Moved, MovedContent, MovedOctets};
+ghost use Rattle.bcder.specs.calls.Views.{Moved, MovedContent, MovedOctets};
 
 use super::answer::Answer;
 use bcder::decode::{Constructed, Content, DecodeError, Primitive, Source};

@@ -1,5 +1,5 @@
 //! The calls that pass over values, or capture them.
-ghost use Rattle.bcder.specs.Views.{Moved};
+ghost use Rattle.bcder.specs.calls.Views.{Moved};
 
 use super::answer::{Answer, passed};
 use bcder::decode::{Constructed, DecodeError, Source, walk};

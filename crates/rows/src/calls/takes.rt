@@ -1,5 +1,5 @@
 //! The calls that take a value by a closure.
-ghost use Rattle.bcder.specs.Views.{Moved, MovedContent};
+ghost use Rattle.bcder.specs.calls.Views.{Moved, MovedContent};
 
 use super::answer::{Answer, number};
 use bcder::Tag;

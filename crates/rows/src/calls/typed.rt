@@ -1,5 +1,5 @@
 //! The calls that take booleans, nulls and integers.
-ghost use Rattle.bcder.specs.Views.{Moved};
+ghost use Rattle.bcder.specs.calls.Views.{Moved};
 
 use super::answer::{Answer, truth};
 use bcder::decode::{Constructed, DecodeError, Source};

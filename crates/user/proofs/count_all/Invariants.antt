@@ -1,6 +1,6 @@
 use Rattle.std.proofs.Common.{length}
-use Rattle.bcder.specs.Content.{Carries}
-use Rattle.bcder.specs.Views.{of_constructed}
+use Rattle.bcder.specs.calls.Content.{Carries}
+use Rattle.bcder.specs.calls.Views.{of_constructed}
 use Rattle.user.proofs.count_all.Given as goal
 
 abbrev pub invariant-loop-all : goal.invariant-loop-all

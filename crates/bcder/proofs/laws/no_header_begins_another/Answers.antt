@@ -1,6 +1,5 @@
 use Rattle.bcder.specs.laws.Identifiers.{one_identifier}
-use Rattle.bcder.specs.laws.Lengths.{one_length}
-use Rattle.bcder.specs.laws.Lengths.{one_end}
+use Rattle.bcder.specs.laws.Lengths.{one_length, one_end}
 use Rattle.bcder.proofs.laws.no_header_begins_another.Goals as goal
 
 pub returns-clause-identifier : goal.returns-clause-identifier

@@ -1,5 +1,5 @@
 use Rattle.std.proofs.Common.{◌+◌, ◌≤◌, length, arith, rules}
-use Rattle.bcder.specs.Identifier.{AreOctets}
+use Rattle.bcder.specs.x690.Identifier.{AreOctets}
 use Rattle.bcder.proofs.Levels.{list_passes, list_fails, behind_shorter, list_ended, opened, ends_one, end_passes, open_passes, open_goes_on, open_fails}
 use Rattle.bcder.proofs.Skip.{no_header, octets_behind, too_short, primitive_read, definite_read, bad_contents, indefinite_read, whole_read}
 use Rattle.bcder.proofs.plain.+plain.Goals as goal

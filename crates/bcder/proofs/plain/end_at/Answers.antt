@@ -1,5 +1,5 @@
 use Rattle.std.proofs.Common.{arith}
-use Rattle.bcder.specs.Identifier.{AreOctets}
+use Rattle.bcder.specs.x690.Identifier.{AreOctets}
 use Rattle.bcder.proofs.Fronts.{end_found, no_end_found}
 use Rattle.bcder.proofs.plain.end_at.Goals as goal
 

@@ -1,6 +1,6 @@
 use Rattle.std.proofs.Common.{arith, rules}
-use Rattle.bcder.specs.Identifier.{AreOctets}
-use Rattle.bcder.specs.Reading.{read_header}
+use Rattle.bcder.specs.x690.Identifier.{AreOctets}
+use Rattle.bcder.specs.steps.Reading.{read_header}
 use Rattle.bcder.proofs.Skip.{header_less}
 use Rattle.bcder.proofs.plain.header_at.Goals as goal
 

@@ -1,5 +1,5 @@
 use Rattle.std.proofs.Common.{arith}
-use Rattle.bcder.specs.Identifier.{AreOctets}
+use Rattle.bcder.specs.x690.Identifier.{AreOctets}
 use Rattle.bcder.proofs.Skip.{value_shorter, begins_read}
 use Rattle.bcder.proofs.plain.size_within.Goals as goal
 

@@ -1,5 +1,5 @@
 use Rattle.std.proofs.Common.{arith}
-use Rattle.bcder.specs.Identifier.{AreOctets}
+use Rattle.bcder.specs.x690.Identifier.{AreOctets}
 use Rattle.bcder.proofs.Skip.{found, if_found, if_nothing_found, whole_read}
 use Rattle.bcder.proofs.plain.skip_one.Goals as goal
 

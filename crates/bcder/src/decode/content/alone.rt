@@ -1,10 +1,10 @@
 //! Octets read as the contents octets of a primitive value.
 ghost use Rattle.std.specs.Prelude.{◌≡◌, ◌≢◌, false, IsTrue, Some, length};
-ghost use Rattle.bcder.specs.Alone.{IsAllOctets, RanAlone};
-ghost use Rattle.bcder.specs.Calls.{IsLawfulOn, IsOver, MayBeCalledOn};
-ghost use Rattle.bcder.specs.Content.{Octets};
-ghost use Rattle.bcder.specs.Stream.{at_hand};
-ghost use Rattle.bcder.specs.Views.{limited_stream, of_primitive};
+ghost use Rattle.bcder.specs.calls.Alone.{IsAllOctets, RanAlone};
+ghost use Rattle.bcder.specs.calls.Calls.{IsLawfulOn, IsOver, MayBeCalledOn};
+ghost use Rattle.bcder.specs.calls.Content.{Octets};
+ghost use Rattle.bcder.specs.calls.Stream.{at_hand};
+ghost use Rattle.bcder.specs.calls.Views.{limited_stream, of_primitive};
 
 use super::Primitive;
 use crate::decode::error::DecodeError;
@@ -14,7 +14,7 @@ use std::convert::Infallible;
 
 impl<'a, S: Source> Primitive<'a, S> {
     /// Whether no octets are owed any more.
-    #[tactic(auto, unfolding(crate::specs::Views::of_primitive))]
+    #[tactic(auto, unfolding(crate::specs::calls::Views::of_primitive))]
     fn is_used_up(&self) -> bool
         ensures yes { IsTrue result → (of_primitive S.stream self.now).owed ≡ Some 0 }
         ensures no { result ≡ false → (of_primitive S.stream self.now).owed ≢ Some 0 }
@@ -27,7 +27,7 @@ impl<'a, S: Source> Primitive<'a, S> {
 }
 
 /// Calls the closure on all octets up to the limit of a source, of which then none are left.
-#[tactic(auto, unfolding(crate::specs::Views::of_primitive))]
+#[tactic(auto, unfolding(crate::specs::calls::Views::of_primitive))]
 fn run_over<S: Source, F, T: Drop>(
     source: &mut LimitedSource<S>,
     len: usize,

@@ -1,15 +1,15 @@
 //! Capturing values.
 ghost use Rattle.std.specs.Prelude.{◌≡◌, ◌≤◌, ◌++◌, ◌↔◌, length, IsTrue, IfOk, IfErr};
 ghost use Rattle.std.specs.Prelude.{OnOk, OnErr};
-ghost use Rattle.bcder.specs.Calls.{MayBeCalledOn, IsLawfulOn};
-ghost use Rattle.bcder.specs.Capturing.{CallableOnCapture, LawfulOnCapture, CapturedWhat};
-ghost use Rattle.bcder.specs.Capturing.{RefusedCapture, IsFrom, RanFrom, CapturesOver};
-ghost use Rattle.bcder.specs.Capturing.{CallableOver, LawfulOver};
-ghost use Rattle.bcder.specs.Cause.{cause_of, MatchCause};
-ghost use Rattle.bcder.specs.Content.{label};
-ghost use Rattle.bcder.specs.Sources.{behind, passed, borrow_of, capturing};
-ghost use Rattle.bcder.specs.Stream.{Grew};
-ghost use Rattle.bcder.specs.Views.{of_constructed, limited_stream, Moved, before, after};
+ghost use Rattle.bcder.specs.calls.Calls.{MayBeCalledOn, IsLawfulOn};
+ghost use Rattle.bcder.specs.calls.Capturing.{CallableOnCapture, LawfulOnCapture, CapturedWhat};
+ghost use Rattle.bcder.specs.calls.Capturing.{RefusedCapture, IsFrom, RanFrom, CapturesOver};
+ghost use Rattle.bcder.specs.calls.Capturing.{CallableOver, LawfulOver};
+ghost use Rattle.bcder.specs.calls.Cause.{cause_of, MatchCause};
+ghost use Rattle.bcder.specs.calls.Content.{label};
+ghost use Rattle.bcder.specs.calls.Sources.{behind, passed, borrow_of, capturing};
+ghost use Rattle.bcder.specs.calls.Stream.{Grew};
+ghost use Rattle.bcder.specs.calls.Views.{of_constructed, limited_stream, Moved, before, after};
 
 use super::decode::run;
 use super::inside::either;
@@ -41,7 +41,7 @@ fn ends(before: State, after: State) -> bool
 
 /// Calls the closure on content over a source that captures what is passed over, in whatever state,
 /// and answers the state and the mark that it left too. The source below keeps all its octets.
-#[tactic(auto, unfolding(crate::specs::Views::of_constructed))]
+#[tactic(auto, unfolding(crate::specs::calls::Views::of_constructed))]
 #[inline(always)]
 fn run_capturing<S: Source, F>(
     view: &mut LimitedSource<CaptureSource<'_, S>>,
@@ -154,7 +154,7 @@ where
 
 impl<'a, S: Source> Constructed<'a, S> {
     /// Where the values to come begin.
-    #[tactic(auto, unfolding(crate::specs::Views::of_constructed))]
+    #[tactic(auto, unfolding(crate::specs::calls::Views::of_constructed))]
     fn position(&self) -> Pos
         ensures { result ≡ (of_constructed S.stream self.now).stream.position }
     {
@@ -175,7 +175,7 @@ impl<'a, S: Source> Constructed<'a, S> {
     /// The closure's refusal as it is; and a refusal where it leaves failed content, as failed
     /// content stays; where the source fails; and where there is no memory for the octets. The
     /// content is then as it was, and open content can still be used.
-    #[tactic(auto, unfolding(crate::specs::Views::of_constructed))]
+    #[tactic(auto, unfolding(crate::specs::calls::Views::of_constructed))]
     pub fn capture<F>(&mut self, alloc: Global, op: F) -> Result<Captured, DecodeError<S::Error>>
     where
         F: FnOnce(

@@ -1,7 +1,8 @@
 //! Capturing the next value, and all values.
-ghost use Rattle.bcder.specs.CapturingValues.{CapturedOne, ExactlyOne, CapturedAll, ExactlyAll};
-ghost use Rattle.bcder.specs.CapturingValues.{PassedOne, PassedAll};
-ghost use Rattle.bcder.specs.Views.{Moved};
+ghost use Rattle.bcder.specs.calls.CapturingValues.{CapturedOne, ExactlyOne, CapturedAll};
+ghost use Rattle.bcder.specs.calls.CapturingValues.{ExactlyAll};
+ghost use Rattle.bcder.specs.calls.CapturingValues.{PassedOne, PassedAll};
+ghost use Rattle.bcder.specs.calls.Views.{Moved};
 
 use super::Constructed;
 use crate::captured::Captured;

@@ -1,13 +1,14 @@
 //! Decoding the values of a source.
 ghost use Rattle.std.specs.Prelude.{◌≡◌, ◌≢◌, ◌≤◌, ◌++◌, ℕ, List, Ok, None, IfErr, IfOk, OnOk};
-ghost use Rattle.bcder.specs.Calls.{MayBeCalledOn, IsLawfulOn, IsOver};
-ghost use Rattle.bcder.specs.Cause.{cause_of};
-ghost use Rattle.bcder.specs.Content.{Moves, UnboundedValues};
-ghost use Rattle.bcder.specs.Decoding.{AnsweredOn, RefusesOn, RanOn, Decodes};
-ghost use Rattle.bcder.specs.Decoding.{RefusesDecode, CallableOnAll, LawfulOnAll, CallableOnLent};
-ghost use Rattle.bcder.specs.Decoding.{LawfulOnLent, DecodesAll, RefusesAll, DecodesLent};
-ghost use Rattle.bcder.specs.Decoding.{RefusesLent};
-ghost use Rattle.bcder.specs.Views.{of_constructed, limited_stream, lent, before, after};
+ghost use Rattle.bcder.specs.calls.Calls.{MayBeCalledOn, IsLawfulOn, IsOver};
+ghost use Rattle.bcder.specs.calls.Cause.{cause_of};
+ghost use Rattle.bcder.specs.calls.Content.{Moves, UnboundedValues};
+ghost use Rattle.bcder.specs.calls.Decoding.{AnsweredOn, RefusesOn, RanOn, Decodes};
+ghost use Rattle.bcder.specs.calls.Decoding.{RefusesDecode, CallableOnAll, LawfulOnAll};
+ghost use Rattle.bcder.specs.calls.Decoding.{CallableOnLent};
+ghost use Rattle.bcder.specs.calls.Decoding.{LawfulOnLent, DecodesAll, RefusesAll, DecodesLent};
+ghost use Rattle.bcder.specs.calls.Decoding.{RefusesLent};
+ghost use Rattle.bcder.specs.calls.Views.{of_constructed, limited_stream, lent, before, after};
 
 use super::{Constructed, Kind, State};
 use crate::decode::error::DecodeError;
@@ -15,7 +16,7 @@ use crate::decode::source::{IntoSource, LimitedSource, Source};
 use crate::mode::Mode;
 
 /// Calls the closure on content, which then has not failed.
-#[tactic(auto, using(crate::proofs::moves_constructed_name), unfolding(crate::specs::Views::views))]
+#[tactic(auto, using(crate::proofs::moves_constructed_name), unfolding(crate::specs::calls::Views::views))]
 pub(super) fn run<S: Source, F, T: Drop>(
     cons: &mut Constructed<'_, S>,
     op: F,
@@ -46,7 +47,7 @@ where
 }
 
 /// Calls the closure on all values of a source.
-#[tactic(auto, unfolding(crate::specs::Views::of_constructed))]
+#[tactic(auto, unfolding(crate::specs::calls::Views::of_constructed))]
 fn run_over<S: Source, F, T: Drop>(
     source: &mut LimitedSource<S>,
     mode: Mode,

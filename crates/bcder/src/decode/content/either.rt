@@ -1,11 +1,11 @@
 //! Reading primitive content as a number, null or a bit string, by a closure that takes content of
 //! either form.
-ghost use Rattle.bcder.specs.BitString.{IsBitString};
-ghost use Rattle.bcder.specs.Number.{IsNumber};
-ghost use Rattle.bcder.specs.ReadBits.{HoldBits, NoBits};
-ghost use Rattle.bcder.specs.Readers.{ReadContent, ReadContentBy, RefusedValues, IsUnsigned};
-ghost use Rattle.bcder.specs.Readers.{IsNull, IsThis, MeanAnother};
-ghost use Rattle.bcder.specs.Views.{content_before, MovedContent};
+ghost use Rattle.bcder.specs.x690.BitString.{IsBitString};
+ghost use Rattle.bcder.specs.x690.Number.{IsNumber};
+ghost use Rattle.bcder.specs.calls.ReadBits.{HoldBits, NoBits};
+ghost use Rattle.bcder.specs.calls.Readers.{ReadContent, ReadContentBy, RefusedValues, IsUnsigned};
+ghost use Rattle.bcder.specs.calls.Readers.{IsNull, IsThis, MeanAnother};
+ghost use Rattle.bcder.specs.calls.Views.{content_before, MovedContent};
 
 use super::Content;
 use crate::decode::error::DecodeError;

@@ -1,11 +1,11 @@
 //! What a closure makes of content of one form.
 ghost use Rattle.std.specs.Prelude.{◌≡◌, ◌≢◌, ◌⊎◌, Ok, Err, IfOk, IfErr};
-ghost use Rattle.bcder.specs.Calls.{MayBeCalledOn, IsLawfulOn};
-ghost use Rattle.bcder.specs.Cause.{IsRefusal};
-ghost use Rattle.bcder.specs.Content.{Octets};
-ghost use Rattle.bcder.specs.Decoding.{AnsweredOn};
-ghost use Rattle.bcder.specs.Views.{of_constructed, of_primitive, of_content, content_before};
-ghost use Rattle.bcder.specs.Views.{content_after, MovedContent};
+ghost use Rattle.bcder.specs.calls.Calls.{MayBeCalledOn, IsLawfulOn};
+ghost use Rattle.bcder.specs.calls.Cause.{IsRefusal};
+ghost use Rattle.bcder.specs.calls.Content.{Octets};
+ghost use Rattle.bcder.specs.calls.Decoding.{AnsweredOn};
+ghost use Rattle.bcder.specs.calls.Views.{of_constructed, of_primitive, of_content, content_before};
+ghost use Rattle.bcder.specs.calls.Views.{content_after, MovedContent};
 
 use super::{Constructed, Content, Primitive};
 use crate::decode::error::DecodeError;

@@ -1,17 +1,20 @@
 //! Taking the content of a value whose header was passed over.
 ghost use Rattle.std.specs.Prelude.{◌≡◌, ◌||◌, true, false, None, Some, Ok, IfErr, IfOk, OnOk};
-ghost use Rattle.bcder.specs.Calls.{AnswersDone, IsLawfulAt, MayBeCalledAt, RefusesContent};
-ghost use Rattle.bcder.specs.Calls.{RefusesEnd};
-ghost use Rattle.bcder.specs.Cause.{cause_of, stop_cause};
-ghost use Rattle.bcder.specs.Content.{Moves, FitsOwed, EndsAt, IsDone};
-ghost use Rattle.bcder.specs.Encoding.{may_have};
-ghost use Rattle.bcder.specs.Entering.{MeetsNoFault};
-ghost use Rattle.bcder.specs.Inside.{kind_behind, limit_inside, limit_outside, IsBehind};
-ghost use Rattle.bcder.specs.Inside.{RanInside, TakesBehind};
-ghost use Rattle.bcder.specs.Peek.{header as header_of};
-ghost use Rattle.bcder.specs.Views.{of_constructed, of_primitive, of_content, limited_stream};
-ghost use Rattle.bcder.specs.Views.{content_name, content_source, content_mark, before, after};
-ghost use Rattle.bcder.specs.Views.{octets_before, octets_after, content_before, content_after};
+ghost use Rattle.bcder.specs.calls.Calls.{AnswersDone, IsLawfulAt, MayBeCalledAt, RefusesContent};
+ghost use Rattle.bcder.specs.calls.Calls.{RefusesEnd};
+ghost use Rattle.bcder.specs.calls.Cause.{cause_of};
+ghost use Rattle.bcder.specs.steps.StopCause.{stop_cause};
+ghost use Rattle.bcder.specs.calls.Content.{Moves, FitsOwed, EndsAt, IsDone};
+ghost use Rattle.bcder.specs.x690.Encoding.{may_have};
+ghost use Rattle.bcder.specs.steps.Entering.{MeetsNoFault};
+ghost use Rattle.bcder.specs.steps.Inside.{kind_behind, limit_inside, limit_outside, IsBehind};
+ghost use Rattle.bcder.specs.steps.Inside.{RanInside, TakesBehind};
+ghost use Rattle.bcder.specs.steps.Peek.{header as header_of};
+ghost use Rattle.bcder.specs.calls.Views.{of_constructed, of_primitive, of_content, limited_stream};
+ghost use Rattle.bcder.specs.calls.Views.{content_name, content_source, content_mark, before};
+ghost use Rattle.bcder.specs.calls.Views.{after};
+ghost use Rattle.bcder.specs.calls.Views.{octets_before, octets_after, content_before};
+ghost use Rattle.bcder.specs.calls.Views.{content_after};
 
 use super::take::{pop, push};
 use super::{Constructed, Content, Kind, Primitive, State};
@@ -68,7 +71,7 @@ pub(super) fn either(one: bool, other: bool) -> bool
 
 impl<'a, S: Source> Primitive<'a, S> {
     /// Makes sure that no octets are left.
-    #[tactic(auto, using(crate::specs::laws::Moved::untouched_is_moved), unfolding(crate::specs::Views::of_primitive))]
+    #[tactic(auto, using(crate::specs::laws::Moved::untouched_is_moved), unfolding(crate::specs::calls::Views::of_primitive))]
     #[inline(always)]
     fn finish(&mut self) -> Result<(), DecodeError<S::Error>>
         ensures same { self.new ≡ self.old }
@@ -87,7 +90,7 @@ impl<'a, S: Source> Primitive<'a, S> {
 
 impl<'a, S: Source> Constructed<'a, S> {
     /// Makes sure that the content is at its end, and takes its marker.
-    #[tactic(auto, using(crate::specs::laws::Moved::untouched_is_moved), unfolding(crate::specs::Views::views))]
+    #[tactic(auto, using(crate::specs::laws::Moved::untouched_is_moved), unfolding(crate::specs::calls::Views::views))]
     #[inline(always)]
     fn finish(&mut self) -> Result<(), DecodeError<S::Error>>
         ensures moves { Moves (before S.stream self) (after S.stream self) }
@@ -133,7 +136,7 @@ impl<'a, S: Source> Constructed<'a, S> {
 
 impl<'a, S: Source> Content<'a, S> {
     /// Makes sure that the content is at its end, and takes its marker.
-    #[tactic(auto, using(crate::specs::laws::Moved::untouched_is_moved), unfolding(crate::specs::Views::views))]
+    #[tactic(auto, using(crate::specs::laws::Moved::untouched_is_moved), unfolding(crate::specs::calls::Views::views))]
     #[inline(always)]
     fn finish(&mut self) -> Result<(), DecodeError<S::Error>>
         ensures moves { Moves (content_before S.stream self) (content_after S.stream self) }
@@ -294,7 +297,7 @@ where
     (result, marked, source)
 }
 
-#[tactic(auto, unfolding(crate::specs::Views::views))]
+#[tactic(auto, unfolding(crate::specs::calls::Views::views))]
 impl<'a, S: Source> Constructed<'a, S> {
     /// Takes a value whose header was passed over, and which has to be primitive. The content is
     /// usable again where it was taken.

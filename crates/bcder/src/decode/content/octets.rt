@@ -1,10 +1,11 @@
 //! Taking primitive values.
 ghost use Rattle.std.specs.Prelude.{◌≡◌};
-ghost use Rattle.bcder.specs.Calls.{Untagged};
-ghost use Rattle.bcder.specs.Content.{any, tagged};
-ghost use Rattle.bcder.specs.Decoding.{AnsweredOn};
-ghost use Rattle.bcder.specs.Takes.{CallableOnOctets, LawfulOnOctets, TookOctets, TookNextOctets};
-ghost use Rattle.bcder.specs.Views.{of_primitive, octets_before, octets_after, Moved};
+ghost use Rattle.bcder.specs.calls.Calls.{Untagged};
+ghost use Rattle.bcder.specs.calls.Content.{any, tagged};
+ghost use Rattle.bcder.specs.calls.Decoding.{AnsweredOn};
+ghost use Rattle.bcder.specs.calls.Takes.{CallableOnOctets, LawfulOnOctets, TookOctets};
+ghost use Rattle.bcder.specs.calls.Takes.{TookNextOctets};
+ghost use Rattle.bcder.specs.calls.Views.{of_primitive, octets_before, octets_after, Moved};
 
 use super::take::octets_header;
 use super::{Constructed, Primitive};

@@ -1,16 +1,16 @@
 //! Reading the contents octets of a primitive value as what they mean.
 ghost use Rattle.std.specs.Prelude.{◌≡◌, ◌≤◌, [], false, Some, IfOk, IfErr, OnOk};
 ghost use Rattle.std.specs.Int.{w8, w16, w32, w64, w128};
-ghost use Rattle.bcder.specs.Number.{IsNumber};
-ghost use Rattle.bcder.specs.Integer.{truth, IsSmallest, Leads};
-ghost use Rattle.bcder.specs.Readers.{HasAll, RefusesAll, ReadBy, ReadOctets, FindNoMemory};
-ghost use Rattle.bcder.specs.Readers.{IsSigned, IsUnsigned, IsTruth, IsNull, Told, Untold};
-ghost use Rattle.bcder.specs.Readers.{LookedAt, ToldOf};
-ghost use Rattle.bcder.specs.Readers.{IsThis, MeanAnother, NotSmallest, NoUnsigned};
-ghost use Rattle.bcder.specs.Cause.{cause_of, of_content};
-ghost use Rattle.bcder.specs.Stream.{borrowed, limited};
+ghost use Rattle.bcder.specs.x690.Number.{IsNumber};
+ghost use Rattle.bcder.specs.x690.Integer.{truth, IsSmallest, Leads};
+ghost use Rattle.bcder.specs.calls.Readers.{HasAll, RefusesAll, ReadBy, ReadOctets, FindNoMemory};
+ghost use Rattle.bcder.specs.calls.Readers.{IsSigned, IsUnsigned, IsTruth, IsNull, Told, Untold};
+ghost use Rattle.bcder.specs.calls.Readers.{LookedAt, ToldOf};
+ghost use Rattle.bcder.specs.calls.Readers.{IsThis, MeanAnother, NotSmallest, NoUnsigned};
+ghost use Rattle.bcder.specs.calls.Cause.{cause_of, of_content};
+ghost use Rattle.bcder.specs.calls.Stream.{borrowed, limited};
 ghost use Rattle.bcder.specs.laws.Limits.{borrowed_sound, limited_sound};
-ghost use Rattle.bcder.specs.Views.{of_primitive, octets_before, octets_after, MovedOctets};
+ghost use Rattle.bcder.specs.calls.Views.{of_primitive, octets_before, octets_after, MovedOctets};
 
 mod bits;
 mod identifier;
@@ -42,7 +42,7 @@ fn truth_at(mode: Mode, octets: &[u8]) -> Option<bool>
     }
 }
 
-#[tactic(auto, using(crate::proofs::moves), unfolding(crate::specs::Views::of_primitive))]
+#[tactic(auto, using(crate::proofs::moves), unfolding(crate::specs::calls::Views::of_primitive))]
 impl<'a, S: Source> Primitive<'a, S> {
     /// Asks for all octets that are owed, and says how many they are.
     #[inline(always)]

@@ -1,9 +1,9 @@
 //! What remains of the octets of a primitive value.
 ghost use Rattle.std.specs.Prelude.{◌≡◌, [], length, Some, IfErr, OnOk, OnErr};
-ghost use Rattle.bcder.specs.Cause.{cause_of, IsRefusal};
-ghost use Rattle.bcder.specs.Stream.{limit_or};
-ghost use Rattle.bcder.specs.Walking.{RefusesOctets};
-ghost use Rattle.bcder.specs.Views.{of_primitive, octets_before, octets_after, MovedOctets};
+ghost use Rattle.bcder.specs.calls.Cause.{cause_of, IsRefusal};
+ghost use Rattle.bcder.specs.calls.Stream.{limit_or};
+ghost use Rattle.bcder.specs.calls.Walking.{RefusesOctets};
+ghost use Rattle.bcder.specs.calls.Views.{of_primitive, octets_before, octets_after, MovedOctets};
 
 use super::Primitive;
 use crate::decode::error::{ContentError, DecodeError};
@@ -11,7 +11,7 @@ use crate::decode::source::Source;
 
 impl<'a, S: Source> Primitive<'a, S> {
     /// How many octets are still owed by the length of the value (X.690, 8.1.3.3).
-    #[tactic(auto, unfolding(crate::specs::Views::of_primitive))]
+    #[tactic(auto, unfolding(crate::specs::calls::Views::of_primitive))]
     pub fn remaining(&self) -> usize
         ensures { result ≡ limit_or (of_primitive S.stream self.now).owed 0 }
     {
@@ -26,7 +26,7 @@ impl<'a, S: Source> Primitive<'a, S> {
     /// # Errors
     ///
     /// Where fewer octets come or where the source fails. Then no octet is passed.
-    #[tactic(auto, using(crate::proofs::moves), unfolding(crate::specs::Views::of_primitive))]
+    #[tactic(auto, using(crate::proofs::moves), unfolding(crate::specs::calls::Views::of_primitive))]
     #[inline(always)]
     pub fn skip_all(&mut self) -> Result<(), DecodeError<S::Error>>
         ensures moves { MovedOctets S.stream self }

@@ -1,8 +1,8 @@
 //! Loops over content.
 ghost use Rattle.std.specs.Prelude.{◌≡◌, IsTrue, ◌↔◌};
-ghost use Rattle.bcder.specs.Repeating.{AnswersOnce, Collected, MayRepeat, OwesAsBefore};
-ghost use Rattle.bcder.specs.Repeating.{Repeated, RepeatsLawfully};
-ghost use Rattle.bcder.specs.Views.{Moved, of_constructed};
+ghost use Rattle.bcder.specs.calls.Repeating.{AnswersOnce, Collected, MayRepeat, OwesAsBefore};
+ghost use Rattle.bcder.specs.calls.Repeating.{Repeated, RepeatsLawfully};
+ghost use Rattle.bcder.specs.calls.Views.{Moved, of_constructed};
 
 use super::Constructed;
 use crate::decode::error::DecodeError;
@@ -38,7 +38,7 @@ where
 
 impl<'a, S: Source> Constructed<'a, S> {
     /// How many octets are owed up to the nearest limit, if there is one.
-    #[tactic(auto, unfolding(crate::specs::Views::of_constructed))]
+    #[tactic(auto, unfolding(crate::specs::calls::Views::of_constructed))]
     pub(super) fn owed(&self) -> Option<usize>
         ensures { result ≡ (of_constructed S.stream self.now).owed }
     {

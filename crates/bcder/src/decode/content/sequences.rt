@@ -1,11 +1,12 @@
 //! Taking constructed values.
 ghost use Rattle.std.specs.Prelude.{◌≡◌};
-ghost use Rattle.bcder.specs.Calls.{Untagged};
-ghost use Rattle.bcder.specs.Content.{any, tagged};
-ghost use Rattle.bcder.specs.Decoding.{AnsweredOn};
-ghost use Rattle.bcder.specs.Identifier.{sequence_tag, set_tag};
-ghost use Rattle.bcder.specs.Takes.{CallableOnValues, LawfulOnValues, TookValues, TookNextValues};
-ghost use Rattle.bcder.specs.Views.{of_constructed, before, after, Moved};
+ghost use Rattle.bcder.specs.calls.Calls.{Untagged};
+ghost use Rattle.bcder.specs.calls.Content.{any, tagged};
+ghost use Rattle.bcder.specs.calls.Decoding.{AnsweredOn};
+ghost use Rattle.bcder.specs.x690.Identifier.{sequence_tag, set_tag};
+ghost use Rattle.bcder.specs.calls.Takes.{CallableOnValues, LawfulOnValues, TookValues};
+ghost use Rattle.bcder.specs.calls.Takes.{TookNextValues};
+ghost use Rattle.bcder.specs.calls.Views.{of_constructed, before, after, Moved};
 
 use super::Constructed;
 use crate::decode::error::DecodeError;

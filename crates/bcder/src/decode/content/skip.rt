@@ -1,20 +1,24 @@
 //! Passing over values with a stack of limits, and a closure that is told of each.
 ghost use Rattle.std.specs.Prelude.{◌≡◌, ◌+◌, ◌^◌, ◌<◌, ◌≤◌, [], ◌∷◌, true, false, IfSome, OnOk};
 ghost use Rattle.std.specs.Prelude.{IfErr, IfNone, IfOk, OnErr};
-ghost use Rattle.bcder.specs.Cause.{cause_of, of_content, of_memory, of_source, stop_cause};
-ghost use Rattle.bcder.specs.Cause.{IsOfContent, IsRefusal};
-ghost use Rattle.bcder.specs.Content.{FitsOwed, Moves, Resembles};
-ghost use Rattle.bcder.specs.Encoding.{may_have};
-ghost use Rattle.bcder.specs.Inside.{kind_behind, limit_inside};
-ghost use Rattle.bcder.specs.Peek.{header as header_of, IsAtHand};
-ghost use Rattle.bcder.specs.Skipping.{ExactlyAll, ExactlySkipped, ExactlyValue, FoundMemory};
-ghost use Rattle.bcder.specs.Skipping.{IsPast, MovedBehind, SkippedBehind};
-ghost use Rattle.bcder.specs.Skipping.{SkippedAll, SkippedNext, SkippedOne, SkippedValue};
-ghost use Rattle.bcder.specs.Stacked.{Counts, Gone, IsCounted, Leaves, Ran, RanOverSource, TopIs};
-ghost use Rattle.bcder.specs.Stacked.{entries, entry_of, framed, halt_cause, joined, limit_in};
-ghost use Rattle.bcder.specs.Stacked.{source_of, unwound};
-ghost use Rattle.bcder.specs.Views.{after, before, Moved};
-ghost use Rattle.bcder.specs.Walking.{Between, ExactlyNext, Fault, NoFault};
+ghost use Rattle.bcder.specs.calls.Cause.{cause_of, of_content, of_memory, of_source};
+ghost use Rattle.bcder.specs.steps.StopCause.{stop_cause};
+ghost use Rattle.bcder.specs.calls.Cause.{IsOfContent, IsRefusal};
+ghost use Rattle.bcder.specs.calls.Content.{FitsOwed, Moves, Resembles};
+ghost use Rattle.bcder.specs.x690.Encoding.{may_have};
+ghost use Rattle.bcder.specs.steps.Inside.{kind_behind, limit_inside};
+ghost use Rattle.bcder.specs.steps.Peek.{header as header_of, IsAtHand};
+ghost use Rattle.bcder.specs.calls.Skipping.{ExactlyAll, ExactlySkipped, ExactlyValue, FoundMemory};
+ghost use Rattle.bcder.specs.steps.SkipSteps.{IsPast, MovedBehind, SkippedBehind};
+ghost use Rattle.bcder.specs.calls.Skipping.{SkippedAll, SkippedNext, SkippedOne, SkippedValue};
+ghost use Rattle.bcder.specs.steps.Stacked.{Counts, Gone, IsCounted, Leaves, Ran, RanOverSource};
+ghost use Rattle.bcder.specs.steps.Stacked.{TopIs};
+ghost use Rattle.bcder.specs.steps.Stacked.{entries, entry_of, framed, halt_cause, joined};
+ghost use Rattle.bcder.specs.steps.Stacked.{limit_in};
+ghost use Rattle.bcder.specs.steps.Stacked.{source_of, unwound};
+ghost use Rattle.bcder.specs.calls.Views.{after, before, Moved};
+ghost use Rattle.bcder.specs.calls.Walking.{Between, ExactlyNext};
+ghost use Rattle.bcder.specs.steps.WalkSteps.{Fault, NoFault};
 
 use super::inside::{go_inside, kind_behind};
 use super::walk::Looked;
@@ -387,7 +391,7 @@ impl<'a, S: Source> Constructed<'a, S> {
 
     /// Passes over the header of the next value, if it is primitive, has a header of two octets,
     /// and all of its octets are at hand. Else nothing is taken. The source is asked once at most.
-    #[tactic(auto, using(crate::specs::laws::Moved::untouched_is_moved), unfolding(crate::specs::Views::views))]
+    #[tactic(auto, using(crate::specs::laws::Moved::untouched_is_moved), unfolding(crate::specs::calls::Views::views))]
     #[inline(always)]
     fn enter_at_hand(&mut self) -> Result<Option<Header>, Stop<S::Error>>
         ensures moves { Between S.stream self Moves }

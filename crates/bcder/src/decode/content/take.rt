@@ -1,19 +1,20 @@
 //! Passing over the header of the next value.
 ghost use Rattle.std.specs.Prelude.{◌≡◌, ◌⊎◌, ◌+◌, ◌≤◌, true, false, length, take, IsTrue, Some};
 ghost use Rattle.std.specs.Prelude.{IfOk, IfErr, IfSome, IfNone, IsErrAnd, OnOk, OnErr};
-ghost use Rattle.bcder.specs.Calls.{popped};
-ghost use Rattle.bcder.specs.Changed.{SameFaults, MoreFaults, SameRest, SameKept};
-ghost use Rattle.bcder.specs.Cause.{cause_of, stop_cause, of_source, IsOfContent, IsRefusal};
-ghost use Rattle.bcder.specs.Cause.{NamesTag};
-ghost use Rattle.bcder.specs.Content.{Moves, Advances, FitsOwed, Accepts, end_header};
-ghost use Rattle.bcder.specs.Content.{IsAsked, Enters, TakesMarker, NoFront, Resembles};
-ghost use Rattle.bcder.specs.Entering.{EntersNext, EntersOctets, FindsNone, RefusesNext};
-ghost use Rattle.bcder.specs.Entering.{MeetsNoFault, MeetsFault};
-ghost use Rattle.bcder.specs.Identifier.{AreOctets, end_of_contents};
-ghost use Rattle.bcder.specs.Peek.{header as header_of, octets_header, asked, Fronts, Peeks};
-ghost use Rattle.bcder.specs.Reading.{Header as HeaderRead};
+ghost use Rattle.bcder.specs.calls.Calls.{popped};
+ghost use Rattle.bcder.specs.calls.Changed.{SameFaults, MoreFaults, SameRest, SameKept};
+ghost use Rattle.bcder.specs.calls.Cause.{cause_of, of_source, IsOfContent, IsRefusal};
+ghost use Rattle.bcder.specs.steps.StopCause.{stop_cause};
+ghost use Rattle.bcder.specs.calls.Cause.{NamesTag};
+ghost use Rattle.bcder.specs.calls.Content.{Moves, Advances, FitsOwed, Accepts, end_header};
+ghost use Rattle.bcder.specs.calls.Content.{IsAsked, Enters, TakesMarker, NoFront, Resembles};
+ghost use Rattle.bcder.specs.steps.Entering.{EntersNext, EntersOctets, FindsNone, RefusesNext};
+ghost use Rattle.bcder.specs.steps.Entering.{MeetsNoFault, MeetsFault};
+ghost use Rattle.bcder.specs.x690.Identifier.{AreOctets, end_of_contents};
+ghost use Rattle.bcder.specs.steps.Peek.{header as header_of, octets_header, asked, Fronts, Peeks};
+ghost use Rattle.bcder.specs.x690.Encoding.{Header as HeaderRead};
 ghost use Rattle.bcder.specs.declared.mode.Mode.{Mode as ModeValue};
-ghost use Rattle.bcder.specs.Views.{before, after, limited_stream};
+ghost use Rattle.bcder.specs.calls.Views.{before, after, limited_stream};
 
 use super::{Constructed, Kind, Primitive, State};
 use crate::decode::error::{ContentError, DecodeError};
@@ -171,7 +172,7 @@ impl<'a, S: Source> Constructed<'a, S> {
     }
 
     /// Looks at the front, where a header is looked for, and takes nothing.
-    #[tactic(auto, unfolding(crate::specs::Views::of_constructed))]
+    #[tactic(auto, unfolding(crate::specs::calls::Views::of_constructed))]
     #[inline(always)]
     fn look(&mut self, wanted: &Wanted) -> Result<Peeked, S::Error>
         ensures same { Resembles (before S.stream self) (after S.stream self) }
@@ -184,7 +185,7 @@ impl<'a, S: Source> Constructed<'a, S> {
     }
 
     /// Looks for a primitive value of a tag with a header of two octets, and takes nothing.
-    #[tactic(auto, unfolding(crate::specs::Views::of_constructed))]
+    #[tactic(auto, unfolding(crate::specs::calls::Views::of_constructed))]
     #[inline(always)]
     fn look_short(&mut self, tag: Tag) -> Result<Option<usize>, S::Error>
         ensures same { Resembles (before S.stream self) (after S.stream self) }
@@ -199,7 +200,7 @@ impl<'a, S: Source> Constructed<'a, S> {
 
     /// Passes over octets that are at hand. The content has failed until the value that they begin
     /// is taken.
-    #[tactic(auto, unfolding(crate::specs::Views::of_constructed))]
+    #[tactic(auto, unfolding(crate::specs::calls::Views::of_constructed))]
     #[inline(always)]
     pub(super) fn pass(&mut self, size: usize)
         requires { size ≤ (limited_stream S.stream self.old.source.now).avail }
@@ -221,7 +222,7 @@ impl<'a, S: Source> Constructed<'a, S> {
     }
 
     /// Passes over a header, or an end marker.
-    #[tactic(auto, unfolding(crate::specs::Views::of_constructed))]
+    #[tactic(auto, unfolding(crate::specs::calls::Views::of_constructed))]
     #[inline(always)]
     pub(super) fn enter(
         &mut self,
@@ -278,7 +279,7 @@ impl<'a, S: Source> Constructed<'a, S> {
 
     /// Looks at the next header, if it is one of those that are looked for, and takes nothing.
     /// `None` is for another tag, and for the end of the content where no marker stands there.
-    #[tactic(auto, using(crate::specs::laws::Moved::untouched_is_moved), unfolding(crate::specs::Views::views))]
+    #[tactic(auto, using(crate::specs::laws::Moved::untouched_is_moved), unfolding(crate::specs::calls::Views::views))]
     #[inline(always)]
     pub(super) fn front(&mut self, wanted: &Wanted) -> Result<Option<Front>, Stop<S::Error>>
         ensures moves { Moves (before S.stream self) (after S.stream self) }
@@ -335,7 +336,7 @@ impl<'a, S: Source> Constructed<'a, S> {
     /// Passes over the next header, if it is one of those that are looked for. `None` is for
     /// another tag, and for the end of the content, whose marker is taken where any header is
     /// looked for. After a header the content has failed until the value is taken.
-    #[tactic(auto, using(crate::specs::laws::Moved::untouched_is_moved), unfolding(crate::specs::Views::views))]
+    #[tactic(auto, using(crate::specs::laws::Moved::untouched_is_moved), unfolding(crate::specs::calls::Views::views))]
     #[inline(always)]
     pub(super) fn next_header(&mut self, wanted: Wanted) -> Result<Option<Header>, Stop<S::Error>>
         ensures moves { Moves (before S.stream self) (after S.stream self) }
@@ -394,7 +395,7 @@ impl<'a, S: Source> Constructed<'a, S> {
     /// Passes over the header of the next value if it has this tag, and answers how many contents
     /// octets it has. The value has to be primitive. The content has then failed until the value is
     /// taken.
-    #[tactic(auto, using(crate::specs::laws::Moved::untouched_is_moved), unfolding(crate::specs::Views::views))]
+    #[tactic(auto, using(crate::specs::laws::Moved::untouched_is_moved), unfolding(crate::specs::calls::Views::views))]
     #[inline(always)]
     pub(super) fn next_octets_if(&mut self, tag: Tag) -> Result<Option<usize>, Stop<S::Error>>
         ensures moves { Moves (before S.stream self) (after S.stream self) }

@@ -1,9 +1,10 @@
 //! Taking booleans, nulls and integers.
-ghost use Rattle.bcder.specs.Identifier.{boolean_tag, integer_tag, null_tag};
-ghost use Rattle.bcder.specs.Number.{IsNumber};
-ghost use Rattle.bcder.specs.Readers.{IsUnsigned, IsTruth, IsNull, IsThis, MeanAnother};
-ghost use Rattle.bcder.specs.Typed.{TookNextAs, TookOneAs, PassedNextAs, TookOneBy, PassedNextBy};
-ghost use Rattle.bcder.specs.Views.{before, Moved};
+ghost use Rattle.bcder.specs.x690.Identifier.{boolean_tag, integer_tag, null_tag};
+ghost use Rattle.bcder.specs.x690.Number.{IsNumber};
+ghost use Rattle.bcder.specs.calls.Readers.{IsUnsigned, IsTruth, IsNull, IsThis, MeanAnother};
+ghost use Rattle.bcder.specs.calls.Typed.{TookNextAs, TookOneAs, PassedNextAs, TookOneBy};
+ghost use Rattle.bcder.specs.calls.Typed.{PassedNextBy};
+ghost use Rattle.bcder.specs.calls.Views.{before, Moved};
 
 use super::Constructed;
 use crate::decode::error::DecodeError;

@@ -1,11 +1,11 @@
 //! Taking values of either form.
 ghost use Rattle.std.specs.Prelude.{◌≡◌};
-ghost use Rattle.bcder.specs.Calls.{Untagged};
-ghost use Rattle.bcder.specs.Content.{any, tagged};
-ghost use Rattle.bcder.specs.Decoding.{AnsweredOn};
-ghost use Rattle.bcder.specs.Takes.{CallableOnContent, LawfulOnContent, TookContent};
-ghost use Rattle.bcder.specs.Takes.{TookNextContent};
-ghost use Rattle.bcder.specs.Views.{of_content, content_before, content_after, Moved};
+ghost use Rattle.bcder.specs.calls.Calls.{Untagged};
+ghost use Rattle.bcder.specs.calls.Content.{any, tagged};
+ghost use Rattle.bcder.specs.calls.Decoding.{AnsweredOn};
+ghost use Rattle.bcder.specs.calls.Takes.{CallableOnContent, LawfulOnContent, TookContent};
+ghost use Rattle.bcder.specs.calls.Takes.{TookNextContent};
+ghost use Rattle.bcder.specs.calls.Views.{of_content, content_before, content_after, Moved};
 
 use super::{Constructed, Content};
 use crate::decode::error::DecodeError;

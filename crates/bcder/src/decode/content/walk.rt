@@ -1,17 +1,18 @@
 //! Walking over values, which looks at every header inside them.
 ghost use Rattle.std.specs.Prelude.{◌≡◌, ◌≢◌, ◌≤◌, false, IsTrue, IfOk, IfSome, OnOk, OnErr};
-ghost use Rattle.bcder.specs.Cause.{stop_cause};
-ghost use Rattle.bcder.specs.Stream.{Grew, Provides};
-ghost use Rattle.bcder.specs.Identifier.{Tag as TagValue};
-ghost use Rattle.bcder.specs.Peek.{header as header_of, Fronts};
-ghost use Rattle.bcder.specs.Content.{Moves, FitsOwed, values, Resembles};
-ghost use Rattle.bcder.specs.Calls.{RanOver};
-ghost use Rattle.bcder.specs.Walking.{Between, PassedNext, ExactlyNext, NoFault, Fault, PassedStep};
-ghost use Rattle.bcder.specs.Walking.{PassedOver, PassedAtOnce, Stepped};
-ghost use Rattle.bcder.specs.Walking.{PassedAll, WalkedOver};
-ghost use Rattle.bcder.specs.Grammar.{BeginsWhole};
-ghost use Rattle.bcder.specs.Walking.{IsPrimitive, itself, walked};
-ghost use Rattle.bcder.specs.Views.{Moved, of_constructed, limited_stream};
+ghost use Rattle.bcder.specs.steps.StopCause.{stop_cause};
+ghost use Rattle.bcder.specs.calls.Stream.{Grew, Provides};
+ghost use Rattle.bcder.specs.x690.Identifier.{Tag as TagValue};
+ghost use Rattle.bcder.specs.steps.Peek.{header as header_of, Fronts};
+ghost use Rattle.bcder.specs.calls.Content.{Moves, FitsOwed, values, Resembles};
+ghost use Rattle.bcder.specs.calls.Calls.{RanOver};
+ghost use Rattle.bcder.specs.calls.Walking.{Between, PassedNext, ExactlyNext};
+ghost use Rattle.bcder.specs.steps.WalkSteps.{NoFault, Fault, PassedStep};
+ghost use Rattle.bcder.specs.steps.WalkSteps.{PassedOver, PassedAtOnce, Stepped};
+ghost use Rattle.bcder.specs.steps.WalkSteps.{PassedAll, WalkedOver};
+ghost use Rattle.bcder.specs.x690.Grammar.{BeginsWhole};
+ghost use Rattle.bcder.specs.steps.WalkSteps.{IsPrimitive, itself, walked};
+ghost use Rattle.bcder.specs.calls.Views.{Moved, of_constructed, limited_stream};
 
 use super::take::{pop, push};
 use super::{Constructed, Kind, State};
@@ -121,7 +122,7 @@ fn size_at_hand<S: Source>(
 
 impl<'a, S: Source> Constructed<'a, S> {
     /// Asks the source for so many octets, and takes none.
-    #[tactic(auto, unfolding(crate::specs::Views::of_constructed))]
+    #[tactic(auto, unfolding(crate::specs::calls::Views::of_constructed))]
     #[inline(always)]
     fn ask(&mut self, size: usize) -> Result<usize, S::Error>
         ensures same { Between S.stream self Resembles }
@@ -134,7 +135,7 @@ impl<'a, S: Source> Constructed<'a, S> {
     }
 
     /// Passes over octets that are at hand.
-    #[tactic(auto, unfolding(crate::specs::Views::of_constructed))]
+    #[tactic(auto, unfolding(crate::specs::calls::Views::of_constructed))]
     #[inline(always)]
     fn pass_over(&mut self, size: usize)
         requires { size ≤ (limited_stream S.stream self.old.source.now).avail }
@@ -145,7 +146,7 @@ impl<'a, S: Source> Constructed<'a, S> {
 
     /// How many octets the next value has, if it is one that is looked for and all of its octets
     /// are at hand. Nothing is taken.
-    #[tactic(auto, unfolding(crate::specs::Views::of_constructed))]
+    #[tactic(auto, unfolding(crate::specs::calls::Views::of_constructed))]
     #[inline(always)]
     fn look_at_whole(&mut self, looked: Looked) -> Result<Option<usize>, S::Error>
         ensures same { Between S.stream self Resembles }
@@ -161,7 +162,7 @@ impl<'a, S: Source> Constructed<'a, S> {
 
     /// Passes over the next value in one go where it is one that is looked for and all of its
     /// octets are at hand, and says whether it did. The source is asked once.
-    #[tactic(auto, unfolding(crate::specs::Views::of_constructed))]
+    #[tactic(auto, unfolding(crate::specs::calls::Views::of_constructed))]
     #[inline(always)]
     fn pass_looked(&mut self, looked: Looked) -> Result<bool, Stop<S::Error>>
         requires { self.old.state ≡ State.Open }
@@ -183,7 +184,7 @@ impl<'a, S: Source> Constructed<'a, S> {
 
     /// The same of content in any state. The source is asked once at most, and not where no octets
     /// are owed. Where there is no limit, that is asked once too.
-    #[tactic(auto, unfolding(crate::specs::Views::of_constructed))]
+    #[tactic(auto, unfolding(crate::specs::calls::Views::of_constructed))]
     #[inline(always)]
     pub(super) fn pass_at_hand(&mut self, looked: Looked) -> Result<bool, Stop<S::Error>>
         ensures moves { Between S.stream self Moves }
@@ -214,7 +215,7 @@ impl<'a, S: Source> Constructed<'a, S> {
 
     /// Passes over a primitive value in one step where all of its octets come, and says whether it
     /// did.
-    #[tactic(auto, unfolding(crate::specs::Views::of_constructed))]
+    #[tactic(auto, unfolding(crate::specs::calls::Views::of_constructed))]
     #[inline(always)]
     fn pass_primitive(&mut self, header: Header, size: usize) -> Result<bool, Stop<S::Error>>
         requires read { Fronts self.old.mode header size
@@ -246,7 +247,7 @@ impl<'a, S: Source> Constructed<'a, S> {
 
 /// Passes over all of the next value if it is primitive and its octets come, and else over its
 /// header.
-#[tactic(auto, unfolding(crate::specs::Views::of_constructed))]
+#[tactic(auto, unfolding(crate::specs::calls::Views::of_constructed))]
 #[inline(always)]
 fn go_on<S: Source>(cons: &mut Constructed<'_, S>) -> Result<Next, Stop<S::Error>>
     ensures moves { Between S.stream cons Moves }
@@ -325,7 +326,7 @@ fn walk_any<S: Source>(cons: &mut Constructed<'_, S>) -> Result<Option<()>, Stop
 
 /// The same, header by header.
 #[cycle(walk)]
-#[tactic(auto, unfolding(crate::specs::Views::of_constructed))]
+#[tactic(auto, unfolding(crate::specs::calls::Views::of_constructed))]
 #[inline(always)]
 fn step<S: Source>(cons: &mut Constructed<'_, S>) -> Result<Option<()>, Stop<S::Error>>
     ensures moves { Between S.stream cons Moves }
@@ -347,7 +348,7 @@ fn step<S: Source>(cons: &mut Constructed<'_, S>) -> Result<Option<()>, Stop<S::
 
 /// Passes over the content of a value whose header was passed over.
 #[cycle(walk)]
-#[tactic(auto, unfolding(crate::specs::Views::of_constructed))]
+#[tactic(auto, unfolding(crate::specs::calls::Views::of_constructed))]
 #[inline(always)]
 fn pass_content<S: Source>(
     cons: &mut Constructed<'_, S>,
@@ -377,7 +378,7 @@ fn pass_content<S: Source>(
 
 /// Passes over the values inside a value.
 #[cycle(walk)]
-#[tactic(auto, unfolding(crate::specs::Views::of_constructed))]
+#[tactic(auto, unfolding(crate::specs::calls::Views::of_constructed))]
 #[inline(never)]
 fn walk_over<S: Source>(
     source: &mut LimitedSource<S>,

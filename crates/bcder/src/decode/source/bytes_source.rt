@@ -1,8 +1,8 @@
 //! A source over shared octets.
 ghost use Rattle.std.specs.Prelude.{◌≡◌, true, ℕ, ◌+◌, ◌-◌, ◌^◌, ◌<◌, ◌≤◌, [], ◌↔◌};
 ghost use Rattle.std.specs.Prelude.{IsTrue, length, take, drop, slice_range, IfOk, OnOk, OnErr};
-ghost use Rattle.bcder.specs.Identifier.{AreOctets};
-ghost use Rattle.bcder.specs.Stream.{pos_after};
+ghost use Rattle.bcder.specs.x690.Identifier.{AreOctets};
+ghost use Rattle.bcder.specs.calls.Stream.{pos_after};
 
 use super::{Pos, Source};
 use crate::NoMemory;
@@ -30,7 +30,7 @@ pub struct BytesSource {
 
 /// The clone has the same octets at the same position.
 impl Clone for BytesSource {
-    ghost use Rattle.bcder.specs.Sources.{shared_rest, shared_start};
+    ghost use Rattle.bcder.specs.calls.Sources.{shared_rest, shared_start};
 
     ghost is_clone = { λ s t. (shared_rest t ≡ shared_rest s) × (shared_start t ≡ shared_start s) };
 
@@ -43,7 +43,7 @@ impl Clone for BytesSource {
 }
 
 impl BytesSource {
-    ghost use Rattle.bcder.specs.Sources.{shared_rest, shared_start};
+    ghost use Rattle.bcder.specs.calls.Sources.{shared_rest, shared_start};
 
     /// A source over `octets`, at position 0.
     pub fn new(octets: Bytes) -> BytesSource

@@ -2,8 +2,8 @@
 ghost use Rattle.std.specs.Prelude.{◌≡◌, true, ◌&&◌, nat_le, ℕ, ◌+◌, ◌-◌, ◌^◌, ◌<◌, ◌≤◌};
 ghost use Rattle.std.specs.Prelude.{List, [], ◌∷◌, ◌++◌, length, take, drop, slice_range};
 ghost use Rattle.std.specs.Prelude.{IfOk, IfErr, OnOk, OnErr};
-ghost use Rattle.bcder.specs.Sources.{behind, passed, borrow_of, capturing};
-ghost use Rattle.bcder.specs.Stream.{Grew, Provides};
+ghost use Rattle.bcder.specs.calls.Sources.{behind, passed, borrow_of, capturing};
+ghost use Rattle.bcder.specs.calls.Stream.{Grew, Provides};
 ghost use Rattle.bcder.specs.laws.Limits.{ahead_sound};
 
 use super::{Pos, Source};

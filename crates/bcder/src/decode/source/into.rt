@@ -1,6 +1,6 @@
 //! What can be made a source.
 ghost use Rattle.std.specs.Prelude.{◌≡◌};
-ghost use Rattle.bcder.specs.Stream.{Stream, at_hand};
+ghost use Rattle.bcder.specs.calls.Stream.{Stream, at_hand};
 
 use super::{BytesSource, SliceSource, Source};
 use bytes::Bytes;

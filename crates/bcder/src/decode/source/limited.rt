@@ -2,13 +2,16 @@
 ghost use Rattle.std.specs.Prelude.{◌≡◌, true, ℕ, ◌+◌, ◌-◌, ◌^◌, ◌<◌, ◌≤◌, List, [], ◌∷◌, ◌++◌};
 ghost use Rattle.std.specs.Prelude.{length, take, drop, slice_range};
 ghost use Rattle.std.specs.Prelude.{Some, None, IsSome, IfOk, IfErr, OnOk, OnErr};
-ghost use Rattle.bcder.specs.Calls.{popped};
-ghost use Rattle.bcder.specs.Changed.{SameFaults, MoreFaults, SameRest, SamePosition, SameKept};
-ghost use Rattle.bcder.specs.Changed.{RefusedWhere, inside, EndsEarly, ReachesLimit, HasNoneLeft};
-ghost use Rattle.bcder.specs.Cause.{cause_of, MatchCause, MatchStop, IsRefusal};
-ghost use Rattle.bcder.specs.Content.{FitsOwed};
-ghost use Rattle.bcder.specs.Sources.{wrapped, limit_of, owed};
-ghost use Rattle.bcder.specs.Stream.{limited, IsNoLooser};
+ghost use Rattle.bcder.specs.calls.Calls.{popped};
+ghost use Rattle.bcder.specs.calls.Changed.{SameFaults, MoreFaults, SameRest, SamePosition};
+ghost use Rattle.bcder.specs.calls.Changed.{SameKept};
+ghost use Rattle.bcder.specs.calls.Changed.{RefusedWhere, inside, EndsEarly, ReachesLimit};
+ghost use Rattle.bcder.specs.calls.Changed.{HasNoneLeft};
+ghost use Rattle.bcder.specs.calls.Cause.{cause_of, MatchCause, IsRefusal};
+ghost use Rattle.bcder.specs.steps.StopCause.{MatchStop};
+ghost use Rattle.bcder.specs.calls.Content.{FitsOwed};
+ghost use Rattle.bcder.specs.calls.Sources.{wrapped, limit_of, owed};
+ghost use Rattle.bcder.specs.calls.Stream.{limited, IsNoLooser};
 ghost use Rattle.bcder.specs.laws.Limits.{limited_sound};
 
 use super::capture::take_front;

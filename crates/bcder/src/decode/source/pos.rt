@@ -1,6 +1,6 @@
 //! Positions in sources.
 ghost use Rattle.std.specs.Prelude.{◌≡◌, ℕ};
-ghost use Rattle.bcder.specs.Stream.{pos_after};
+ghost use Rattle.bcder.specs.calls.Stream.{pos_after};
 
 use std::fmt;
 use std::marker::Model;

@@ -1,8 +1,8 @@
 //! A source over a slice.
 ghost use Rattle.std.specs.Prelude.{◌≡◌, true, ℕ, ◌+◌, ◌-◌, ◌^◌, ◌<◌, ◌≤◌, [], ◌↔◌};
 ghost use Rattle.std.specs.Prelude.{IsTrue, length, take, drop, slice_range, IfOk};
-ghost use Rattle.bcder.specs.Identifier.{AreOctets};
-ghost use Rattle.bcder.specs.Stream.{pos_after};
+ghost use Rattle.bcder.specs.x690.Identifier.{AreOctets};
+ghost use Rattle.bcder.specs.calls.Stream.{pos_after};
 
 use super::{Pos, Source};
 use crate::NoMemory;
@@ -21,7 +21,7 @@ pub struct SliceSource<'a> {
 }
 
 impl<'a> SliceSource<'a> {
-    ghost use Rattle.bcder.specs.Sources.{slice_rest, slice_start};
+    ghost use Rattle.bcder.specs.calls.Sources.{slice_rest, slice_start};
 
     /// A source over `octets`, at position 0.
     pub fn new(octets: &'a [u8]) -> SliceSource<'a>

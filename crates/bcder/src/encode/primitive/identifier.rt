@@ -1,6 +1,6 @@
 //! Contents octets of object identifiers (X.690, 8.19).
-ghost use Rattle.bcder.specs.Identifier.{universal};
-ghost use Rattle.bcder.specs.Meaning.{ExactlyOctets};
+ghost use Rattle.bcder.specs.x690.Identifier.{universal};
+ghost use Rattle.bcder.specs.calls.Meaning.{ExactlyOctets};
 ghost use Rattle.bcder.specs.laws.Meanings.{ExactlyOctets_lawful};
 
 use super::PrimitiveContent;

@@ -1,9 +1,9 @@
 //! Contents octets of the integers of Rust (X.690, 8.3).
 ghost use Rattle.std.specs.Prelude.{pos};
-ghost use Rattle.bcder.specs.Identifier.{universal};
-ghost use Rattle.bcder.specs.Integer.{integer_octets};
-ghost use Rattle.bcder.specs.Encoders.{SizeOfContents, WritesContents, WritesPrimitive, told};
-ghost use Rattle.bcder.specs.Meaning.{Exactly};
+ghost use Rattle.bcder.specs.x690.Identifier.{universal};
+ghost use Rattle.bcder.specs.x690.Integer.{integer_octets};
+ghost use Rattle.bcder.specs.calls.Encoders.{SizeOfContents, WritesContents, WritesPrimitive, told};
+ghost use Rattle.bcder.specs.calls.Meaning.{Exactly};
 ghost use Rattle.bcder.specs.laws.Integers.{integer_octets_are};
 ghost use Rattle.bcder.specs.laws.Meanings.{Exactly_lawful};
 

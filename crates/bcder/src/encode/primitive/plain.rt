@@ -1,10 +1,10 @@
 //! Contents octets of booleans, null and octets (X.690, 8.2, 8.7, 8.8, 11.1).
 ghost use Rattle.std.specs.Prelude.{◌≡◌, ◌<◌, ◌^◌, []};
-ghost use Rattle.bcder.specs.Identifier.{universal};
-ghost use Rattle.bcder.specs.Encoders.{SizeOfContents, WritesContents};
-ghost use Rattle.bcder.specs.Encoders.{HasContents, WritesPrimitive, told};
-ghost use Rattle.bcder.specs.Meaning.{Exactly, ExactlyOctets, truth_octets};
-ghost use Rattle.bcder.specs.Meaning.{fits_primitive, PieceMeans};
+ghost use Rattle.bcder.specs.x690.Identifier.{universal};
+ghost use Rattle.bcder.specs.calls.Encoders.{SizeOfContents, WritesContents};
+ghost use Rattle.bcder.specs.calls.Encoders.{HasContents, WritesPrimitive, told};
+ghost use Rattle.bcder.specs.calls.Meaning.{Exactly, ExactlyOctets, truth_octets};
+ghost use Rattle.bcder.specs.calls.Meaning.{fits_primitive, PieceMeans};
 ghost use Rattle.bcder.specs.declared.encode.error.EncodeError.TheVariants.{LongCerPrimitive};
 ghost use Rattle.bcder.specs.laws.Octets.{AreOctets-nil};
 ghost use Rattle.bcder.specs.laws.Meanings.{Exactly_lawful, PieceMeans_lawful};

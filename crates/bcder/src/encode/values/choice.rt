@@ -1,8 +1,8 @@
 //! Encoders of values that may be there, and of one of several.
-ghost use Rattle.bcder.specs.Joined.{NoValues};
-ghost use Rattle.bcder.specs.Choices.{OptionMeans, OptionLacks, OptionCan, option_lawful};
-ghost use Rattle.bcder.specs.Choices.{EitherMeans, EitherHolds, either_lawful};
-ghost use Rattle.bcder.specs.Choices.{AnyMeans, AnyHolds, any_lawful};
+ghost use Rattle.bcder.specs.calls.Joined.{NoValues};
+ghost use Rattle.bcder.specs.calls.Choices.{OptionMeans, OptionLacks, OptionCan, option_lawful};
+ghost use Rattle.bcder.specs.calls.Choices.{EitherMeans, EitherHolds, either_lawful};
+ghost use Rattle.bcder.specs.calls.Choices.{AnyMeans, AnyHolds, any_lawful};
 ghost use Rattle.bcder.specs.laws.Joined.{NoValues_lawful};
 
 use crate::encode::slot::Failed;

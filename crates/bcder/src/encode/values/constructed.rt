@@ -1,12 +1,13 @@
 //! Encoders of constructed values.
 ghost use Rattle.std.specs.Prelude.{◌≡◌, ◌<◌, ◌+◌, ◌^◌, ℕ, Bool, length, true};
 ghost use Rattle.bcder.specs.declared.length.Length.TheVariants.{Definite};
-ghost use Rattle.bcder.specs.Identifier.{sequence_tag, set_tag, identifier as identifier_of};
-ghost use Rattle.bcder.specs.Octets.{header, fits_length, constructed_length, closing};
-ghost use Rattle.bcder.specs.Meaning.{ValueMeans, constructed_meaning};
-ghost use Rattle.bcder.specs.Encoders.{HasEncoding, HasSize, WroteOctets, told};
-ghost use Rattle.bcder.specs.Enclosing.{EnclosedSize, InsideSizes, KnownLength, WritesEnclosed};
-ghost use Rattle.bcder.specs.Enclosing.{told_size, length_size};
+ghost use Rattle.bcder.specs.x690.Identifier.{sequence_tag, set_tag, identifier as identifier_of};
+ghost use Rattle.bcder.specs.x690.Octets.{header, fits_length, constructed_length, closing};
+ghost use Rattle.bcder.specs.calls.Meaning.{ValueMeans, constructed_meaning};
+ghost use Rattle.bcder.specs.calls.Encoders.{HasEncoding, HasSize, WroteOctets, told};
+ghost use Rattle.bcder.specs.steps.Enclosing.{EnclosedSize, InsideSizes, KnownLength};
+ghost use Rattle.bcder.specs.steps.Enclosing.{WritesEnclosed};
+ghost use Rattle.bcder.specs.steps.Enclosing.{told_size, length_size};
 ghost use Rattle.bcder.specs.laws.Meanings.{constructed_lawful};
 
 use crate::encode::header::put_header;

@@ -1,7 +1,7 @@
 //! The items of an iterator, one after the other.
 ghost use Rattle.std.specs.Prelude.{◌≡◌, IfOk, OnErr};
-ghost use Rattle.bcder.specs.Iterated.{RunsMean, RunsLack, GivesOneList, runs_lawful};
-ghost use Rattle.bcder.specs.Joined.{Joined};
+ghost use Rattle.bcder.specs.calls.Iterated.{RunsMean, RunsLack, GivesOneList, runs_lawful};
+ghost use Rattle.bcder.specs.calls.Joined.{Joined};
 ghost use Rattle.bcder.specs.laws.Joined.{Joined_lawful};
 
 use crate::NoMemory;

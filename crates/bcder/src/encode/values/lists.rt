@@ -1,6 +1,6 @@
 //! Lists of encoders: their values one after the other.
 ghost use Rattle.std.specs.Prelude.{Any, All};
-ghost use Rattle.bcder.specs.Joined.{EachOf, Joined};
+ghost use Rattle.bcder.specs.calls.Joined.{EachOf, Joined};
 ghost use Rattle.bcder.specs.laws.Joined.{EachOf_lawful, Joined_lawful};
 
 use crate::encode::slot::Failed;

@@ -1,8 +1,9 @@
 //! The items of a slice, each encoded as what a closure gives for it.
 ghost use Rattle.std.specs.Prelude.{◌≡◌, All, Any};
-ghost use Rattle.bcder.specs.Encoders.{HasEncoding, SizeOfValues, WritesParts, told};
-ghost use Rattle.bcder.specs.Joined.{EachOf, Joined};
-ghost use Rattle.bcder.specs.Slices.{TakesItem, Gives, ItemMeans, ItemLacks, MayMap, item_lawful};
+ghost use Rattle.bcder.specs.calls.Encoders.{HasEncoding, SizeOfValues, WritesParts, told};
+ghost use Rattle.bcder.specs.calls.Joined.{EachOf, Joined};
+ghost use Rattle.bcder.specs.calls.Slices.{TakesItem, Gives, ItemMeans, ItemLacks, MayMap};
+ghost use Rattle.bcder.specs.calls.Slices.{item_lawful};
 ghost use Rattle.bcder.specs.laws.Joined.{EachOf_lawful, Joined_lawful};
 
 use crate::encode::slot::Failed;

@@ -1,10 +1,10 @@
 //! Encoders one after the other.
 ghost use Rattle.std.specs.Prelude.{◌≡◌, ℕ, ◌+◌, ⊤, ◌⊎◌, IsTrue, IfSome};
 ghost use Rattle.bcder.specs.declared.mode.Mode.{Mode};
-ghost use Rattle.bcder.specs.Meaning.{Meaning, IsLawful};
-ghost use Rattle.bcder.specs.Encoders.{HasEncoding, SizeOfValues, WritesValues, WritesParts};
-ghost use Rattle.bcder.specs.Encoders.{TellsSum, WritesKnown, HasSize, told};
-ghost use Rattle.bcder.specs.Joined.{Then, NoValues, Joined, IsSum};
+ghost use Rattle.bcder.specs.calls.Meaning.{Meaning, IsLawful};
+ghost use Rattle.bcder.specs.calls.Encoders.{HasEncoding, SizeOfValues, WritesValues, WritesParts};
+ghost use Rattle.bcder.specs.calls.Encoders.{TellsSum, WritesKnown, HasSize, told};
+ghost use Rattle.bcder.specs.calls.Joined.{Then, NoValues, Joined, IsSum};
 ghost use Rattle.bcder.specs.laws.Joined.{Then_lawful, NoValues_lawful};
 
 use crate::encode::slot::{Failed, slot, told};

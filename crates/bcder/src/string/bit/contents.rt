@@ -1,6 +1,6 @@
 //! Which contents octets are a bit string (X.690, 8.6.2, 9.2, 11.2.1).
 ghost use Rattle.std.specs.Prelude.{◌≡◌, ◌↔◌, ◌*◌, ◌/◌, ◌^◌, IsTrue};
-ghost use Rattle.bcder.specs.BitString.{AreCleared, BitShape, IsBits, MayHave};
+ghost use Rattle.bcder.specs.x690.BitString.{AreCleared, BitShape, IsBits, MayHave};
 
 use crate::mode::Mode;
 

@@ -1,8 +1,8 @@
 //! Octets of a slice, written as a bit string.
 ghost use Rattle.std.specs.Prelude.{◌≡◌};
 ghost use Rattle.bcder.specs.declared.encode.error.EncodeError.TheVariants.{LongCerBitString};
-ghost use Rattle.bcder.specs.BitString.{bit_string_tag};
-ghost use Rattle.bcder.specs.Meaning.{BitsMean, ValueMeans, primitive_meaning};
+ghost use Rattle.bcder.specs.x690.BitString.{bit_string_tag};
+ghost use Rattle.bcder.specs.calls.Meaning.{BitsMean, ValueMeans, primitive_meaning};
 ghost use Rattle.bcder.specs.laws.Meanings.{BitsMean_lawful, primitive_lawful};
 
 use super::write::{bits_len, put_meant, write_bits};

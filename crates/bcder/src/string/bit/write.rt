@@ -3,13 +3,13 @@ ghost use Rattle.std.specs.Prelude.{◌≡◌, ◌≢◌, ◌+◌, ◌<◌, ◌�
 ghost use Rattle.std.specs.Prelude.{length, false};
 ghost use Rattle.bcder.specs.declared.encode.error.EncodeError.TheVariants.{LongCerPrimitive};
 ghost use Rattle.bcder.specs.declared.encode.error.EncodeError.TheVariants.{NoMemory};
-ghost use Rattle.bcder.specs.BitString.{as_written, contents_octets};
-ghost use Rattle.bcder.specs.Encoders.{HasContents, SizeOfContents, WritesContents};
-ghost use Rattle.bcder.specs.Encoders.{WritesPrimitive, WroteOctets, told};
-ghost use Rattle.bcder.specs.Front.{front_of};
-ghost use Rattle.bcder.specs.Identifier.{universal};
-ghost use Rattle.bcder.specs.Meaning.{BitsMean};
-ghost use Rattle.bcder.specs.Octets.{definite};
+ghost use Rattle.bcder.specs.x690.BitString.{as_written, contents_octets};
+ghost use Rattle.bcder.specs.calls.Encoders.{HasContents, SizeOfContents, WritesContents};
+ghost use Rattle.bcder.specs.calls.Encoders.{WritesPrimitive, WroteOctets, told};
+ghost use Rattle.bcder.specs.steps.Front.{front_of};
+ghost use Rattle.bcder.specs.x690.Identifier.{universal};
+ghost use Rattle.bcder.specs.calls.Meaning.{BitsMean};
+ghost use Rattle.bcder.specs.x690.Octets.{definite};
 ghost use Rattle.bcder.specs.laws.Meanings.{BitsMean_lawful};
 
 use super::BitString;

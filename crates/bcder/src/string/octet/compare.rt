@@ -7,7 +7,7 @@ ghost use Rattle.std.specs.Cmp.Rules.{comparing};
 ghost use Rattle.std.specs.List.{concat};
 ghost use Rattle.std.specs.Ordering.{nat_cmp};
 ghost use Rattle.std.proofs.Common.{rules};
-ghost use Rattle.bcder.specs.OctetString.{octets_of};
+ghost use Rattle.bcder.specs.calls.StringOctets.{octets_of};
 
 use super::{OctetString, OctetStringIter};
 use std::cmp::Ordering;

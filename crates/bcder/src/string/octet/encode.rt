@@ -1,10 +1,10 @@
 //! Octet strings as encoders (X.690, 8.7, 9.2, 10.2).
 ghost use Rattle.std.specs.Prelude.{◌≡◌};
-ghost use Rattle.bcder.specs.OctetString.{octet_string_tag};
-ghost use Rattle.bcder.specs.Encoders.{HasEncoding, SizeOfValues, WritesValues, WritesParts};
-ghost use Rattle.bcder.specs.Encoders.{told};
-ghost use Rattle.bcder.specs.StringMeaning.{StringMeans};
-ghost use Rattle.bcder.specs.WrittenStrings.{IsMadeUp};
+ghost use Rattle.bcder.specs.x690.OctetString.{octet_string_tag};
+ghost use Rattle.bcder.specs.calls.Encoders.{HasEncoding, SizeOfValues, WritesValues, WritesParts};
+ghost use Rattle.bcder.specs.calls.Encoders.{told};
+ghost use Rattle.bcder.specs.calls.StringMeaning.{StringMeans};
+ghost use Rattle.bcder.specs.calls.WrittenStrings.{IsMadeUp};
 ghost use Rattle.bcder.specs.laws.StringMeanings.{StringMeans_lawful};
 
 use super::write::{octets_len, put_octets, put_string, string_len};

@@ -1,8 +1,9 @@
 //! The parts of an octet string, and its octets.
 ghost use Rattle.std.specs.Prelude.{◌≡◌, ◌+◌, ◌<◌, ◌≤◌, [], ◌++◌, length, IfSome, MatchOption};
 ghost use Rattle.std.specs.List.{concat};
-ghost use Rattle.bcder.specs.OctetString.{piece, parts, octets_of, segment_at};
-ghost use Rattle.bcder.specs.OctetString.{AreWithin, segments_at};
+ghost use Rattle.bcder.specs.calls.StringOctets.{piece, parts, octets_of};
+ghost use Rattle.bcder.specs.steps.SegmentTable.{segment_at};
+ghost use Rattle.bcder.specs.steps.SegmentTable.{AreWithin, segments_at};
 
 use super::{OctetString, Octets, Segment};
 use std::alloc::AllocError;
@@ -25,7 +26,8 @@ pub struct OctetStringIter<'a> {
 /// The clauses see the parts that are still to come.
 impl<'a> Model for OctetStringIter<'a> {
     ghost use Rattle.std.specs.Prelude.{ℕ, List, ◌++◌};
-    ghost use Rattle.bcder.specs.OctetString.{piece, segments_at, AreWithin};
+    ghost use Rattle.bcder.specs.calls.StringOctets.{piece};
+    ghost use Rattle.bcder.specs.steps.SegmentTable.{segments_at, AreWithin};
 
     ghost Value = { List (List ℕ) };
 

@@ -1,6 +1,6 @@
 //! The octets of an octet string in one piece.
 ghost use Rattle.std.specs.Prelude.{◌≡◌, IfOk};
-ghost use Rattle.bcder.specs.OctetString.{octets_of};
+ghost use Rattle.bcder.specs.calls.StringOctets.{octets_of};
 
 use super::{OctetString, Octets};
 use crate::NoMemory;

@@ -1,9 +1,10 @@
 //! Reading octet strings (X.690, 8.7, 9.2, 10.2).
 ghost use Rattle.std.specs.Prelude.{◌≡◌, ◌≤◌, ◌↔◌, IsTrue};
-ghost use Rattle.bcder.specs.OctetString.{octet_string_tag, MeansString};
-ghost use Rattle.bcder.specs.Valued.{ReadsAny, ReadTree, TookNextTree, TookOneTree};
-ghost use Rattle.bcder.specs.Views.{before, after, octets_before, octets_after};
-ghost use Rattle.bcder.specs.Views.{Moved, MovedOctets, MovedContent};
+ghost use Rattle.bcder.specs.x690.OctetString.{octet_string_tag};
+ghost use Rattle.bcder.specs.calls.StringOctets.{MeansString};
+ghost use Rattle.bcder.specs.calls.Valued.{ReadsAny, ReadTree, TookNextTree, TookOneTree};
+ghost use Rattle.bcder.specs.calls.Views.{before, after, octets_before, octets_after};
+ghost use Rattle.bcder.specs.calls.Views.{Moved, MovedOctets, MovedContent};
 
 use super::OctetString;
 use super::segments::{FULL, table_of};

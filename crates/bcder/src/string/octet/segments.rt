@@ -1,10 +1,11 @@
 //! Which octets are segments of an octet string (X.690, 8.7.3, 9.2), and where these stand. The
 //! headers are passed one after the other, however they are nested: no stack is kept.
 ghost use Rattle.std.specs.Prelude.{◌≡◌, ◌+◌, ◌≤◌, length, IfOk, IfSome, IfNone, MatchOption};
-ghost use Rattle.bcder.specs.Answers.{Answers};
-ghost use Rattle.bcder.specs.Captured.{AreWhole};
-ghost use Rattle.bcder.specs.OctetString.{AreCut, IsTable};
-ghost use Rattle.bcder.specs.Segments.{read_segment, BeginSegment};
+ghost use Rattle.bcder.specs.steps.Answers.{Answers};
+ghost use Rattle.bcder.specs.calls.Captured.{AreWhole};
+ghost use Rattle.bcder.specs.x690.OctetString.{AreCut};
+ghost use Rattle.bcder.specs.steps.SegmentTable.{IsTable};
+ghost use Rattle.bcder.specs.steps.Segments.{read_segment, BeginSegment};
 
 use super::Segment;
 use crate::length::{Length, after_end};
@@ -22,7 +23,7 @@ const OCTET_STRING: u8 = 0x04;
 
 /// The octets after the primitive segment at the front, and how many octets it holds; or those
 /// after the header of a constructed segment, or after end-of-contents octets.
-#[tactic(auto, unfolding(crate::specs::Segments::read_segment))]
+#[tactic(auto, unfolding(crate::specs::steps::Segments::read_segment))]
 #[inline(never)]
 fn any_segment_at(mode: Mode, octets: &[u8]) -> Option<(Option<usize>, &[u8])>
     ensures { Answers result (read_segment mode octets.now) }

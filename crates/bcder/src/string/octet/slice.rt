@@ -1,7 +1,7 @@
 //! Octets of a slice as an octet string (X.690, 8.7, 9.2, 10.2).
 ghost use Rattle.std.specs.Prelude.{◌≡◌};
-ghost use Rattle.bcder.specs.OctetString.{octet_string_tag};
-ghost use Rattle.bcder.specs.StringMeaning.{OctetsMean};
+ghost use Rattle.bcder.specs.x690.OctetString.{octet_string_tag};
+ghost use Rattle.bcder.specs.calls.StringMeaning.{OctetsMean};
 ghost use Rattle.bcder.specs.laws.StringMeanings.{OctetsMean_lawful};
 
 use super::OctetString;

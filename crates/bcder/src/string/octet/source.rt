@@ -2,9 +2,10 @@
 ghost use Rattle.std.specs.Prelude.{◌≡◌, ℕ, ◌+◌, ◌-◌, ◌^◌, ◌<◌, ◌≤◌, ◌⊎◌, List, [], ◌∷◌, ◌++◌};
 ghost use Rattle.std.specs.Prelude.{length, drop, Some, None, Ok, IfOk, OnOk, OnErr, MatchOption};
 ghost use Rattle.std.specs.List.{concat};
-ghost use Rattle.bcder.specs.Identifier.{AreOctets};
-ghost use Rattle.bcder.specs.OctetString.{whole, cut, AreWithin, segment_at, segments_at, IsTable};
-ghost use Rattle.bcder.specs.StringSource.{StandsIn, all_behind, string_stream, IsJoined};
+ghost use Rattle.bcder.specs.x690.Identifier.{AreOctets};
+ghost use Rattle.bcder.specs.calls.StringOctets.{whole, cut};
+ghost use Rattle.bcder.specs.steps.SegmentTable.{AreWithin, segment_at, segments_at, IsTable};
+ghost use Rattle.bcder.specs.calls.StringSource.{StandsIn, all_behind, string_stream, IsJoined};
 
 mod front;
 
@@ -32,8 +33,8 @@ struct Behind {
 /// The clauses see the octets of each, and those that they stand in.
 impl Model for Behind {
     ghost use Rattle.std.specs.Prelude.{◌≤◌, length, drop};
-    ghost use Rattle.bcder.specs.OctetString.{segments_at, AreWithin};
-    ghost use Rattle.bcder.specs.StringSource.{ToCome};
+    ghost use Rattle.bcder.specs.steps.SegmentTable.{segments_at, AreWithin};
+    ghost use Rattle.bcder.specs.calls.StringSource.{ToCome};
 
     ghost Value = { ToCome };
 
@@ -166,7 +167,7 @@ pub struct OctetStringSource {
 }
 
 impl OctetStringSource {
-    ghost use Rattle.bcder.specs.StringSources.{source_stream, FillsFront};
+    ghost use Rattle.bcder.specs.steps.StringSources.{source_stream, FillsFront};
 
     /// A source over octets in one piece.
     fn of_piece(octets: Bytes) -> OctetStringSource
@@ -220,7 +221,7 @@ impl Source for OctetStringSource {
     type Error = NoMemory;
 
     ghost use Rattle.bcder.specs.laws.Limits.{within_front};
-    ghost use Rattle.bcder.specs.StringSources.{source_stream};
+    ghost use Rattle.bcder.specs.steps.StringSources.{source_stream};
 
     ghost stream = { source_stream };
 

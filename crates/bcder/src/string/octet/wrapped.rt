@@ -1,10 +1,10 @@
 //! Encodings inside an octet string (X.690, 8.7, 9.2, 10.2).
 ghost use Rattle.std.specs.Prelude.{◌≡◌, ◌<◌, ◌^◌, ◌⊎◌, Some, IfOk, IfErr};
-ghost use Rattle.bcder.specs.OctetString.{octet_string_tag};
-ghost use Rattle.bcder.specs.Encoders.{HasEncoding, HasSize, SizeOfValues, WritesParts};
-ghost use Rattle.bcder.specs.Encoders.{WritesValues, RefusesBy, told};
-ghost use Rattle.bcder.specs.Segmenting.{InsideSize, WritesInside};
-ghost use Rattle.bcder.specs.StringMeaning.{WrappedMeans, IsGathered};
+ghost use Rattle.bcder.specs.x690.OctetString.{octet_string_tag};
+ghost use Rattle.bcder.specs.calls.Encoders.{HasEncoding, HasSize, SizeOfValues, WritesParts};
+ghost use Rattle.bcder.specs.calls.Encoders.{WritesValues, RefusesBy, told};
+ghost use Rattle.bcder.specs.steps.Segmenting.{InsideSize, WritesInside};
+ghost use Rattle.bcder.specs.calls.StringMeaning.{WrappedMeans, IsGathered};
 ghost use Rattle.bcder.specs.laws.StringMeanings.{WrappedMeans_lawful};
 
 use super::OctetString;

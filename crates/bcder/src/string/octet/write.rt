@@ -1,15 +1,15 @@
 //! Octets written as an octet string (X.690, 8.7, 9.2, 10.2).
 ghost use Rattle.std.specs.Prelude.{◌≡◌, ◌<◌, ◌≤◌, ◌+◌, ◌^◌, ◌++◌, ℕ, List, length, false};
 ghost use Rattle.std.specs.List.{concat};
-ghost use Rattle.bcder.specs.Identifier.{AreOctets};
-ghost use Rattle.bcder.specs.Octets.{definite, enclosed};
+ghost use Rattle.bcder.specs.x690.Identifier.{AreOctets};
+ghost use Rattle.bcder.specs.x690.Octets.{definite, enclosed};
 ghost use Rattle.bcder.specs.declared.mode.Mode.TheVariants.{Cer};
-ghost use Rattle.bcder.specs.Encoders.{HasEncoding, SizeOfValues, WritesValues, WritesParts};
-ghost use Rattle.bcder.specs.Encoders.{WroteOctets, told};
-ghost use Rattle.bcder.specs.Front.{front_of};
-ghost use Rattle.bcder.specs.Joined.{IsSum};
-ghost use Rattle.bcder.specs.StringMeaning.{is_cut, OctetsMean, segments_in_cer};
-ghost use Rattle.bcder.specs.Segmenting.{BeginsSegment, CutSize, segments_size, WritesPart};
+ghost use Rattle.bcder.specs.calls.Encoders.{HasEncoding, SizeOfValues, WritesValues, WritesParts};
+ghost use Rattle.bcder.specs.calls.Encoders.{WroteOctets, told};
+ghost use Rattle.bcder.specs.steps.Front.{front_of};
+ghost use Rattle.bcder.specs.calls.Joined.{IsSum};
+ghost use Rattle.bcder.specs.calls.StringMeaning.{is_cut, OctetsMean, segments_in_cer};
+ghost use Rattle.bcder.specs.steps.Segmenting.{BeginsSegment, CutSize, segments_size, WritesPart};
 
 use super::OctetStringIter;
 use super::segments::FULL;

@@ -1,9 +1,11 @@
 //! Character sets whose characters are one octet each (X.680, 41).
 ghost use Rattle.std.specs.Prelude.{◌≡◌, ◌↔◌, ◌<◌, ℕ, Bool, true, IsTrue, IfSome, encode_utf8_all};
-ghost use Rattle.bcder.specs.Characters.{characters};
-ghost use Rattle.bcder.specs.CharSet.{Accepts, NextChar, Checks, SpellsText};
-ghost use Rattle.bcder.specs.AsciiSets.{one_octet_step, is_numeric, is_printable, is_ia5};
-ghost use Rattle.bcder.specs.AsciiSets.{numeric_string_tag, printable_string_tag, ia5_string_tag};
+ghost use Rattle.bcder.specs.x690.Characters.{characters};
+ghost use Rattle.bcder.specs.x690.CharSet.{Accepts};
+ghost use Rattle.bcder.specs.calls.CharSetCalls.{NextChar, Checks, SpellsText};
+ghost use Rattle.bcder.specs.x690.AsciiSets.{one_octet_step, is_numeric, is_printable, is_ia5};
+ghost use Rattle.bcder.specs.x690.AsciiSets.{numeric_string_tag, printable_string_tag};
+ghost use Rattle.bcder.specs.x690.AsciiSets.{ia5_string_tag};
 ghost use Rattle.bcder.specs.laws.CharSets.{ascii_lawful, ascii_texts};
 ghost use Rattle.bcder.specs.laws.CharSets.{numeric_ascii, printable_ascii, ia5_ascii};
 

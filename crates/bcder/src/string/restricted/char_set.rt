@@ -1,10 +1,11 @@
 //! Character sets.
 ghost use Rattle.std.specs.Prelude.{◌≡◌, List, ℕ, IfSome, encode_utf8_all};
 ghost use Rattle.std.specs.Str.{IsUtf8};
-ghost use Rattle.bcder.specs.Characters.{characters};
-ghost use Rattle.bcder.specs.Identifier.{Tag as TagValue};
-ghost use Rattle.bcder.specs.CharSet.{Step, IsStep, Accepts, NextChar, Checks, SpellsText};
-ghost use Rattle.bcder.specs.TextSets.{AreTexts};
+ghost use Rattle.bcder.specs.x690.Characters.{characters};
+ghost use Rattle.bcder.specs.x690.Identifier.{Tag as TagValue};
+ghost use Rattle.bcder.specs.x690.CharSet.{Step, IsStep, Accepts};
+ghost use Rattle.bcder.specs.calls.CharSetCalls.{NextChar, Checks, SpellsText};
+ghost use Rattle.bcder.specs.x690.TextSets.{AreTexts};
 
 use crate::memory::NoMemory;
 use crate::string::octet::OctetStringOctets;
@@ -42,7 +43,7 @@ pub enum StringError {
 
 impl fmt::Display for StringError {
     ghost use Rattle.std.specs.Prelude.{Some};
-    ghost use Rattle.bcder.specs.CharSetTexts.{text_of};
+    ghost use Rattle.bcder.specs.calls.CharSetTexts.{text_of};
 
     ghost output = { λ e. Some (text_of e) };
 

@@ -1,8 +1,8 @@
 //! The characters of a restricted string.
 ghost use Rattle.std.specs.Prelude.{◌≡◌};
-ghost use Rattle.bcder.specs.CharSet.{Spells};
-ghost use Rattle.bcder.specs.Characters.{characters};
-ghost use Rattle.bcder.specs.OctetString.{octets_of};
+ghost use Rattle.bcder.specs.x690.CharSet.{Spells};
+ghost use Rattle.bcder.specs.x690.Characters.{characters};
+ghost use Rattle.bcder.specs.calls.StringOctets.{octets_of};
 
 use super::{CharSet, RestrictedString};
 use crate::string::octet::OctetStringOctets;
@@ -26,8 +26,8 @@ pub struct RestrictedStringChars<'a, L: CharSet> {
 impl<'a, L: CharSet> Model for RestrictedStringChars<'a, L> {
     ghost use Rattle.std.specs.Prelude.{ℕ, List, IfSome};
     ghost use Rattle.std.specs.Str.{IsUtf8};
-    ghost use Rattle.bcder.specs.CharSet.{Accepts};
-    ghost use Rattle.bcder.specs.Characters.{characters_left};
+    ghost use Rattle.bcder.specs.x690.CharSet.{Accepts};
+    ghost use Rattle.bcder.specs.calls.CharSetCalls.{characters_left};
 
     ghost Value = { List ℕ };
 

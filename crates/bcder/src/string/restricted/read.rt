@@ -1,7 +1,7 @@
 //! Reading restricted strings (X.690, 8.23).
-ghost use Rattle.bcder.specs.RestrictedString.{MeansRestricted};
-ghost use Rattle.bcder.specs.Valued.{ReadTree, TookNextTree, TookOneTree};
-ghost use Rattle.bcder.specs.Views.{Moved, MovedContent};
+ghost use Rattle.bcder.specs.calls.RestrictedString.{MeansRestricted};
+ghost use Rattle.bcder.specs.calls.Valued.{ReadTree, TookNextTree, TookOneTree};
+ghost use Rattle.bcder.specs.calls.Views.{Moved, MovedContent};
 
 use super::{CharSet, RestrictedString};
 use crate::decode::{Constructed, Content, ContentError, DecodeError, Source};

@@ -1,9 +1,9 @@
 //! Restricted strings and texts.
 ghost use Rattle.std.specs.Prelude.{◌≡◌, IfOk, MatchOption, string_bytes};
 ghost use Rattle.std.specs.Str.{chars};
-ghost use Rattle.bcder.specs.RestrictedString.{MakesText};
-ghost use Rattle.bcder.specs.CharSet.{Accepts, Spells};
-ghost use Rattle.bcder.specs.OctetString.{whole, octets_of, IsCut};
+ghost use Rattle.bcder.specs.calls.RestrictedString.{MakesText};
+ghost use Rattle.bcder.specs.x690.CharSet.{Accepts, Spells};
+ghost use Rattle.bcder.specs.calls.StringOctets.{whole, octets_of, IsCut};
 
 use super::{CharSet, RestrictedString, StringError, TextCharSet};
 use crate::NoMemory;

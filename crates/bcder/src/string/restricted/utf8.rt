@@ -1,9 +1,9 @@
 //! UTF-8 (RFC 3629).
 ghost use Rattle.std.specs.Prelude.{◌≡◌, ◌+◌, ◌*◌, ◌<◌, ◌≤◌, ◌↔◌, IsTrue, None, Some, length, take, IfOk, IfSome, MatchOption, MatchResult};
 ghost use Rattle.std.specs.Str.{IsUtf8};
-ghost use Rattle.bcder.specs.CharSet.{Checks};
-ghost use Rattle.bcder.specs.Utf8.{utf8_string_tag, utf8_step, lead, read_behind};
-ghost use Rattle.bcder.specs.Utf8Leads.{of_lead};
+ghost use Rattle.bcder.specs.calls.CharSetCalls.{Checks};
+ghost use Rattle.bcder.specs.x690.Utf8.{utf8_string_tag, utf8_step, lead, read_behind};
+ghost use Rattle.bcder.specs.steps.Utf8Leads.{of_lead};
 ghost use Rattle.bcder.specs.laws.Utf8.{utf8_lawful, utf8_text};
 
 use super::char_set::{CharSet, CharSetError, StringError, TextCharSet, text_of};

@@ -1,5 +1,5 @@
 use Rattle.std.proofs.Common.{◌≡◌, rules}
-use Rattle.bcder.specs.BitString.{bit_string_tag}
+use Rattle.bcder.specs.x690.BitString.{bit_string_tag}
 use Rattle.berdump.proofs.Steps.{string_bits}
 use Rattle.berdump.proofs.Holding.{no_string_if}
 use Rattle.berdump.proofs.held.string_in.Goals as goal

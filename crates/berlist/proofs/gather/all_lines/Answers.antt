@@ -1,6 +1,6 @@
 use Rattle.std.proofs.Common.{arith, rules, string_bytes}
-use Rattle.bcder.specs.Content.{EndsAt}
-use Rattle.bcder.specs.Views.{of_constructed}
+use Rattle.bcder.specs.calls.Content.{EndsAt}
+use Rattle.bcder.specs.calls.Views.{of_constructed}
 use Rattle.bcder.specs.laws.Moved.{moved_carries, untouched_is_moved, moved_twice_is_moved}
 use Rattle.bcder.proofs.Lemmas.{constructed_is_within_owed, constructed_is_not_octets, refused_as_met, where_some, where_none, shorter_by_a_value}
 use Rattle.berlist.specs.Gather.{ListsValue, RefusesAll}

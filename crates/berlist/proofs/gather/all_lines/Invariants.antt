@@ -1,6 +1,6 @@
 -- What was gathered goes on with what remains.
 use Rattle.std.proofs.Common.{length, string_bytes}
-use Rattle.bcder.specs.Views.{of_constructed}
+use Rattle.bcder.specs.calls.Views.{of_constructed}
 use Rattle.berlist.proofs.Gathering.{GoesOn}
 use Rattle.berlist.proofs.gather.all_lines.Given as goal
 

@@ -1,6 +1,6 @@
 use Rattle.std.proofs.Common.{rules, ◌≡◌, ℕ, ◌≤◌, List, ◌∷◌, length, drop, Option, IfOk, if◌then◌else◌, Bool, true, false, Result, Ok, Err}
 use Rattle.std.specs.Bool.{OnTrue}
-use Rattle.bcder.specs.Stream.{cut, past}
+use Rattle.bcder.specs.calls.Stream.{cut, past}
 use Rattle.bcder.specs.laws.Limits.{first_kept, rest_told, rest_told_after}
 use Rattle.rows.proofs.borrows.pass_two_within.Goals as goal
 

@@ -1,5 +1,5 @@
 use Rattle.std.proofs.Common.{◌+◌, ◌*◌, length}
-use Rattle.bcder.specs.Views.{of_constructed, of_content}
+use Rattle.bcder.specs.calls.Views.{of_constructed, of_content}
 use Rattle.user.proofs.filter.+filter.Given as goal
 
 abbrev pub decreases-Filter::take_opt_from : goal.decreases-Filter::take_opt_from

@@ -1,5 +1,5 @@
-use Rattle.bcder.specs.Content.{Carries}
-use Rattle.bcder.specs.Views.{of_constructed}
+use Rattle.bcder.specs.calls.Content.{Carries}
+use Rattle.bcder.specs.calls.Views.{of_constructed}
 use Rattle.vectors.proofs.captures.compare_outside.Given as goal
 
 abbrev pub invariant-loop-step : goal.invariant-loop-step

@@ -1,6 +1,6 @@
 use Rattle.std.proofs.Common.{arith, ◌∙◌, ap, ◌≡◌, ◌++◌, Some, rules}
-use Rattle.bcder.specs.Identifier.{integer_tag}
-use Rattle.bcder.specs.Readers.{IsUnsigned}
+use Rattle.bcder.specs.x690.Identifier.{integer_tag}
+use Rattle.bcder.specs.calls.Readers.{IsUnsigned}
 use Rattle.bcder.proofs.Lemmas.{decoded_as_written, written_is_not_refused, refused_as_met}
 use Rattle.writers.proofs.Targets.{refused_target, written, no_source_error}
 use Rattle.std.specs.Prelude.{Err}

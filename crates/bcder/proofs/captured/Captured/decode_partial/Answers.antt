@@ -1,5 +1,5 @@
 use Rattle.std.proofs.Common.{refl, sym, ◌∙◌, ap, subst}
-use Rattle.bcder.specs.Captured.{Kept, AreWhole}
+use Rattle.bcder.specs.calls.Captured.{Kept, AreWhole}
 use Rattle.bcder.proofs.Keeping.{same_stream, left_whole, front_decoded, refused_at}
 use Rattle.bcder.proofs.Refusing.{residual}
 use Rattle.bcder.proofs.captured.Captured.decode_partial.Goals as goal

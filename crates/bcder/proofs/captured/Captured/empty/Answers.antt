@@ -1,4 +1,4 @@
-use Rattle.bcder.specs.Tree.{no_trees}
+use Rattle.bcder.specs.x690.Tree.{no_trees}
 use Rattle.bcder.proofs.captured.Captured.empty.Goals as goal
 
 pub invariant_of-result : goal.invariant_of-result

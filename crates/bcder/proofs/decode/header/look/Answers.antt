@@ -1,5 +1,5 @@
 use Rattle.std.proofs.Common.{◌++◌, refl, arith}
-use Rattle.bcder.specs.Identifier.{AreOctets}
+use Rattle.bcder.specs.x690.Identifier.{AreOctets}
 use Rattle.bcder.proofs.Beginnings.{has_identifier, has_front}
 use Rattle.bcder.proofs.Peeking.{unidentified, unmeasured, some_followed}
 use Rattle.bcder.proofs.decode.header.look.Goals as goal

@@ -1,5 +1,5 @@
 use Rattle.std.proofs.Common.{◌≤◌, length, arith, refl}
-use Rattle.bcder.specs.Peek.{header, asked, IsFront}
+use Rattle.bcder.specs.steps.Peek.{header, asked, IsFront}
 use Rattle.bcder.proofs.Headers.{other_of_front}
 use Rattle.bcder.proofs.Peeking.{at_hand}
 use Rattle.bcder.proofs.decode.header.peek.Goals as goal

@@ -1,5 +1,5 @@
 use Rattle.std.proofs.Common.{◌≤◌, length, arith}
-use Rattle.bcder.specs.Peek.{asked, IsPeeked}
+use Rattle.bcder.specs.steps.Peek.{asked, IsPeeked}
 use Rattle.bcder.proofs.Peeking.{at_hand}
 use Rattle.bcder.proofs.decode.header.peek_long.Goals as goal
 

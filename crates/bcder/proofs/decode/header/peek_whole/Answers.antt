@@ -1,6 +1,6 @@
 use Rattle.std.proofs.Common.{◌≤◌, length, arith, sym}
 use Rattle.bcder.specs.declared.mode.Mode.TheVariants.{Ber}
-use Rattle.bcder.specs.Peek.{IsFront}
+use Rattle.bcder.specs.steps.Peek.{IsFront}
 use Rattle.bcder.proofs.Peeking.{at_hand}
 use Rattle.bcder.proofs.decode.header.peek_whole.Goals as goal
 

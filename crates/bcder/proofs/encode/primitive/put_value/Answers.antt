@@ -1,5 +1,5 @@
 use Rattle.std.proofs.Common.{inl}
-use Rattle.bcder.specs.Meaning.{primitive_encoded}
+use Rattle.bcder.specs.calls.Meaning.{primitive_encoded}
 use Rattle.bcder.proofs.Enclosing.{primitive_given}
 use Rattle.bcder.proofs.encode.primitive.put_value.Goals as goal
 

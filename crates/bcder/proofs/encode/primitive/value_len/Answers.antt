@@ -1,6 +1,6 @@
 use Rattle.std.proofs.Common.{◌<◌, ◌^◌, length, ap, arith, false}
-use Rattle.bcder.specs.Octets.{definite_length}
-use Rattle.bcder.specs.Meaning.{primitive_encoded}
+use Rattle.bcder.specs.x690.Octets.{definite_length}
+use Rattle.bcder.specs.calls.Meaning.{primitive_encoded}
 use Rattle.bcder.proofs.Enclosing.{primitive_given, definite-length}
 use Rattle.bcder.proofs.encode.primitive.value_len.Goals as goal
 

@@ -1,6 +1,6 @@
 use Rattle.std.proofs.Common.{◌≡◌, Bool, true, false, not, arith, subst, refl}
-use Rattle.bcder.specs.Identifier.{AreOctets}
-use Rattle.bcder.specs.Integer.{Leads}
+use Rattle.bcder.specs.x690.Identifier.{AreOctets}
+use Rattle.bcder.specs.x690.Integer.{Leads}
 use Rattle.bcder.proofs.Telling.{unsigned_leads, leads_both}
 use Rattle.bcder.proofs.int.number.is_unsigned.Goals as goal
 

@@ -1,6 +1,6 @@
 -- The octets before this one are told.
 use Rattle.std.proofs.Common.{◌≡◌, take}
-use Rattle.bcder.specs.Number.{magnitude}
+use Rattle.bcder.specs.x690.Number.{magnitude}
 use Rattle.bcder.proofs.int.number.magnitude_of.Given as goal
 
 abbrev pub invariant-loop-octet : goal.invariant-loop-octet

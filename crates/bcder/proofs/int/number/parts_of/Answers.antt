@@ -1,7 +1,7 @@
 use Rattle.std.proofs.Common.{rules, ◌∙◌, arith, sym, ap}
 use Rattle.std.specs.Int.{complement_if}
-use Rattle.bcder.specs.Identifier.{AreOctets}
-use Rattle.bcder.specs.Number.{magnitude}
+use Rattle.bcder.specs.x690.Identifier.{AreOctets}
+use Rattle.bcder.specs.x690.Number.{magnitude}
 use Rattle.bcder.proofs.Numbers.{told_parts, dropped_parts, too_large}
 use Rattle.bcder.proofs.int.number.parts_of.Goals as goal
 use Rattle.bcder.proofs.int.number.parts_of.Goals.{else-octets-eq17-via-then-octets-eq17+else-turned-eq0, else-octets-eq17-via-else-octets-eq17}

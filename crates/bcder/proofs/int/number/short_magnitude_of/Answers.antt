@@ -1,5 +1,5 @@
 use Rattle.std.proofs.Common.{◌<◌, arith}
-use Rattle.bcder.specs.Identifier.{AreOctets}
+use Rattle.bcder.specs.x690.Identifier.{AreOctets}
 use Rattle.bcder.proofs.Numbers.{short_magnitude_fits}
 use Rattle.bcder.proofs.int.number.short_magnitude_of.Goals as goal
 

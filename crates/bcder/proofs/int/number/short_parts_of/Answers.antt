@@ -1,6 +1,6 @@
 use Rattle.std.proofs.Common.{rules, ◌∙◌, true, false, arith, sym, ap}
 use Rattle.std.specs.Int.{complement_if}
-use Rattle.bcder.specs.Identifier.{AreOctets}
+use Rattle.bcder.specs.x690.Identifier.{AreOctets}
 use Rattle.bcder.proofs.Numbers.{told_parts}
 use Rattle.bcder.proofs.int.number.short_parts_of.Goals as goal
 

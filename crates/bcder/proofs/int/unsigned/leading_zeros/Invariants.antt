@@ -1,6 +1,6 @@
 -- The octets before this one are 0.
 use Rattle.std.proofs.Common.{◌≡◌, ◌<◌, ◌-◌, ◌∷◌, drop}
-use Rattle.bcder.specs.Length.{big_endian}
+use Rattle.bcder.specs.x690.Length.{big_endian}
 use Rattle.bcder.proofs.int.unsigned.leading_zeros.Given as goal
 
 abbrev pub invariant-loop-octet : goal.invariant-loop-octet

@@ -1,4 +1,4 @@
-use Rattle.bcder.specs.AsciiSets.{is_numeric, is_printable, is_ia5}
+use Rattle.bcder.specs.x690.AsciiSets.{is_numeric, is_printable, is_ia5}
 use Rattle.bcder.specs.laws.CharSets.{ascii_texts, numeric_ascii, printable_ascii, ia5_ascii}
 use Rattle.bcder.proofs.laws.char_sets.ascii_is_text.Goals as goal
 

@@ -1,5 +1,5 @@
 use Rattle.std.proofs.Common.{subst}
-use Rattle.bcder.specs.Encoding.{AreEncodings}
+use Rattle.bcder.specs.x690.Encoding.{AreEncodings}
 use Rattle.bcder.specs.laws.Canonical.{one_spelling_each}
 use Rattle.bcder.specs.laws.Complete.{one_list}
 use Rattle.bcder.proofs.laws.encoders.values_are_the_same_where_encodings_are.Goals as goal

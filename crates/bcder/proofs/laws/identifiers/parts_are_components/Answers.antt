@@ -1,4 +1,4 @@
-use Rattle.bcder.specs.ObjectIdentifier.{subidentifiers}
+use Rattle.bcder.specs.x690.ObjectIdentifier.{subidentifiers}
 use Rattle.bcder.proofs.Shown.{values_of_parts}
 use Rattle.bcder.proofs.laws.identifiers.parts_are_components.Goals as goal
 

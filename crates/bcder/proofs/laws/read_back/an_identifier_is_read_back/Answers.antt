@@ -1,5 +1,5 @@
 use Rattle.std.proofs.Common.{refl, subst}
-use Rattle.bcder.specs.Identifier.{AreOctets}
+use Rattle.bcder.specs.x690.Identifier.{AreOctets}
 use Rattle.bcder.proofs.Contents.{octets_read}
 use Rattle.bcder.proofs.laws.read_back.an_identifier_is_read_back.Goals as goal
 

@@ -1,4 +1,4 @@
-use Rattle.bcder.specs.OctetString.{octets_of}
+use Rattle.bcder.specs.calls.StringOctets.{octets_of}
 use Rattle.bcder.proofs.RestrictedBack.{restricted_taken}
 use Rattle.bcder.proofs.WrittenStrings.{string_written}
 use Rattle.bcder.proofs.laws.restricted_strings.a_string_is_taken_back.Goals as goal

@@ -1,6 +1,6 @@
 use Rattle.std.proofs.Common.{subst}
 use Rattle.bcder.specs.declared.encode.error.EncodeError.TheVariants.{LongCerBitString}
-use Rattle.bcder.specs.Identifier.{AreOctets}
+use Rattle.bcder.specs.x690.Identifier.{AreOctets}
 use Rattle.bcder.proofs.TakenBack.{bits_taken}
 use Rattle.bcder.proofs.laws.taken_back.a_slice_of_bits_is_taken_back.Goals as goal
 

@@ -1,5 +1,5 @@
 use Rattle.std.proofs.Common.{subst}
-use Rattle.bcder.specs.Identifier.{AreOctets}
+use Rattle.bcder.specs.x690.Identifier.{AreOctets}
 use Rattle.bcder.proofs.TakenBack.{identifier_taken}
 use Rattle.bcder.proofs.laws.taken_back.an_identifier_is_taken_back.Goals as goal
 

@@ -1,4 +1,4 @@
-use Rattle.bcder.specs.OctetString.{octet_string_tag}
+use Rattle.bcder.specs.x690.OctetString.{octet_string_tag}
 use Rattle.bcder.proofs.WrittenStrings.{wrapped_written}
 use Rattle.bcder.proofs.laws.written_strings.wrapped_values_are_written_as_one.Goals as goal
 

@@ -1,8 +1,8 @@
 use Rattle.std.proofs.Common.{rules}
-use Rattle.bcder.specs.ObjectIdentifier.{identifier_tag}
-use Rattle.bcder.specs.ReadIdentifiers.{IsSame}
-use Rattle.bcder.specs.Readers.{MeanNothing}
-use Rattle.bcder.specs.Views.{of_constructed, of_primitive}
+use Rattle.bcder.specs.x690.ObjectIdentifier.{identifier_tag}
+use Rattle.bcder.specs.calls.ReadIdentifiers.{IsSame}
+use Rattle.bcder.specs.calls.Readers.{MeanNothing}
+use Rattle.bcder.specs.calls.Views.{of_constructed, of_primitive}
 use Rattle.bcder.proofs.Names.{within_constructed}
 use Rattle.bcder.proofs.Typed.{one_as, octets_form}
 use Rattle.bcder.proofs.oid.Oid.skip_if.Goals as goal

@@ -1,5 +1,5 @@
 use Rattle.std.proofs.Common.{◌≤◌, ◌^◌, arith}
-use Rattle.bcder.specs.ObjectIdentifier.{number}
+use Rattle.bcder.specs.x690.ObjectIdentifier.{number}
 use Rattle.bcder.proofs.Subidentifiers.{number_reaches}
 use Rattle.bcder.proofs.oid.components.number_to_large.Goals as goal
 

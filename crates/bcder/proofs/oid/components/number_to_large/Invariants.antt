@@ -1,6 +1,6 @@
 -- The digits so far come to `high`, which is small enough to go on.
 use Rattle.std.proofs.Common.{◌≡◌, ◌^◌, ◌<◌, drop}
-use Rattle.bcder.specs.ObjectIdentifier.{number, number_after}
+use Rattle.bcder.specs.x690.ObjectIdentifier.{number, number_after}
 use Rattle.bcder.proofs.oid.components.number_to_large.Given as goal
 
 abbrev pub invariant-loop-octet : goal.invariant-loop-octet

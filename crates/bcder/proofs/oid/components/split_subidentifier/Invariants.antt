@@ -1,6 +1,6 @@
 -- The octets up to here have bit 8 set.
 use Rattle.std.proofs.Common.{◌≡◌, take, drop}
-use Rattle.bcder.specs.ObjectIdentifier.{subidentifiers, cut_after}
+use Rattle.bcder.specs.x690.ObjectIdentifier.{subidentifiers, cut_after}
 use Rattle.bcder.proofs.oid.components.split_subidentifier.Given as goal
 
 abbrev pub invariant-loop-i : goal.invariant-loop-i

@@ -1,7 +1,7 @@
 use Rattle.std.proofs.Common.{◌∙◌, ap, arith, refl}
-use Rattle.bcder.specs.IdentifierText.{MayBegin, RefusesText}
-use Rattle.bcder.specs.IdentifierText.RefusesTexts.{first_too_large, second_is_none, second_too_large}
-use Rattle.bcder.specs.Pushed.{texts_of}
+use Rattle.bcder.specs.calls.IdentifierText.{MayBegin, RefusesText}
+use Rattle.bcder.specs.calls.IdentifierText.RefusesTexts.{first_too_large, second_is_none, second_too_large}
+use Rattle.bcder.specs.steps.Pushed.{texts_of}
 use Rattle.bcder.proofs.Refusing.{residual}
 use Rattle.bcder.proofs.Spelling.{refuses, others_refused}
 use Rattle.bcder.proofs.oid.text.octets_of.Goals as goal

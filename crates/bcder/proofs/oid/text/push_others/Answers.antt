@@ -1,5 +1,5 @@
 use Rattle.std.proofs.Common.{◌≡◌, ◌∙◌, [], ◌++◌, ap, rules, append-nil, sym}
-use Rattle.bcder.specs.Pushed.{texts_of, AreSpelled}
+use Rattle.bcder.specs.steps.Pushed.{texts_of, AreSpelled}
 use Rattle.bcder.proofs.Spelling.{pushed_more, spelled_none, refused_here, refused_later}
 use Rattle.bcder.proofs.oid.text.push_others.Goals as goal
 

@@ -1,6 +1,6 @@
 -- What was appended spells the texts before those that are left.
 use Rattle.std.proofs.Common.{◌≡◌, ℕ, List, ◌++◌, length}
-use Rattle.bcder.specs.Pushed.{texts_of, AreSpelled}
+use Rattle.bcder.specs.steps.Pushed.{texts_of, AreSpelled}
 use Rattle.bcder.proofs.Spelling.{RefusedWith}
 use Rattle.bcder.proofs.oid.text.push_others.Given as goal
 

@@ -1,5 +1,5 @@
 use Rattle.std.proofs.Common.{◌≡◌, ◌∙◌, [], ap, rules, refl, inr}
-use Rattle.bcder.specs.Pushed.{texts_of}
+use Rattle.bcder.specs.steps.Pushed.{texts_of}
 use Rattle.bcder.specs.declared.oid.text.OidError.TheVariants.{NoMemory}
 use Rattle.bcder.proofs.Spelling.{refused_here, refused_later}
 use Rattle.bcder.proofs.oid.text.why_none.Goals as goal

@@ -1,6 +1,6 @@
 -- The texts before those that are left are components.
 use Rattle.std.proofs.Common.{length}
-use Rattle.bcder.specs.Pushed.{texts_of}
+use Rattle.bcder.specs.steps.Pushed.{texts_of}
 use Rattle.bcder.proofs.Spelling.{RefusedWith}
 use Rattle.bcder.proofs.oid.text.why_none.Given as goal
 

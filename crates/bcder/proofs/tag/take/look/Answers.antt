@@ -1,5 +1,5 @@
 use Rattle.std.proofs.Common.{refl, arith}
-use Rattle.bcder.specs.Identifier.{AreOctets}
+use Rattle.bcder.specs.x690.Identifier.{AreOctets}
 use Rattle.bcder.proofs.Beginnings.{has_identifier, identifier_stands, begins_no_identifier}
 use Rattle.bcder.proofs.Peeking.{some_followed}
 use Rattle.bcder.proofs.tag.take.look.Goals as goal

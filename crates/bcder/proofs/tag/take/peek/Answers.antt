@@ -1,5 +1,5 @@
 use Rattle.std.proofs.Common.{◌≤◌, length, arith}
-use Rattle.bcder.specs.PeekTag.{IsTagPeeked}
+use Rattle.bcder.specs.steps.PeekTag.{IsTagPeeked}
 use Rattle.bcder.proofs.Peeking.{at_hand}
 use Rattle.bcder.proofs.tag.take.peek.Goals as goal
 

@@ -1,9 +1,9 @@
 //! Reading the contents octets of a bit string (X.690, 8.6.2).
 ghost use Rattle.std.specs.Prelude.{◌≡◌, ◌≤◌, IfOk};
-ghost use Rattle.bcder.specs.BitString.{contents_octets, BitShape, IsBitString};
-ghost use Rattle.bcder.specs.ReadBits.{HoldBits, NoBits};
-ghost use Rattle.bcder.specs.Readers.{HasAll, ReadBy, ReadOctets};
-ghost use Rattle.bcder.specs.Views.{of_primitive, octets_before, MovedOctets};
+ghost use Rattle.bcder.specs.x690.BitString.{contents_octets, BitShape, IsBitString};
+ghost use Rattle.bcder.specs.calls.ReadBits.{HoldBits, NoBits};
+ghost use Rattle.bcder.specs.calls.Readers.{HasAll, ReadBy, ReadOctets};
+ghost use Rattle.bcder.specs.calls.Views.{of_primitive, octets_before, MovedOctets};
 
 use super::super::Primitive;
 use crate::NoMemory;
@@ -57,7 +57,7 @@ impl<'a, S: Source> Primitive<'a, S> {
     }
 }
 
-#[tactic(auto, unfolding(crate::specs::Views::of_primitive))]
+#[tactic(auto, unfolding(crate::specs::calls::Views::of_primitive))]
 impl<'a, S: Source> Primitive<'a, S> {
     /// All octets that are owed, which are at hand, as a bit string of its own.
     fn bits_of_all(&self, alloc: Global, len: usize) -> Result<BitString, NoMemory>

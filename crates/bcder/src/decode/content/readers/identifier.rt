@@ -1,9 +1,9 @@
 //! Reading the contents octets of an object identifier (X.690, 8.19).
 ghost use Rattle.std.specs.Prelude.{◌≡◌};
-ghost use Rattle.bcder.specs.ObjectIdentifier.{IsComplete};
-ghost use Rattle.bcder.specs.Readers.{ReadBy, ReadOctets};
-ghost use Rattle.bcder.specs.ReadIdentifiers.{HoldIdentifier, IsSame, NoIdentifier};
-ghost use Rattle.bcder.specs.Views.{MovedOctets};
+ghost use Rattle.bcder.specs.x690.ObjectIdentifier.{IsComplete};
+ghost use Rattle.bcder.specs.calls.Readers.{ReadBy, ReadOctets};
+ghost use Rattle.bcder.specs.calls.ReadIdentifiers.{HoldIdentifier, IsSame, NoIdentifier};
+ghost use Rattle.bcder.specs.calls.Views.{MovedOctets};
 
 use super::super::Primitive;
 use crate::decode::error::DecodeError;

@@ -1,12 +1,12 @@
 //! Contents octets one by one, for readers of a user's own.
-ghost use Rattle.bcder.specs.OctetTakes.{SkippedOctets, TookNextOctet, TookOctet};
-ghost use Rattle.bcder.specs.Views.{MovedOctets};
+ghost use Rattle.bcder.specs.calls.OctetTakes.{SkippedOctets, TookNextOctet, TookOctet};
+ghost use Rattle.bcder.specs.calls.Views.{MovedOctets};
 
 use super::super::Primitive;
 use crate::decode::error::DecodeError;
 use crate::decode::source::Source;
 
-#[tactic(auto, unfolding(crate::specs::Views::of_primitive))]
+#[tactic(auto, unfolding(crate::specs::calls::Views::of_primitive))]
 impl<'a, S: Source> Primitive<'a, S> {
     /// Takes the next octet.
     ///

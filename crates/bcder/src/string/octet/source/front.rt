@@ -1,7 +1,7 @@
 //! The octets of a string that stand in front of those to come.
 ghost use Rattle.std.specs.Prelude.{◌≡◌, ◌==◌, ◌+◌, ◌≤◌, [], true, false, length, drop};
 ghost use Rattle.std.specs.Prelude.{slice_range, IfOk};
-ghost use Rattle.bcder.specs.OctetString.{segment_at};
+ghost use Rattle.bcder.specs.steps.SegmentTable.{segment_at};
 
 use crate::NoMemory;
 use crate::string::octet::Segment;
@@ -25,7 +25,7 @@ pub(super) struct Front {
 /// The clauses see the octets, and the block.
 impl Model for Front {
     ghost use Rattle.std.specs.Prelude.{length, slice_range, ◌≤◌};
-    ghost use Rattle.bcder.specs.StringSource.{InBlock};
+    ghost use Rattle.bcder.specs.calls.StringSource.{InBlock};
 
     ghost Value = { InBlock };
 

@@ -4,8 +4,8 @@ use Rattle.std.proofs.lemmas.Iterator.Consumers.{YieldsList-turn, YieldsList-end
 use Rattle.std.proofs.lemmas.List.{map-id}
 use Rattle.std.proofs.lemmas.Bool.Decides.{nat_tests}
 use Rattle.std.specs.Str.{chars}
-use Rattle.bcder.specs.AsciiSets.{one_octet_step}
-use Rattle.bcder.specs.CharSet.{Spells}
+use Rattle.bcder.specs.x690.AsciiSets.{one_octet_step}
+use Rattle.bcder.specs.x690.CharSet.{Spells}
 use Rattle.bcder.specs.laws.CharSets.{AllHave, self_spelled}
 use Rattle.user.specs.Latin1.{is_octet}
 use Rattle.user.proofs.Latin1.{spells_self, have_push, have_at, too_large, small}

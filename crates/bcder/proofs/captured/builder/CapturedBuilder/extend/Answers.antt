@@ -1,7 +1,7 @@
 use Rattle.std.proofs.Common.{subst, Some}
-use Rattle.bcder.specs.Captured.{Kept}
-use Rattle.bcder.specs.Encoders.{WritesEncoding, told}
-use Rattle.bcder.specs.Gathered.{kept_from_start, GrowsBy}
+use Rattle.bcder.specs.calls.Captured.{Kept}
+use Rattle.bcder.specs.calls.Encoders.{WritesEncoding, told}
+use Rattle.bcder.specs.calls.Gathered.{kept_from_start, GrowsBy}
 use Rattle.bcder.proofs.Joining.{one_size}
 use Rattle.bcder.proofs.Writing.{same_told}
 use Rattle.bcder.proofs.Gathering.{written_grows, whole_grown}

@@ -1,6 +1,6 @@
 use Rattle.std.proofs.Common.{refl, ◌∙◌}
-use Rattle.bcder.specs.Content.{Reading, values}
-use Rattle.bcder.specs.Views.{of_constructed, limited_stream}
+use Rattle.bcder.specs.calls.Content.{Reading, values}
+use Rattle.bcder.specs.calls.Views.{of_constructed, limited_stream}
 use Rattle.bcder.specs.laws.Moved.{moved_carries}
 use Rattle.bcder.proofs.Capturing.{captured_hands, captured_moves, captured_ends, captured_what, refused_moves, refused_what}
 use Rattle.bcder.proofs.decode.content.Constructed.capture.Goals as goal

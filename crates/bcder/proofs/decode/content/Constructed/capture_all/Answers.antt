@@ -1,7 +1,7 @@
 use Rattle.std.proofs.Common.{rules}
-use Rattle.bcder.specs.Capturing.{of_captured}
-use Rattle.bcder.specs.CapturingValues.{CapturesValues, HasOthers, PassesToEnd}
-use Rattle.bcder.specs.Views.{of_constructed}
+use Rattle.bcder.specs.calls.Capturing.{of_captured}
+use Rattle.bcder.specs.calls.CapturingValues.{CapturesValues, HasOthers, PassesToEnd}
+use Rattle.bcder.specs.calls.Views.{of_constructed}
 use Rattle.bcder.specs.laws.Moved.{untouched_is_moved}
 use Rattle.bcder.proofs.Names.{constructed_form}
 use Rattle.bcder.proofs.CapturingValues.{others_of, end_usable, holds_values, captures_by, exactly_all}

@@ -1,8 +1,8 @@
 use Rattle.std.proofs.Common.{rules}
-use Rattle.bcder.specs.Capturing.{of_captured}
-use Rattle.bcder.specs.CapturingValues.{CapturesValue, HasNoValue}
-use Rattle.bcder.specs.Walking.{PassesValue}
-use Rattle.bcder.specs.Views.{of_constructed}
+use Rattle.bcder.specs.calls.Capturing.{of_captured}
+use Rattle.bcder.specs.calls.CapturingValues.{CapturesValue, HasNoValue}
+use Rattle.bcder.specs.calls.Walking.{PassesValue}
+use Rattle.bcder.specs.calls.Views.{of_constructed}
 use Rattle.bcder.proofs.CapturingValues.{no_value_of, value_usable, holds_value, captures_by, exactly_one}
 use Rattle.bcder.proofs.decode.content.Constructed.capture_one.Goals as goal
 

@@ -1,6 +1,6 @@
 use Rattle.std.proofs.Common.{refl, rules}
-use Rattle.bcder.specs.Cause.{cause_of}
-use Rattle.bcder.specs.Views.{of_constructed}
+use Rattle.bcder.specs.calls.Cause.{cause_of}
+use Rattle.bcder.specs.calls.Views.{of_constructed}
 use Rattle.bcder.specs.laws.Moved.{moved_carries}
 use Rattle.bcder.proofs.Repeating.{gathered_none, gathered_more, one_moves, then_moves, took_nothing, took_some, collects_all, collects_refused, collects_stalled, collects_unkept}
 use Rattle.bcder.proofs.decode.content.Constructed.collect_some.Goals as goal

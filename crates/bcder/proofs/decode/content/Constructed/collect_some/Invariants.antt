@@ -1,5 +1,5 @@
 use Rattle.std.proofs.Common.{◌-◌, ◌^◌, vec_len}
-use Rattle.bcder.specs.Views.{of_constructed}
+use Rattle.bcder.specs.calls.Views.{of_constructed}
 use Rattle.bcder.proofs.Repeating.{Gathered}
 use Rattle.bcder.proofs.decode.content.Constructed.collect_some.Given as goal
 

@@ -1,9 +1,9 @@
 use Rattle.std.proofs.Common.{◌≡◌, refl, rules}
-use Rattle.bcder.specs.Cause.{cause_of}
-use Rattle.bcder.specs.Content.{Reading, values}
-use Rattle.bcder.specs.Inside.{limit_outside, refused, taken}
-use Rattle.bcder.specs.Peek.{header}
-use Rattle.bcder.specs.Views.{of_constructed, of_primitive, of_content, limited_stream}
+use Rattle.bcder.specs.calls.Cause.{cause_of}
+use Rattle.bcder.specs.calls.Content.{Reading, values}
+use Rattle.bcder.specs.steps.Inside.{limit_outside, refused, taken}
+use Rattle.bcder.specs.steps.Peek.{header}
+use Rattle.bcder.specs.calls.Views.{of_constructed, of_primitive, of_content, limited_stream}
 use Rattle.bcder.proofs.Inner.{octets_taken, values_taken}
 use Rattle.bcder.proofs.decode.content.Constructed.content_behind.Goals as goal
 

@@ -1,7 +1,7 @@
 use Rattle.std.proofs.Common.{◌∙◌, refl, sym, ap}
-use Rattle.bcder.specs.Peek.{header}
-use Rattle.bcder.specs.Content.{values}
-use Rattle.bcder.specs.Views.{of_constructed}
+use Rattle.bcder.specs.steps.Peek.{header}
+use Rattle.bcder.specs.calls.Content.{values}
+use Rattle.bcder.specs.calls.Views.{of_constructed}
 use Rattle.bcder.proofs.Moving.{moves_failed, open_not_ended}
 use Rattle.bcder.proofs.Entering.{enters, takes_marker, marker_moves, no_front, accepted, unaccepted, advances_to, kind_of}
 use Rattle.bcder.proofs.decode.content.Constructed.enter.Goals as goal

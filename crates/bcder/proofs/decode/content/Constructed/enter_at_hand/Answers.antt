@@ -1,6 +1,6 @@
 use Rattle.std.proofs.Common.{◌∙◌, refl, arith}
-use Rattle.bcder.specs.Peek.{header}
-use Rattle.bcder.specs.Views.{of_constructed, limited_stream}
+use Rattle.bcder.specs.steps.Peek.{header}
+use Rattle.bcder.specs.calls.Views.{of_constructed, limited_stream}
 use Rattle.bcder.specs.laws.Moved.{moved_twice_is_moved}
 use Rattle.bcder.proofs.Entering.{enters, within, looked_enters, looked_moves, looked_failed, no_fewer, grew_least}
 use Rattle.bcder.proofs.Moving.{moves_failed, open_not_ended}

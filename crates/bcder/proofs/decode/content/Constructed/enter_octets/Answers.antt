@@ -1,6 +1,6 @@
 use Rattle.std.proofs.Common.{refl, ap, inl}
-use Rattle.bcder.specs.Content.{nothing}
-use Rattle.bcder.specs.Views.{of_constructed}
+use Rattle.bcder.specs.calls.Content.{nothing}
+use Rattle.bcder.specs.calls.Views.{of_constructed}
 use Rattle.bcder.proofs.Entering.{if_marker, if_nothing}
 use Rattle.bcder.proofs.decode.content.Constructed.enter_octets.Goals as goal
 

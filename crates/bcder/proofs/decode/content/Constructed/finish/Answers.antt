@@ -1,4 +1,5 @@
-use Rattle.bcder.specs.Cause.{cause_of, stop_cause}
+use Rattle.bcder.specs.calls.Cause.{cause_of}
+use Rattle.bcder.specs.steps.StopCause.{stop_cause}
 use Rattle.bcder.proofs.Stopping.{end_stopped}
 use Rattle.bcder.proofs.decode.content.Constructed.finish.Goals as goal
 

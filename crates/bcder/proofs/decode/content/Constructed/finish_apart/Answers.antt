@@ -1,7 +1,7 @@
-use Rattle.bcder.specs.Cause.{stop_cause}
-use Rattle.bcder.specs.Content.{any}
-use Rattle.bcder.specs.Calls.{left_open}
-use Rattle.bcder.specs.Views.{of_constructed}
+use Rattle.bcder.specs.steps.StopCause.{stop_cause}
+use Rattle.bcder.specs.calls.Content.{any}
+use Rattle.bcder.specs.calls.Calls.{left_open}
+use Rattle.bcder.specs.calls.Views.{of_constructed}
 use Rattle.bcder.proofs.Entering.{end_refused, header_not_at_end, header_entered}
 use Rattle.bcder.proofs.Names.{within_constructed}
 use Rattle.bcder.proofs.decode.content.Constructed.finish_apart.Goals as goal

@@ -1,7 +1,7 @@
 use Rattle.std.proofs.Common.{◌∙◌, sym}
-use Rattle.bcder.specs.Content.{nothing}
-use Rattle.bcder.specs.Peek.{header}
-use Rattle.bcder.specs.Views.{of_constructed}
+use Rattle.bcder.specs.calls.Content.{nothing}
+use Rattle.bcder.specs.steps.Peek.{header}
+use Rattle.bcder.specs.calls.Views.{of_constructed}
 use Rattle.bcder.specs.laws.Moved.{moved_twice_is_moved}
 use Rattle.bcder.proofs.Entering.{looked_front, header_nothing, no_fewer}
 use Rattle.bcder.proofs.Names.{within_constructed, constructed_form}

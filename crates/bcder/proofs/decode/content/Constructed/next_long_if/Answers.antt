@@ -1,5 +1,5 @@
 use Rattle.std.proofs.Common.{inl, inr}
-use Rattle.bcder.specs.Views.{of_constructed}
+use Rattle.bcder.specs.calls.Views.{of_constructed}
 use Rattle.bcder.proofs.Ahead.{constructed_there, primitive_entered}
 use Rattle.bcder.proofs.decode.content.Constructed.next_long_if.Goals as goal
 

@@ -1,7 +1,7 @@
 use Rattle.std.proofs.Common.{refl, inl, rules}
-use Rattle.bcder.specs.Cause.{stop_cause}
-use Rattle.bcder.specs.Content.{failed, source}
-use Rattle.bcder.specs.Views.{of_constructed}
+use Rattle.bcder.specs.steps.StopCause.{stop_cause}
+use Rattle.bcder.specs.calls.Content.{failed, source}
+use Rattle.bcder.specs.calls.Views.{of_constructed}
 use Rattle.bcder.specs.laws.Moved.{moved_twice_is_moved}
 use Rattle.bcder.proofs.Ahead.{ahead}
 use Rattle.bcder.proofs.Entering.{looked_moves, looked_failed, no_fewer, grew_least}

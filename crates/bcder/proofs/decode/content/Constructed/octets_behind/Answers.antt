@@ -1,10 +1,10 @@
 use Rattle.std.proofs.Common.{◌≡◌, refl, ap, sym, rules}
 use Rattle.std.specs.Prelude.{Some}
-use Rattle.bcder.specs.Cause.{cause_of}
-use Rattle.bcder.specs.Content.{Reading, values}
-use Rattle.bcder.specs.Inside.{limit_outside, of_form, refused, taken}
-use Rattle.bcder.specs.Peek.{header}
-use Rattle.bcder.specs.Views.{of_constructed, of_primitive, limited_stream}
+use Rattle.bcder.specs.calls.Cause.{cause_of}
+use Rattle.bcder.specs.calls.Content.{Reading, values}
+use Rattle.bcder.specs.steps.Inside.{limit_outside, of_form, refused, taken}
+use Rattle.bcder.specs.steps.Peek.{header}
+use Rattle.bcder.specs.calls.Views.{of_constructed, of_primitive, limited_stream}
 use Rattle.bcder.proofs.Inner.{octets_taken}
 use Rattle.bcder.proofs.decode.content.Constructed.octets_behind.Goals as goal
 

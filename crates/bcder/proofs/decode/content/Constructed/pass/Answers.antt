@@ -1,5 +1,5 @@
 use Rattle.std.proofs.Common.{refl}
-use Rattle.bcder.specs.Views.{of_constructed}
+use Rattle.bcder.specs.calls.Views.{of_constructed}
 use Rattle.bcder.proofs.Entering.{advances_by, within}
 use Rattle.bcder.proofs.decode.content.Constructed.pass.Goals as goal
 

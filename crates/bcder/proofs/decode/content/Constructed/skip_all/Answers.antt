@@ -1,8 +1,8 @@
 use Rattle.std.proofs.Common.{◌∙◌, refl, arith}
-use Rattle.bcder.specs.Cause.{cause_of}
-use Rattle.bcder.specs.Content.{EndsAt, IsDone}
-use Rattle.bcder.specs.Walking.{PassesValue}
-use Rattle.bcder.specs.Views.{of_constructed}
+use Rattle.bcder.specs.calls.Cause.{cause_of}
+use Rattle.bcder.specs.calls.Content.{EndsAt, IsDone}
+use Rattle.bcder.specs.calls.Walking.{PassesValue}
+use Rattle.bcder.specs.calls.Views.{of_constructed}
 use Rattle.bcder.specs.laws.Moved.{moved_carries, untouched_is_moved, moved_twice_is_moved}
 use Rattle.bcder.proofs.Names.{within_constructed, constructed_form}
 use Rattle.bcder.proofs.Skipped.{all_refused, all_err, all_exact}

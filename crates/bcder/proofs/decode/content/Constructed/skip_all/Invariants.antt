@@ -1,6 +1,6 @@
 use Rattle.std.proofs.Common.{◌≡◌, length}
-use Rattle.bcder.specs.Walking.{Walks}
-use Rattle.bcder.specs.Views.{of_constructed}
+use Rattle.bcder.specs.calls.Walking.{Walks}
+use Rattle.bcder.specs.calls.Views.{of_constructed}
 use Rattle.bcder.proofs.decode.content.Constructed.skip_all.Given as goal
 
 abbrev pub invariant-loop : goal.invariant-loop

@@ -1,5 +1,5 @@
-use Rattle.bcder.specs.Cause.{cause_of}
-use Rattle.bcder.specs.Views.{of_constructed}
+use Rattle.bcder.specs.calls.Cause.{cause_of}
+use Rattle.bcder.specs.calls.Views.{of_constructed}
 use Rattle.bcder.specs.laws.Moved.{moved_twice_is_moved}
 use Rattle.bcder.proofs.Names.{moves_constructed_name}
 use Rattle.bcder.proofs.Skipped.{looked_skipped}

@@ -1,8 +1,9 @@
 use Rattle.std.proofs.Common.{refl}
-use Rattle.bcder.specs.Cause.{cause_of, stop_cause}
-use Rattle.bcder.specs.Peek.{header}
-use Rattle.bcder.specs.Stacked.{source_of, limit_in}
-use Rattle.bcder.specs.Views.{of_constructed}
+use Rattle.bcder.specs.calls.Cause.{cause_of}
+use Rattle.bcder.specs.steps.StopCause.{stop_cause}
+use Rattle.bcder.specs.steps.Peek.{header}
+use Rattle.bcder.specs.steps.Stacked.{source_of, limit_in}
+use Rattle.bcder.specs.calls.Views.{of_constructed}
 use Rattle.bcder.proofs.Names.{within_constructed}
 use Rattle.bcder.proofs.Skipped.{skipped_end, skipped_none, behind_moved, behind_passed, behind_stopped, behind_refused}
 use Rattle.bcder.proofs.Stepping.{next_refused}

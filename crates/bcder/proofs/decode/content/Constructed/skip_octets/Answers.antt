@@ -1,10 +1,10 @@
 use Rattle.std.proofs.Common.{refl}
 use Rattle.bcder.specs.declared.decode.content.skip.Bar.TheVariants as bar
 use Rattle.bcder.specs.declared.decode.content.skip.Halt.TheVariants as halt
-use Rattle.bcder.specs.Cause.{cause_of}
-use Rattle.bcder.specs.Peek.{header}
-use Rattle.bcder.specs.Stacked.{source_of, limit_in}
-use Rattle.bcder.specs.Views.{of_constructed}
+use Rattle.bcder.specs.calls.Cause.{cause_of}
+use Rattle.bcder.specs.steps.Peek.{header}
+use Rattle.bcder.specs.steps.Stacked.{source_of, limit_in}
+use Rattle.bcder.specs.calls.Views.{of_constructed}
 use Rattle.bcder.proofs.Running.{octets_refused, octets_passed, octets_stopped}
 use Rattle.bcder.proofs.Skipped.{behind_moved, behind_passed, behind_stopped, behind_refused}
 use Rattle.bcder.proofs.decode.content.Constructed.skip_octets.Given.{F-step}

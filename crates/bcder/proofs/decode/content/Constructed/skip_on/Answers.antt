@@ -1,7 +1,7 @@
 use Rattle.std.proofs.Common.{refl, sym, ◌∙◌}
 use Rattle.std.specs.Prelude.{Ok, Err, Some, None}
-use Rattle.bcder.specs.Cause.{cause_of}
-use Rattle.bcder.specs.Views.{of_constructed}
+use Rattle.bcder.specs.calls.Cause.{cause_of}
+use Rattle.bcder.specs.calls.Views.{of_constructed}
 use Rattle.bcder.proofs.Naming.{moves_behind, skipped_behind}
 use Rattle.bcder.proofs.decode.content.Constructed.skip_on.Goals as goal
 

@@ -1,5 +1,5 @@
-use Rattle.bcder.specs.Cause.{cause_of}
-use Rattle.bcder.specs.Views.{of_constructed}
+use Rattle.bcder.specs.calls.Cause.{cause_of}
+use Rattle.bcder.specs.calls.Views.{of_constructed}
 use Rattle.bcder.specs.laws.Moved.{moved_carries, moved_twice_is_moved}
 use Rattle.bcder.proofs.Names.{within_constructed}
 use Rattle.bcder.proofs.Skipped.{one_at_once, one_exact, looked_skipped}

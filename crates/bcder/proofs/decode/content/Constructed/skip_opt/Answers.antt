@@ -1,6 +1,6 @@
-use Rattle.bcder.specs.Cause.{cause_of}
-use Rattle.bcder.specs.Views.{of_constructed}
-use Rattle.bcder.specs.Walking.{source}
+use Rattle.bcder.specs.calls.Cause.{cause_of}
+use Rattle.bcder.specs.calls.Views.{of_constructed}
+use Rattle.bcder.specs.calls.Walking.{source}
 use Rattle.bcder.specs.laws.Moved.{moved_carries, moved_twice_is_moved}
 use Rattle.bcder.proofs.Names.{within_constructed}
 use Rattle.bcder.proofs.Skipped.{skipped_none, answers_skip, looked_told}

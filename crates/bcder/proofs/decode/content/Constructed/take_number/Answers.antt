@@ -1,8 +1,8 @@
 use Rattle.std.proofs.Common.{rules}
-use Rattle.bcder.specs.Identifier.{integer_tag}
-use Rattle.bcder.specs.Number.{IsNumber}
-use Rattle.bcder.specs.Readers.{MeanNothing}
-use Rattle.bcder.specs.Views.{of_constructed, of_primitive}
+use Rattle.bcder.specs.x690.Identifier.{integer_tag}
+use Rattle.bcder.specs.x690.Number.{IsNumber}
+use Rattle.bcder.specs.calls.Readers.{MeanNothing}
+use Rattle.bcder.specs.calls.Views.{of_constructed, of_primitive}
 use Rattle.bcder.proofs.Names.{within_constructed}
 use Rattle.bcder.proofs.Typed.{one_as, octets_form}
 use Rattle.bcder.proofs.decode.content.Constructed.take_number.Goals as goal

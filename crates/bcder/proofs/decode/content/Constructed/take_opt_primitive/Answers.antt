@@ -1,9 +1,10 @@
 use Rattle.std.proofs.Common.{true}
 use Rattle.std.specs.Prelude.{Some}
-use Rattle.bcder.specs.Cause.{cause_of, stop_cause}
-use Rattle.bcder.specs.Content.{any}
-use Rattle.bcder.specs.Peek.{header}
-use Rattle.bcder.specs.Views.{of_constructed, of_primitive}
+use Rattle.bcder.specs.calls.Cause.{cause_of}
+use Rattle.bcder.specs.steps.StopCause.{stop_cause}
+use Rattle.bcder.specs.calls.Content.{any}
+use Rattle.bcder.specs.steps.Peek.{header}
+use Rattle.bcder.specs.calls.Views.{of_constructed, of_primitive}
 use Rattle.bcder.specs.laws.Moved.{moved_carries}
 use Rattle.bcder.proofs.Stopping.{header_stopped}
 use Rattle.bcder.proofs.Taking.{takes_next, moves_next, next_none, next_refused, inside_entered, allowed_entered}

@@ -1,11 +1,11 @@
 use Rattle.std.proofs.Common.{true, ap, sym, subst, rules}
 use Rattle.std.specs.Prelude.{Some}
-use Rattle.bcder.specs.Calls.{IsInside}
+use Rattle.bcder.specs.calls.Calls.{IsInside}
 use Rattle.bcder.specs.declared.decode.header.Header.{Header as Kept}
-use Rattle.bcder.specs.Cause.{stop_cause}
-use Rattle.bcder.specs.Content.{tagged, Enters}
-use Rattle.bcder.specs.Peek.{header}
-use Rattle.bcder.specs.Views.{of_constructed, of_primitive}
+use Rattle.bcder.specs.steps.StopCause.{stop_cause}
+use Rattle.bcder.specs.calls.Content.{tagged, Enters}
+use Rattle.bcder.specs.steps.Peek.{header}
+use Rattle.bcder.specs.calls.Views.{of_constructed, of_primitive}
 use Rattle.bcder.specs.laws.Moved.{moved_carries}
 use Rattle.bcder.proofs.Ahead.{next_stops}
 use Rattle.bcder.proofs.Taking.{takes_next, moves_next, next_none, inside_entered, allowed_entered, said_behind, moves_on}

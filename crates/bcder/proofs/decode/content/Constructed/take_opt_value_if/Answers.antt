@@ -1,10 +1,11 @@
 use Rattle.std.proofs.Common.{sym, subst, rules}
 use Rattle.std.specs.Prelude.{None}
-use Rattle.bcder.specs.Calls.{IsInside}
-use Rattle.bcder.specs.Cause.{cause_of, stop_cause}
-use Rattle.bcder.specs.Content.{tagged}
-use Rattle.bcder.specs.Peek.{header}
-use Rattle.bcder.specs.Views.{of_constructed, of_content}
+use Rattle.bcder.specs.calls.Calls.{IsInside}
+use Rattle.bcder.specs.calls.Cause.{cause_of}
+use Rattle.bcder.specs.steps.StopCause.{stop_cause}
+use Rattle.bcder.specs.calls.Content.{tagged}
+use Rattle.bcder.specs.steps.Peek.{header}
+use Rattle.bcder.specs.calls.Views.{of_constructed, of_content}
 use Rattle.bcder.specs.laws.Moved.{moved_carries}
 use Rattle.bcder.proofs.Stopping.{header_stopped}
 use Rattle.bcder.proofs.Taking.{takes_next, moves_next, next_none, next_refused, inside_entered, allowed_entered, said_behind, moves_on}

@@ -1,6 +1,6 @@
 use Rattle.std.proofs.Common.{arith}
-use Rattle.bcder.specs.Cause.{cause_of}
-use Rattle.bcder.specs.Views.{of_constructed}
+use Rattle.bcder.specs.calls.Cause.{cause_of}
+use Rattle.bcder.specs.calls.Views.{of_constructed}
 use Rattle.bcder.specs.laws.Moved.{moved_carries}
 use Rattle.bcder.proofs.Repeating.{went_none, went_more, one_moves, then_moves, took_nothing, took_some, repeats_ended, repeats_refused, repeats_stalled, repeats_endless}
 use Rattle.bcder.proofs.decode.content.Constructed.while_some.Goals as goal

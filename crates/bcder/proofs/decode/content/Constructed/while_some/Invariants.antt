@@ -1,4 +1,4 @@
-use Rattle.bcder.specs.Views.{of_constructed}
+use Rattle.bcder.specs.calls.Views.{of_constructed}
 use Rattle.bcder.proofs.Repeating.{WentOn}
 use Rattle.bcder.proofs.decode.content.Constructed.while_some.Given as goal
 

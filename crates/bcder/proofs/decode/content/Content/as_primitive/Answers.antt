@@ -1,7 +1,7 @@
 use Rattle.std.proofs.Common.{◌≡◌, ◌≢◌, refl, sym, ap, inl}
-use Rattle.bcder.specs.Cause.{IsRefusal}
-use Rattle.bcder.specs.Content.{Octets}
-use Rattle.bcder.specs.Views.{of_primitive, of_content}
+use Rattle.bcder.specs.calls.Cause.{IsRefusal}
+use Rattle.bcder.specs.calls.Content.{Octets}
+use Rattle.bcder.specs.calls.Views.{of_primitive, of_content}
 use Rattle.bcder.proofs.Forwarding.{on_ok_on, on_err_on, constructed_content}
 use Rattle.bcder.proofs.decode.content.Content.as_primitive.Goals as goal
 

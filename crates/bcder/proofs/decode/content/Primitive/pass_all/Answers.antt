@@ -1,7 +1,7 @@
 use Rattle.std.proofs.Common.{◌≤◌, length, take, refl, arith}
-use Rattle.bcder.specs.Stream.{limited}
+use Rattle.bcder.specs.calls.Stream.{limited}
 use Rattle.bcder.specs.laws.Limits.{limited_sound}
-use Rattle.bcder.specs.Views.{of_primitive}
+use Rattle.bcder.specs.calls.Views.{of_primitive}
 use Rattle.bcder.specs.laws.Moved.{moved_carries}
 use Rattle.bcder.proofs.Moving.{moves_octets}
 use Rattle.bcder.proofs.Entering.{advances_by}

@@ -1,5 +1,5 @@
 use Rattle.std.proofs.Common.{refl}
-use Rattle.bcder.specs.Views.{of_primitive}
+use Rattle.bcder.specs.calls.Views.{of_primitive}
 use Rattle.bcder.specs.laws.Moved.{moved_carries}
 use Rattle.bcder.proofs.Entering.{no_fewer, grew_least}
 use Rattle.bcder.proofs.Remaining.{limit_stays, asked_moves}

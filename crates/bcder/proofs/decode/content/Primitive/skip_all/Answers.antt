@@ -1,7 +1,7 @@
 use Rattle.std.proofs.Common.{◌≡◌, ◌≤◌, ◌∙◌, Some, length, refl, sym, arith}
-use Rattle.bcder.specs.Stream.{cut}
+use Rattle.bcder.specs.calls.Stream.{cut}
 use Rattle.bcder.specs.laws.Limits.{limited_sound}
-use Rattle.bcder.specs.Views.{of_primitive}
+use Rattle.bcder.specs.calls.Views.{of_primitive}
 use Rattle.bcder.specs.laws.Moved.{untouched_is_moved, moved_carries}
 use Rattle.bcder.proofs.Entering.{no_fewer, grew_least}
 use Rattle.bcder.proofs.Remaining.{limit_stays, limit_used, asked_moves, passed_moves}

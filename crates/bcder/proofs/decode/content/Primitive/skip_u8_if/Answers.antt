@@ -1,8 +1,8 @@
 use Rattle.std.proofs.Common.{ℕ, List, subst, inr, rules}
 use Rattle.std.specs.Prelude.{pos}
 use Rattle.std.specs.Int.{FitsUnsignedBits}
-use Rattle.bcder.specs.Number.{IsNoNumber}
-use Rattle.bcder.specs.Views.{of_primitive}
+use Rattle.bcder.specs.x690.Number.{IsNoNumber}
+use Rattle.bcder.specs.calls.Views.{of_primitive}
 use Rattle.bcder.proofs.Reading.{refuses_octets}
 use Rattle.bcder.proofs.decode.content.Primitive.skip_u8_if.Goals as goal
 

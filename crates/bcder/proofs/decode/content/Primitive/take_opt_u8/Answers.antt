@@ -1,5 +1,5 @@
 use Rattle.std.proofs.Common.{refl}
-use Rattle.bcder.specs.Views.{of_primitive}
+use Rattle.bcder.specs.calls.Views.{of_primitive}
 use Rattle.bcder.specs.laws.Moved.{moved_carries}
 use Rattle.bcder.proofs.OctetTakes.{next_octet}
 use Rattle.bcder.proofs.decode.content.Primitive.take_opt_u8.Goals as goal

@@ -1,7 +1,7 @@
 use Rattle.std.proofs.Common.{refl, ap, rules}
-use Rattle.bcder.specs.Alone.{by_closure, left_octets}
-use Rattle.bcder.specs.Stream.{limited}
-use Rattle.bcder.specs.Views.{of_primitive}
+use Rattle.bcder.specs.calls.Alone.{by_closure, left_octets}
+use Rattle.bcder.specs.calls.Stream.{limited}
+use Rattle.bcder.specs.calls.Views.{of_primitive}
 use Rattle.bcder.proofs.decode.content.alone.run_over.Goals as goal
 
 pub returns-in-Err : goal.returns-in-Err

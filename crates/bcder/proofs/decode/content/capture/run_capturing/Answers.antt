@@ -1,7 +1,7 @@
 use Rattle.std.proofs.Common.{◌≡◌, sym, subst, rules}
-use Rattle.bcder.specs.Content.{Moves}
-use Rattle.bcder.specs.Sources.{capturing}
-use Rattle.bcder.specs.Views.{of_constructed, limited_stream}
+use Rattle.bcder.specs.calls.Content.{Moves}
+use Rattle.bcder.specs.calls.Sources.{capturing}
+use Rattle.bcder.specs.calls.Views.{of_constructed, limited_stream}
 use Rattle.bcder.proofs.Capturing.{capture_name, capture_rest, capture_within, capture_kept}
 use Rattle.bcder.proofs.decode.content.capture.run_capturing.Goals as goal
 

@@ -1,7 +1,7 @@
 use Rattle.std.proofs.Common.{◌∙◌, arith, refl}
-use Rattle.bcder.specs.Content.{IsDone}
-use Rattle.bcder.specs.Walking.{PassesValue}
-use Rattle.bcder.specs.Views.{of_constructed}
+use Rattle.bcder.specs.calls.Content.{IsDone}
+use Rattle.bcder.specs.calls.Walking.{PassesValue}
+use Rattle.bcder.specs.calls.Views.{of_constructed}
 use Rattle.bcder.specs.laws.Moved.{untouched_is_moved, moved_twice_is_moved, moved_carries}
 use Rattle.bcder.proofs.Names.{within_constructed, constructed_form}
 use Rattle.bcder.proofs.Walking.{walks_refl, walks_value, value_shorter}

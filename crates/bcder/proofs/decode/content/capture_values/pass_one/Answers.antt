@@ -1,5 +1,5 @@
-use Rattle.bcder.specs.CapturingValues.{nothing}
-use Rattle.bcder.specs.Views.{of_constructed}
+use Rattle.bcder.specs.calls.CapturingValues.{nothing}
+use Rattle.bcder.specs.calls.Views.{of_constructed}
 use Rattle.bcder.proofs.Names.{within_constructed}
 use Rattle.bcder.proofs.CapturingValues.{end_has_none, one_refused}
 use Rattle.bcder.proofs.decode.content.capture_values.pass_one.Goals as goal

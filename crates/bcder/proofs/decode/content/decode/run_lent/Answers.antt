@@ -1,5 +1,5 @@
-use Rattle.bcder.specs.Cause.{cause_of}
-use Rattle.bcder.specs.Views.{of_constructed, lent}
+use Rattle.bcder.specs.calls.Cause.{cause_of}
+use Rattle.bcder.specs.calls.Views.{of_constructed, lent}
 use Rattle.bcder.proofs.Decoding.{hands_all, left_kept, left_passed, left_faults, decoded, not_decoded, same_borrow, same_behind}
 use Rattle.bcder.proofs.decode.content.decode.run_lent.Goals as goal
 

@@ -1,6 +1,6 @@
 use Rattle.std.proofs.Common.{refl, ◌∙◌, sym}
-use Rattle.bcder.specs.Calls.{by_closure, unfinished}
-use Rattle.bcder.specs.Views.{of_content}
+use Rattle.bcder.specs.calls.Calls.{by_closure, unfinished}
+use Rattle.bcder.specs.calls.Views.{of_content}
 use Rattle.bcder.proofs.Names.{mark_of_content}
 use Rattle.bcder.proofs.decode.content.inside.run.Goals as goal
 

@@ -1,7 +1,7 @@
 use Rattle.std.proofs.Common.{refl, ap, subst, sym}
-use Rattle.bcder.specs.Content.{Moves}
-use Rattle.bcder.specs.Calls.{by_closure, unfinished}
-use Rattle.bcder.specs.Views.{of_primitive}
+use Rattle.bcder.specs.calls.Content.{Moves}
+use Rattle.bcder.specs.calls.Calls.{by_closure, unfinished}
+use Rattle.bcder.specs.calls.Views.{of_primitive}
 use Rattle.bcder.specs.laws.Moved.{untouched_is_moved}
 use Rattle.bcder.proofs.decode.content.inside.run_octets.Goals as goal
 

@@ -1,5 +1,5 @@
 use Rattle.std.proofs.Common.{refl, ap, sym, ◌∙◌}
-use Rattle.bcder.specs.Views.{of_content, limited_stream}
+use Rattle.bcder.specs.calls.Views.{of_content, limited_stream}
 use Rattle.bcder.proofs.Names.{stream_of_content, owed_of_content, mark_of_content}
 use Rattle.bcder.proofs.decode.content.inside.run_over.Goals as goal
 

@@ -1,6 +1,6 @@
 use Rattle.std.proofs.Common.{refl}
-use Rattle.bcder.specs.Calls.{by_closure, unfinished}
-use Rattle.bcder.specs.Views.{of_constructed}
+use Rattle.bcder.specs.calls.Calls.{by_closure, unfinished}
+use Rattle.bcder.specs.calls.Views.{of_constructed}
 use Rattle.bcder.proofs.decode.content.inside.run_values.Goals as goal
 
 pub returns-in-Err-clause-refused : goal.returns-in-Err-clause-refused

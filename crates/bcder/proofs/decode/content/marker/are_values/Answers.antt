@@ -1,6 +1,6 @@
 use Rattle.std.proofs.Common.{◌≡◌, true, false, refl, rules}
-use Rattle.bcder.specs.Cause.{is_memory_cause, cause_of}
-use Rattle.bcder.specs.Views.{of_constructed}
+use Rattle.bcder.specs.calls.Cause.{is_memory_cause, cause_of}
+use Rattle.bcder.specs.calls.Views.{of_constructed}
 use Rattle.bcder.proofs.Markers.{values_there, values_found, not_memory, never_grew, as_other, as_no}
 use Rattle.bcder.proofs.decode.content.marker.are_values.Goals.{then-is_memory, else-is_memory}
 use Rattle.bcder.proofs.decode.content.marker.are_values.Goals as goal

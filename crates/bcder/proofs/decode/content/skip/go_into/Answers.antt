@@ -1,5 +1,5 @@
 use Rattle.std.proofs.Common.{inl, inr, refl}
-use Rattle.bcder.specs.Stacked.{octets, by_failure, too_few}
+use Rattle.bcder.specs.steps.Stacked.{octets, by_failure, too_few}
 use Rattle.bcder.proofs.Stepping.{stop_reason}
 use Rattle.bcder.proofs.decode.content.skip.go_into.Goals as goal
 

@@ -1,10 +1,10 @@
 use Rattle.std.proofs.Common.{reverse, ◌∙◌, sym, ap, refl, arith, length, subst, []}
 use denote.Param.Always.{mut_next}
-use Rattle.bcder.specs.Peek.{header}
+use Rattle.bcder.specs.steps.Peek.{header}
 use Rattle.bcder.specs.laws.Moved.{moved_keeps_kind}
 use Rattle.bcder.proofs.Entering.{kind_of}
-use Rattle.bcder.specs.Stacked.{TopIs, around, entries, source_of, limit_in}
-use Rattle.bcder.specs.Views.{of_constructed}
+use Rattle.bcder.specs.steps.Stacked.{TopIs, around, entries, source_of, limit_in}
+use Rattle.bcder.specs.calls.Views.{of_constructed}
 use Rattle.bcder.proofs.Names.{within_constructed, moves_constructed_name}
 use Rattle.bcder.proofs.Taking.{allowed_entered}
 use Rattle.bcder.proofs.Running.{some_entry, out_counts, met_entered, entered_fits, visited_refused, visited_gone, visited_barred, first_went, first_barred, not_begun, went_in, stayed_out, went_out, went_wrong, entered_shorter, left_shorter, wrong_counts, few_open, frames_count, frames_unwound}

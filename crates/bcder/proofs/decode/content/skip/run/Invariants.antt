@@ -1,9 +1,9 @@
 use Rattle.std.proofs.Common.{◌≡◌, ◌+◌, List, ◌∷◌, length}
 use Rattle.bcder.specs.declared.decode.content.State.TheVariants.{Open}
-use Rattle.bcder.specs.Peek.{header}
-use Rattle.bcder.specs.Preorder.{Heading}
-use Rattle.bcder.specs.Skipping.{Called}
-use Rattle.bcder.specs.Stacked.{IsCounted, entries, heading, source_of, limit_in, TopIs, IsUnderWay}
+use Rattle.bcder.specs.steps.Peek.{header}
+use Rattle.bcder.specs.x690.Preorder.{Heading}
+use Rattle.bcder.specs.calls.Skipping.{Called}
+use Rattle.bcder.specs.steps.Stacked.{IsCounted, entries, heading, source_of, limit_in, TopIs, IsUnderWay}
 use Rattle.bcder.proofs.decode.content.skip.run.Given as goal
 
 abbrev pub invariant-loop-opened : goal.invariant-loop-opened

@@ -1,5 +1,5 @@
 use Rattle.std.proofs.Common.{◌∙◌, ap}
-use Rattle.bcder.specs.Stacked.{framed, unwound}
+use Rattle.bcder.specs.steps.Stacked.{framed, unwound}
 use Rattle.bcder.proofs.Unwinding.{popped_last, unwound_frame, counted}
 use Rattle.bcder.proofs.decode.content.skip.unwind.Goals as goal
 

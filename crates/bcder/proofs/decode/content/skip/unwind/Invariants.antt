@@ -1,6 +1,6 @@
 use Rattle.std.proofs.Common.{◌≡◌}
 use Rattle.smallvec.specs.SmallVec.{small_vec_len}
-use Rattle.bcder.specs.Stacked.{framed, unwound}
+use Rattle.bcder.specs.steps.Stacked.{framed, unwound}
 use Rattle.bcder.proofs.decode.content.skip.unwind.Given as goal
 
 abbrev pub invariant-loop-frame : goal.invariant-loop-frame

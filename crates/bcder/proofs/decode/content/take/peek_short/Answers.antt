@@ -1,5 +1,5 @@
 use Rattle.std.proofs.Common.{◌≤◌, length, take, arith, sym}
-use Rattle.bcder.specs.Peek.{octets_header, IsFront}
+use Rattle.bcder.specs.steps.Peek.{octets_header, IsFront}
 use Rattle.bcder.proofs.Beginnings.{short_stands}
 use Rattle.bcder.proofs.Peeking.{at_hand}
 use Rattle.bcder.proofs.decode.content.take.peek_short.Goals as goal

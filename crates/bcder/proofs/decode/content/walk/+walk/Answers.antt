@@ -1,11 +1,12 @@
 use Rattle.std.proofs.Common.{rules, false, ◌≡◌, ◌∙◌, ◌+◌, ◌≤◌, length, arith, refl, ap}
 use Rattle.std.specs.Prelude.{Ok, Some}
-use Rattle.bcder.specs.Cause.{stop_cause}
-use Rattle.bcder.specs.Content.{any, EndsAt, IsDone, values}
-use Rattle.bcder.specs.Calls.{content}
-use Rattle.bcder.specs.Peek.{header}
-use Rattle.bcder.specs.Walking.{PassesValue, itself, walked}
-use Rattle.bcder.specs.Views.{of_constructed, limited_stream}
+use Rattle.bcder.specs.steps.StopCause.{stop_cause}
+use Rattle.bcder.specs.calls.Content.{any, EndsAt, IsDone, values}
+use Rattle.bcder.specs.calls.Calls.{content}
+use Rattle.bcder.specs.steps.Peek.{header}
+use Rattle.bcder.specs.calls.Walking.{PassesValue}
+use Rattle.bcder.specs.steps.WalkSteps.{itself, walked}
+use Rattle.bcder.specs.calls.Views.{of_constructed, limited_stream}
 use Rattle.bcder.specs.laws.Moved.{moved_twice_is_moved, moved_is_no_longer}
 use Rattle.bcder.proofs.Names.{within_constructed, constructed_form, moves_constructed_name}
 use Rattle.bcder.proofs.Refusing.{if_err}

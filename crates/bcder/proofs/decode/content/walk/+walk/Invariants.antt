@@ -1,6 +1,6 @@
 use Rattle.std.proofs.Common.{◌≡◌, ◌+◌, ◌*◌, length}
-use Rattle.bcder.specs.Walking.{Walks}
-use Rattle.bcder.specs.Views.{of_constructed, limited_stream}
+use Rattle.bcder.specs.calls.Walking.{Walks}
+use Rattle.bcder.specs.calls.Views.{of_constructed, limited_stream}
 use Rattle.bcder.proofs.decode.content.walk.+walk.Given as goal
 
 abbrev pub decreases-step : goal.decreases-step

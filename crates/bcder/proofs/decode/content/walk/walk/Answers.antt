@@ -1,6 +1,7 @@
 use Rattle.std.specs.Prelude.{Ok, Err}
-use Rattle.bcder.specs.Cause.{cause_of, stop_cause}
-use Rattle.bcder.specs.Views.{of_constructed}
+use Rattle.bcder.specs.calls.Cause.{cause_of}
+use Rattle.bcder.specs.steps.StopCause.{stop_cause}
+use Rattle.bcder.specs.calls.Views.{of_constructed}
 use Rattle.bcder.proofs.Names.{within_constructed}
 use Rattle.bcder.proofs.Stopping.{walk_stopped}
 use Rattle.bcder.proofs.Walked.{answers_next}

@@ -1,7 +1,7 @@
 use Rattle.std.proofs.Common.{◌++◌, length, ap, ◌∙◌, false}
 use Rattle.bcder.specs.declared.length.Length.TheVariants.{Definite}
-use Rattle.bcder.specs.Identifier.{identifier}
-use Rattle.bcder.specs.Octets.{header, length_octets}
+use Rattle.bcder.specs.x690.Identifier.{identifier}
+use Rattle.bcder.specs.x690.Octets.{header, length_octets}
 use Rattle.bcder.proofs.Enclosing.{definite_some}
 use Rattle.bcder.proofs.Writing.{elsewhere, stops, follows_on, same_ok, wrote_what, halts, lacks_more, same_octets, same_answer}
 use Rattle.bcder.proofs.encode.primitive.PrimitiveContent.write_value.Goals as goal

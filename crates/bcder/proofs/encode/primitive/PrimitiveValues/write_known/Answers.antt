@@ -1,5 +1,5 @@
 use Rattle.std.proofs.Common.{length, ap, sym, arith, Err}
-use Rattle.bcder.specs.Meaning.{octets_of}
+use Rattle.bcder.specs.calls.Meaning.{octets_of}
 use Rattle.bcder.proofs.Enclosing.{contents_of}
 use Rattle.bcder.proofs.Writing.{same_ok, same_octets, same_answer, lacked}
 use Rattle.bcder.proofs.encode.primitive.PrimitiveValues.write_known.Goals as goal

@@ -1,5 +1,5 @@
 use Rattle.std.proofs.Common.{rules, ◌≡◌, drop}
-use Rattle.bcder.specs.Integer.{integer_octets}
+use Rattle.bcder.specs.x690.Integer.{integer_octets}
 use Rattle.bcder.proofs.Writing.{exactly}
 use Rattle.bcder.proofs.encode.primitive.integers.put_any_signed.Goals as goal
 

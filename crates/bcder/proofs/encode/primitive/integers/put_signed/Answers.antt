@@ -1,5 +1,5 @@
 use Rattle.std.proofs.Common.{rules, ◌≡◌, ◌<◌, length, drop, sym, arith}
-use Rattle.bcder.specs.Integer.{integer_octets}
+use Rattle.bcder.specs.x690.Integer.{integer_octets}
 use Rattle.bcder.proofs.Enclosing.{short_definite}
 use Rattle.bcder.proofs.Writing.{exactly, same_octets}
 use Rattle.bcder.proofs.encode.primitive.integers.put_signed.Goals as goal

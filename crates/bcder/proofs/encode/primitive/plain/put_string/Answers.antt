@@ -1,6 +1,6 @@
 use Rattle.std.proofs.Common.{false, length, ap, arith, sym}
 use Rattle.bcder.specs.declared.encode.error.EncodeError.TheVariants.{LongCerPrimitive}
-use Rattle.bcder.specs.Octets.{definite}
+use Rattle.bcder.specs.x690.Octets.{definite}
 use Rattle.bcder.proofs.WholeStrings.{string_is}
 use Rattle.bcder.proofs.Writing.{same_octets}
 use Rattle.bcder.proofs.encode.primitive.plain.put_string.Goals as goal

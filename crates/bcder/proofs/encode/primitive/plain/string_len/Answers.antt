@@ -1,5 +1,5 @@
 use Rattle.std.proofs.Common.{refl, arith, sym, ◌∙◌}
-use Rattle.bcder.specs.Identifier.{AreOctets}
+use Rattle.bcder.specs.x690.Identifier.{AreOctets}
 use Rattle.bcder.specs.declared.encode.error.EncodeError.TheVariants.{LongCerPrimitive}
 use Rattle.bcder.proofs.WholeStrings.{string_fits, refuses_string}
 use Rattle.bcder.proofs.encode.primitive.plain.string_len.Goals as goal

@@ -1,4 +1,4 @@
-use Rattle.bcder.specs.Meaning.{octets_of}
+use Rattle.bcder.specs.calls.Meaning.{octets_of}
 use Rattle.bcder.proofs.Writing.{wrote_what, same_answer}
 use Rattle.bcder.proofs.encode.values.Values.write_known.Goals as goal
 

@@ -1,5 +1,5 @@
 use Rattle.std.proofs.Common.{◌-◌, ap, ◌∙◌}
-use Rattle.bcder.specs.Enclosing.{length_size}
+use Rattle.bcder.specs.steps.Enclosing.{length_size}
 use Rattle.bcder.proofs.Enclosing.{contents_size}
 use Rattle.bcder.proofs.encode.values.constructed.contents_size.Goals as goal
 

@@ -1,6 +1,6 @@
 use Rattle.std.proofs.Common.{subst, true}
-use Rattle.bcder.specs.Meaning.{ValueMeans, constructed_meaning}
-use Rattle.bcder.specs.Encoders.{HasSize}
+use Rattle.bcder.specs.calls.Meaning.{ValueMeans, constructed_meaning}
+use Rattle.bcder.specs.calls.Encoders.{HasSize}
 use Rattle.bcder.proofs.Joining.{contents_told}
 use Rattle.bcder.proofs.encode.values.constructed.known_length.Goals as goal
 

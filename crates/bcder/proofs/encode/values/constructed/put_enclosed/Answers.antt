@@ -1,5 +1,5 @@
 use Rattle.std.proofs.Common.{ap, true}
-use Rattle.bcder.specs.Octets.{header, closing}
+use Rattle.bcder.specs.x690.Octets.{header, closing}
 use Rattle.bcder.proofs.Writing.{stops, follows_on, halts, lacks_more, same_octets}
 use Rattle.bcder.proofs.encode.values.constructed.put_enclosed.Goals as goal
 

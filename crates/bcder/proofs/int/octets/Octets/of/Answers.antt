@@ -5,7 +5,7 @@ use Rattle.std.proofs.lemmas.List.{drop-append-le}
 use Rattle.std.proofs.Math.Seq.{drop-append_seam}
 use Rattle.std.proofs.lemmas.Nat.{pow-add, leading_length}
 use Rattle.std.proofs.Math.Nat.{div-div-eq-div-mul, pow-le-pow_right}
-use Rattle.bcder.specs.Integer.{AreInteger, IsTurned, octet, octets_within, integer_octets}
+use Rattle.bcder.specs.x690.Integer.{AreInteger, IsTurned, octet, octets_within, integer_octets}
 use Rattle.bcder.specs.laws.Integers.{positive_octets, negative_octets, octets_are, some_integer, one_integer, integer_octets_are}
 use Rattle.bcder.proofs.int.octets.Octets.of.Goals as goal
 

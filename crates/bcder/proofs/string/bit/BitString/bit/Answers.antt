@@ -1,7 +1,7 @@
 use Rattle.std.proofs.Common.{refl, sym, arith, false}
 use Rattle.std.proofs.lemmas.List.{get_or_past}
 use Rattle.std.proofs.lemmas.Nat.Bits.{shr_and_one}
-use Rattle.bcder.specs.BitString.{bits}
+use Rattle.bcder.specs.x690.BitString.{bits}
 use Rattle.bcder.proofs.Bits.{bit_is}
 use Rattle.bcder.proofs.string.bit.BitString.bit.Goals as goal
 

@@ -1,6 +1,6 @@
 use Rattle.std.proofs.Common.{arith, sym, ◌∙◌}
-use Rattle.bcder.specs.BitString.{Bits, contents_octets, as_written}
-use Rattle.bcder.specs.Identifier.{AreOctets}
+use Rattle.bcder.specs.x690.BitString.{Bits, contents_octets, as_written}
+use Rattle.bcder.specs.x690.Identifier.{AreOctets}
 use Rattle.bcder.proofs.Bits.{as_many_octets}
 use Rattle.bcder.proofs.WrittenBits.{bits_fit, bits_refused}
 use Rattle.bcder.proofs.string.bit.write.bits_len.Goals as goal

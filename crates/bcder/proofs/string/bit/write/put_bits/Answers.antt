@@ -1,7 +1,7 @@
 use Rattle.std.proofs.Common.{rules, arith, ap, sym, ◌∙◌, inl, inr}
 use Rattle.std.specs.Prelude.{Err}
-use Rattle.bcder.specs.BitString.{Bits, contents_octets, as_written}
-use Rattle.bcder.specs.Identifier.{AreOctets}
+use Rattle.bcder.specs.x690.BitString.{Bits, contents_octets, as_written}
+use Rattle.bcder.specs.x690.Identifier.{AreOctets}
 use Rattle.bcder.proofs.WrittenBits.{bits_fit, bits_refused}
 use Rattle.bcder.proofs.string.bit.write.put_bits.Goals as goal
 

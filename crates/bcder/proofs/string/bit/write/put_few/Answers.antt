@@ -1,8 +1,8 @@
 use Rattle.std.proofs.Common.{◌+◌, [], ◌∷◌, ◌++◌, false, length, refl, ap, ◌∙◌}
 use Rattle.bcder.specs.declared.length.Length.TheVariants.{Definite}
-use Rattle.bcder.specs.Identifier.{identifier}
-use Rattle.bcder.specs.Octets.{length_octets}
-use Rattle.bcder.specs.BitString.{Bits, as_written}
+use Rattle.bcder.specs.x690.Identifier.{identifier}
+use Rattle.bcder.specs.x690.Octets.{length_octets}
+use Rattle.bcder.specs.x690.BitString.{Bits, as_written}
 use Rattle.bcder.proofs.WrittenBits.{value_split}
 use Rattle.bcder.proofs.Writing.{same_octets}
 use Rattle.bcder.proofs.string.bit.write.put_few.Goals as goal

@@ -1,6 +1,6 @@
 use Rattle.std.proofs.Common.{length, ap, sym, arith, false}
-use Rattle.bcder.specs.BitString.{Bits}
-use Rattle.bcder.specs.Octets.{definite}
+use Rattle.bcder.specs.x690.BitString.{Bits}
+use Rattle.bcder.specs.x690.Octets.{definite}
 use Rattle.bcder.proofs.Bits.{as_many_octets}
 use Rattle.bcder.proofs.WrittenBits.{bits_are}
 use Rattle.bcder.proofs.Writing.{same_octets}

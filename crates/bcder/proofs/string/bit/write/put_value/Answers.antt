@@ -1,4 +1,4 @@
-use Rattle.bcder.specs.BitString.{Bits, as_written}
+use Rattle.bcder.specs.x690.BitString.{Bits, as_written}
 use Rattle.bcder.proofs.WrittenBits.{value_split}
 use Rattle.bcder.proofs.Writing.{stops, follows_on, halts, same_octets}
 use Rattle.bcder.proofs.string.bit.write.put_value.Goals as goal

@@ -1,7 +1,7 @@
 use Rattle.std.proofs.Common.{sym, subst}
-use Rattle.bcder.specs.OctetString.{MeansString}
-use Rattle.bcder.specs.Valued.{ReadsAny}
-use Rattle.bcder.specs.Views.{of_primitive, of_constructed, of_content}
+use Rattle.bcder.specs.calls.StringOctets.{MeansString}
+use Rattle.bcder.specs.calls.Valued.{ReadsAny}
+use Rattle.bcder.specs.calls.Views.{of_primitive, of_constructed, of_content}
 use Rattle.bcder.proofs.string.octet.OctetString.from_content.Goals as goal
 
 pub returns-in-Primitive-clause-read : goal.returns-in-Primitive-clause-read

@@ -1,5 +1,5 @@
 use Rattle.std.proofs.Common.{ap, arith, length}
-use Rattle.bcder.specs.OctetString.{StringOctets, octets_of}
+use Rattle.bcder.specs.calls.StringOctets.{StringOctets, octets_of}
 use Rattle.bcder.proofs.Parts.{parts_shorter, counted_on}
 use Rattle.bcder.proofs.string.octet.OctetString.len.Goals as goal
 

@@ -1,6 +1,6 @@
 use Rattle.std.proofs.Common.{◌≡◌, ◌+◌, length}
 use Rattle.std.specs.List.{concat}
-use Rattle.bcder.specs.OctetString.{octets_of}
+use Rattle.bcder.specs.calls.StringOctets.{octets_of}
 use Rattle.bcder.proofs.string.octet.OctetString.len.Given as goal
 
 -- what is counted and what is still to come are all

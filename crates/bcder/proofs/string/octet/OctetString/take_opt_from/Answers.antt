@@ -1,6 +1,7 @@
 use Rattle.std.proofs.Common.{rules}
-use Rattle.bcder.specs.OctetString.{octet_string_tag, MeansString}
-use Rattle.bcder.specs.Views.{of_constructed, of_content}
+use Rattle.bcder.specs.x690.OctetString.{octet_string_tag}
+use Rattle.bcder.specs.calls.StringOctets.{MeansString}
+use Rattle.bcder.specs.calls.Views.{of_constructed, of_content}
 use Rattle.bcder.proofs.Names.{within_constructed}
 use Rattle.bcder.proofs.Valued.{next_tree}
 use Rattle.bcder.proofs.string.octet.OctetString.take_opt_from.Goals as goal

@@ -1,6 +1,6 @@
 use Rattle.std.proofs.Common.{ap, sym, ◌∙◌}
-use Rattle.bcder.specs.Meaning.{ValueMeans, constructed_meaning}
-use Rattle.bcder.specs.Gathered.{KeptMeans}
+use Rattle.bcder.specs.calls.Meaning.{ValueMeans, constructed_meaning}
+use Rattle.bcder.specs.calls.Gathered.{KeptMeans}
 use Rattle.bcder.specs.laws.Meanings.{constructed_lawful}
 use Rattle.bcder.specs.laws.Gathered.{kept_lawful}
 use Rattle.bcder.proofs.Segmenting.{written_as, whole_is, parts_are, cut_is}

@@ -1,8 +1,8 @@
 use Rattle.std.proofs.Common.{sym, subst}
-use Rattle.bcder.specs.Identifier.{AreOctets}
-use Rattle.bcder.specs.OctetString.{StringOctets, octets_of}
-use Rattle.bcder.specs.Meaning.{Meaning}
-use Rattle.bcder.specs.Encoders.{SizeOfValues}
+use Rattle.bcder.specs.x690.Identifier.{AreOctets}
+use Rattle.bcder.specs.calls.StringOctets.{StringOctets, octets_of}
+use Rattle.bcder.specs.calls.Meaning.{Meaning}
+use Rattle.bcder.specs.calls.Encoders.{SizeOfValues}
 use Rattle.bcder.proofs.Segmenting.{by_octets, parts_octets}
 use Rattle.bcder.proofs.string.octet.encode.size_of.Goals as goal
 

@@ -1,5 +1,5 @@
 use Rattle.std.proofs.Common.{◌≤◌, IsTrue, false, refl, subst, sym, ◌∙◌}
-use Rattle.bcder.specs.Views.{of_primitive}
+use Rattle.bcder.specs.calls.Views.{of_primitive}
 use Rattle.bcder.proofs.Typed.{octets_form}
 use Rattle.bcder.proofs.Strings.{read_whole, refuse_long, refuse_octets}
 use Rattle.bcder.proofs.string.octet.read.from_primitive.Goals as goal

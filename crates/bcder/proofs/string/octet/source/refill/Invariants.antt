@@ -1,7 +1,7 @@
 -- What is put in front is gone from behind; where nothing stands in front, its block is that of the segments.
 use Rattle.std.proofs.Common.{◌≡◌, ◌≤◌, ◌++◌, [], length, IsTrue, Some}
 use Rattle.std.specs.List.{concat}
-use Rattle.bcder.specs.StringSource.{StandsIn}
+use Rattle.bcder.specs.calls.StringSource.{StandsIn}
 use Rattle.bcder.proofs.string.octet.source.refill.Given as goal
 
 abbrev pub invariant-loop-behind : goal.invariant-loop-behind

@@ -1,5 +1,5 @@
 use Rattle.std.proofs.Common.{Ok, Err}
-use Rattle.bcder.specs.OctetString.{octet_string_tag}
+use Rattle.bcder.specs.x690.OctetString.{octet_string_tag}
 use Rattle.bcder.proofs.Wrapping.{lawful_octets, wrapped_size, wrapped_given, inside_halts}
 use Rattle.bcder.proofs.string.octet.wrapped.inside_len.Goals as goal
 

@@ -1,7 +1,7 @@
 use Rattle.std.proofs.Common.{subst}
-use Rattle.bcder.specs.OctetString.{octet_string_tag}
-use Rattle.bcder.specs.Encoders.{HasSize}
-use Rattle.bcder.specs.StringMeaning.{WrappedMeans}
+use Rattle.bcder.specs.x690.OctetString.{octet_string_tag}
+use Rattle.bcder.specs.calls.Encoders.{HasSize}
+use Rattle.bcder.specs.calls.StringMeaning.{WrappedMeans}
 use Rattle.bcder.proofs.Wrapping.{wrapped_told}
 use Rattle.bcder.proofs.string.octet.wrapped.known_len.Goals as goal
 

@@ -1,6 +1,6 @@
 use Rattle.std.proofs.Common.{ap, ◌∙◌, Err}
-use Rattle.bcder.specs.OctetString.{octet_string_tag}
-use Rattle.bcder.specs.Captured.{Kept}
+use Rattle.bcder.specs.x690.OctetString.{octet_string_tag}
+use Rattle.bcder.specs.calls.Captured.{Kept}
 use Rattle.bcder.proofs.Writing.{lacks_more, lacked, same_answer}
 use Rattle.bcder.proofs.Wrapping.{lawful_octets, gathered_as, wrapped_inside, either_way}
 use Rattle.bcder.proofs.string.octet.wrapped.put_gathered.Goals as goal

@@ -1,8 +1,8 @@
 use Rattle.std.proofs.Common.{◌++◌, ap, ◌∙◌, false}
 use Rattle.bcder.specs.declared.length.Length.TheVariants.{Definite}
-use Rattle.bcder.specs.Identifier.{identifier}
-use Rattle.bcder.specs.Octets.{header, length_octets}
-use Rattle.bcder.specs.OctetString.{octet_string_tag}
+use Rattle.bcder.specs.x690.Identifier.{identifier}
+use Rattle.bcder.specs.x690.Octets.{header, length_octets}
+use Rattle.bcder.specs.x690.OctetString.{octet_string_tag}
 use Rattle.bcder.proofs.Enclosing.{definite_some}
 use Rattle.bcder.proofs.Writing.{elsewhere, halts, lacks_more, stops, follows_on, same_octets}
 use Rattle.bcder.proofs.string.octet.wrapped.put_straight.Goals as goal

@@ -1,4 +1,4 @@
-use Rattle.bcder.specs.OctetString.{octet_string_tag}
+use Rattle.bcder.specs.x690.OctetString.{octet_string_tag}
 use Rattle.bcder.proofs.Wrapping.{lawful_octets, wrapped_size}
 use Rattle.bcder.proofs.string.octet.wrapped.wrapped_len.Goals as goal
 

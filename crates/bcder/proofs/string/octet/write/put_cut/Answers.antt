@@ -1,6 +1,6 @@
 use Rattle.std.proofs.Common.{[], ◌∷◌}
 use Rattle.std.specs.List.{concat}
-use Rattle.bcder.specs.StringMeaning.{segments_in_cer}
+use Rattle.bcder.specs.calls.StringMeaning.{segments_in_cer}
 use Rattle.bcder.proofs.Writing.{halts, stops, follows_on}
 use Rattle.bcder.proofs.string.octet.write.put_cut.Goals as goal
 

@@ -1,6 +1,6 @@
 -- What is gone from the part was written, whatever is to come behind it.
 use Rattle.std.proofs.Common.{ℕ, ◌+◌, ◌≤◌, List, ◌++◌, length}
-use Rattle.bcder.specs.Segmenting.{IsProgress, Advanced}
+use Rattle.bcder.specs.steps.Segmenting.{IsProgress, Advanced}
 use Rattle.bcder.proofs.string.octet.write.put_part.Given as goal
 
 abbrev pub invariant-loop-rest : goal.invariant-loop-rest

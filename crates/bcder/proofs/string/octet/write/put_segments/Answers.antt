@@ -1,6 +1,6 @@
 use Rattle.std.proofs.Common.{◌≡◌, ap, ◌∙◌, length, arith}
 use Rattle.std.specs.List.{concat}
-use Rattle.bcder.specs.StringMeaning.{segments_in_cer}
+use Rattle.bcder.specs.calls.StringMeaning.{segments_in_cer}
 use Rattle.bcder.proofs.Writing.{halts, same_octets}
 use Rattle.bcder.proofs.Segmenting.{next_part, part_failed, none_begun}
 use Rattle.bcder.proofs.string.octet.write.put_segments.Goals as goal

@@ -1,6 +1,6 @@
 -- The octets of the parts so far were written, in segments.
 use Rattle.std.specs.List.{concat}
-use Rattle.bcder.specs.Segmenting.{Advanced}
+use Rattle.bcder.specs.steps.Segmenting.{Advanced}
 use Rattle.bcder.proofs.string.octet.write.put_segments.Given as goal
 
 abbrev pub invariant-loop-part : goal.invariant-loop-part

@@ -1,7 +1,7 @@
 use Rattle.std.proofs.Common.{ap, false}
 use Rattle.std.specs.List.{concat}
 use Rattle.bcder.specs.declared.length.Length.TheVariants.{Definite}
-use Rattle.bcder.specs.Octets.{header}
+use Rattle.bcder.specs.x690.Octets.{header}
 use Rattle.bcder.proofs.Writing.{halts, stops, follows_on, same_octets}
 use Rattle.bcder.proofs.string.octet.write.put_whole.Goals as goal
 

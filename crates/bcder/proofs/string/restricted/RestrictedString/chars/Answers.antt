@@ -1,5 +1,5 @@
 use Rattle.std.proofs.Common.{subst, sym}
-use Rattle.bcder.specs.CharSet.{Accepts}
+use Rattle.bcder.specs.x690.CharSet.{Accepts}
 use Rattle.bcder.proofs.Characters.{spells_left}
 use Rattle.bcder.proofs.string.restricted.RestrictedString.chars.Goals as goal
 

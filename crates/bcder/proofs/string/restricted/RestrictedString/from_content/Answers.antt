@@ -1,6 +1,6 @@
 use Rattle.std.proofs.Common.{rules}
-use Rattle.bcder.specs.Cause.{IsRefusal}
-use Rattle.bcder.specs.Views.{of_content}
+use Rattle.bcder.specs.calls.Cause.{IsRefusal}
+use Rattle.bcder.specs.calls.Views.{of_content}
 use Rattle.bcder.proofs.Accepting.{read_accepted, read_not_accepted, read_refused}
 use Rattle.bcder.proofs.string.restricted.RestrictedString.from_content.Goals as goal
 

@@ -1,6 +1,6 @@
 use Rattle.std.proofs.Common.{rules}
-use Rattle.bcder.specs.RestrictedString.{MeansRestricted}
-use Rattle.bcder.specs.Views.{of_constructed, of_content}
+use Rattle.bcder.specs.calls.RestrictedString.{MeansRestricted}
+use Rattle.bcder.specs.calls.Views.{of_constructed, of_content}
 use Rattle.bcder.proofs.Names.{within_constructed}
 use Rattle.bcder.proofs.Valued.{next_tree}
 use Rattle.bcder.proofs.string.restricted.RestrictedString.take_opt_from.Goals as goal

@@ -1,4 +1,4 @@
-use Rattle.bcder.specs.AsciiSets.{one_octet_step}
+use Rattle.bcder.specs.x690.AsciiSets.{one_octet_step}
 use Rattle.bcder.specs.laws.CharSets.{ascii_lawful, ascii_texts}
 use Rattle.bcder.proofs.Characters.{text_accepted, text_lent}
 use Rattle.bcder.proofs.string.restricted.ascii.as_text_of.Goals as goal

@@ -1,6 +1,6 @@
 use Rattle.std.proofs.Common.{◌↔◌, length}
-use Rattle.bcder.specs.CharSet.{Accepts}
-use Rattle.bcder.specs.AsciiSets.{one_octet_step}
+use Rattle.bcder.specs.x690.CharSet.{Accepts}
+use Rattle.bcder.specs.x690.AsciiSets.{one_octet_step}
 use Rattle.bcder.proofs.string.restricted.ascii.check_of.Given as goal
 
 -- what is left is a string of the set exactly where all octets are

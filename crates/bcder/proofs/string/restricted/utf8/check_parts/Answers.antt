@@ -1,8 +1,8 @@
 use Rattle.std.proofs.Common.{ap, sym, ◌∙◌, subst, length, drop, ◌++◌, ◌↔◌, List, ℕ, arith}
 use Rattle.std.proofs.lemmas.List.{length-append, length-drop}
 use Rattle.std.specs.List.{concat}
-use Rattle.bcder.specs.CharSet.{Accepts}
-use Rattle.bcder.specs.Utf8.{utf8_step}
+use Rattle.bcder.specs.x690.CharSet.{Accepts}
+use Rattle.bcder.specs.x690.Utf8.{utf8_step}
 use Rattle.bcder.specs.laws.Utf8.{utf8_lawful}
 use Rattle.bcder.proofs.CharSets.{went_on, went_shorter, stopped, at_end}
 use Rattle.bcder.proofs.Utf8.{text_passed}

@@ -1,7 +1,7 @@
 use Rattle.std.proofs.Common.{◌↔◌, ◌++◌, length}
 use Rattle.std.specs.List.{concat}
-use Rattle.bcder.specs.CharSet.{Accepts}
-use Rattle.bcder.specs.Utf8.{utf8_step}
+use Rattle.bcder.specs.x690.CharSet.{Accepts}
+use Rattle.bcder.specs.x690.Utf8.{utf8_step}
 use Rattle.bcder.proofs.string.restricted.utf8.check_parts.Given as goal
 
 -- what is left is UTF-8 exactly where all octets are

@@ -1,5 +1,5 @@
 use Rattle.std.proofs.Common.{◌≡◌, Bool, true, false, length, refl}
-use Rattle.bcder.specs.Meaning.{truth_octets}
+use Rattle.bcder.specs.calls.Meaning.{truth_octets}
 use Rattle.bcder.proofs.encode.primitive.plain.BoolPrimitiveContent.encoded_len.Goals as goal
 
 one_octet : (b : Bool) → 1 ≡ length (truth_octets b)

@@ -1,6 +1,6 @@
 use Rattle.std.proofs.Common.{ap, sym, ◌∙◌}
-use Rattle.bcder.specs.Octets.{enclosed_size}
-use Rattle.bcder.specs.Meaning.{constructed_encoded, fits_enclosed}
+use Rattle.bcder.specs.x690.Octets.{enclosed_size}
+use Rattle.bcder.specs.calls.Meaning.{constructed_encoded, fits_enclosed}
 use Rattle.bcder.proofs.Enclosing.{constructed_given, enclosed-length}
 use Rattle.bcder.proofs.encode.values.constructed.ConstructedValues.encoded_len.Goals as goal
 

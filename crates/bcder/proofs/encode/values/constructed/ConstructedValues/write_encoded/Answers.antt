@@ -1,6 +1,6 @@
 use Rattle.std.proofs.Common.{ap, sym, ◌∙◌, inl}
-use Rattle.bcder.specs.Octets.{fits_length, constructed_length}
-use Rattle.bcder.specs.Meaning.{constructed_encoded, fits_enclosed}
+use Rattle.bcder.specs.x690.Octets.{fits_length, constructed_length}
+use Rattle.bcder.specs.calls.Meaning.{constructed_encoded, fits_enclosed}
 use Rattle.bcder.proofs.Enclosing.{constructed_given, length_fits}
 use Rattle.bcder.proofs.Joining.{length_told}
 use Rattle.bcder.proofs.Writing.{same_answer}

@@ -1,6 +1,6 @@
 use Rattle.std.proofs.Common.{ap, sym, ◌∙◌, Err}
-use Rattle.bcder.specs.Octets.{fits_length}
-use Rattle.bcder.specs.Meaning.{octets_of}
+use Rattle.bcder.specs.x690.Octets.{fits_length}
+use Rattle.bcder.specs.calls.Meaning.{octets_of}
 use Rattle.bcder.proofs.Enclosing.{inside_of, length_fits}
 use Rattle.bcder.proofs.Joining.{length_told}
 use Rattle.bcder.proofs.Writing.{same_octets, same_answer, lacked}

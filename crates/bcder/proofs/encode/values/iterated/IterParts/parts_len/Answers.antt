@@ -1,5 +1,5 @@
 use Rattle.std.proofs.Common.{subst, sym, refl, inl, inr, ◌++◌, ◌∷◌, []}
-use Rattle.bcder.specs.Iterated.{RunsMean}
+use Rattle.bcder.specs.calls.Iterated.{RunsMean}
 use Rattle.bcder.proofs.Joining.{sum_refused}
 use Rattle.bcder.proofs.Iterating.{seen_none, seen_next, each_refused, yields_next, item_can, sum_told}
 use Rattle.bcder.proofs.encode.values.iterated.IterParts.parts_len.Goals as goal

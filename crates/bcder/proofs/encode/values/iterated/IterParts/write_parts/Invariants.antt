@@ -1,4 +1,4 @@
-use Rattle.bcder.specs.Iterated.{RunsMean}
+use Rattle.bcder.specs.calls.Iterated.{RunsMean}
 use Rattle.bcder.proofs.Iterating.{Running}
 use Rattle.bcder.proofs.encode.values.iterated.IterParts.write_parts.Given as goal
 

@@ -1,5 +1,5 @@
 use Rattle.std.proofs.Common.{drop}
-use Rattle.bcder.specs.Joined.{EachOf}
+use Rattle.bcder.specs.calls.Joined.{EachOf}
 use Rattle.bcder.proofs.Joining.{SumSoFar}
 use Rattle.bcder.proofs.encode.values.lists.ItemsParts.parts_len.Given as goal
 

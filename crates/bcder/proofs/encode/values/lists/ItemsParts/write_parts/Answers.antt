@@ -1,5 +1,5 @@
 use Rattle.std.proofs.Common.{subst, sym, drop, ◌+◌}
-use Rattle.bcder.specs.Joined.{EachOf}
+use Rattle.bcder.specs.calls.Joined.{EachOf}
 use Rattle.bcder.proofs.Writing.{halts, lacks_more, same_told}
 use Rattle.bcder.proofs.Joining.{WrittenSoFar, written_start, next_known, written_next, written_failed, written_done, EachOf_at, EachOf_end}
 use Rattle.bcder.proofs.encode.values.lists.ItemsParts.write_parts.Goals as goal

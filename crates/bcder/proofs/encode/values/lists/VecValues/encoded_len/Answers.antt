@@ -1,7 +1,7 @@
 use Rattle.std.proofs.Common.{subst, List, Any}
-use Rattle.bcder.specs.Meaning.{octets_of}
-use Rattle.bcder.specs.Joined.{EachOf, Joined}
-use Rattle.bcder.specs.Encoders.{TellsSize}
+use Rattle.bcder.specs.calls.Meaning.{octets_of}
+use Rattle.bcder.specs.calls.Joined.{EachOf, Joined}
+use Rattle.bcder.specs.calls.Encoders.{TellsSize}
 use Rattle.bcder.proofs.encode.values.lists.VecValues.encoded_len.Goals as goal
 
 pub returns : goal.returns

@@ -1,7 +1,7 @@
 use Rattle.std.proofs.Common.{subst, sym, List, Any}
-use Rattle.bcder.specs.Joined.{EachOf, Joined}
-use Rattle.bcder.specs.Encoders.{WritesEncoding, HasSize, told}
-use Rattle.bcder.specs.Meaning.{IsOne}
+use Rattle.bcder.specs.calls.Joined.{EachOf, Joined}
+use Rattle.bcder.specs.calls.Encoders.{WritesEncoding, HasSize, told}
+use Rattle.bcder.specs.calls.Meaning.{IsOne}
 use Rattle.bcder.proofs.encode.values.lists.VecValues.write_known.Goals as goal
 
 pub write_known-requires-clause-sized : goal.write_known-requires-clause-sized

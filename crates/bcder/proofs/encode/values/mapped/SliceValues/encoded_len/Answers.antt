@@ -1,5 +1,5 @@
 use Rattle.std.proofs.Common.{subst, sym, All}
-use Rattle.bcder.specs.Slices.{MayMap}
+use Rattle.bcder.specs.calls.Slices.{MayMap}
 use Rattle.bcder.proofs.encode.values.mapped.SliceValues.encoded_len.Goals as goal
 
 pub joined_len-requires : goal.joined_len-requires

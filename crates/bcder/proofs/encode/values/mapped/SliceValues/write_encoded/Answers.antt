@@ -1,5 +1,5 @@
 use Rattle.std.proofs.Common.{subst, sym, All}
-use Rattle.bcder.specs.Slices.{MayMap}
+use Rattle.bcder.specs.calls.Slices.{MayMap}
 use Rattle.bcder.proofs.encode.values.mapped.SliceValues.write_encoded.Goals as goal
 
 pub write_joined-requires : goal.write_joined-requires

@@ -1,8 +1,8 @@
 use Rattle.std.proofs.Common.{subst, sym, All, List, Any}
-use Rattle.bcder.specs.Slices.{MayMap, ItemMeans, ItemLacks}
-use Rattle.bcder.specs.Joined.{EachOf, Joined}
-use Rattle.bcder.specs.Encoders.{WritesEncoding, HasSize, told}
-use Rattle.bcder.specs.Meaning.{IsOne}
+use Rattle.bcder.specs.calls.Slices.{MayMap, ItemMeans, ItemLacks}
+use Rattle.bcder.specs.calls.Joined.{EachOf, Joined}
+use Rattle.bcder.specs.calls.Encoders.{WritesEncoding, HasSize, told}
+use Rattle.bcder.specs.calls.Meaning.{IsOne}
 use Rattle.bcder.proofs.encode.values.mapped.SliceValues.write_known.Goals as goal
 
 pub write_known_parts-requires-clause-can : goal.write_known_parts-requires-clause-can

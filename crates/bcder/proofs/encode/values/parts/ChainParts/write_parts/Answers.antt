@@ -1,5 +1,5 @@
 use Rattle.std.proofs.Common.{inl, inr, sym, ap}
-use Rattle.bcder.specs.Meaning.{octets_of}
+use Rattle.bcder.specs.calls.Meaning.{octets_of}
 use Rattle.bcder.proofs.Joining.{rest_size}
 use Rattle.bcder.proofs.Writing.{stops, follows_on, halts, lacks_more, same_octets}
 use Rattle.bcder.proofs.encode.values.parts.ChainParts.write_parts.Goals as goal

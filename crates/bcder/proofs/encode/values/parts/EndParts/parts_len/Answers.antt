@@ -1,5 +1,5 @@
 use Rattle.std.proofs.Common.{refl}
-use Rattle.bcder.specs.Joined.{nothing}
+use Rattle.bcder.specs.calls.Joined.{nothing}
 use Rattle.bcder.proofs.encode.values.parts.EndParts.parts_len.Goals as goal
 
 pub returns : goal.returns

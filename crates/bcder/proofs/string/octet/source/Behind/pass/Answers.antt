@@ -1,7 +1,7 @@
 use Rattle.std.proofs.Common.{drop, length, sym, ap, ◌∙◌, subst, arith}
 use Rattle.std.proofs.lemmas.List.{drop-drop, length-drop}
-use Rattle.bcder.specs.OctetString.{AreWithin, segments_at}
-use Rattle.bcder.specs.StringSource.{ToCome}
+use Rattle.bcder.specs.steps.SegmentTable.{AreWithin, segments_at}
+use Rattle.bcder.specs.calls.StringSource.{ToCome}
 use Rattle.bcder.proofs.StringSources.{AreWithin-drop, segments_at-drop, segments_at-length}
 use Rattle.bcder.proofs.string.octet.source.Behind.pass.Goals as goal
 

@@ -1,6 +1,6 @@
 use Rattle.std.proofs.Common.{List, ℕ, ◌≡◌, ◌++◌, [], length, append-nil, sym, ap, refl, ◌∙◌, subst, ◌<◌, ◌^◌, arith}
-use Rattle.bcder.specs.Identifier.{AreOctets}
-use Rattle.bcder.specs.StringSource.{InBlock}
+use Rattle.bcder.specs.x690.Identifier.{AreOctets}
+use Rattle.bcder.specs.calls.StringSource.{InBlock}
 use Rattle.bcder.proofs.string.octet.source.OctetStringSource.of_piece.Goals as goal
 
 pub invariant_of-result : goal.invariant_of-result

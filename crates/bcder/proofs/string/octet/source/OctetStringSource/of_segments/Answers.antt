@@ -1,8 +1,8 @@
 use Rattle.std.proofs.Common.{List, ℕ, ◌≡◌, ◌++◌, [], false, IsTrue, length, sym, ap, ◌∙◌, subst, ◌<◌, ◌^◌, arith}
 use Rattle.std.specs.List.{concat}
-use Rattle.bcder.specs.Identifier.{AreOctets}
-use Rattle.bcder.specs.OctetString.{segments_at}
-use Rattle.bcder.specs.StringSource.{InBlock, ToCome}
+use Rattle.bcder.specs.x690.Identifier.{AreOctets}
+use Rattle.bcder.specs.steps.SegmentTable.{segments_at}
+use Rattle.bcder.specs.calls.StringSource.{InBlock, ToCome}
 use Rattle.bcder.proofs.Parts.{parts_shorter}
 use Rattle.bcder.proofs.Segmenting.{parts_octets}
 use Rattle.bcder.proofs.string.octet.source.OctetStringSource.of_segments.Goals as goal

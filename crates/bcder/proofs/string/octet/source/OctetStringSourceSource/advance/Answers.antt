@@ -1,7 +1,7 @@
 use Rattle.std.proofs.Common.{List, ℕ, ◌++◌, ◌<◌, ◌^◌, length, sym, ap, subst, arith}
 use Rattle.std.proofs.lemmas.List.{length-drop}
-use Rattle.bcder.specs.Identifier.{AreOctets}
-use Rattle.bcder.specs.StringSource.{InBlock, StandsIn, all_behind}
+use Rattle.bcder.specs.x690.Identifier.{AreOctets}
+use Rattle.bcder.specs.calls.StringSource.{InBlock, StandsIn, all_behind}
 use Rattle.bcder.proofs.StringSources.{passed_octets, passed_fit}
 use Rattle.bcder.proofs.string.octet.source.OctetStringSourceSource.advance.Goals as goal
 

@@ -1,5 +1,5 @@
 use Rattle.std.proofs.Common.{ap, Err, inl}
-use Rattle.bcder.specs.OctetString.{octet_string_tag}
+use Rattle.bcder.specs.x690.OctetString.{octet_string_tag}
 use Rattle.bcder.proofs.Writing.{same_answer, lacks_more, lacked}
 use Rattle.bcder.proofs.Wrapping.{wrapped_inside}
 use Rattle.bcder.proofs.string.octet.wrapped.WrappingOctetStringEncoderValues.write_known.Goals as goal

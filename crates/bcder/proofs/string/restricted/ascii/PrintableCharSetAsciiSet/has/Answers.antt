@@ -1,6 +1,6 @@
 use Rattle.std.proofs.Common.{ℕ, refl, false, ◌∙◌, ap, slice_index_or, arith}
 use Rattle.std.proofs.lemmas.Bool.{agree_below_at}
-use Rattle.bcder.specs.AsciiSets.{is_printable}
+use Rattle.bcder.specs.x690.AsciiSets.{is_printable}
 use Rattle.bcder.specs.declared.string.restricted.ascii.TheConstants.{PRINTABLE}
 use Rattle.bcder.proofs.string.restricted.ascii.PrintableCharSetAsciiSet.has.Goals as goal
 

@@ -1,5 +1,5 @@
 use Rattle.std.proofs.Common.{◌↔◌, length}
-use Rattle.bcder.specs.CharSet.{Accepts}
+use Rattle.bcder.specs.x690.CharSet.{Accepts}
 use Rattle.bcder.proofs.string.restricted.char_set.CharSet.check.Given as goal
 
 -- what is left is a string of the set exactly where all octets are

@@ -1,7 +1,7 @@
 use Rattle.std.proofs.Common.{◌∷◌, [], ◌++◌, encode_utf8_all, ap, sym, ◌∙◌, append-nil, append_assoc, rules}
 use Rattle.std.proofs.Output.{has_written_append, has_written_of_eq}
-use Rattle.bcder.specs.Characters.{characters}
-use Rattle.bcder.specs.OctetString.{octets_of}
+use Rattle.bcder.specs.x690.Characters.{characters}
+use Rattle.bcder.specs.calls.StringOctets.{octets_of}
 use Rattle.bcder.proofs.Characters.{encoded_behind, characters_spelled}
 use Rattle.bcder.proofs.string.restricted.chars.RestrictedStringDisplay.fmt.Goals as goal
 

@@ -1,4 +1,4 @@
-use Rattle.bcder.specs.Utf8.{utf8_step}
+use Rattle.bcder.specs.x690.Utf8.{utf8_step}
 use Rattle.bcder.specs.laws.Utf8.{utf8_lawful, utf8_text}
 use Rattle.bcder.proofs.Characters.{text_accepted, text_lent}
 use Rattle.bcder.proofs.string.restricted.utf8.Utf8CharSetCharSet.as_text.Goals as goal

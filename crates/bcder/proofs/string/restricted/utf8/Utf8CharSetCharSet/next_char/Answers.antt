@@ -1,4 +1,4 @@
-use Rattle.bcder.specs.Utf8Leads.{of_lead}
+use Rattle.bcder.specs.steps.Utf8Leads.{of_lead}
 use Rattle.bcder.proofs.Utf8.{of_one, of_none, of_several, of_refused}
 use Rattle.bcder.proofs.string.restricted.utf8.Utf8CharSetCharSet.next_char.Goals as goal
 

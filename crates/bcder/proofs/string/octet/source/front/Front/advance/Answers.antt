@@ -1,6 +1,6 @@
 use Rattle.std.proofs.Common.{◌≤◌, ◌+◌, length, drop, sym, ap, ◌∙◌, arith}
 use Rattle.bytes.proofs.Ranges.{drop-slice_range}
-use Rattle.bcder.specs.StringSource.{InBlock}
+use Rattle.bcder.specs.calls.StringSource.{InBlock}
 use Rattle.bcder.proofs.StringSources.{range_length}
 use Rattle.bcder.proofs.string.octet.source.front.Front.advance.Goals as goal
 

@@ -1,6 +1,6 @@
 use Rattle.std.proofs.Common.{◌≤◌, ◌≡◌, ◌+◌, length, slice_range, sym, ap, ◌∙◌, arith}
 use Rattle.bytes.proofs.Ranges.{slice_range-slice_range}
-use Rattle.bcder.specs.StringSource.{InBlock}
+use Rattle.bcder.specs.calls.StringSource.{InBlock}
 use Rattle.bcder.proofs.StringSources.{range_length}
 use Rattle.bcder.proofs.string.octet.source.front.Front.slice.Goals as goal
 

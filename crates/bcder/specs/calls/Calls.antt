@@ -1,0 +1,217 @@
+-- What calls ask of a closure that is handed content, and what they say of it.
+use Rattle.std.specs.Prelude.{◌≡◌, ◌≢◌, ◌||◌, ℕ, ◌+◌, ◌-◌, ◌≤◌, Bool, true, false, List, ◌++◌, length, take, Option, Some, None, Result, Ok, Err, IfOk, IfErr, OnOk}
+use Rattle.std.specs.Borrow.{MutBor}
+use Rattle.bcder.specs.declared.mode.Mode.{Mode}
+use Rattle.bcder.specs.declared.length.Length.{Length}
+use Rattle.bcder.specs.declared.length.Length.TheVariants.{Definite, Indefinite}
+use Rattle.bcder.specs.declared.decode.content.State.TheVariants.{Open, Failed}
+use Rattle.bcder.specs.x690.Identifier.{Tag, IsValueTag}
+use Rattle.bcder.specs.x690.Tree.{Tree}
+use Rattle.bcder.specs.declared.decode.error.ContentError.{ContentError}
+use Rattle.bcder.specs.calls.Cause.{Cause, of_source, IsOfContent}
+use Rattle.bcder.specs.x690.Encoding.{IsHeader, IsEncoding, Header}
+use Rattle.bcder.specs.calls.Stream.{Stream, Grew}
+use Rattle.bcder.specs.calls.Content.{Reading, Form, Octets, DefiniteValues, IndefiniteValues, UnboundedValues, label, Moves, Advances, Asked, HasHeader, IsDone, EndsAt, NotAtEnd, NothingThere}
+
+-- ---- what a closure is handed
+
+-- the form of the content after a header
+abbrev pub IsFormOf : Bool → Length → Form → Type 0
+IsFormOf form Indefinite k = k ≡ IndefiniteValues
+IsFormOf false (Definite n) k = k ≡ Octets
+IsFormOf true (Definite n) k = k ≡ DefiniteValues
+
+-- what the content owes, and its octets: those that its length promises, or all that come
+abbrev pub ContentOf : Length → Option ℕ → List ℕ → Option ℕ → List ℕ → Type 0
+ContentOf Indefinite owed after o rest = (o ≡ owed) × (rest ≡ after)
+ContentOf (Definite n) owed after o rest = (o ≡ Some n) × (rest ≡ take n after)
+
+-- the content of a header, which stands in front of these octets, of which so many are owed
+pub record Hands (m : Mode) (f : Bool) (len : Length) (owed : Option ℕ) (after : List ℕ) (i : Reading) : Type 0 where
+  pub state : i.state ≡ Open
+  pub mode : i.mode ≡ m
+  pub marked : i.marked ≡ false
+  pub form : IsFormOf f len i.kind
+  pub octets : ContentOf len owed after i.owed i.stream.rest
+
+-- content over a stream, as it is handed to a closure
+pub record IsOver (s : Stream) (o : Option ℕ) (k : Form) (m : Mode) (i : Reading) : Type 0 where
+  pub stream : i.stream ≡ s
+  pub owed : i.owed ≡ o
+  pub kind : i.kind ≡ k
+  pub state : i.state ≡ Open
+  pub mode : i.mode ≡ m
+  pub marked : i.marked ≡ false
+
+-- content that can be handed, at the tag t, inside content c: that of a header which stands in front
+pub record IsInside (asked : Asked) (c : Reading) (t : Tag) (i : Reading) : Type 0 where
+  pub after : List ℕ
+  pub front : HasHeader asked c after
+  pub is : t ≡ front.tag
+  pub hands : Hands c.mode front.form front.len front.owed after i
+  -- it follows that the tag is one of a value, and that the content is open, unmarked, in the mode of c, not at top level and shorter
+  pub is_value_tag : IsValueTag t
+  pub state : i.state ≡ Open
+  pub mode : i.mode ≡ c.mode
+  pub marked : i.marked ≡ false
+  pub bounded : i.kind ≢ UnboundedValues
+  pub shorter : length i.stream.rest + 2 ≤ length c.stream.rest
+
+-- ---- what is asked of a closure of a tag and content, and of one of content alone
+
+module _ {C : Type 0} (view : C → Reading) (Handed : Tag → Reading → Type 0) where
+  -- the closure may be called at any tag and content that it can be handed
+  abbrev pub MayBeCalled : (Tag → MutBor C → Type 0) → Type 0
+  MayBeCalled pre = (t : Tag) (p : MutBor C) → Handed t (view p.now) → pre t p
+
+module _ {C : Type 0} (view : C → Reading) (Handed : Reading → Type 0) where
+  -- the same at one tag
+  abbrev pub MayBeCalledAt : Tag → (Tag → MutBor C → Type 0) → Type 0
+  MayBeCalledAt t pre = (p : MutBor C) → Handed (view p.now) → pre t p
+
+  -- the same without a tag
+  abbrev pub MayBeCalledOn : (MutBor C → Type 0) → Type 0
+  MayBeCalledOn pre = (p : MutBor C) → Handed (view p.now) → pre p
+
+module _ {C R : Type 0} (view : C → Reading) (Handed : Tag → Reading → Type 0) where
+  -- and what it leaves is where it moved that content to
+  abbrev pub IsLawful : (Tag → MutBor C → R → MutBor C → Type 0) → Type 0
+  IsLawful post = (t : Tag) (p : MutBor C) (r : R) (q : MutBor C) → Handed t (view p.now) → post t p r q → Moves (view p.now) (view q.now)
+
+module _ {C R : Type 0} (view : C → Reading) (Handed : Reading → Type 0) where
+  abbrev pub IsLawfulAt : Tag → (Tag → MutBor C → R → MutBor C → Type 0) → Type 0
+  IsLawfulAt t post = (p : MutBor C) (r : R) (q : MutBor C) → Handed (view p.now) → post t p r q → Moves (view p.now) (view q.now)
+
+  abbrev pub IsLawfulOn : (MutBor C → R → MutBor C → Type 0) → Type 0
+  IsLawfulOn post = (p : MutBor C) (r : R) (q : MutBor C) → Handed (view p.now) → post p r q → Moves (view p.now) (view q.now)
+
+-- what a closure of content alone does, whatever the tag
+abbrev pub Untagged : {A B R : Type 0} → (A → R → B → Type 0) → Tag → A → R → B → Type 0
+Untagged post t p r q = post p r q
+
+-- ---- what a closure did
+
+module _ {C R : Type 0} (view : C → Reading) where
+  -- handed content i, it answered r and left content j
+  pub record Answered (post : Tag → MutBor C → R → MutBor C → Type 0) (t : Tag) (i : Reading) (r : R) (j : Reading) : Type 0 where
+    pub handed : MutBor C
+    pub left : MutBor C
+    pub handed_is : view handed.now ≡ i
+    pub left_is : view left.now ≡ j
+    pub called : post t handed r left
+
+  -- and so it did, and what it left is at its end once a marker there is taken, as j
+  pub record AnswersDone (post : Tag → MutBor C → R → MutBor C → Type 0) (t : Tag) (i : Reading) (r : R) (j : Reading) : Type 0 where
+    pub left : Reading
+    pub answered : Answered post t i r left
+    pub finishes : Moves left j
+    pub marked : j.marked ≡ left.marked
+    pub no_fault : j.stream.faults ≡ left.stream.faults
+    pub ends : EndsAt left j
+    pub done : IsDone j
+
+-- why content was not left at its end, and e was answered; `why` tells its cause
+pub data RefusesEnd {E : Type 0} (why : E → Cause ContentError) (c : Reading) (e : E) (d : Reading) : Type 0 where
+  left_failed : c.state ≡ Failed → IsOfContent (why e) → RefusesEnd why c e d
+  source_failed : why e ≡ of_source → Grew c.stream.faults d.stream.faults → RefusesEnd why c e d
+  left_open : NotAtEnd c → IsOfContent (why e) → RefusesEnd why c e d
+
+-- why the content i of a value was refused with e, whose cause `why` tells, and left as j: the closure refused it, or what the closure left is not at its end
+pub data RefusesContent {C T E : Type 0} (why : E → Cause ContentError) (view : C → Reading) (post : Tag → MutBor C → Result T E → MutBor C → Type 0) (t : Tag) (i : Reading) (e : E) (j : Reading) : Type 0 where
+  by_closure : Answered {R = Result T E} view post t i (Err e) j → RefusesContent why view post t i e j
+  unfinished : (x : T) (left : Reading) → Answered {R = Result T E} view post t i (Ok x) left → Moves left j → j.marked ≡ left.marked → RefusesEnd why left e j → RefusesContent why view post t i e j
+
+-- ---- a value that was taken, or not
+
+module _ {C T E : Type 0} (view : C → Reading) (post : Tag → MutBor C → Result T E → MutBor C → Type 0) where
+  -- a value was taken: its header stood in front, and the closure answered x for its content and left that at its end
+  pub record TakesValue (asked : Asked) (c : Reading) (x : T) (d : Reading) : Type 0 where
+    pub usable : c.state ≡ Open
+    pub passed : List ℕ
+    pub front : HasHeader asked c (passed ++ d.stream.rest)
+    pub handed : Reading
+    pub left : Reading
+    pub hands : Hands c.mode front.form front.len front.owed (passed ++ d.stream.rest) handed
+    pub answers : AnswersDone {R = Result T E} view post front.tag handed (Ok x) left
+    pub tree : Tree
+    pub encodes : IsEncoding (label c.mode left.marked) tree (front.octets ++ passed)
+    pub follows : front.len ≡ Indefinite → d.stream.rest ≡ left.stream.rest
+    pub faults_handed : handed.stream.faults ≡ c.stream.faults
+    pub faults_left : left.stream.faults ≡ d.stream.faults
+    pub stays : d.state ≡ Open
+    pub marked : d.marked ≡ (c.marked || left.marked)
+
+-- a header stands in front whose content was refused
+pub record RefusesFront {C T E : Type 0} (why : E → Cause ContentError) (view : C → Reading) (post : Tag → MutBor C → Result T E → MutBor C → Type 0) (asked : Asked) (c : Reading) (e : E) (d : Reading) : Type 0 where
+  pub usable : c.state ≡ Open
+  pub after : List ℕ
+  pub front : HasHeader asked c after
+  pub handed : Reading
+  pub left : Reading
+  pub hands : Hands c.mode front.form front.len front.owed after handed
+  pub moves : Moves handed left
+  pub faults_handed : handed.stream.faults ≡ c.stream.faults
+  pub faults_left : left.stream.faults ≡ d.stream.faults
+  pub marked : d.marked ≡ (c.marked || left.marked)
+  pub refuses : RefusesContent why view post front.tag handed e left
+
+-- why no value was taken from c, and e was answered; `why` tells its cause
+pub data RefusesValue {C T E : Type 0} (why : E → Cause ContentError) (view : C → Reading) (post : Tag → MutBor C → Result T E → MutBor C → Type 0) (asked : Asked) (c : Reading) (e : E) (d : Reading) : Type 0 where
+  failed : c.state ≡ Failed → IsOfContent (why e) → RefusesValue why view post asked c e d
+  source : why e ≡ of_source → Grew c.stream.faults d.stream.faults → RefusesValue why view post asked c e d
+  nothing : NothingThere asked c → IsOfContent (why e) → RefusesValue why view post asked c e d
+  content : RefusesFront why view post asked c e d → RefusesValue why view post asked c e d
+
+-- a header of another form stands in front
+pub record HasForm (f : Bool) (asked : Asked) (c : Reading) : Type 0 where
+  pub usable : c.state ≡ Open
+  pub after : List ℕ
+  pub front : HasHeader asked c after
+  pub is : front.form ≡ f
+
+-- ---- the steps inside a take
+
+-- content was handed over a source, and this is what was left of it
+pub record RunsOver (s : Stream) (o : Option ℕ) (k : Form) (m : Mode) (handed left : Reading) (s' : Stream) (o' : Option ℕ) : Type 0 where
+  pub stream : handed.stream ≡ s
+  pub owed : handed.owed ≡ o
+  pub kind : handed.kind ≡ k
+  pub state : handed.state ≡ Open
+  pub mode : handed.mode ≡ m
+  pub marked : handed.marked ≡ false
+  pub left_stream : left.stream ≡ s'
+  pub left_owed : left.owed ≡ o'
+  pub moves : Moves handed left
+
+module _ {C T E : Type 0} (why : E → Cause ContentError) (view : C → Reading) (post : Tag → MutBor C → Result T E → MutBor C → Type 0) where
+  -- a closure ran on content over a source
+  pub record RanOver (s : Stream) (o : Option ℕ) (k : Form) (m : Mode) (t : Tag) (r : Result T E) (mark : Bool) (s' : Stream) (o' : Option ℕ) : Type 0 where
+    pub handed : Reading
+    pub left : Reading
+    pub runs : RunsOver s o k m handed left s' o'
+    pub marks : left.marked ≡ mark
+    pub answers : IfOk r (λ x. AnswersDone {R = Result T E} view post t handed (Ok x) left)
+    pub refuses : IfErr r (λ e. RefusesContent why view post t handed e left)
+
+  -- the content of a header was taken
+  pub record TakesContent (c : Reading) (h : Header) (r : Result T E) (d : Reading) : Type 0 where
+    pub passed : List ℕ
+    pub advances : Advances c d passed
+    pub state : d.state ≡ c.state
+    pub handed : Reading
+    pub left : Reading
+    pub marked : d.marked ≡ (c.marked || left.marked)
+    pub encodes : OnOk r ((octets : List ℕ) → IsHeader c.mode h.tag h.form h.len octets → (tree : Tree) × IsEncoding (label c.mode left.marked) tree (octets ++ passed))
+    pub hands : Hands c.mode h.form h.len c.owed c.stream.rest handed
+    pub moves : Moves handed left
+    pub follows : h.len ≡ Indefinite → d.stream.rest ≡ left.stream.rest
+    pub faults_handed : handed.stream.faults ≡ c.stream.faults
+    pub faults_left : left.stream.faults ≡ d.stream.faults
+    pub answers : IfOk r (λ x. AnswersDone {R = Result T E} view post h.tag handed (Ok x) left)
+    pub refuses : IfErr r (λ e. RefusesContent why view post h.tag handed e left)
+
+-- the limit after a value of n octets, of which some are left
+abbrev pub popped : Option ℕ → ℕ → Option ℕ → Option ℕ
+popped (Some outer) n (Some left) = Some (outer - (n - left))
+popped (Some outer) n None = None
+popped None n o = None

@@ -1,0 +1,114 @@
+-- When the next value, and all values up to the end of content, are captured.
+use Rattle.std.specs.Prelude.{◌≡◌, ℕ, List, [], ◌++◌, Result, IsOkAnd, IsErrAnd, IfOk, IfErr, OnOk, OnErr, IsOk}
+use Rattle.std.specs.Borrow.{MutBor}
+use denote.Triple.Both.{Both}
+use Rattle.bcder.specs.declared.decode.content.Constructed.{Constructed}
+use Rattle.bcder.specs.declared.decode.content.State.TheVariants.{Open, Ended, Failed}
+use Rattle.bcder.specs.declared.decode.error.DecodeError.{DecodeError}
+use Rattle.bcder.specs.calls.Cause.{cause_of, of_source, of_memory, IsRefusal}
+use Rattle.bcder.specs.x690.Tree.{Tree}
+use Rattle.bcder.specs.x690.Grammar.{IsOnly}
+use Rattle.bcder.specs.calls.Stream.{Stream, Grew}
+use Rattle.bcder.specs.calls.Captured.{Kept, AreWhole}
+use Rattle.bcder.specs.calls.Content.{Reading, Closes, IsDone}
+use Rattle.bcder.specs.calls.Walking.{HasValue, PassesValue, ClosesBefore, HasValues}
+use Rattle.bcder.specs.calls.Views.{before, after}
+
+-- ---- what both leave
+
+-- nothing of content was taken, and its state is as it was
+pub record IsAsBefore (c d : Reading) : Type 0 where
+  pub rest : d.stream.rest ≡ c.stream.rest
+  pub owed : d.owed ≡ c.owed
+  pub state : d.state ≡ c.state
+
+-- why e was answered of content c: an earlier value was refused, the source failed, c has none of what is asked for, or there was no memory
+pub data RefusesWhere {X : Type 0} (HasNone : Type 0) (c : Reading) (e : DecodeError X) (d : Reading) : Type 0 where
+  failed : c.state ≡ Failed → IsRefusal e → RefusesWhere HasNone c e d
+  source : cause_of e ≡ of_source → Grew c.stream.faults d.stream.faults → RefusesWhere HasNone c e d
+  nothing : HasNone → IsRefusal e → RefusesWhere HasNone c e d
+  memory : cause_of e ≡ of_memory → RefusesWhere HasNone c e d
+
+-- there was no memory
+abbrev pub WantsMemory : {T X : Type 0} → Result T (DecodeError X) → Type 0
+WantsMemory r = IsErrAnd r (λ e. cause_of e ≡ of_memory)
+
+-- octets were captured, of which Q tells, or not, as where there is none of what is asked for
+pub record CapturesBy {X : Type 0} (Q : Reading → Kept → Reading → Type 0) (HasNone : Reading → Type 0) (c : Reading) (r : Result Kept (DecodeError X)) (d : Reading) : Type 0 where
+  pub captured : IfOk r (λ k. Q c k d)
+  pub no_fault : OnOk r (d.stream.faults ≡ c.stream.faults)
+  pub refused : IfErr r (λ e. RefusesWhere (HasNone c) c e d)
+  pub as_before : OnErr r (IsAsBefore c d)
+  pub mode : d.mode ≡ c.mode
+  pub marked : d.marked ≡ c.marked
+
+-- the step that is captured: it passed what is asked for, or refused
+pub record PassesBy {T X : Type 0} (Q : Reading → Reading → Type 0) (HasNone : Reading → Type 0) (c : Reading) (r : Result T (DecodeError X)) (d : Reading) : Type 0 where
+  pub passed : OnOk r (Q c d)
+  pub no_fault : OnOk r (d.stream.faults ≡ c.stream.faults)
+  pub refused : IfErr r (λ e. RefusesWhere (HasNone c) c e d)
+  pub marked : d.marked ≡ c.marked
+
+-- ---- one value
+
+-- no value stands in front of open content
+pub record HasNoValue (c : Reading) : Type 0 where
+  pub none : (t : Tree) (w after : List ℕ) → HasValue c t w after → ⊥
+
+-- the octets k are the one value that stands in front of c, and d is left behind it
+pub record CapturesValue (c : Reading) (k : Kept) (d : Reading) : Type 0 where
+  pub tree : Tree
+  pub has : HasValue c tree k.octets d.stream.rest
+  pub only : IsOnly c.mode tree k.octets c.stream.rest
+  pub mode : k.mode ≡ c.mode
+  pub start : k.start ≡ c.stream.position
+  pub stays : d.state ≡ Open
+
+-- ---- all values
+
+-- the rest of open content up to its end is no encodings
+pub record HasOthers (c : Reading) : Type 0 where
+  pub usable : c.state ≡ Open
+  pub none : HasValues c → ⊥
+
+-- the octets k are all values up to the end of c, and d is at that end, its marker taken
+pub record CapturesValues (c : Reading) (k : Kept) (d : Reading) : Type 0 where
+  pub whole : AreWhole c.mode k.octets
+  pub close : List ℕ
+  pub rest : c.stream.rest ≡ k.octets ++ (close ++ d.stream.rest)
+  pub closes : Closes c.mode c close d
+  pub are_all : c.state ≡ Open → ClosesBefore c.kind c.mode c.owed k.octets (close ++ d.stream.rest)
+  pub are_none : c.state ≡ Ended → k.octets ≡ []
+  pub done : IsDone d
+  pub mode : k.mode ≡ c.mode
+  pub start : k.start ≡ c.stream.position
+
+-- content was passed to its end, whose marker was taken
+abbrev pub PassesToEnd : Reading → Reading → Type 0
+PassesToEnd c d = IsDone d
+
+-- ---- the same of a parameter as a whole
+
+module _ {S : Type 0} (stream : S → Stream) (c : Both (MutBor (Constructed S)) (MutBor (Constructed S))) where
+  module _ {X : Type 0} (r : Result Kept (DecodeError X)) where
+    -- the next value was captured, or why it wasn't
+    abbrev pub CapturedOne : Type 0
+    CapturedOne = CapturesBy CapturesValue HasNoValue (before stream c) r (after stream c)
+
+    -- unless the source failed or memory was wanted, it is captured where one stands in front
+    abbrev pub ExactlyOne : Type 0
+    ExactlyOne = (Grew (before stream c).stream.faults (after stream c).stream.faults → ⊥) → (WantsMemory r → ⊥) → (t : Tree) (w after : List ℕ) → HasValue (before stream c) t w after → IsOkAnd r (λ k. k.octets ≡ w)
+
+    -- all values were captured, or why they weren't
+    abbrev pub CapturedAll : Type 0
+    CapturedAll = CapturesBy CapturesValues HasOthers (before stream c) r (after stream c)
+
+    -- unless the source failed or memory was wanted, they are captured where the rest up to the end is encodings, and where the content has ended
+    abbrev pub ExactlyAll : Type 0
+    ExactlyAll = (Grew (before stream c).stream.faults (after stream c).stream.faults → ⊥) → (WantsMemory r → ⊥) → (HasValues (before stream c) → (before stream c).state ≡ Open → IsOk r) × ((before stream c).state ≡ Ended → IsOk r)
+
+  abbrev pub PassedOne : {T X : Type 0} → Result T (DecodeError X) → Type 0
+  PassedOne r = PassesBy PassesValue HasNoValue (before stream c) r (after stream c)
+
+  abbrev pub PassedAll : {T X : Type 0} → Result T (DecodeError X) → Type 0
+  PassedAll r = PassesBy PassesToEnd HasOthers (before stream c) r (after stream c)

@@ -1,0 +1,262 @@
+-- Content as clauses see it: octets, numbers and marks, whatever source lies below.
+use Rattle.std.specs.Prelude.{◌≡◌, ◌≢◌, ◌⊎◌, ℕ, ◌+◌, ◌≤◌, Bool, true, false, List, [], ◌++◌, length, Option, Some, None}
+use Rattle.std.specs.Borrow.{GName}
+use Rattle.bcder.specs.declared.mode.Mode.{Mode}
+use Rattle.bcder.specs.declared.mode.Mode.TheVariants.{Ber}
+use Rattle.bcder.specs.declared.length.Length.{Length}
+use Rattle.bcder.specs.declared.length.Length.TheVariants.{Definite, Indefinite}
+use Rattle.bcder.specs.declared.decode.content.Kind.{Kind}
+use Rattle.bcder.specs.declared.decode.content.Kind.TheVariants as kind
+use Rattle.bcder.specs.declared.decode.content.State.{State}
+use Rattle.bcder.specs.declared.decode.content.State.TheVariants.{Open, Ended, Failed}
+use Rattle.bcder.specs.x690.Identifier.{Tag, IsTag, identifier, end_of_contents, is_value_tag}
+use Rattle.bcder.specs.x690.Length.{IsEndOfContents}
+use Rattle.bcder.specs.x690.Tree.{Trees}
+use Rattle.bcder.specs.x690.Encoding.{may_have, IsHeader, AreEncodings, Header}
+use Rattle.bcder.specs.calls.Stream.{Stream, Grew}
+use Rattle.bcder.specs.declared.decode.error.ContentError.{ContentError}
+use Rattle.bcder.specs.calls.Cause.{Cause, of_source, IsOfContent}
+
+-- what content is made of: octets, or values whose end is known in one of three ways
+pub data Form : Type 0 where
+  octets : Form
+  values : Kind → Form
+
+abbrev pub Octets : Form
+Octets = octets
+
+abbrev pub DefiniteValues : Form
+DefiniteValues = values kind.Definite
+
+abbrev pub IndefiniteValues : Form
+IndefiniteValues = values kind.Indefinite
+
+abbrev pub UnboundedValues : Form
+UnboundedValues = values kind.Unbounded
+
+pub record Reading : Type 0 where
+  -- the source, up to the limit of this content
+  pub stream : Stream
+  -- how many octets are owed up to the nearest limit, if there is one
+  pub owed : Option ℕ
+  pub kind : Form
+  pub state : State
+  pub mode : Mode
+  -- whether a mode was changed in this content or inside it
+  pub marked : Bool
+  -- the borrow that the content holds
+  pub name : GName
+
+-- ---- how content changes
+
+-- the mode of what was passed: BER where a mode was changed
+abbrev pub label : Mode → Bool → Mode
+label mode false = mode
+label mode true = Ber
+
+-- what is owed falls by the number of octets passed
+abbrev pub Falls : Option ℕ → ℕ → Option ℕ → Type 0
+Falls (Some m) k (Some n) = m ≡ k + n
+Falls None k None = k ≡ k
+Falls (Some m) k None = m ≢ m
+Falls None k (Some n) = n ≢ n
+
+-- what ends content by the octets e: nothing, or the end marker of indefinite content
+abbrev pub Closes : Mode → Reading → List ℕ → Reading → Type 0
+Closes mode c e d = (e ≡ []) × (d.state ≡ c.state) ⊎ IsEndOfContents mode e × (c.kind ≡ IndefiniteValues) × (c.state ≡ Open) × (d.state ≡ Ended)
+
+-- the octets passed are whole values in a mode, and perhaps the end marker
+pub record Whole (mode : Mode) (c : Reading) (passed : List ℕ) (d : Reading) : Type 0 where
+  pub trees : Trees
+  pub values : List ℕ
+  pub close : List ℕ
+  pub split : passed ≡ values ++ close
+  pub encodes : AreEncodings mode trees values
+  pub closes : Closes mode c close d
+
+pub record MovesBy (c d : Reading) : Type 0 where
+  pub passed : List ℕ
+  pub rest : c.stream.rest ≡ passed ++ d.stream.rest
+  pub owed : Falls c.owed (length passed) d.owed
+  pub kept : d.stream.kept ≡ c.stream.kept
+  pub kind : d.kind ≡ c.kind
+  pub mode : d.marked ≡ false → d.mode ≡ c.mode
+  pub name : d.name ≡ c.name
+  pub faults : c.stream.faults ≤ d.stream.faults
+  pub ended : c.state ≡ Ended → (d.state ≡ Ended) × (passed ≡ [])
+  pub failed : c.state ≡ Failed → d.state ≡ Failed
+  pub marked : c.marked ≡ true → d.marked ≡ true
+  pub ends : d.state ≡ Ended → (c.state ≡ Ended) ⊎ (c.kind ≡ IndefiniteValues)
+  pub whole : d.state ≢ Failed → c.kind ≢ Octets → Whole (label c.mode d.marked) c passed d
+
+-- content c became content d by lawful steps: the one relation of all content calls and closures
+unfoldable pub Moves : Reading → Reading → Type 0
+Moves c d = MovesBy c d
+
+-- whatever moved to c moves to d: steps in a row chain by themselves
+abbrev pub Carries : Reading → Reading → Type 0
+Carries c d = (b : Reading) → Moves b c → Moves b d
+
+-- octets were passed, and neither the kind nor the mode changed
+pub record Advances (c d : Reading) (passed : List ℕ) : Type 0 where
+  pub rest : c.stream.rest ≡ passed ++ d.stream.rest
+  pub owed : Falls c.owed (length passed) d.owed
+  pub kept : d.stream.kept ≡ c.stream.kept
+  pub faults : c.stream.faults ≤ d.stream.faults
+  pub kind : d.kind ≡ c.kind
+  pub mode : d.mode ≡ c.mode
+  pub name : d.name ≡ c.name
+
+-- ---- what stands in front
+
+-- whether a value of any tag is looked for, or one of this tag
+pub data Asked : Type 0 where
+  any : Asked
+  tagged : Tag → Asked
+
+abbrev pub IsAsked : Asked → Tag → Type 0
+IsAsked any t = t ≡ t
+IsAsked (tagged u) t = t ≡ u
+
+-- the octets that a length promises are owed
+abbrev pub FitsOwed : Length → Option ℕ → Type 0
+FitsOwed (Definite n) (Some o) = n ≤ o
+FitsOwed (Definite n) None = n ≡ n
+FitsOwed Indefinite o = o ≡ o
+
+-- the header of a value stands in front, which the mode allows, with a length that fits into what is owed
+pub record HasHeader (asked : Asked) (c : Reading) (after : List ℕ) : Type 0 where
+  pub tag : Tag
+  pub form : Bool
+  pub len : Length
+  pub octets : List ℕ
+  pub is_header : IsHeader c.mode tag form len octets
+  pub is_asked : IsAsked asked tag
+  pub rest : c.stream.rest ≡ octets ++ after
+  pub owed : Option ℕ
+  pub falls : Falls c.owed (length octets) owed
+  pub fits : FitsOwed len owed
+
+-- an end marker stands in front
+pub record HasMarker (mode : Mode) (w after : List ℕ) : Type 0 where
+  pub marker : List ℕ
+  pub is_end : IsEndOfContents mode marker
+  pub rest : w ≡ marker ++ after
+
+-- the identifier octets of another tag stand in front
+pub record HasOther (t : Tag) (w : List ℕ) : Type 0 where
+  pub tag : Tag
+  pub form : Bool
+  pub after : List ℕ
+  pub is_tag : IsTag tag
+  pub differs : tag ≢ t
+  pub rest : w ≡ identifier tag form ++ after
+
+-- ---- the end
+
+-- the octets of open content are used up: none is owed, or without a limit none is left
+abbrev pub IsUsedUp : Form → Option ℕ → List ℕ → Type 0
+IsUsedUp octets o rest = o ≡ Some 0
+IsUsedUp (values kind.Definite) o rest = o ≡ Some 0
+IsUsedUp (values kind.Indefinite) o rest = ⊥
+IsUsedUp (values kind.Unbounded) o rest = rest ≡ []
+
+-- content is at its end, its marker taken, and has no more octets
+abbrev pub IsDone : Reading → Type 0
+IsDone c = (c.state ≡ Ended) ⊎ (c.state ≡ Open) × IsUsedUp c.kind c.owed c.stream.rest
+
+-- the end of open content, after which these octets stand
+pub data IsAtEnd (c : Reading) (after : List ℕ) : Type 0 where
+  of_octets : c.kind ≡ Octets → c.owed ≡ Some 0 → IsAtEnd c after
+  of_definite : c.kind ≡ DefiniteValues → c.owed ≡ Some 0 → IsAtEnd c after
+  of_indefinite : c.kind ≡ IndefiniteValues → HasMarker c.mode c.stream.rest after → IsAtEnd c after
+  of_unbounded : c.kind ≡ UnboundedValues → c.stream.rest ≡ [] → IsAtEnd c after
+
+-- content is at its end, after which these octets stand
+abbrev pub EndsBefore : Reading → List ℕ → Type 0
+EndsBefore c after = (c.state ≡ Ended) ⊎ (c.state ≡ Open) × IsAtEnd c after
+
+-- content c was at its end, and d is what is left of it
+abbrev pub EndsAt : Reading → Reading → Type 0
+EndsAt c d = EndsBefore c d.stream.rest
+
+-- content is not at its end
+pub record NotAtEnd (c : Reading) : Type 0 where
+  pub none : (after : List ℕ) → EndsBefore c after → ⊥
+
+-- why a tag is not in front of open content, and the octets left: none came, those of another tag, or the end marker where it was asked for
+pub data IsElsewhere (t : Tag) (c : Reading) (after : List ℕ) : Type 0 where
+  none_left : c.stream.rest ≡ [] → after ≡ [] → IsElsewhere t c after
+  other : HasOther t c.stream.rest → after ≡ c.stream.rest → IsElsewhere t c after
+  marker : t ≡ end_of_contents → c.kind ≡ IndefiniteValues → HasMarker c.mode c.stream.rest after → IsElsewhere t c after
+
+-- no value that is asked for is there, and these octets are left
+abbrev pub IsAbsent : Asked → Reading → List ℕ → Type 0
+IsAbsent any c after = EndsBefore c after
+IsAbsent (tagged t) c after = (c.state ≡ Ended) × (after ≡ c.stream.rest) ⊎ (c.state ≡ Open) × IsElsewhere t c after
+
+-- content as it is left where no value of a tag is there: as it was, or ended by its marker
+abbrev pub IsLeft : Tag → Reading → Reading → Type 0
+IsLeft t c d = (d.state ≡ c.state) × (d.stream.rest ≡ c.stream.rest) ⊎ (t ≡ end_of_contents) × (c.state ≡ Open) × (d.state ≡ Ended)
+
+-- no value that is asked for is there, and content is usable
+abbrev pub IsMissing : Asked → Reading → Reading → Type 0
+IsMissing any c d = EndsAt c d × IsDone d
+IsMissing (tagged t) c d = IsAbsent (tagged t) c d.stream.rest × IsLeft t c d
+
+-- neither a value that is asked for nor a reason to answer that there is none
+pub record NothingThere (asked : Asked) (c : Reading) : Type 0 where
+  pub usable : c.state ≡ Open
+  pub header : (after : List ℕ) → HasHeader asked c after → ⊥
+  pub absent : (after : List ℕ) → IsAbsent asked c after → ⊥
+
+-- ---- a header that was read
+
+-- what is read at an end marker
+abbrev pub end_header : Header
+end_header = record { tag = end_of_contents; form = false; len = Definite 0 }
+
+-- a header that the mode allows, with a length that fits into what is owed
+abbrev pub Accepts : Mode → Header → Option ℕ → Type 0
+Accepts mode h o = (is_value_tag h.tag ≡ true) × (may_have mode h.form h.len ≡ true) × FitsOwed h.len o
+
+-- the header of a value was passed without a fault of the source, and content is failed until the value is taken
+pub record Enters (c : Reading) (h : Header) (d : Reading) : Type 0 where
+  pub octets : List ℕ
+  pub is_header : IsHeader c.mode h.tag h.form h.len octets
+  pub advances : Advances c d octets
+  pub no_fault : d.stream.faults ≡ c.stream.faults
+  pub unmarked : d.marked ≡ c.marked
+  pub usable : c.state ≡ Open
+  pub opened : d.state ≡ Failed
+  pub fits : FitsOwed h.len d.owed
+
+-- an end marker was taken
+pub record TakesMarker (c d : Reading) : Type 0 where
+  pub usable : c.state ≡ Open
+  pub kind : c.kind ≡ IndefiniteValues
+  pub marker : HasMarker c.mode c.stream.rest d.stream.rest
+  pub ended : d.state ≡ Ended
+
+-- octets stand in front that are neither the header of a value nor an end marker
+pub record NoFront (c : Reading) : Type 0 where
+  pub some : c.stream.rest ≢ []
+  pub header : (asked : Asked) (after : List ℕ) → HasHeader asked c after → ⊥
+  pub marker : c.kind ≡ IndefiniteValues → (after : List ℕ) → HasMarker c.mode c.stream.rest after → ⊥
+
+-- the same content, over a source that gives the same octets
+pub record Resembles (c d : Reading) : Type 0 where
+  pub rest : d.stream.rest ≡ c.stream.rest
+  pub kept : d.stream.kept ≡ c.stream.kept
+  pub owed : d.owed ≡ c.owed
+  pub kind : d.kind ≡ c.kind
+  pub state : d.state ≡ c.state
+  pub mode : d.mode ≡ c.mode
+  pub marked : d.marked ≡ c.marked
+  pub name : d.name ≡ c.name
+
+-- why no header was passed, and e was answered; `why` tells its cause
+pub data RefusesHeader {E : Type 0} (why : E → Cause ContentError) (asked : Asked) (c : Reading) (e : E) (d : Reading) : Type 0 where
+  failed : c.state ≡ Failed → IsOfContent (why e) → RefusesHeader why asked c e d
+  source : why e ≡ of_source → Grew c.stream.faults d.stream.faults → RefusesHeader why asked c e d
+  nothing : NothingThere asked c → IsOfContent (why e) → RefusesHeader why asked c e d

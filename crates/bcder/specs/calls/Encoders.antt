@@ -1,0 +1,145 @@
+-- What the calls of encoders answer, by what these mean.
+use Rattle.std.specs.Prelude.{◌≡◌, ◌≢◌, ℕ, Bool, true, false, List, length, Result, Ok, Err, Option, None, Some, ◌⊎◌, ◌^◌, ◌<◌, ◌≤◌, ⊤}
+use Rattle.std.specs.Borrow.{MutBor}
+use Rattle.std.specs.Io.KnownBytes.{Appends, Keeps}
+use denote.Triple.Both.{Both}
+use Rattle.bcder.specs.declared.encode.error.EncodeError.{EncodeError}
+use Rattle.bcder.specs.declared.encode.error.EncodeError.TheVariants.{NoMemory, EndOfValueTag, LengthTooLarge}
+use Rattle.bcder.specs.declared.encode.error.WriteError.{WriteError}
+use Rattle.bcder.specs.declared.encode.error.WriteError.TheVariants.{Refused, Target}
+use Rattle.bcder.specs.declared.encode.slot.Failed.{Failed}
+use Rattle.bcder.specs.declared.length.Length.{Length}
+use Rattle.bcder.specs.declared.length.Length.TheVariants.{Definite}
+use Rattle.bcder.specs.x690.Identifier.{Tag, IsValueTag, end_of_contents}
+use Rattle.bcder.specs.x690.Octets.{header, definite, length_octets, fits_length}
+use Rattle.bcder.specs.calls.Meaning.{Encoded, Meaning, ContentsMeaning, IsOne, octets_of}
+use Rattle.bcder.specs.calls.Target.{AppendsFront, AppendsShorter}
+
+-- ---- refusals and sizes
+
+-- e is the refusal that is meant, or want of memory where memory may lack
+pub record RefusesBy {A : Type 0} (M : Result A EncodeError → Type 0) (lacks : Type 0) (e : EncodeError) : Type 0 where
+  pub meant : e ≢ NoMemory → M (Err e)
+  pub lacking : e ≡ NoMemory → lacks
+
+-- r is the size of what is meant, or its refusal
+abbrev pub TellsSize : {A : Type 0} → (A → List ℕ) → (Result A EncodeError → Type 0) → Type 0 → Result ℕ EncodeError → Type 0
+TellsSize octets M lacks (Ok n) = (a : _) × M (Ok a) × (n ≡ length (octets a))
+TellsSize octets M lacks (Err e) = RefusesBy M lacks e
+
+abbrev pub SizeOfValues : (Meaning → Type 0) → Type 0 → Result ℕ EncodeError → Type 0
+SizeOfValues M lacks r = TellsSize octets_of M lacks r
+
+abbrev pub SizeOfContents : (ContentsMeaning → Type 0) → Type 0 → Result ℕ EncodeError → Type 0
+SizeOfContents M lacks r = TellsSize (λ w. w) M lacks r
+
+-- n contents octets are meant
+abbrev pub HasContents : (ContentsMeaning → Type 0) → ℕ → Type 0
+HasContents M n = (w : List ℕ) × M (Ok w) × (n ≡ length w)
+
+-- r is the sum of the sizes of what is meant, where it fits `usize`, or the refusal
+abbrev pub TellsSum : (Meaning → Type 0) → Type 0 → Result (Option ℕ) EncodeError → Type 0
+TellsSum M lacks (Ok (Some n)) = (e : Encoded) × M (Ok e) × (n ≡ length e.octets)
+TellsSum M lacks (Ok None) = (e : Encoded) × M (Ok e) × (2 ^ 64 ≤ length e.octets)
+TellsSum M lacks (Err e) = RefusesBy M lacks e
+
+-- it is no refusal
+abbrev pub HasEncoding : (Meaning → Type 0) → Type 0
+HasEncoding M = (e : Encoded) × M (Ok e)
+
+-- n, where it is told, is the size of what is meant
+abbrev pub HasSize : (Meaning → Type 0) → Option ℕ → Type 0
+HasSize M (Some n) = (e : Encoded) → M (Ok e) → n ≡ length e.octets
+HasSize M None = ⊤
+
+-- ---- writing
+
+-- what a step's answer tells, with the error that stands in its slot
+abbrev pub told : Result (Unit {0}) Failed → WriteError → Result (Unit {0}) WriteError
+told (Ok u) why = Ok u
+told (Err f) why = Err why
+
+-- what was written of w: all of it; where the target failed a shorter front; where memory lacked a front
+abbrev pub DoneOf : Type 0 → List ℕ → Option (List ℕ) → Option (List ℕ) → Result (Unit {0}) WriteError → Type 0
+DoneOf lacks w old new (Ok u) = Appends old new w
+DoneOf lacks w old new (Err (Target e)) = AppendsShorter old new w
+DoneOf lacks w old new (Err (Refused e)) = (e ≡ NoMemory) × lacks × AppendsFront old new w
+
+pub record WroteOf (lacks : Type 0) (w : List ℕ) (old new : Option (List ℕ)) (r : Result (Unit {0}) WriteError) : Type 0 where
+  pub done : DoneOf lacks w old new r
+
+-- octets are meant, and were written
+pub record WroteMeant {A : Type 0} (octets : A → List ℕ) (M : Result A EncodeError → Type 0) (lacks : Type 0) (old new : Option (List ℕ)) (r : Result (Unit {0}) WriteError) : Type 0 where
+  pub what : A
+  pub meant : M (Ok what)
+  pub wrote : WroteOf lacks (octets what) old new r
+
+-- it was refused, and nothing was written
+pub record WroteNothing {A : Type 0} (M : Result A EncodeError → Type 0) (lacks : Type 0) (old new : Option (List ℕ)) (r : Result (Unit {0}) WriteError) : Type 0 where
+  pub error : EncodeError
+  pub answered : r ≡ Err (Refused error)
+  pub refuses : RefusesBy M lacks error
+  pub kept : Keeps old new
+
+-- r tells how a writing of what is meant went
+abbrev pub Writes : {A : Type 0} → (A → List ℕ) → (Result A EncodeError → Type 0) → Type 0 → Option (List ℕ) → Option (List ℕ) → Result (Unit {0}) WriteError → Type 0
+Writes octets M lacks old new r = WroteMeant octets M lacks old new r ⊎ WroteNothing M lacks old new r
+
+-- the same where what is meant is known to be no refusal
+abbrev pub WritesEncoding : (Meaning → Type 0) → Type 0 → Option (List ℕ) → Option (List ℕ) → Result (Unit {0}) WriteError → Type 0
+WritesEncoding M lacks old new r = (e : Encoded) → M (Ok e) → WroteOf lacks e.octets old new r
+
+-- ---- over the target as a whole
+module _ {W : Type 0} (contents : W → Option (List ℕ)) (target : Both (MutBor W) (MutBor W)) where
+  abbrev pub WroteOctets : List ℕ → Result (Unit {0}) WriteError → Type 0
+  WroteOctets w r = WroteOf ⊥ w (contents target.entry.now) (contents target.exit.now) r
+
+  abbrev pub WritesValues : (Meaning → Type 0) → Type 0 → Result (Unit {0}) WriteError → Type 0
+  WritesValues M lacks r = Writes octets_of M lacks (contents target.entry.now) (contents target.exit.now) r
+
+  abbrev pub WritesContents : (ContentsMeaning → Type 0) → Type 0 → Result (Unit {0}) WriteError → Type 0
+  WritesContents M lacks r = Writes (λ w. w) M lacks (contents target.entry.now) (contents target.exit.now) r
+
+  abbrev pub WritesParts : (Meaning → Type 0) → Type 0 → Result (Unit {0}) WriteError → Type 0
+  WritesParts M lacks r = WritesEncoding M lacks (contents target.entry.now) (contents target.exit.now) r
+
+  -- of a relation that holds of one meaning at most
+  abbrev pub WritesKnown : (Meaning → Type 0) → Type 0 → Result (Unit {0}) WriteError → Type 0
+  WritesKnown M lacks r = IsOne M → WritesEncoding M lacks (contents target.entry.now) (contents target.exit.now) r
+
+  -- of a primitive value with these contents octets
+  abbrev pub WritesPrimitive : Tag → (ContentsMeaning → Type 0) → Type 0 → Result (Unit {0}) WriteError → Type 0
+  WritesPrimitive t M lacks r = IsOne M → (w : List ℕ) → M (Ok w) → WroteOf lacks (definite t false w) (contents target.entry.now) (contents target.exit.now) r
+
+-- ---- in memory
+
+-- e is the refusal that is meant; or want of memory, for what is meant or where memory may lack to tell it
+abbrev pub RefusesToKeep : {A : Type 0} → (Result A EncodeError → Type 0) → Type 0 → EncodeError → Type 0
+RefusesToKeep M lacks e = RefusesBy M (((a : _) × M (Ok a)) ⊎ lacks) e
+
+-- r is what is meant, or says why it isn't kept
+abbrev pub GathersContents : (ContentsMeaning → Type 0) → Type 0 → Result (List ℕ) EncodeError → Type 0
+GathersContents M lacks (Ok w) = M (Ok w)
+GathersContents M lacks (Err e) = RefusesToKeep M lacks e
+
+-- ---- lengths and headers alone
+
+-- the octets of a length, where four tell it
+abbrev pub LengthMeans : Length → ContentsMeaning → Type 0
+LengthMeans len (Ok w) = (fits_length len ≡ true) × (w ≡ length_octets len)
+LengthMeans len (Err e) = (fits_length len ≡ false) × (e ≡ LengthTooLarge)
+
+-- a value may have the header
+abbrev pub HasHeader : Tag → ℕ → Type 0
+HasHeader t n = IsValueTag t × (n < 2 ^ 32)
+
+-- why no value has it: for its tag, and else for its length
+abbrev pub RefusesHeader : Tag → ℕ → EncodeError → Type 0
+RefusesHeader t n e =
+    ((t ≡ end_of_contents) × (e ≡ EndOfValueTag))
+    ⊎ (IsValueTag t × (2 ^ 32 ≤ n) × (e ≡ LengthTooLarge))
+
+-- the octets of a header that tells n contents octets
+abbrev pub HeaderMeans : Tag → Bool → ℕ → ContentsMeaning → Type 0
+HeaderMeans t form n (Ok w) = HasHeader t n × (w ≡ header t form (Definite n))
+HeaderMeans t form n (Err e) = RefusesHeader t n e

@@ -1,0 +1,108 @@
+-- Object identifiers as text: their components in decimal, joined by dots.
+use Rattle.std.specs.Prelude.{◌≡◌, ◌⊎◌, ℕ, ◌+◌, ◌*◌, ◌^◌, ◌<◌, ◌≤◌, ◌==◌, List, [], ◌∷◌, ◌++◌, map, nat_lt, if◌then◌else◌, codes, decimal}
+use Rattle.std.specs.Str.Parse.{IsNumeral, digits_value, without_leading_plus}
+use Rattle.bcder.specs.declared.oid.text.OidError.{OidError}
+use Rattle.bcder.specs.declared.oid.text.OidError.TheVariants.{TooFew, NotInteger, First, Second, NoMemory}
+use Rattle.bcder.specs.x690.ObjectIdentifier.{AreSubidentifiers, components}
+
+-- ---- showing
+
+-- a component in decimal, if it fits into 32 bits
+abbrev pub shown : ℕ → List ℕ
+shown n = if nat_lt n (2 ^ 32) then decimal n else codes "(very large component)"
+
+-- the texts, each behind a dot
+abbrev pub dots_before : List (List ℕ) → List ℕ
+dots_before [] = []
+dots_before (t ∷ ts) = codes "." ++ t ++ dots_before ts
+
+-- the texts joined by dots
+abbrev pub dotted : List (List ℕ) → List ℕ
+dotted [] = []
+dotted (t ∷ ts) = t ++ dots_before ts
+
+-- the text of the components that the octets hold
+abbrev pub text_of : List ℕ → List ℕ
+text_of w = dotted (map shown (components w))
+
+-- ---- reading
+
+-- the texts between the dots of a text, behind what stands in front
+abbrev pub split_after : List ℕ → List ℕ → List (List ℕ)
+split_after front [] = front ∷ []
+split_after front (c ∷ s) = if c == 46 then front ∷ split_after [] s else split_after (front ++ c ∷ []) s
+
+abbrev pub between_dots : List ℕ → List (List ℕ)
+between_dots s = split_after [] s
+
+-- an optional plus and one decimal digit or more, whose number fits into 32 bits
+pub record IsComponentText (t : List ℕ) (n : ℕ) : Type 0 where
+  pub numeral : IsNumeral 10 (without_leading_plus t)
+  pub value : digits_value 10 (without_leading_plus t) ≡ n
+  pub fits : n < 2 ^ 32
+
+abbrev pub IsNoComponent : List ℕ → Type 0
+IsNoComponent t = (n : ℕ) → IsComponentText t n → ⊥
+
+abbrev pub AreComponentTexts : List (List ℕ) → List ℕ → Type 0
+AreComponentTexts [] [] = Unit {0}
+AreComponentTexts (t ∷ ts) (n ∷ ns) = IsComponentText t n × AreComponentTexts ts ns
+AreComponentTexts [] (n ∷ ns) = ⊥
+AreComponentTexts (t ∷ ts) [] = ⊥
+
+-- one of the texts is no component
+abbrev pub HasNoComponent : List (List ℕ) → Type 0
+HasNoComponent [] = ⊥
+HasNoComponent (t ∷ ts) = IsNoComponent t ⊎ HasNoComponent ts
+
+-- two numbers that an identifier may begin with (8.19.4, note)
+pub record MayBegin (m n : ℕ) : Type 0 where
+  pub first : m ≤ 2
+  pub second : m < 2 → n < 40
+
+-- the first two texts and those after them are components, and w is the octets of the identifier that has these components
+pub record AreTextsOf (a b : List ℕ) (ts : List (List ℕ)) (w : List ℕ) : Type 0 where
+  pub first : ℕ
+  pub second : ℕ
+  pub others : List ℕ
+  pub first_text : IsComponentText a first
+  pub second_text : IsComponentText b second
+  pub other_texts : AreComponentTexts ts others
+  pub may_begin : MayBegin first second
+  pub octets : AreSubidentifiers ((40 * first + second) ∷ others) w
+
+-- why texts are refused, in the order of the checks; want of memory only where they are those of an identifier
+pub data RefusesTexts (a b : List ℕ) (ts : List (List ℕ)) (e : OidError) : Type 0 where
+  first_is_none : e ≡ NotInteger → IsNoComponent a → RefusesTexts a b ts e
+  first_too_large : (m : ℕ) → e ≡ First → IsComponentText a m → 2 < m → RefusesTexts a b ts e
+  second_is_none : (m : ℕ) → e ≡ NotInteger → IsComponentText a m → m ≤ 2 → IsNoComponent b → RefusesTexts a b ts e
+  second_too_large : (m n : ℕ) → e ≡ Second → IsComponentText a m → m < 2 → IsComponentText b n → 40 ≤ n → RefusesTexts a b ts e
+  other_is_none : (m n : ℕ) → e ≡ NotInteger → IsComponentText a m → IsComponentText b n → MayBegin m n → HasNoComponent ts → RefusesTexts a b ts e
+  no_memory : (m n : ℕ) (ns : List ℕ) → e ≡ NoMemory → IsComponentText a m → IsComponentText b n → MayBegin m n → AreComponentTexts ts ns → RefusesTexts a b ts e
+
+-- the text has two components or more, and these are the octets of the identifier that it stands for
+abbrev pub ReadsParts : List (List ℕ) → List ℕ → Type 0
+ReadsParts [] w = ⊥
+ReadsParts (a ∷ []) w = ⊥
+ReadsParts (a ∷ b ∷ ts) w = AreTextsOf a b ts w
+
+abbrev pub IsTextOf : List ℕ → List ℕ → Type 0
+IsTextOf text w = ReadsParts (between_dots text) w
+
+abbrev pub RefusesParts : List (List ℕ) → OidError → Type 0
+RefusesParts [] e = e ≡ TooFew
+RefusesParts (a ∷ []) e = e ≡ TooFew
+RefusesParts (a ∷ b ∷ ts) e = RefusesTexts a b ts e
+
+-- why a text is refused
+abbrev pub RefusesText : List ℕ → OidError → Type 0
+RefusesText text e = RefusesParts (between_dots text) e
+
+-- ---- the texts of refusals
+
+abbrev pub error_text : OidError → List ℕ
+error_text TooFew = codes "at least two components required"
+error_text NotInteger = codes "only integer components allowed"
+error_text First = codes "first component can only be 0, 1, or 2."
+error_text Second = codes "second component for 0. and 1. must be less than 40"
+error_text NoMemory = codes "out of memory"

@@ -1,0 +1,104 @@
+-- What an encoder means in a mode: a list of values with the octets that are written for them, or a refusal.
+use Rattle.std.specs.Prelude.{◌≡◌, ℕ, ◌^◌, Bool, true, false, List, [], ◌∷◌, length, nat_lt, nat_le, Result, Ok, Err, ◌⊎◌, if◌then◌else◌}
+use Rattle.bcder.specs.declared.encode.error.EncodeError.{EncodeError}
+use Rattle.bcder.specs.declared.encode.error.EncodeError.TheVariants.{EndOfValueTag, LengthTooLarge, SizeOverflow}
+use Rattle.bcder.specs.declared.mode.Mode.{Mode}
+use Rattle.bcder.specs.declared.mode.Mode.TheVariants.{Cer}
+use Rattle.bcder.specs.x690.Identifier.{AreOctets, Tag, IsValueTag, end_of_contents}
+use Rattle.bcder.specs.x690.BitString.{Bits, contents_octets, as_written}
+use Rattle.bcder.specs.x690.Tree.{Trees, primitive, constructed, no_trees, ◌∷ₜ◌}
+use Rattle.bcder.specs.x690.Encoding.{AreEncodings}
+use Rattle.bcder.specs.x690.Octets.{definite, enclosed, enclosed_size}
+
+pub record Encoded : Type 0 where
+  pub values : Trees
+  pub octets : List ℕ
+
+abbrev pub octets_of : Encoded → List ℕ
+octets_of e = e.octets
+
+abbrev pub Meaning : Type 0
+Meaning = Result Encoded EncodeError
+
+-- of contents octets alone
+abbrev pub ContentsMeaning : Type 0
+ContentsMeaning = Result (List ℕ) EncodeError
+
+-- ---- what encoders keep
+
+-- a relation that holds of one thing at most
+pub record IsOne {A : Type 0} (P : A → Type 0) : Type 0 where
+  pub same : (m n : A) → P m → P n → m ≡ n
+
+-- there is one meaning at most, and where it isn't a refusal, its octets are an encoding of its values
+pub record IsLawful (mode : Mode) (M : Meaning → Type 0) : Type 0 where
+  pub one : IsOne M
+  pub encodes : (e : Encoded) → M (Ok e) → AreEncodings mode e.values e.octets
+
+-- there is one meaning at most, and where it isn't a refusal, it is octets
+pub record IsLawfulContents (M : ContentsMeaning → Type 0) : Type 0 where
+  pub one : IsOne M
+  pub octets : (w : List ℕ) → M (Ok w) → AreOctets w
+
+-- ---- contents octets
+
+-- just these
+abbrev pub Exactly : List ℕ → ContentsMeaning → Type 0
+Exactly w m = m ≡ Ok w
+
+-- these, which are octets
+abbrev pub ExactlyOctets : List ℕ → ContentsMeaning → Type 0
+ExactlyOctets w m = (m ≡ Ok w) × AreOctets w
+
+-- 9.2: a primitive string has at most 1000 contents octets in CER
+abbrev pub fits_primitive : Mode → ℕ → Bool
+fits_primitive Cer n = nat_le n 1000
+fits_primitive mode n = true
+
+-- those of a string, which are octets; or this refusal, where the mode has no primitive string of so many
+abbrev pub PieceMeans : EncodeError → Mode → List ℕ → ContentsMeaning → Type 0
+PieceMeans refusal mode w m = (m ≡ (if fits_primitive mode (length w) then Ok w else Err refusal)) × AreOctets w
+
+-- those of a bit string
+abbrev pub BitsMean : EncodeError → Mode → Bits → ContentsMeaning → Type 0
+BitsMean refusal mode x = PieceMeans refusal mode (contents_octets (as_written mode x))
+
+-- 8.2, 11.1: of a BOOLEAN
+abbrev pub truth_octets : Bool → List ℕ
+truth_octets true = 0xFF ∷ []
+truth_octets false = 0x00 ∷ []
+
+-- ---- one value
+
+-- refused for the tag of the end-of-contents octets, and else what f makes of what P says
+abbrev pub ValueMeans : {A : Type 0} → Tag → (A → Meaning) → (A → Type 0) → Meaning → Type 0
+ValueMeans t f P m =
+    ((t ≡ end_of_contents) × (m ≡ Err EndOfValueTag))
+    ⊎ ((IsValueTag t) × ((a : _) × P a × (m ≡ f a)))
+
+abbrev pub primitive_encoded : Tag → List ℕ → Encoded
+primitive_encoded t contents = record { values = primitive t contents ∷ₜ no_trees; octets = definite t false contents }
+
+-- a primitive value with these contents octets
+abbrev pub primitive_meaning : Tag → ContentsMeaning → Meaning
+primitive_meaning t (Err e) = Err e
+primitive_meaning t (Ok contents) =
+    if nat_lt (length contents) (2 ^ 32) then Ok (primitive_encoded t contents) else Err LengthTooLarge
+
+abbrev pub constructed_encoded : Mode → Tag → Encoded → Encoded
+constructed_encoded mode t x = record { values = constructed t x.values ∷ₜ no_trees; octets = enclosed mode t x.octets }
+
+-- whether a constructed value may have n contents octets: a definite length fits four octets, and what is written in CER a `usize`
+abbrev pub fits_enclosed : Mode → Tag → ℕ → Bool
+fits_enclosed Cer t n = nat_lt (enclosed_size Cer t n) (2 ^ 64)
+fits_enclosed mode t n = nat_lt n (2 ^ 32)
+
+abbrev pub enclosed_refusal : Mode → EncodeError
+enclosed_refusal Cer = SizeOverflow
+enclosed_refusal mode = LengthTooLarge
+
+-- a constructed value of these values
+abbrev pub constructed_meaning : Tag → Mode → Meaning → Meaning
+constructed_meaning t mode (Err e) = Err e
+constructed_meaning t mode (Ok x) =
+    if fits_enclosed mode t (length x.octets) then Ok (constructed_encoded mode t x) else Err (enclosed_refusal mode)

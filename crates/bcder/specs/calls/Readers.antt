@@ -1,0 +1,147 @@
+-- What readers of contents octets say, by what the octets mean.
+use Rattle.std.specs.Prelude.{◌≡◌, ◌≢◌, ◌⊎◌, ℕ, ℤ, pos, Bool, List, [], length, Some, Result, Ok, Err, IfOk, IfErr, OnOk, OnErr, IsErrAnd}
+use Rattle.std.specs.Borrow.{MutBor}
+use Rattle.std.specs.Int.{Width, FitsUnsignedBits}
+use Rattle.std.specs.Int.RustNames.{FitsSigned}
+use denote.Triple.Both.{Both}
+use Rattle.bcder.specs.declared.mode.Mode.{Mode}
+use Rattle.bcder.specs.declared.decode.content.Primitive.{Primitive}
+use Rattle.bcder.specs.declared.decode.content.Content.{Content}
+use Rattle.bcder.specs.declared.decode.error.ContentError.{ContentError}
+use Rattle.bcder.specs.declared.decode.error.ContentError.TheVariants.{ExpectedInteger}
+use Rattle.bcder.specs.declared.decode.error.DecodeError.{DecodeError}
+use Rattle.bcder.specs.calls.Cause.{cause_of, of_source, of_content, of_memory, IsRefusal}
+use Rattle.bcder.specs.calls.Stream.{Stream, Grew}
+use Rattle.bcder.specs.calls.Content.{Reading, Octets}
+use Rattle.bcder.specs.calls.Walking.{IsShort}
+use Rattle.bcder.specs.x690.Integer.{AreInteger, IsSmallest, truth}
+use Rattle.bcder.specs.x690.Number.{IsNumber}
+use Rattle.bcder.specs.calls.Views.{octets_before, octets_after, content_before, content_after}
+
+-- ---- what contents octets mean
+
+-- a number of a signed type
+abbrev pub IsSigned : Width → List ℕ → ℤ → Type 0
+IsSigned w = IsNumber (λ x. x) (FitsSigned w)
+
+-- a number of an unsigned type of so many bits
+abbrev pub IsUnsigned : ℕ → List ℕ → ℕ → Type 0
+IsUnsigned bits = IsNumber pos (FitsUnsignedBits bits)
+
+-- a truth value (8.2, 11.1)
+abbrev pub IsTruth : Mode → List ℕ → Bool → Type 0
+IsTruth mode w x = truth mode w ≡ Some x
+
+-- null, which has none (8.8.2)
+abbrev pub IsNull : {T : Type 0} → List ℕ → T → Type 0
+IsNull w x = w ≡ []
+
+-- this number of an unsigned type
+abbrev pub IsThis : {T : Type 0} → ℕ → ℕ → List ℕ → T → Type 0
+IsThis bits n w x = IsUnsigned bits w n
+
+-- ---- reading them
+
+-- the octets that come are all that are owed, and so many
+pub record HasAll (n : ℕ) (c : Reading) : Type 0 where
+  pub owed : c.owed ≡ Some n
+  pub count : length c.stream.rest ≡ n
+
+-- why octets that are owed did not come, and e was answered
+pub data RefusesAll {X : Type 0} (c : Reading) (e : DecodeError X) (d : Reading) : Type 0 where
+  source : cause_of e ≡ of_source → Grew c.stream.faults d.stream.faults → RefusesAll c e d
+  few : IsShort c → IsRefusal e → d.stream.faults ≡ c.stream.faults → RefusesAll c e d
+
+-- they mean nothing
+abbrev pub MeanNothing : {T X : Type 0} → (List ℕ → T → Type 0) → List ℕ → DecodeError X → Type 0
+MeanNothing Means w e = ((x : _) → Means w x → ⊥) × IsRefusal e
+
+-- they are no integer's, or there was no memory for them
+abbrev pub NoInteger : {X : Type 0} → List ℕ → DecodeError X → Type 0
+NoInteger w e = MeanNothing (λ v z. AreInteger z v) w e ⊎ (cause_of e ≡ of_memory)
+
+-- they are not the smallest of their number, or there was no memory for them
+abbrev pub NotSmallest : {X : Type 0} → List ℕ → DecodeError X → Type 0
+NotSmallest w e = (IsSmallest w → ⊥) × IsRefusal e ⊎ (cause_of e ≡ of_memory)
+
+-- the same of an integer that isn't negative
+abbrev pub NoUnsigned : {X : Type 0} → List ℕ → DecodeError X → Type 0
+NoUnsigned w e = MeanNothing (λ v n. AreInteger (pos n) v) w e ⊎ (cause_of e ≡ of_memory)
+
+-- they mean another number of a `u8`, or none
+abbrev pub MeanAnother : {X : Type 0} → ℕ → List ℕ → DecodeError X → Type 0
+MeanAnother n w e = ((m : ℕ) × IsUnsigned 8 w m × (m ≢ n) × (cause_of e ≡ of_content (ExpectedInteger n))) ⊎ MeanNothing (IsUnsigned 8) w e
+
+-- there was no memory for them
+abbrev pub FindNoMemory : {X : Type 0} → List ℕ → DecodeError X → Type 0
+FindNoMemory w e = cause_of e ≡ of_memory
+
+module _ {T X : Type 0} (Means : List ℕ → T → Type 0) (Refuses : List ℕ → DecodeError X → Type 0) where
+  -- why contents octets were not read, and e was answered: they did not come, or were refused
+  pub data RefusesReading (c : Reading) (e : DecodeError X) (d : Reading) : Type 0 where
+    missing : RefusesAll c e d → RefusesReading c e d
+    refused : HasAll (length c.stream.rest) c → Refuses c.stream.rest e → d.stream.faults ≡ c.stream.faults → RefusesReading c e d
+
+  -- contents octets were read as what they mean, and taken; or refused, and left
+  pub record Reads (c : Reading) (r : Result T (DecodeError X)) (d : Reading) : Type 0 where
+    pub value : IfOk r (λ x. Means c.stream.rest x)
+    pub all : OnOk r (HasAll (length c.stream.rest) c)
+    pub none_left : OnOk r (d.stream.rest ≡ [])
+    pub none_owed : OnOk r (d.owed ≡ Some 0)
+    pub no_fault : OnOk r (d.stream.faults ≡ c.stream.faults)
+    pub refused : IfErr r (λ e. RefusesReading c e d)
+    pub kept : OnErr r (d.stream.rest ≡ c.stream.rest)
+    pub still_owed : OnErr r (d.owed ≡ c.owed)
+    pub mode : d.mode ≡ c.mode
+    pub marked : d.marked ≡ c.marked
+
+-- contents octets were looked at, and left; or did not come
+pub record LooksAt {T X : Type 0} (Means : List ℕ → T → Type 0) (c : Reading) (r : Result T (DecodeError X)) (d : Reading) : Type 0 where
+  pub value : IfOk r (λ x. Means c.stream.rest x)
+  pub all : OnOk r (HasAll (length c.stream.rest) c)
+  pub no_fault : OnOk r (d.stream.faults ≡ c.stream.faults)
+  pub refused : IfErr r (λ e. RefusesAll c e d)
+  pub kept : d.stream.rest ≡ c.stream.rest
+  pub still_owed : d.owed ≡ c.owed
+  pub mode : d.mode ≡ c.mode
+  pub marked : d.marked ≡ c.marked
+
+-- ---- the same of a parameter as a whole
+
+module _ {S T X : Type 0} (stream : S → Stream) (c : Both (MutBor (Primitive S)) (MutBor (Primitive S))) where
+  -- by a reader of its own that means something or refuses
+  abbrev pub ReadBy : (List ℕ → T → Type 0) → (List ℕ → DecodeError X → Type 0) → Result T (DecodeError X) → Type 0
+  ReadBy Means Refuses r = Reads Means Refuses (octets_before stream c) r (octets_after stream c)
+
+  -- what the octets mean, refused exactly where they mean nothing
+  abbrev pub ReadOctets : (List ℕ → T → Type 0) → Result T (DecodeError X) → Type 0
+  ReadOctets Means r = ReadBy Means (MeanNothing Means) r
+
+  -- lent, and left
+  abbrev pub LookedAt : (List ℕ → T → Type 0) → Result T (DecodeError X) → Type 0
+  LookedAt Means r = LooksAt Means (octets_before stream c) r (octets_after stream c)
+
+-- ---- octets that are lent to a closure
+
+-- the same of content of either form: that of a constructed value is refused, and left as it is
+module _ {S T X : Type 0} (stream : S → Stream) (c : Both (MutBor (Content S)) (MutBor (Content S))) where
+  abbrev pub ReadContentBy : (List ℕ → T → Type 0) → (List ℕ → DecodeError X → Type 0) → Result T (DecodeError X) → Type 0
+  ReadContentBy Means Refuses r = (content_before stream c).kind ≡ Octets → Reads Means Refuses (content_before stream c) r (content_after stream c)
+
+  abbrev pub ReadContent : (List ℕ → T → Type 0) → Result T (DecodeError X) → Type 0
+  ReadContent Means r = ReadContentBy Means (MeanNothing Means) r
+
+  abbrev pub RefusedValues : Result T (DecodeError X) → Type 0
+  RefusedValues r = (content_before stream c).kind ≢ Octets → IsErrAnd r IsRefusal × (content_after stream c ≡ content_before stream c)
+
+-- a closure that is lent octets, and can't refuse them, answered x
+abbrev pub ToldOf : {B T : Type 0} → (B → List ℕ) → (B → T → Type 0) → List ℕ → T → Type 0
+ToldOf now post w x = (p : _) × (now p ≡ w) × post p x
+
+-- a closure that is lent octets answered x
+abbrev pub Told : {B T : Type 0} → (B → List ℕ) → (B → Result T ContentError → Type 0) → List ℕ → T → Type 0
+Told now post w x = (p : _) × (now p ≡ w) × post p (Ok x)
+
+-- it refused them, and its error is answered
+abbrev pub Untold : {B T X : Type 0} → (B → List ℕ) → (B → Result T ContentError → Type 0) → List ℕ → DecodeError X → Type 0
+Untold now post w e = (p : _) × (error : ContentError) × (now p ≡ w) × post p (Err error) × (cause_of e ≡ of_content error)

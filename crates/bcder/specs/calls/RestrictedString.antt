@@ -1,0 +1,20 @@
+-- Restricted character strings (ITU-T X.690, 8.23).
+use Rattle.std.specs.Prelude.{◌≡◌, ◌⊎◌, ℕ, List, Result, Ok, Err}
+use Rattle.std.specs.Str.{chars}
+use Rattle.bcder.specs.declared.mode.Mode.{Mode}
+use Rattle.bcder.specs.declared.string.restricted.char_set.StringError.{StringError}
+use Rattle.bcder.specs.declared.string.restricted.char_set.StringError.TheVariants.{CharSet, NoMemory}
+use Rattle.bcder.specs.x690.Tree.{Tree}
+use Rattle.bcder.specs.calls.StringOctets.{StringOctets, whole, octets_of, MeansString}
+use Rattle.bcder.specs.x690.CharSet.{Step, Spells, Accepts, HasNo, HasSome}
+
+module _ (step : Step) where
+  -- 8.23.3: a value is read as an octet string is, whose octets are a string of the set
+  abbrev pub MeansRestricted : Mode → Tree → StringOctets → Type 0
+  MeansRestricted mode t s = MeansString mode t s × Accepts step (octets_of s)
+
+  -- the octets of a text in one piece; or that the set hasn't all of its characters; or that memory lacked: for the set, where it may, or for a copy of octets that there are
+  abbrev pub MakesText : Type 0 → List ℕ → Result StringOctets StringError → Type 0
+  MakesText may_lack text (Ok s) = (w : List ℕ) × (s ≡ whole w) × Spells step w (chars text)
+  MakesText may_lack text (Err CharSet) = HasNo step (chars text)
+  MakesText may_lack text (Err NoMemory) = may_lack ⊎ HasSome step (chars text)

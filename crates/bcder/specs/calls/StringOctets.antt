@@ -1,0 +1,42 @@
+-- Octet strings as they are kept: in one piece, or cut into parts.
+use Rattle.std.specs.Prelude.{◌≡◌, ℕ, List, [], ◌∷◌, ⊤}
+use Rattle.std.specs.List.{concat}
+use Rattle.bcder.specs.declared.mode.Mode.{Mode}
+use Rattle.bcder.specs.x690.Tree.{Tree, primitive, constructed}
+use Rattle.bcder.specs.x690.Encoding.{AreEncodings}
+use Rattle.bcder.specs.calls.Captured.{Kept}
+use Rattle.bcder.specs.x690.OctetString.{segments_of, IsOctetString}
+
+-- as it came: in one piece, or cut into parts, with the encodings that these stand in
+pub data StringOctets : Type 0 where
+  whole : List ℕ → StringOctets
+  cut : Kept → List (List ℕ) → StringOctets
+
+-- the octets in one piece, if there are any
+abbrev pub piece : List ℕ → List (List ℕ)
+piece [] = []
+piece (b ∷ w) = (b ∷ w) ∷ []
+
+-- its parts: of a string in one piece that piece, if it isn't empty; of one that was cut all segments, empty ones too
+abbrev pub parts : StringOctets → List (List ℕ)
+parts (whole w) = piece w
+parts (cut kept ps) = ps
+
+-- its octets
+abbrev pub octets_of : StringOctets → List ℕ
+octets_of (whole w) = w
+octets_of (cut kept ps) = concat ps
+
+-- the string that a value means in a mode: in one piece, or cut into its segments, with encodings of the values that it is cut into
+abbrev pub IsStringOf : Mode → Tree → StringOctets → Type 0
+IsStringOf mode (primitive t contents) s = s ≡ whole contents
+IsStringOf mode (constructed t ts) s = (kept : Kept) × (kept.mode ≡ mode) × AreEncodings mode ts kept.octets × (s ≡ cut kept (segments_of ts))
+
+-- an octet string, and what it means
+abbrev pub MeansString : Mode → Tree → StringOctets → Type 0
+MeansString mode t s = IsOctetString mode t × IsStringOf mode t s
+
+-- whether it was cut
+abbrev pub IsCut : StringOctets → Type 0
+IsCut (whole w) = ⊥
+IsCut (cut kept ps) = ⊤

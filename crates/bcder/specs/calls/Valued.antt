@@ -1,0 +1,137 @@
+-- Values of a tag, of either form, taken as what they mean.
+use Rattle.std.specs.Prelude.{◌≡◌, ◌⊎◌, List, ℕ, Some, Option, length, Result, IfOk, IfErr, IfSome, IfNone, OnOk, OnErr}
+use Rattle.std.specs.Borrow.{MutBor}
+use denote.Triple.Both.{Both}
+use Rattle.bcder.specs.declared.mode.Mode.{Mode}
+use Rattle.bcder.specs.declared.decode.content.Constructed.{Constructed}
+use Rattle.bcder.specs.declared.decode.content.Content.{Content}
+use Rattle.bcder.specs.declared.decode.content.State.TheVariants.{Open, Ended, Failed}
+use Rattle.bcder.specs.declared.decode.error.DecodeError.{DecodeError}
+use Rattle.bcder.specs.calls.Cause.{cause_of, of_source, of_memory, IsRefusal, NamesTag}
+use Rattle.bcder.specs.x690.Identifier.{Tag}
+use Rattle.bcder.specs.x690.Tree.{Tree, primitive, constructed, Trees, no_trees}
+use Rattle.bcder.specs.calls.Stream.{Stream, Grew}
+use Rattle.bcder.specs.calls.Content.{Reading, Octets, tagged, IsAbsent, IsDone}
+use Rattle.bcder.specs.calls.Walking.{HasValue, HasValues}
+use Rattle.bcder.specs.calls.Takes.{HasNone}
+use Rattle.bcder.specs.calls.Views.{before, after, content_before, content_after}
+
+-- ---- the content of a value
+
+-- content is these contents octets, all of which come
+pub record HoldsOctets (c : Reading) (contents : List ℕ) : Type 0 where
+  pub usable : c.state ≡ Open
+  pub form : c.kind ≡ Octets
+  pub owed : c.owed ≡ Some (length contents)
+  pub rest : c.stream.rest ≡ contents
+
+-- content is these values up to its end
+pub record HoldsThese (c : Reading) (ts : Trees) : Type 0 where
+  pub usable : c.state ≡ Open
+  pub values : HasValues c
+  pub are : values.trees ≡ ts
+
+-- or it has ended, and is none
+abbrev pub HoldsValues : Reading → Trees → Type 0
+HoldsValues c ts = HoldsThese c ts ⊎ (c.state ≡ Ended) × (ts ≡ no_trees)
+
+-- content is that of a value with the tag
+abbrev pub HoldsTree : Tag → Reading → Tree → Type 0
+HoldsTree tag c (primitive t contents) = (t ≡ tag) × HoldsOctets c contents
+HoldsTree tag c (constructed t ts) = (t ≡ tag) × HoldsValues c ts
+
+module _ {T : Type 0} (tag : Tag) (Means : Tree → T → Type 0) where
+  -- content was read as what the value means whose content it is
+  pub record ReadsTree (c : Reading) (x : T) : Type 0 where
+    pub tree : Tree
+    pub holds : HoldsTree tag c tree
+    pub means : Means tree x
+
+  -- it is the content of no value that means anything
+  abbrev pub HoldsNone : Reading → Type 0
+  HoldsNone c = (t : Tree) (x : T) → HoldsTree tag c t → Means t x → ⊥
+
+  module _ {X : Type 0} where
+    -- why content was not read, and e was answered: an earlier value was refused; the source failed; there was no memory; or it is the content of nothing that is read
+    pub data RefusesToRead (c : Reading) (e : DecodeError X) (d : Reading) : Type 0 where
+      failed : c.state ≡ Failed → IsRefusal e → RefusesToRead c e d
+      source : cause_of e ≡ of_source → Grew c.stream.faults d.stream.faults → RefusesToRead c e d
+      memory : cause_of e ≡ of_memory → RefusesToRead c e d
+      nothing : HoldsNone c → IsRefusal e → RefusesToRead c e d
+
+    -- content was read up to its end, or refused
+    pub record ReadsContent (c : Reading) (r : Result T (DecodeError X)) (d : Reading) : Type 0 where
+      pub value : IfOk r (λ x. ReadsTree c x)
+      pub done : OnOk r (IsDone d)
+      pub no_fault : OnOk r (d.stream.faults ≡ c.stream.faults)
+      pub refused : IfErr r (λ e. RefusesToRead c e d)
+      pub mode : d.mode ≡ c.mode
+      pub marked : d.marked ≡ c.marked
+
+-- ---- a value in front
+
+abbrev pub tag_of : Tree → Tag
+tag_of (primitive t contents) = t
+tag_of (constructed t ts) = t
+
+-- an encoding of a value with the tag stands in front of open content, before the octets `rest`
+abbrev pub HasTagged : Tag → Reading → Tree → List ℕ → List ℕ → Type 0
+HasTagged tag c t w rest = HasValue c t w rest × (tag_of t ≡ tag)
+
+module _ {T : Type 0} (tag : Tag) (Means : Tree → T → Type 0) where
+  -- a value was taken as what it means
+  pub record TakesTree (c : Reading) (x : T) (d : Reading) : Type 0 where
+    pub tree : Tree
+    pub octets : List ℕ
+    pub has : HasTagged tag c tree octets d.stream.rest
+    pub means : Means tree x
+    pub stays : d.state ≡ Open
+
+  -- neither a value with the tag stands in front that means anything, nor is there none with the tag
+  pub record HasNoTree (c : Reading) : Type 0 where
+    pub usable : c.state ≡ Open
+    pub value : (t : Tree) (w rest : List ℕ) (x : T) → HasTagged tag c t w rest → Means t x → ⊥
+    pub absent : (rest : List ℕ) → IsAbsent (tagged tag) c rest → ⊥
+
+  module _ {X : Type 0} where
+    -- why none was taken, and e was answered: an earlier value was refused; the source failed; there was no memory; or what stands in front is nothing that is read
+    pub data RefusesTree (c : Reading) (e : DecodeError X) (d : Reading) : Type 0 where
+      failed : c.state ≡ Failed → IsRefusal e → RefusesTree c e d
+      source : cause_of e ≡ of_source → Grew c.stream.faults d.stream.faults → RefusesTree c e d
+      memory : cause_of e ≡ of_memory → RefusesTree c e d
+      broken : HasNoTree c → IsRefusal e → RefusesTree c e d
+
+    -- what a call did that answers the value, or that there is none with the tag
+    pub record TakesNextTree (c : Reading) (r : Result (Option T) (DecodeError X)) (d : Reading) : Type 0 where
+      pub value : IfOk r (λ o. IfSome o (λ x. TakesTree c x d))
+      pub none : IfOk r (λ o. IfNone o (HasNone (tagged tag) c d))
+      pub no_fault : OnOk r (d.stream.faults ≡ c.stream.faults)
+      pub refused : IfErr r (λ e. RefusesTree c e d)
+      pub failed : OnErr r (d.state ≡ Failed)
+      pub mode : d.mode ≡ c.mode
+      pub marked : d.marked ≡ c.marked
+
+    -- one that needs the value: where there is none with the tag the content stays usable
+    pub record TakesOneTree (c : Reading) (r : Result T (DecodeError X)) (d : Reading) : Type 0 where
+      pub value : IfOk r (λ x. TakesTree c x d)
+      pub no_fault : OnOk r (d.stream.faults ≡ c.stream.faults)
+      pub refused : IfErr r (λ e. HasNone (tagged tag) c d × NamesTag tag e ⊎ (d.state ≡ Failed) × RefusesTree c e d)
+      pub mode : d.mode ≡ c.mode
+      pub marked : d.marked ≡ c.marked
+
+-- ---- the same of a parameter as a whole, where what a value means may depend on the mode
+
+-- content was read, whatever the tag of its value
+pub record ReadsAny {T X : Type 0} (Means : Mode → Tree → T → Type 0) (c : Reading) (r : Result T (DecodeError X)) (d : Reading) : Type 0 where
+  pub at_tag : (tag : Tag) → ReadsContent tag (Means c.mode) c r d
+
+module _ {S T X : Type 0} (stream : S → Stream) where
+  abbrev pub ReadTree : Both (MutBor (Content S)) (MutBor (Content S)) → (Mode → Tree → T → Type 0) → Result T (DecodeError X) → Type 0
+  ReadTree c Means r = ReadsAny Means (content_before stream c) r (content_after stream c)
+
+  module _ (c : Both (MutBor (Constructed S)) (MutBor (Constructed S))) (tag : Tag) (Means : Mode → Tree → T → Type 0) where
+    abbrev pub TookNextTree : Result (Option T) (DecodeError X) → Type 0
+    TookNextTree r = TakesNextTree tag (Means (before stream c).mode) (before stream c) r (after stream c)
+
+    abbrev pub TookOneTree : Result T (DecodeError X) → Type 0
+    TookOneTree r = TakesOneTree tag (Means (before stream c).mode) (before stream c) r (after stream c)

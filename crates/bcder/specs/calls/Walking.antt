@@ -1,0 +1,137 @@
+-- When the next value, and all values up to the end of content, are there.
+use Rattle.std.specs.Borrow.{MutBor}
+use Rattle.std.specs.Prelude.{◌≡◌, ◌≢◌, ℕ, ◌+◌, ◌<◌, List, [], ◌++◌, length, Option, Some, Result, IsOkAnd, IfOk, IfErr, OnOk, OnErr, IfSome, IfNone, IsTrue, is_some, is_none}
+use denote.Triple.Both.{Both}
+use Rattle.bcder.specs.declared.mode.Mode.{Mode}
+use Rattle.bcder.specs.declared.decode.content.Kind.TheVariants as kind
+use Rattle.bcder.specs.declared.decode.content.State.TheVariants.{Open, Ended, Failed}
+use Rattle.bcder.specs.x690.Tree.{Tree, Trees}
+use Rattle.bcder.specs.x690.Encoding.{IsEncoding, AreEncodings}
+use Rattle.bcder.specs.x690.Grammar.{IsOnly}
+use Rattle.bcder.specs.calls.Stream.{Stream, Grew}
+use Rattle.bcder.specs.declared.decode.error.ContentError.{ContentError}
+use Rattle.bcder.specs.calls.Cause.{Cause, cause_of, of_source, IsOfContent}
+use Rattle.bcder.specs.declared.decode.error.DecodeError.{DecodeError}
+use Rattle.bcder.specs.declared.decode.content.Constructed.{Constructed}
+use Rattle.bcder.specs.calls.Views.{of_constructed}
+use Rattle.bcder.specs.calls.Content.{Reading, Form, octets, values, Octets, Moves, HasMarker, EndsBefore, EndsAt, NotAtEnd, IsDone}
+
+-- ---- one value
+
+-- an encoding of a value stands in front of open content, before these octets
+pub record HasValue (c : Reading) (t : Tree) (w after : List ℕ) : Type 0 where
+  pub usable : c.state ≡ Open
+  pub encodes : IsEncoding c.mode t w
+  pub rest : c.stream.rest ≡ w ++ after
+
+-- no front of the rest is an encoding of a value
+pub record NoValue (c : Reading) : Type 0 where
+  pub none : (t : Tree) (w after : List ℕ) → IsEncoding c.mode t w → c.stream.rest ≡ w ++ after → ⊥
+
+-- the one value that stands in front was passed
+pub record PassesValue (c d : Reading) : Type 0 where
+  pub tree : Tree
+  pub value : List ℕ
+  pub has : HasValue c tree value d.stream.rest
+  pub only : IsOnly c.mode tree value c.stream.rest
+  pub stays : d.state ≡ Open
+
+-- why no value of c was passed, and e was answered; `why` tells its cause
+pub data RefusesWalk {E : Type 0} (why : E → Cause ContentError) (c : Reading) (e : E) (d : Reading) : Type 0 where
+  failed : c.state ≡ Failed → IsOfContent (why e) → RefusesWalk why c e d
+  source : why e ≡ of_source → Grew c.stream.faults d.stream.faults → RefusesWalk why c e d
+  nothing : c.state ≡ Open → NoValue c → NotAtEnd c → IsOfContent (why e) → RefusesWalk why c e d
+
+-- what is answered where a value stands in front, and what at the end
+pub record AnswersNext {T E : Type 0} (c : Reading) (r : Result (Option T) E) (d : Reading) : Type 0 where
+  pub found : (t : Tree) (w after : List ℕ) → HasValue c t w after → IsOkAnd r (λ o. IsTrue (is_some o)) × (d.stream.rest ≡ after)
+  pub ended : (after : List ℕ) → EndsBefore c after → IsOkAnd r (λ o. IsTrue (is_none o))
+
+-- a call passed over the next value, or found the end, or refused; `why` tells the cause of its error
+pub record PassedBy {T E : Type 0} (why : E → Cause ContentError) (c : Reading) (r : Result (Option T) E) (d : Reading) : Type 0 where
+  -- Some: the one value that stands in front was passed
+  pub value : IfOk r (λ o. IfSome o (λ _. PassesValue c d))
+  -- None: content was at its end, whose marker, if any, was taken
+  pub end : IfOk r (λ o. IfNone o (EndsAt c d))
+  pub done : IfOk r (λ o. IfNone o (IsDone d))
+  -- no answer is given over a failure of the source
+  pub no_fault : OnOk r (d.stream.faults ≡ c.stream.faults)
+  -- an error tells why no value was passed, and content has failed
+  pub refused : IfErr r (λ e. RefusesWalk why c e d)
+  pub failed : OnErr r (d.state ≡ Failed)
+  -- the mode stays, and the mark
+  pub mode : d.mode ≡ c.mode
+  pub marked : d.marked ≡ c.marked
+
+-- ---- all values
+
+-- content of this form ends after the octets w and before the octets `after`
+abbrev pub ClosesBefore : Form → Mode → Option ℕ → List ℕ → List ℕ → Type 0
+ClosesBefore octets mode o w after = ⊥
+ClosesBefore (values kind.Definite) mode o w after = o ≡ Some (length w)
+ClosesBefore (values kind.Indefinite) mode o w after = (x : List ℕ) × HasMarker mode after x
+ClosesBefore (values kind.Unbounded) mode o w after = after ≡ []
+
+-- the rest up to the content's end is encodings of values
+pub record HasValues (c : Reading) : Type 0 where
+  pub trees : Trees
+  pub all : List ℕ
+  pub after : List ℕ
+  pub encode : AreEncodings c.mode trees all
+  pub rest : c.stream.rest ≡ all ++ after
+  pub closes : ClosesBefore c.kind c.mode c.owed all after
+
+-- fewer octets came than are owed
+pub record IsShort (c : Reading) : Type 0 where
+  pub short : (n : ℕ) → c.owed ≡ Some n → length c.stream.rest < n
+
+-- why the octets of a primitive value were not passed, and e was answered; `why` tells its cause
+pub data RefusesOctets {E : Type 0} (why : E → Cause ContentError) (c : Reading) (e : E) (d : Reading) : Type 0 where
+  failing : why e ≡ of_source → Grew c.stream.faults d.stream.faults → RefusesOctets why c e d
+  few : IsShort c → IsOfContent (why e) → RefusesOctets why c e d
+
+-- why content was not passed to its end, and e was answered; `why` tells its cause
+pub data RefusesValues {E : Type 0} (why : E → Cause ContentError) (c : Reading) (e : E) (d : Reading) : Type 0 where
+  failed : c.state ≡ Failed → IsOfContent (why e) → RefusesValues why c e d
+  source : why e ≡ of_source → Grew c.stream.faults d.stream.faults → RefusesValues why c e d
+  broken : c.kind ≢ Octets → (HasValues c → ⊥) → IsOfContent (why e) → RefusesValues why c e d
+  short : c.kind ≡ Octets → IsShort c → IsOfContent (why e) → RefusesValues why c e d
+
+-- content was passed to its end, or refused; `why` tells the cause of the error
+pub record AllBy {T E : Type 0} (why : E → Cause ContentError) (c : Reading) (r : Result T E) (d : Reading) : Type 0 where
+  -- there were values up to the end, and content is at it
+  pub all : OnOk r (c.state ≡ Open → HasValues c)
+  pub done : OnOk r (IsDone d)
+  -- no answer is given over a failure of the source
+  pub no_fault : OnOk r (d.stream.faults ≡ c.stream.faults)
+  -- an error tells why not, and content has failed
+  pub refused : IfErr r (λ e. RefusesValues why c e d)
+  pub failed : OnErr r (d.state ≡ Failed)
+  -- the mode stays, and the mark
+  pub mode : d.mode ≡ c.mode
+  pub marked : d.marked ≡ c.marked
+
+-- what a loop over values keeps: each that was passed was a whole one, so values up to the end remain exactly where they were there at first
+pub record Walks (c d : Reading) : Type 0 where
+  pub moves : Moves c d
+  pub mode : d.mode ≡ c.mode
+  pub marked : d.marked ≡ c.marked
+  pub ended : d.state ≡ Ended → c.state ≡ Ended
+  pub failed : d.state ≡ Failed → c.state ≡ Failed
+  pub remain : HasValues c → HasValues d
+  pub were : HasValues d → HasValues c
+
+-- ---- the same of a parameter
+
+-- a parameter of constructed content as it was at the entry, and as it is at the exit
+module _ {S : Type 0} (stream : S → Stream) (c : Both (MutBor (Constructed S)) (MutBor (Constructed S))) where
+  abbrev pub Between : (Reading → Reading → Type 0) → Type 0
+  Between R = R (of_constructed stream c.entry.now) (of_constructed stream c.exit.now)
+
+  -- what a call that passes over the next value promises of content and of its answer
+  abbrev pub PassedNext : {T X : Type 0} → Result (Option T) (DecodeError X) → Type 0
+  PassedNext r = PassedBy cause_of (of_constructed stream c.entry.now) r (of_constructed stream c.exit.now)
+
+  -- unless the source failed, Some is answered exactly where a value stands in front, and None exactly at the end
+  abbrev pub ExactlyNext : {T E : Type 0} → Result (Option T) E → Type 0
+  ExactlyNext r = (Between (λ c d. Grew c.stream.faults d.stream.faults) → ⊥) → AnswersNext (of_constructed stream c.entry.now) r (of_constructed stream c.exit.now)

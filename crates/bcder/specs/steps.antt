@@ -1,0 +1,20 @@
+-- What private contracts say, which no caller sees.
+pub mod SegmentTable
+pub mod Segments
+pub mod Pushed
+pub mod Reading
+pub mod StopCause
+pub mod Peek
+pub mod Entering
+pub mod Inside
+pub mod WalkSteps
+pub mod PeekTag
+pub mod Answers
+pub mod Enclosing
+pub mod Growing
+pub mod SkipSteps
+pub mod Stacked
+pub mod Front
+pub mod Segmenting
+pub mod StringSources
+pub mod Utf8Leads

@@ -1,0 +1,42 @@
+-- What a step over the header of the next value answers and leaves.
+use Rattle.std.specs.Prelude.{◌≡◌, ◌⊎◌, ℕ, true, Option, Result, IfOk, IfErr, IfSome, IfNone, OnOk, OnErr}
+use Rattle.bcder.specs.declared.decode.error.ContentError.{ContentError}
+use Rattle.bcder.specs.declared.decode.header.Header.{Header as Kept}
+use Rattle.bcder.specs.declared.decode.content.State.TheVariants.{Failed}
+use Rattle.bcder.specs.calls.Calls.{HasForm}
+use Rattle.bcder.specs.calls.Cause.{Cause, IsOfContent}
+use Rattle.bcder.specs.x690.Identifier.{Tag}
+use Rattle.bcder.specs.steps.Peek.{header, octets_header}
+use Rattle.bcder.specs.calls.Stream.{Grew}
+use Rattle.bcder.specs.calls.Content.{Reading, Asked, tagged, IsAsked, Enters, RefusesHeader}
+use Rattle.bcder.specs.calls.Takes.{HasNone}
+
+module _ {E : Type 0} (c d : Reading) where
+  -- the header of a value that is asked for was passed
+  abbrev pub EntersNext : Asked → Result (Option Kept) E → Type 0
+  EntersNext asked r = IfOk r (λ o. IfSome o (λ h. IsAsked asked h.tag × Enters c (header h) d))
+
+  -- there is none, and what is left
+  abbrev pub FindsNone : Asked → {T : Type 0} → Result (Option T) E → Type 0
+  FindsNone asked r = IfOk r (λ o. IfNone o (HasNone asked c d))
+
+  -- why none was passed
+  abbrev pub RefusesNext : (E → Cause ContentError) → Asked → {T : Type 0} → Result T E → Type 0
+  RefusesNext why asked r = IfErr r (λ e. RefusesHeader why asked c e d)
+
+  -- where it succeeded, the source met no fault
+  abbrev pub MeetsNoFault : {T : Type 0} → Result T E → Type 0
+  MeetsNoFault r = OnOk r (d.stream.faults ≡ c.stream.faults)
+
+  -- where it didn't, the source failed
+  abbrev pub MeetsFault : {T : Type 0} → Result T E → Type 0
+  MeetsFault r = OnErr r (Grew c.stream.faults d.stream.faults)
+
+-- the header of a primitive value of the tag was passed, with so many contents octets; or there is none; or it was refused, as that of a constructed one is
+pub record EntersOctets {E : Type 0} (why : E → Cause ContentError) (t : Tag) (c : Reading) (r : Result (Option ℕ) E) (d : Reading) : Type 0 where
+  pub entered : IfOk r (λ o. IfSome o (λ n. Enters c (header (octets_header t n)) d))
+  pub none : IfOk r (λ o. IfNone o (HasNone (tagged t) c d))
+  pub refused : IfErr r (λ e. RefusesHeader why (tagged t) c e d ⊎ HasForm true (tagged t) c × IsOfContent (why e))
+  pub failed : OnErr r (d.state ≡ Failed)
+  pub mode : d.mode ≡ c.mode
+  pub marked : d.marked ≡ c.marked

@@ -1,0 +1,52 @@
+-- What the steps over the content of a value answer and leave.
+use Rattle.std.specs.Prelude.{◌≡◌, ℕ, Bool, Option, Some, Result, Ok, Err}
+use Rattle.std.specs.Borrow.{MutBor}
+use Rattle.bcder.specs.declared.length.Length.{Length}
+use Rattle.bcder.specs.declared.length.Length.TheVariants.{Definite, Indefinite}
+use Rattle.bcder.specs.declared.decode.content.Constructed.{Constructed}
+use Rattle.bcder.specs.declared.decode.content.Kind.{Kind}
+use Rattle.bcder.specs.declared.decode.content.Kind.TheVariants as kind
+use Rattle.bcder.specs.declared.decode.content.State.TheVariants.{Open}
+use Rattle.bcder.specs.declared.decode.error.DecodeError.{DecodeError}
+use Rattle.bcder.specs.declared.decode.header.Header.{Header as Kept}
+use Rattle.bcder.specs.declared.decode.error.ContentError.{ContentError}
+use Rattle.bcder.specs.calls.Cause.{Cause, cause_of, IsRefusal}
+use Rattle.bcder.specs.x690.Identifier.{Tag}
+use Rattle.bcder.specs.x690.Encoding.{Header}
+use Rattle.bcder.specs.calls.Stream.{Stream}
+use Rattle.bcder.specs.calls.Content.{Reading}
+use Rattle.bcder.specs.calls.Calls.{Hands, RanOver, TakesContent, popped}
+use Rattle.bcder.specs.calls.Views.{of_constructed}
+
+-- how the end of the values behind a length is known
+abbrev pub kind_behind : Length → Kind
+kind_behind (Definite n) = kind.Definite
+kind_behind Indefinite = kind.Indefinite
+
+-- the limit of the content behind a length, inside the limit o
+abbrev pub limit_inside : Length → Option ℕ → Option ℕ
+limit_inside (Definite n) o = Some n
+limit_inside Indefinite o = o
+
+-- the limit after that content, of whose limit so much is left
+abbrev pub limit_outside : Length → Option ℕ → Option ℕ → Option ℕ
+limit_outside (Definite n) o left = popped o n left
+limit_outside Indefinite o left = left
+
+-- the content behind a header that was passed
+abbrev pub IsBehind : {S : Type 0} → (S → Stream) → MutBor (Constructed S) → Kept → Reading → Type 0
+IsBehind stream c h i = Hands (of_constructed stream c.now).mode h.constructed h.len (of_constructed stream c.now).owed (of_constructed stream c.now).stream.rest i
+
+-- a closure ran on this content
+abbrev pub RanInside : {C T E : Type 0} → (E → Cause ContentError) → (C → Reading) → (Tag → MutBor C → Result T E → MutBor C → Type 0) → Reading → Tag → Result T E → Bool → Stream → Option ℕ → Type 0
+RanInside why view post i t r mark s o = RanOver why view post i.stream i.owed i.kind i.mode t r mark s o
+
+-- usable content once more
+abbrev pub opened : Reading → Reading
+opened c = record { stream = c.stream; owed = c.owed; kind = c.kind; state = Open; mode = c.mode; marked = c.marked; name = c.name }
+
+-- what was done with the value whose header was passed: it has the form that is refused, or its content was refused, or taken
+pub data TakesBehind {C T X : Type 0} (view : C → Reading) (post : Tag → MutBor C → Result T (DecodeError X) → MutBor C → Type 0) (form : Option Bool) (c : Reading) (h : Header) (r : Result (Option T) (DecodeError X)) (d : Reading) : Type 0 where
+  of_form : (e : DecodeError X) → ◌≡◌ {A = Result (Option T) (DecodeError X)} r (Err e) → form ≡ Some h.form → IsRefusal e → d ≡ c → TakesBehind view post form c h r d
+  refused : (e : DecodeError X) → ◌≡◌ {A = Result (Option T) (DecodeError X)} r (Err e) → TakesContent {T = T} cause_of view post c h (Err e) d → TakesBehind view post form c h r d
+  taken : (x : T) (m : Reading) → ◌≡◌ {A = Result (Option T) (DecodeError X)} r (Ok (Some x)) → TakesContent cause_of view post c h (Ok x) m → d ≡ opened m → TakesBehind view post form c h r d

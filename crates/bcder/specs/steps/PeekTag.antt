@@ -1,0 +1,21 @@
+-- What identifier octets stand at the front of a source, and what the octets at hand tell of them.
+use Rattle.std.specs.Prelude.{◌≡◌, ℕ, ◌<◌, ◌≤◌, List, [], ◌++◌, length, drop, Option, Some, None}
+use Rattle.bcder.specs.declared.tag.take.PeekedTag.{PeekedTag}
+use Rattle.bcder.specs.declared.tag.take.PeekedTag.TheVariants as peeked
+use Rattle.bcder.specs.x690.Identifier.{IsTag, identifier}
+use Rattle.bcder.specs.calls.Begins.{BeginsNoIdentifier}
+use Rattle.bcder.specs.calls.Stream.{Stream}
+
+-- of octets, of which n are at hand
+abbrev pub IsTagPeeked : PeekedTag → ℕ → List ℕ → Type 0
+IsTagPeeked peeked.Nothing n w = w ≡ []
+IsTagPeeked (peeked.Front t f k) n w = (k ≤ n) × IsTag t × (w ≡ identifier t f ++ drop k w)
+IsTagPeeked peeked.Refused n w = (1 ≤ length w) × BeginsNoIdentifier w
+
+abbrev pub PeeksTag : PeekedTag → Stream → Type 0
+PeeksTag p s = IsTagPeeked p s.avail s.rest
+
+-- whatever follows the octets at hand
+abbrev pub SeesTag : Option PeekedTag → List ℕ → Type 0
+SeesTag None w = (length w < 4) × BeginsNoIdentifier w
+SeesTag (Some p) w = (x : List ℕ) → IsTagPeeked p (length w) (w ++ x)

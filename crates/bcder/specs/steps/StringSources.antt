@@ -1,0 +1,27 @@
+-- What private steps of the source over the octets of a string say.
+use Rattle.std.specs.Prelude.{◌≡◌, ℕ, ◌-◌, ◌≤◌, ◌⊎◌, List, [], ◌++◌, length, Result, OnOk}
+use Rattle.std.specs.Borrow.{MutBor}
+use denote.Triple.Both.{Both}
+use Rattle.bcder.specs.declared.memory.NoMemory.{NoMemory}
+use Rattle.bcder.specs.declared.string.octet.source.OctetStringSource.{OctetStringSource}
+use Rattle.bcder.specs.calls.Stream.{Stream}
+use Rattle.bcder.specs.calls.StringSource.{all_behind}
+
+abbrev pub to_come : OctetStringSource → List ℕ
+to_come s = s.front.octets ++ all_behind s.behind
+
+-- how many octets came before
+abbrev pub came : OctetStringSource → ℕ
+came s = s.reached - length s.front.octets
+
+-- what it is as a source
+abbrev pub source_stream : OctetStringSource → Stream
+source_stream s = record { rest = to_come s; avail = length s.front.octets; faults = s.faults; position = came s; kept = [] }
+
+-- octets were put in front, as many as were asked for, or all that there are; if that failed, no fewer stand there than did
+pub record FillsFront (asked : ℕ) (s : Both (MutBor OctetStringSource) (MutBor OctetStringSource)) (r : Result (Unit {0}) NoMemory) : Type 0 where
+  pub same : to_come s.exit.now ≡ to_come s.entry.now
+  pub no_fewer : length s.entry.now.front.octets ≤ length s.exit.now.front.octets
+  pub enough : OnOk r ((asked ≤ length s.exit.now.front.octets) ⊎ (all_behind s.exit.now.behind ≡ []))
+  pub faults : s.exit.now.faults ≡ s.entry.now.faults
+  pub position : came s.exit.now ≡ came s.entry.now

@@ -1,0 +1,107 @@
+-- What private steps of walking over values answer and leave.
+use Rattle.std.specs.Borrow.{MutBor}
+use Rattle.std.specs.Prelude.{◌≡◌, ℕ, ◌+◌, ◌≤◌, Bool, true, false, length, take, Option, Result, IfOk, IfErr, OnOk, OnErr, IsTrue}
+use denote.Triple.Both.{Both}
+use Rattle.bcder.specs.declared.decode.content.State.TheVariants.{Failed}
+use Rattle.bcder.specs.x690.Identifier.{Tag, AreOctets, is_value_tag}
+use Rattle.bcder.specs.calls.Stream.{Stream, Grew}
+use Rattle.bcder.specs.declared.decode.error.ContentError.{ContentError}
+use Rattle.bcder.specs.calls.Cause.{Cause, of_source}
+use Rattle.bcder.specs.steps.StopCause.{stop_cause}
+use Rattle.bcder.specs.declared.decode.stop.Stop.{Stop}
+use Rattle.bcder.specs.declared.decode.header.Header.{Header as Kept}
+use Rattle.bcder.specs.declared.decode.content.Constructed.{Constructed}
+use Rattle.bcder.specs.calls.Views.{of_constructed}
+use Rattle.bcder.specs.calls.Calls.{TakesContent}
+use Rattle.bcder.specs.declared.length.Length.TheVariants.{Definite}
+use Rattle.bcder.specs.declared.decode.content.walk.Next.{Next}
+use Rattle.bcder.specs.declared.decode.content.walk.Next.TheVariants as next
+use Rattle.bcder.specs.x690.Encoding.{Header}
+use Rattle.bcder.specs.steps.Peek.{header as header_of}
+use Rattle.bcder.specs.calls.Content.{Reading, Moves, EndsAt, IsDone, Enters, Advances, any, Resembles, RefusesHeader}
+use Rattle.bcder.specs.calls.Walking.{PassesValue, PassedBy, RefusesValues, AllBy, Between}
+
+-- a header of so many octets is that of a primitive value of n octets in all
+pub record IsPrimitive (h : Header) (size n : ℕ) : Type 0 where
+  pub is_value : is_value_tag h.tag ≡ true
+  pub form : h.form ≡ false
+  pub len : ℕ
+  pub tells : h.len ≡ Definite len
+  pub all : n ≡ size + len
+
+-- a step over content went to the inside of a value, over a value, or to the end
+abbrev pub Goes : Reading → Next → Reading → Type 0
+Goes c (next.Entered h) d = Enters c (header_of h) d
+Goes c next.Passed d = PassesValue c d
+Goes c next.Ended d = EndsAt c d × IsDone d
+
+-- the first n octets were passed, and nothing else changed
+pub record PassesOver (c : Reading) (n : ℕ) (d : Reading) : Type 0 where
+  pub advances : Advances c d (take n c.stream.rest)
+  pub octets : AreOctets c.stream.rest
+  pub within : n ≤ length c.stream.rest
+  pub no_fault : d.stream.faults ≡ c.stream.faults
+  pub state : d.state ≡ c.state
+  pub marked : d.marked ≡ c.marked
+
+-- the next value was passed in one go, or nothing was passed; `why` tells the cause of an error
+pub record AtOnceBy {E : Type 0} (why : E → Cause ContentError) (c : Reading) (r : Result Bool E) (d : Reading) : Type 0 where
+  pub passed : IfOk r (λ b. IsTrue b → PassesValue c d)
+  pub same : IfOk r (λ b. b ≡ false → Resembles c d)
+  -- the source failed exactly where an error is answered, and content has failed
+  pub no_fault : OnOk r (d.stream.faults ≡ c.stream.faults)
+  pub fault : IfErr r (λ e. (why e ≡ of_source) × Grew c.stream.faults d.stream.faults)
+  pub failed : OnErr r (d.state ≡ Failed)
+  pub mode : d.mode ≡ c.mode
+  pub marked : d.marked ≡ c.marked
+
+-- a step went over the next value, over its header or to the end, or was refused; `why` tells the cause of its error
+pub record StepsBy {E : Type 0} (why : E → Cause ContentError) (c : Reading) (r : Result Next E) (d : Reading) : Type 0 where
+  pub goes : IfOk r (λ n. Goes c n d)
+  pub no_fault : OnOk r (d.stream.faults ≡ c.stream.faults)
+  pub refused : IfErr r (λ e. RefusesHeader why any c e d)
+  pub failed : OnErr r (d.state ≡ Failed)
+  pub mode : d.mode ≡ c.mode
+  pub marked : d.marked ≡ c.marked
+
+-- content was walked to its end, or not
+pub record WalksBy {E : Type 0} (why : E → Cause ContentError) {T : Type 0} (i : Reading) (r : Result T E) (j : Reading) : Type 0 where
+  pub moves : Moves i j
+  pub marked : OnOk r (j.marked ≡ i.marked)
+  pub done : OnOk r (IsDone j)
+  pub refused : IfErr r (λ e. RefusesValues why i e j)
+
+abbrev pub itself : Reading → Reading
+itself c = c
+
+-- the same as a closure's step over content
+abbrev pub walked : {T E : Type 0} → (E → Cause ContentError) → Tag → MutBor Reading → Result T E → MutBor Reading → Type 0
+walked why t p r q = WalksBy why p.now r q.now
+
+-- a parameter of constructed content as it was at the entry, and as it is at the exit
+module _ {S : Type 0} (stream : S → Stream) (c : Both (MutBor (Constructed S)) (MutBor (Constructed S))) where
+  abbrev pub NoFault : Type 0
+  NoFault = Between stream c (λ c d. d.stream.faults ≡ c.stream.faults)
+
+  abbrev pub Fault : Type 0
+  Fault = Between stream c (λ c d. Grew c.stream.faults d.stream.faults)
+
+  -- with a stop in the place of an error
+  abbrev pub PassedStep : {T X : Type 0} → Result (Option T) (Stop X) → Type 0
+  PassedStep r = PassedBy stop_cause (of_constructed stream c.entry.now) r (of_constructed stream c.exit.now)
+
+  abbrev pub PassedOver : ℕ → Type 0
+  PassedOver n = Between stream c (λ c d. PassesOver c n d)
+
+  abbrev pub PassedAtOnce : {X : Type 0} → Result Bool (Stop X) → Type 0
+  PassedAtOnce r = AtOnceBy stop_cause (of_constructed stream c.entry.now) r (of_constructed stream c.exit.now)
+
+  abbrev pub Stepped : {X : Type 0} → Result Next (Stop X) → Type 0
+  Stepped r = StepsBy stop_cause (of_constructed stream c.entry.now) r (of_constructed stream c.exit.now)
+
+  abbrev pub PassedAll : {T X : Type 0} → Result T (Stop X) → Type 0
+  PassedAll r = AllBy stop_cause (of_constructed stream c.entry.now) r (of_constructed stream c.exit.now)
+
+  -- the content of a header was walked over
+  abbrev pub WalkedOver : {T X : Type 0} → Kept → Result T (Stop X) → Type 0
+  WalkedOver h r = TakesContent stop_cause itself (walked stop_cause) (of_constructed stream c.entry.now) (header_of h) r (of_constructed stream c.exit.now)

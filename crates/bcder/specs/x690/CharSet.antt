@@ -1,0 +1,36 @@
+-- Character sets: which characters octets spell (ITU-T X.690, 8.23).
+use Rattle.std.specs.Prelude.{◌≡◌, ℕ, List, [], ◌∷◌, ◌++◌, Option, Some}
+use Rattle.std.specs.Char.{IsScalar}
+
+-- the character in front, by its number, and the octets behind it
+pub record Front : Type 0 where
+  pub char : ℕ
+  pub rest : List ℕ
+
+-- how a character is read from the front of octets, where one stands there
+abbrev pub Step : Type 0
+Step = List ℕ → Option Front
+
+-- a character takes at least one octet, and is one of Unicode's
+pub record IsStep (step : Step) : Type 0 where
+  pub takes : (w : List ℕ) (x : Front) → step w ≡ Some x → (b : ℕ) × (bs : List ℕ) × (w ≡ (b ∷ bs) ++ x.rest)
+  pub scalar : (w : List ℕ) (x : Front) → step w ≡ Some x → IsScalar x.char
+
+module _ (step : Step) where
+  -- octets spell these characters, one behind the other, and nothing else
+  abbrev pub Spells : List ℕ → List ℕ → Type 0
+  Spells w [] = w ≡ []
+  Spells w (c ∷ cs) = (rest : List ℕ) × (step w ≡ Some (record { char = c; rest = rest })) × Spells rest cs
+
+  -- octets are a string of the set
+  abbrev pub Accepts : List ℕ → Type 0
+  Accepts w = (cs : List ℕ) × Spells w cs
+
+  -- no octets spell these characters
+  abbrev pub HasNo : List ℕ → Type 0
+  HasNo cs = (w : List ℕ) → Spells w cs → ⊥
+
+  -- some octets do
+  abbrev pub HasSome : List ℕ → Type 0
+  HasSome cs = (w : List ℕ) × Spells w cs
+  -- ---- what the calls of a set answer

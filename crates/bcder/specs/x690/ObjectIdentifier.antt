@@ -1,0 +1,62 @@
+-- The contents octets of object identifiers (ITU-T X.690, 8.19).
+use Rattle.std.specs.Prelude.{◌≡◌, ◌≢◌, ℕ, ◌+◌, ◌-◌, ◌*◌, ◌%◌, ◌<◌, ◌≤◌, List, [], ◌∷◌, ◌++◌, map, slice_index, nat_lt, if◌then◌else◌}
+use Rattle.bcder.specs.x690.Identifier.{Tag, universal}
+
+-- X.680, 8.4
+abbrev pub identifier_tag : Tag
+identifier_tag = record { class = universal; number = 6 }
+
+-- ---- 8.19.2: subidentifiers
+
+-- the number whose digits in base 128 are bits 7 to 1 of each octet, after digits that come to high
+abbrev pub number_after : ℕ → List ℕ → ℕ
+number_after high [] = high
+number_after high (b ∷ w) = number_after (128 * high + b % 128) w
+
+abbrev pub number : List ℕ → ℕ
+number w = number_after 0 w
+
+-- the octets cut after each one with bit 8 zero, behind those in front; what stands after the last such octet is left out
+abbrev pub cut_after : List ℕ → List ℕ → List (List ℕ)
+cut_after front [] = []
+cut_after front (b ∷ w) = if nat_lt b 0x80 then (front ++ b ∷ []) ∷ cut_after [] w else cut_after (front ++ b ∷ []) w
+
+-- the octets of each subidentifier
+abbrev pub subidentifiers : List ℕ → List (List ℕ)
+subidentifiers w = cut_after [] w
+
+-- bit 8 is one in each octet but the last, where it is zero
+abbrev pub IsWhole : List ℕ → Type 0
+IsWhole [] = ⊥
+IsWhole (b ∷ []) = b < 0x80
+IsWhole (b ∷ c ∷ w) = (0x80 ≤ b) × (b < 0x100) × IsWhole (c ∷ w)
+
+-- the octets of one subidentifier: the fewest that it can have, so the first is not 80
+pub record IsSubidentifier (n : ℕ) (w : List ℕ) : Type 0 where
+  pub whole : IsWhole w
+  pub value : number w ≡ n
+  pub fewest : slice_index w 0 ≢ 0x80
+
+-- the octets of one subidentifier after the other
+abbrev pub AreSubidentifiers : List ℕ → List ℕ → Type 0
+AreSubidentifiers [] w = w ≡ []
+AreSubidentifiers (n ∷ ns) w = (v : List ℕ) × (x : List ℕ) × IsSubidentifier n v × AreSubidentifiers ns x × (w ≡ v ++ x)
+
+-- octets that end with a subidentifier
+abbrev pub IsComplete : List ℕ → Type 0
+IsComplete [] = ⊥
+IsComplete (b ∷ []) = b < 0x80
+IsComplete (b ∷ c ∷ w) = IsComplete (c ∷ w)
+
+-- ---- 8.19.4: the first subidentifier holds the first two components
+
+abbrev pub components_of : List ℕ → List ℕ
+components_of [] = []
+components_of (s ∷ ss) =
+    if nat_lt s 40 then 0 ∷ s ∷ ss
+    else if nat_lt s 80 then 1 ∷ (s - 40) ∷ ss
+    else 2 ∷ (s - 80) ∷ ss
+
+-- the components that the octets hold, whether they are complete or not
+abbrev pub components : List ℕ → List ℕ
+components w = components_of (map number (subidentifiers w))

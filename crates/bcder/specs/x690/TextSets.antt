@@ -1,0 +1,16 @@
+-- Character sets whose strings are text as they stand (RFC 3629).
+use Rattle.std.specs.Prelude.{◌≡◌, ◌↔◌, ℕ, List, true}
+use Rattle.std.specs.Str.{IsUtf8, chars, encode_utf8_all, all_scalars}
+use Rattle.bcder.specs.x690.CharSet.{Step, Spells, Accepts}
+
+-- octets that spell characters are the text of these
+abbrev pub AreTexts : Step → Type 0
+AreTexts step = (w cs : List ℕ) → Spells step w cs → IsUtf8 w × (chars w ≡ cs)
+
+-- octets spell characters where they are the encodings of these, and of Unicode's characters alone
+abbrev pub AreEncoded : Step → Type 0
+AreEncoded step = (w cs : List ℕ) → Spells step w cs ↔ (all_scalars cs ≡ true) × (encode_utf8_all cs ≡ w)
+
+-- each text is a string of the set, and nothing else
+abbrev pub AreAllTexts : Step → Type 0
+AreAllTexts step = (w : List ℕ) → Accepts step w ↔ IsUtf8 w
