@@ -8,14 +8,14 @@ use Rattle.bcder.specs.x690.Identifier.{Tag}
 use Rattle.bcder.specs.x690.Tree.{Tree}
 use Rattle.bcder.specs.calls.StringOctets.{StringOctets, octets_of, MeansString}
 use Rattle.bcder.specs.x690.OctetString.{flat}
-use Rattle.bcder.specs.x690.CharSet.{Step, Accepts}
+use Rattle.bcder.specs.x690.CharSet.{Step, IsOfSet}
 use Rattle.bcder.specs.calls.RestrictedString.{MeansRestricted}
 use Rattle.bcder.specs.calls.Valued.{ReadsTree, RefusesToRead, ReadsContent, ReadsAny, HoldsTree, failed, source, memory, nothing}
 use Rattle.bcder.proofs.OneString.{means_flat}
 use Rattle.bcder.proofs.Valued.{one_content}
 
 module _ (step : Step) (c d : Reading) where
-  pub read_accepted : {X : Type 0} (s r : StringOctets) → r ≡ s → Accepts step (octets_of s) → ReadsAny {X = X} MeansString c (Ok s) d → ReadsAny {X = X} (MeansRestricted step) c (Ok r) d
+  pub read_accepted : {X : Type 0} (s r : StringOctets) → r ≡ s → IsOfSet step (octets_of s) → ReadsAny {X = X} MeansString c (Ok s) d → ReadsAny {X = X} (MeansRestricted step) c (Ok r) d
   read_accepted {X} s r e a h = record { at_tag = λ tag. at tag (h.at_tag tag) }
     where
       at : (tag : Tag) → ReadsContent tag (MeansString c.mode) {X = X} c (Ok s) d → ReadsContent tag (MeansRestricted step c.mode) {X = X} c (Ok r) d
@@ -29,13 +29,13 @@ module _ (step : Step) (c d : Reading) where
       })
 
   -- content is that of one value, whose octets are not accepted
-  none_accepted : (tag : Tag) (s : StringOctets) → (Accepts step (octets_of s) → ⊥) → ReadsTree tag (MeansString c.mode) c s → (t : Tree) (x : StringOctets) → HoldsTree tag c t → MeansRestricted step c.mode t x → ⊥
+  none_accepted : (tag : Tag) (s : StringOctets) → (IsOfSet step (octets_of s) → ⊥) → ReadsTree tag (MeansString c.mode) c s → (t : Tree) (x : StringOctets) → HoldsTree tag c t → MeansRestricted step c.mode t x → ⊥
   none_accepted tag s n k t x h m =
       let same : t ≡ k.tree = one_content tag c t k.tree h k.holds in
       let octets : octets_of x ≡ octets_of s = means_flat c.mode t x m.0.1 ∙ ap flat same ∙ sym (means_flat c.mode k.tree s k.means.1) in
-      n (subst (Accepts step) octets m.1)
+      n (subst (IsOfSet step) octets m.1)
 
-  pub read_not_accepted : {X : Type 0} (s : StringOctets) (e : DecodeError X) → IsRefusal e → (Accepts step (octets_of s) → ⊥) → ReadsAny {X = X} MeansString c (Ok s) d → ReadsAny {T = StringOctets} (MeansRestricted step) c (Err e) d
+  pub read_not_accepted : {X : Type 0} (s : StringOctets) (e : DecodeError X) → IsRefusal e → (IsOfSet step (octets_of s) → ⊥) → ReadsAny {X = X} MeansString c (Ok s) d → ReadsAny {T = StringOctets} (MeansRestricted step) c (Err e) d
   read_not_accepted {X} s e i n h = record { at_tag = λ tag. at tag (h.at_tag tag) }
     where
       at : (tag : Tag) → ReadsContent tag (MeansString c.mode) {X = X} c (Ok s) d → ReadsContent tag (MeansRestricted step c.mode) {X = X} c (Err e) d

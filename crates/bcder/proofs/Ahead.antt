@@ -4,7 +4,7 @@ use Rattle.std.specs.Prelude.{Result, IsErrAnd}
 use Rattle.std.specs.Borrow.{MutBor}
 use Rattle.bcder.specs.declared.mode.Mode.{Mode}
 use Rattle.bcder.specs.declared.length.Length.TheVariants.{Definite, Indefinite}
-use Rattle.bcder.specs.declared.decode.header.Header.{Header as Kept}
+use Rattle.bcder.specs.declared.decode.header.Header.{Header as CodeHeader}
 use Rattle.bcder.specs.declared.decode.content.State.TheVariants.{Failed}
 use Rattle.bcder.specs.declared.decode.error.DecodeError.{DecodeError}
 use Rattle.bcder.specs.declared.decode.error.ContentError.{ContentError}
@@ -12,7 +12,7 @@ use Rattle.bcder.specs.calls.Calls.{HasForm}
 use Rattle.bcder.specs.calls.Cause.{Cause, cause_of, of_source, IsOfContent, IsRefusal}
 use Rattle.bcder.specs.x690.Encoding.{IsHeader, may_have}
 use Rattle.bcder.specs.x690.Identifier.{Tag}
-use Rattle.bcder.specs.steps.Peek.{header, octets_header}
+use Rattle.bcder.specs.steps.Peek.{header_of, octets_header}
 use Rattle.bcder.specs.calls.Stream.{Grew}
 use Rattle.bcder.specs.calls.Content.{Reading, Asked, tagged, Enters, HasHeader, HasMarker, HasOther, Falls, Resembles, IsElsewhere, none_left, other, marker, IsAbsent, IsLeft, RefusesHeader, failed, source, nothing}
 use Rattle.bcder.specs.steps.Entering.{EntersOctets}
@@ -88,8 +88,8 @@ module _ (c d e : Reading) (s : Resembles c d) (f : d.stream.faults ≡ c.stream
 
 -- ---- what a header that was passed is
 
-module _ (c d : Reading) (t : Tag) (h : Kept) (e : h.tag ≡ t) (x : Enters c (header h) d) where
-  pub primitive_entered : (n : ℕ) → h.constructed ≡ false → h.len ≡ Definite n → Enters c (header (octets_header t n)) d
+module _ (c d : Reading) (t : Tag) (h : CodeHeader) (e : h.tag ≡ t) (x : Enters c (header_of h) d) where
+  pub primitive_entered : (n : ℕ) → h.constructed ≡ false → h.len ≡ Definite n → Enters c (header_of (octets_header t n)) d
   primitive_entered n f l =
       subst (λ z. Enters c (record { tag = z; form = false; len = Definite n }) d) e
       (subst (λ z. Enters c (record { tag = h.tag; form = z; len = Definite n }) d) f
@@ -97,7 +97,7 @@ module _ (c d : Reading) (t : Tag) (h : Kept) (e : h.tag ≡ t) (x : Enters c (h
 
   -- a primitive value has a definite length
   pub constructed_there : (h.constructed ≡ true) ⊎ (h.len ≡ Indefinite) → HasForm true (tagged t) c
-  constructed_there k = record { usable = x.usable; after = d.stream.rest; front = header_entered c (header h) d (tagged t) e x; is = is_constructed k }
+  constructed_there k = record { usable = x.usable; after = d.stream.rest; front = header_entered c (header_of h) d (tagged t) e x; is = is_constructed k }
     where
       only_constructed : (m : Mode) (f : Bool) → may_have m f Indefinite ≡ true → f ≡ true
       only_constructed m true e = refl

@@ -6,7 +6,7 @@ use Rattle.std.proofs.lemmas.Str.{encodes-append, encodes-chars, chars-nil, char
 use Rattle.std.specs.Str.{IsUtf8, chars, all_scalars}
 use Rattle.std.specs.Iterator.{YieldsFirst, MakesProgress, item_count}
 use Rattle.bcder.specs.declared.string.restricted.char_set.CharSetError.{CharSetError}
-use Rattle.bcder.specs.x690.CharSet.{Front, Step, IsStep, Spells, Accepts}
+use Rattle.bcder.specs.x690.CharSet.{Front, Step, IsStep, Spells, IsOfSet}
 use Rattle.bcder.specs.calls.CharSetCalls.{NextChar, characters_left}
 use Rattle.bcder.specs.x690.TextSets.{AreTexts}
 use Rattle.bcder.specs.x690.Characters.{and_behind, characters_within, characters}
@@ -41,7 +41,7 @@ module _ (step : Step) (lawful : IsStep step) where
   unfolding characters
   characters_spelled w cs s = spelled_within (length w) w cs (omega arith) s
 
-  pub spells_characters : (w : List ℕ) → Accepts step w → Spells step w (characters step w)
+  pub spells_characters : (w : List ℕ) → IsOfSet step w → Spells step w (characters step w)
   spells_characters w a = subst (Spells step w) (sym (characters_spelled w a.0 a.1)) a.1
 
   -- ---- one character after the other
@@ -58,17 +58,17 @@ module _ (step : Step) (lawful : IsStep step) where
   spelled_behind w r c [] e s = absurd (no_front _ (ap step (sym s) ∙ e))
   spelled_behind w r c (d ∷ cs) e s = (let h = spelled_after w _ d cs e s in (cs, ap (λ z. z ∷ cs) h.0, h.1))
 
-  pub accepts_behind : (w r : List ℕ) (c : ℕ) → step w ≡ Some (record { char = c; rest = r }) → Accepts step w → Accepts step r
+  pub accepts_behind : (w r : List ℕ) (c : ℕ) → step w ≡ Some (record { char = c; rest = r }) → IsOfSet step w → IsOfSet step r
   accepts_behind w r c e a = (let h = spelled_behind w r c a.0 e a.1 in (h.0, h.2))
 
   -- a character in front, and those behind it
-  pub characters_behind : (w r : List ℕ) (c : ℕ) → step w ≡ Some (record { char = c; rest = r }) → Accepts step w → characters step w ≡ c ∷ characters step r
+  pub characters_behind : (w r : List ℕ) (c : ℕ) → step w ≡ Some (record { char = c; rest = r }) → IsOfSet step w → characters step w ≡ c ∷ characters step r
   characters_behind w r c e a =
       let h = spelled_behind w r c a.0 e a.1 in
       characters_spelled w a.0 a.1 ∙ h.1 ∙ ap (λ z. c ∷ z) (sym (characters_spelled r h.0 h.2))
 
   -- where none stands in front, octets that are accepted have ended
-  pub none_behind : (w : List ℕ) → step w ≡ None → Accepts step w → w ≡ []
+  pub none_behind : (w : List ℕ) → step w ≡ None → IsOfSet step w → w ≡ []
   none_behind w e a = at a.0 a.1
     where
       at : (cs : List ℕ) → Spells step w cs → w ≡ []
@@ -77,16 +77,16 @@ module _ (step : Step) (lawful : IsStep step) where
 
   -- ---- the next one
 
-  pub accepts_next : (w r : List ℕ) (o : Result (Option ℕ) CharSetError) → NextChar step w o r → Accepts step w → Accepts step r
+  pub accepts_next : (w r : List ℕ) (o : Result (Option ℕ) CharSetError) → NextChar step w o r → IsOfSet step w → IsOfSet step r
   accepts_next w r (Ok None) n a = ([], n.1)
   accepts_next w r (Ok (Some c)) n a = accepts_behind w r c n a
   accepts_next w r (Err e) n a = absurd (n.0 (none_behind w n.1 a))
 
-  pub yields_next : (w r : List ℕ) (o : Option ℕ) → NextChar step w (Ok o) r → Accepts step w → YieldsFirst (λ (cs : List ℕ). cs) (characters step w) o (characters step r)
+  pub yields_next : (w r : List ℕ) (o : Option ℕ) → NextChar step w (Ok o) r → IsOfSet step w → YieldsFirst (λ (cs : List ℕ). cs) (characters step w) o (characters step r)
   yields_next w r None n a = (characters_spelled w [] n.0, characters_spelled r [] n.1)
   yields_next w r (Some c) n a = characters_behind w r c n a
 
-  pub never_refused : (w r : List ℕ) (e : CharSetError) → NextChar step w (Err e) r → Accepts step w → ⊥
+  pub never_refused : (w r : List ℕ) (e : CharSetError) → NextChar step w (Err e) r → IsOfSet step w → ⊥
   never_refused w r e n a = n.0 (none_behind w n.1 a)
 
   -- ---- of a text, or of octets
@@ -98,7 +98,7 @@ module _ (step : Step) (lawful : IsStep step) where
       let scalars = are_scalars s.0 cs s.2 in
       λ i. scalar i && scalars i
 
-  pub spells_left : (w : List ℕ) (text : Option (Bor (List ℕ))) → Accepts step w → IfSome text (λ t. t.now ≡ encode_utf8_all (characters step w)) → Spells step w (characters_left step text w)
+  pub spells_left : (w : List ℕ) (text : Option (Bor (List ℕ))) → IsOfSet step w → IfSome text (λ t. t.now ≡ encode_utf8_all (characters step w)) → Spells step w (characters_left step text w)
   spells_left w None a e = spells_characters w a
   spells_left w (Some t) a e =
       let own = ap chars e ∙ chars-encodes (characters step w) (are_scalars w (characters step w) (spells_characters w a)) in
@@ -128,16 +128,16 @@ module _ (step : Step) where
 -- ---- octets that are text as they stand
 
 module _ (step : Step) (lawful : IsStep step) (texts : AreTexts step) where
-  pub text_accepted : (w : List ℕ) → Accepts step w → IsUtf8 w
+  pub text_accepted : (w : List ℕ) → IsOfSet step w → IsUtf8 w
   text_accepted w a = (texts w a.0 a.1).0
 
-  shown_as : (w : List ℕ) → Accepts step w → w ≡ encode_utf8_all (characters step w)
+  shown_as : (w : List ℕ) → IsOfSet step w → w ≡ encode_utf8_all (characters step w)
   shown_as w a =
       let t = texts w a.0 a.1 in
       sym (encodes-chars w t.0) ∙ ap encode_utf8_all (t.1 ∙ sym (characters_spelled step lawful w a.0 a.1))
 
   -- lent as they are, they are their characters' text
-  pub text_lent : (w : List ℕ) (o : Option (Bor (List ℕ))) → Accepts step w → IfSome o (λ t. t.now ≡ w) → IfSome o (λ t. t.now ≡ encode_utf8_all (characters step w))
+  pub text_lent : (w : List ℕ) (o : Option (Bor (List ℕ))) → IsOfSet step w → IfSome o (λ t. t.now ≡ w) → IfSome o (λ t. t.now ≡ encode_utf8_all (characters step w))
   text_lent w None a e = tt
   text_lent w (Some t) a e = e ∙ shown_as w a
 

@@ -6,7 +6,7 @@ use Rattle.bcder.specs.x690.Identifier.{AreOctets, Tag}
 use Rattle.bcder.specs.x690.Length.{IsEndOfContents}
 use Rattle.bcder.specs.x690.Tree.{Trees}
 use Rattle.bcder.specs.x690.Encoding.{IsHeader, AreEncodings}
-use Rattle.bcder.specs.calls.ContentsLen.{told}
+use Rattle.bcder.specs.calls.ContentsLen.{length_of}
 use Rattle.bcder.specs.steps.Reading.{read_header, read_end, read_list, after_list}
 use Rattle.bcder.specs.laws.Complete.{header_complete}
 use Rattle.bcder.specs.laws.Lengths.{read_end-complete}
@@ -19,7 +19,7 @@ abbrev pub HeaderFound : Mode → Tag → Bool → Length → List ℕ → List 
 HeaderFound mode t f len octets rest = (w : List ℕ) × IsHeader mode t f len w × (octets ≡ w ++ rest)
 
 abbrev pub NoHeader : Mode → List ℕ → Type 0
-NoHeader mode octets = (t : Tag) (form : Bool) (n : Option ℕ) (w x : List ℕ) → IsHeader mode t form (told n) w → octets ≡ w ++ x → ⊥
+NoHeader mode octets = (t : Tag) (form : Bool) (n : Option ℕ) (w x : List ℕ) → IsHeader mode t form (length_of n) w → octets ≡ w ++ x → ⊥
 
 pub header_found : (mode : Mode) (t : Tag) (f : Bool) (len told_len : Length) (octets rest : List ℕ) → AreOctets octets → read_header mode octets ≡ Some (record { tag = t; form = f; len = len }, rest) → told_len ≡ len → HeaderFound mode t f told_len octets rest
 header_found mode t f len told_len octets rest o e same =
@@ -27,7 +27,7 @@ header_found mode t f len told_len octets rest o e same =
     (d.octets, subst (λ l. IsHeader mode t f l d.octets) (sym same) d.is_header, d.is)
 
 pub no_header_found : (mode : Mode) (octets : List ℕ) → read_header mode octets ≡ None → NoHeader mode octets
-no_header_found mode octets e t form n w x h is = none_is _ (sym e ∙ ap (read_header mode) is ∙ header_complete mode t form (told n) w x h)
+no_header_found mode octets e t form n w x h is = none_is _ (sym e ∙ ap (read_header mode) is ∙ header_complete mode t form (length_of n) w x h)
 
 -- ---- ends
 

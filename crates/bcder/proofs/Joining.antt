@@ -2,14 +2,14 @@
 use Rattle.std.proofs.Common.{◌≡◌, ℕ, ◌+◌, ◌<◌, ◌≤◌, ◌^◌, List, [], ◌∷◌, ◌++◌, length, Option, None, Some, Result, Ok, Err, refl, sym, ap, ◌∙◌, subst, inl, inr, arith, length-append}
 use Rattle.std.specs.Option.{SomeIff, IfSome}
 use Rattle.bcder.specs.declared.encode.error.EncodeError.{EncodeError}
-use Rattle.bcder.specs.calls.Meaning.{Encoded, Meaning, IsOne, octets_of, ValueMeans, constructed_meaning, fits_enclosed}
+use Rattle.bcder.specs.calls.Meaning.{Encoded, Meaning, IsOne, encoded_octets, ValueMeans, constructed_meaning, fits_enclosed}
 use Rattle.bcder.specs.declared.mode.Mode.{Mode}
 use Rattle.bcder.specs.declared.mode.Mode.TheVariants.{Ber, Cer, Der}
 use Rattle.bcder.specs.declared.length.Length.{Length}
 use Rattle.bcder.specs.declared.length.Length.TheVariants.{Definite}
 use Rattle.bcder.specs.x690.Identifier.{Tag}
 use Rattle.bcder.specs.x690.Octets.{header, constructed_length, enclosed_size}
-use Rattle.bcder.specs.steps.Enclosing.{told_size}
+use Rattle.bcder.specs.steps.Enclosing.{definite_len}
 use Rattle.bcder.proofs.Enclosing.{inside_of, enclosed-length}
 use Rattle.std.specs.Prelude.{◌⊎◌}
 use Rattle.std.proofs.Common.{true, ltb-true, IsErr, IsErrAnd, drop_of_length-le, drop, get_or, suc, add-one, drop-cons, append_assoc, append-nil}
@@ -37,7 +37,7 @@ pub record WrittenSoFar (M rest : Meaning → Type 0) (old new : Option (List �
   pub splits : (e : Encoded) → M (Ok e) → (front : List ℕ) × (z : Encoded) × rest (Ok z) × (e.octets ≡ front ++ z.octets) × Appends old new front
 
 -- a part and those after it
-pub sum_with : (M N : Meaning → Type 0) (n k : ℕ) (o r : Option ℕ) → TellsSize octets_of M ⊥ (Ok n) → TellsSum N ⊥ (Ok o) → o ≡ Some k → SomeIff r (n + k < 2 ^ 64) (n + k) → TellsSum (Then M N) ⊥ (Ok r)
+pub sum_with : (M N : Meaning → Type 0) (n k : ℕ) (o r : Option ℕ) → TellsSize encoded_octets M ⊥ (Ok n) → TellsSum N ⊥ (Ok o) → o ≡ Some k → SomeIff r (n + k < 2 ^ 64) (n + k) → TellsSum (Then M N) ⊥ (Ok r)
 sum_with M N n k None r p q e s = cc
 sum_with M N n k (Some j) (Some r) (x, m, a) (y, d, b) e s =
     let same : j ≡ k = cc in
@@ -48,7 +48,7 @@ sum_with M N n k (Some j) None (x, m, a) (y, d, b) e s =
     (join x y, (x, y, m, d, refl), omega (arith, length-append x.octets y.octets))
 
 -- a part and too many after it
-pub sum_over : (M N : Meaning → Type 0) (n : ℕ) (o : Option ℕ) → TellsSize octets_of M ⊥ (Ok n) → TellsSum N ⊥ (Ok o) → o ≡ None → TellsSum (Then M N) ⊥ (Ok None)
+pub sum_over : (M N : Meaning → Type 0) (n : ℕ) (o : Option ℕ) → TellsSize encoded_octets M ⊥ (Ok n) → TellsSum N ⊥ (Ok o) → o ≡ None → TellsSum (Then M N) ⊥ (Ok None)
 sum_over M N n (Some j) p q e = cc
 sum_over M N n None (x, m, a) (y, d, b) e = (join x y, (x, y, m, d, refl), omega (arith, length-append x.octets y.octets))
 
@@ -76,7 +76,7 @@ next_leads : (M N rest : Meaning → Type 0) (x a : Encoded) → ((m : Meaning) 
 next_leads M N rest x a leads p (Ok z) h = subst (λ (e : Encoded). M (Ok e)) (sym (join-assoc x a z)) (leads (Ok (join a z)) (a, z, p, h, refl))
 next_leads M N rest x a leads p (Err e) h = leads (Err e) (inr (a, p, h))
 
-pub so_far_next : {M : Meaning → Type 0} (N rest : Meaning → Type 0) {old new : Option ℕ} (len : ℕ) → SumSoFar M (Then N rest) old → TellsSize octets_of N ⊥ (Ok len) → ((k : ℕ) → IsSum old k → IsSum new (k + len)) → SumSoFar M rest new
+pub so_far_next : {M : Meaning → Type 0} (N rest : Meaning → Type 0) {old new : Option ℕ} (len : ℕ) → SumSoFar M (Then N rest) old → TellsSize encoded_octets N ⊥ (Ok len) → ((k : ℕ) → IsSum old k → IsSum new (k + len)) → SumSoFar M rest new
 so_far_next {M} N rest {old} {new} len s (a, p, is) adds = record {
   seen = join s.seen a;
   leads = next_leads M N rest s.seen a s.leads p;
@@ -117,7 +117,7 @@ module _ {M : Meaning → Type 0} (N rest : Meaning → Type 0) {old mid new : O
       let wrote = w a p in
       let failed : WroteOf lacks a.octets mid new (Err e) = subst (λ x. WroteOf lacks a.octets mid new x) is wrote in
       let before : WroteOf ⊥ front old mid (Ok tt) = record { done = appends } in
-      same_octets (ap (λ l. front ++ l) (ap octets_of (sym joined)) ∙ sym whole) (follows_on before (stops b.octets failed))
+      same_octets (ap (λ l. front ++ l) (ap encoded_octets (sym joined)) ∙ sym whole) (follows_on before (stops b.octets failed))
 
 pub written_done : {M : Meaning → Type 0} {old new : Option (List ℕ)} → WrittenSoFar M NoValues old new → (lacks : Type 0) (x : Encoded) → M (Ok x) → WroteOf lacks x.octets old new (Ok tt)
 written_done {old = old} {new = new} s lacks x m =
@@ -141,7 +141,7 @@ sum_refused {M} {L} e (Err d) is h = subst (RefusesBy M L) (sym is.1) h
 -- ---- sizes that are told
 
 pub one_size : {M : Meaning → Type 0} (one : IsOne M) (n : ℕ) (a : Encoded) → M (Ok a) → n ≡ length a.octets → HasSize M (Some n)
-one_size one n a m is = λ e p. is ∙ ap (λ x. length (octets_of x)) (same_ok _ one.same a e m p)
+one_size one n a m is = λ e p. is ∙ ap (λ x. length (encoded_octets x)) (same_ok _ one.same a e m p)
 
 size_at : (M : Meaning → Type 0) (o : Option ℕ) (e : Encoded) → HasSize M o → M (Ok e) → IfSome o (λ n. n ≡ length e.octets)
 size_at M (Some n) e h m = h e m
@@ -189,14 +189,14 @@ pub joined_size : (M : Meaning → Type 0) (o : Option ℕ) → IsOne M → HasE
 joined_size M None one known h = tt
 joined_size M (Some n) one (a, (m, fits)) h = one_size one n a m (h a (m, fits))
 
-constructed_told : {M : Meaning → Type 0} (one : IsOne M) (mode : Mode) (x : Encoded) → M (Ok x) → HasSize M (told_size (constructed_length mode (length x.octets)))
+constructed_told : {M : Meaning → Type 0} (one : IsOne M) (mode : Mode) (x : Encoded) → M (Ok x) → HasSize M (definite_len (constructed_length mode (length x.octets)))
 constructed_told one Ber x m = one_size one (length x.octets) x m refl
 constructed_told one Cer x m = tt
 constructed_told one Der x m = one_size one (length x.octets) x m refl
 
 -- of what is inside a constructed value
-pub length_told : {M : Meaning → Type 0} (one : IsOne M) (mode : Mode) (x : Encoded) → M (Ok x) → (len : Length) → len ≡ constructed_length mode (length x.octets) → HasSize M (told_size len)
-length_told {M} one mode x m len is = subst (λ l. HasSize M (told_size l)) (sym is) (constructed_told one mode x m)
+pub length_told : {M : Meaning → Type 0} (one : IsOne M) (mode : Mode) (x : Encoded) → M (Ok x) → (len : Length) → len ≡ constructed_length mode (length x.octets) → HasSize M (definite_len len)
+length_told {M} one mode x m len is = subst (λ l. HasSize M (definite_len l)) (sym is) (constructed_told one mode x m)
 
 contents_at : (t : Tag) (mode : Mode) (M : Meaning → Type 0) (one : IsOne M) (size : ℕ) → HasEncoding (ValueMeans t (constructed_meaning t mode) M)
     → HasSize (ValueMeans t (constructed_meaning t mode) M) (Some size) → (x : Encoded) → M (Ok x)

@@ -2,7 +2,7 @@ pub use Rattle.std.proofs.lemmas.Bool.Decides.{nat_tests}
 pub use Rattle.bcder.proofs.Moving.{moves}
 pub use Rattle.bcder.proofs.Names.{moves_constructed_name, moves_octets_name, moves_content_name}
 pub mod Lemmas
-mod rows
+mod worked
 pub mod Steps
 pub mod Skip
 pub mod Fronts

@@ -10,7 +10,7 @@ use Rattle.std.specs.declared.alloc.Global.{Global}
 use Rattle.bcder.specs.declared.decode.error.ContentError.{ContentError}
 use Rattle.bcder.specs.calls.Cause.{Cause, of_memory, IsOfContent}
 use Rattle.bcder.specs.calls.Content.{Reading, Moves}
-use Rattle.bcder.specs.calls.Repeating.{Answer, OwesAsBefore, TookNothing, Turn, Gift, values, Answers, GoesOn, LastAnswers, Repeats, ended, refused, stalled, endless, Collects, collected, not_answered, not_advanced, not_kept}
+use Rattle.bcder.specs.calls.Repeating.{Answer, OwesAsBefore, TookNothing, Turn, Gift, values, AnswersTurn, GoesOn, LastAnswers, Repeats, ended, refused, stalled, endless, Collects, collected, not_answered, not_advanced, not_kept}
 use Rattle.bcder.specs.laws.Moved.{untouched_is_moved, moved_twice_is_moved}
 
 -- what the test tells
@@ -30,7 +30,7 @@ module _ {F C T E : Type 0} (view : C → Reading) (step : F → MutBor C → An
 
   -- what one call did
   abbrev Once : F → Reading → Answer T E → F → Reading → Type 0
-  Once g d a h e = (t : Turn C) × Answers view step (record { closure = g; content = d }) t a (record { closure = h; content = e })
+  Once g d a h e = (t : Turn C) × AnswersTurn view step (record { closure = g; content = d }) t a (record { closure = h; content = e })
 
   -- by a lawful closure
   abbrev Lawful : Reading → Type 0

@@ -9,7 +9,7 @@ use Rattle.bcder.specs.x690.Tree.{Tree}
 use Rattle.bcder.specs.x690.Encoding.{IsEncoding}
 use Rattle.bcder.specs.calls.StringOctets.{StringOctets, octets_of, MeansString}
 use Rattle.bcder.specs.x690.OctetString.{flat}
-use Rattle.bcder.specs.x690.CharSet.{Step, Accepts}
+use Rattle.bcder.specs.x690.CharSet.{Step, IsOfSet}
 use Rattle.bcder.specs.calls.RestrictedString.{MeansRestricted}
 use Rattle.bcder.specs.calls.Meaning.{Encoded}
 use Rattle.bcder.specs.calls.TakenBack.{StandsIn}
@@ -22,13 +22,13 @@ use Rattle.bcder.proofs.StringsBack.{string_taken, written_as_read}
 
 -- ---- taken as a string of the set, it is taken as an octet string
 
-module _ (step : Step) (X : Type 0) (t : Tag) (mode : Mode) (w : List ℕ) (e : Encoded) (accepted : Accepts step w) (written : IsWrittenString t mode w e) (c : Reading) (after : List ℕ) (s : StandsIn mode e.octets after c) where
+module _ (step : Step) (X : Type 0) (t : Tag) (mode : Mode) (w : List ℕ) (e : Encoded) (accepted : IsOfSet step w) (written : IsWrittenString t mode w e) (c : Reading) (after : List ℕ) (s : StandsIn mode e.octets after c) where
   -- what stands in front has octets that are accepted
-  accepted_there : (v : Tree) (u rest : List ℕ) (x : StringOctets) → HasTagged t c v u rest → MeansString c.mode v x → Accepts step (octets_of x)
+  accepted_there : (v : Tree) (u rest : List ℕ) (x : StringOctets) → HasTagged t c v u rest → MeansString c.mode v x → IsOfSet step (octets_of x)
   accepted_there v u rest x h m =
       let encodes = subst (λ z. IsEncoding z written.value e.octets) (sym s.in_mode) written.encodes in
       let one = only_at_front c.mode written.value e.octets after encodes v u rest h.0.encodes (sym s.rest ∙ h.0.rest) in
-      subst (Accepts step) (sym (means_flat c.mode v x m.1 ∙ ap flat one.0 ∙ written.octets)) accepted
+      subst (IsOfSet step) (sym (means_flat c.mode v x m.1 ∙ ap flat one.0 ∙ written.octets)) accepted
 
   tree_there : (y : StringOctets) (d : Reading) → TakesTree t (MeansRestricted step c.mode) c y d → TakesTree t (MeansString c.mode) c y d
   tree_there y d x = record { tree = x.tree; octets = x.octets; has = x.has; means = x.means.0; stays = x.stays }
@@ -48,7 +48,7 @@ module _ (step : Step) (X : Type 0) (t : Tag) (mode : Mode) (w : List ℕ) (e : 
   next_there (Ok (Some y)) d x = record { value = tree_there y d x.value; none = tt; no_fault = x.no_fault; refused = tt; failed = tt; mode = x.mode; marked = x.marked }
   next_there (Err f) d x = record { value = tt; none = tt; no_fault = tt; refused = refused_there f d x.refused; failed = x.failed; mode = x.mode; marked = x.marked }
 
-pub restricted_taken : {X : Type 0} (step : Step) (t : Tag) (mode : Mode) (w : List ℕ) (e : Encoded) → Accepts step w → IsWrittenString t mode w e → IsTakenRestricted X step t mode w e
+pub restricted_taken : {X : Type 0} (step : Step) (t : Tag) (mode : Mode) (w : List ℕ) (e : Encoded) → IsOfSet step w → IsWrittenString t mode w e → IsTakenRestricted X step t mode w e
 restricted_taken {X} step t mode w e accepted written =
     let taken = string_taken {X = X} t mode w e written in
     record {

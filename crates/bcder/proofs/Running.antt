@@ -2,7 +2,7 @@
 use Rattle.std.proofs.Common.{◌≡◌, ◌⊎◌, inl, inr, ℕ, zero, suc, ◌+◌, ◌*◌, ◌<◌, ◌≤◌, false, List, [], ◌∷◌, ◌++◌, length, drop, Option, Some, None, Ok, Err, IfSome, refl, sym, ap, subst, ◌∙◌, arith, length-append}
 use Rattle.std.specs.Prelude.{◌^◌}
 use Rattle.std.proofs.lemmas.List.{length-drop}
-use Rattle.bcder.specs.declared.decode.content.skip.Opened.{Opened}
+use Rattle.bcder.specs.declared.decode.content.skip.OpenValues.{OpenValues}
 use Rattle.std.proofs.lemmas.Fn.{FoldsTo-push}
 use Rattle.bcder.specs.declared.mode.Mode.{Mode}
 use Rattle.bcder.specs.declared.length.Length.TheVariants as len
@@ -233,7 +233,7 @@ goes_shorter h es fs s t o p (stacked.values a e k i) = omega (arith, ap length 
 
 -- ---- the stack
 
-pub some_entry : (v : Opened) → IsCounted v → 0 < v.depth → 1 ≤ length (entries v)
+pub some_entry : (v : OpenValues) → IsCounted v → 0 < v.depth → 1 ≤ length (entries v)
 some_entry v c l = omega (arith, c.depth)
 
 -- the values that are open are no more than the calls, and there are two octets for each
@@ -244,7 +244,7 @@ open_calls (suc k) (primitive t contents ∷ₜ no_trees) d h = absurd h
 open_calls (suc k) (constructed t ts ∷ₜ no_trees) d h = (let x = open_calls k ts (d + 1) h in omega (arith, x, length-append (preorders ts (d + 1)) []))
 open_calls (suc k) (t ∷ₜ (u ∷ₜ us)) d h = (let x = open_calls (suc k) (u ∷ₜ us) d h in omega (arith, x, length-append (preorder t d) (preorders (u ∷ₜ us) d)))
 
-pub few_open : (v : Opened) (c : IsCounted v) (mode : Mode) (h : Header) (s t : Stream) (o p : Option ℕ) (calls : List Heading) → IsSound s → IsUnderWay mode h s o calls (entries v) t p → v.depth + 1 < 2 ^ 64
+pub few_open : (v : OpenValues) (c : IsCounted v) (mode : Mode) (h : Header) (s t : Stream) (o p : Option ℕ) (calls : List Heading) → IsSound s → IsUnderWay mode h s o calls (entries v) t p → v.depth + 1 < 2 ^ 64
 few_open v c mode h s t o p calls so u =
     let a : length (entries v) ≤ length (preorders (u.part.tree ∷ₜ no_trees) 0) = open_calls (length (entries v)) (u.part.tree ∷ₜ no_trees) 0 u.part.opened in
     let b : length (preorders (u.part.tree ∷ₜ no_trees) 0) ≡ length (preorder u.part.tree 0) + 0 = length-append (preorder u.part.tree 0) [] in
@@ -259,10 +259,10 @@ pub out_counts : (mode : Mode) (h : Header) (s : Stream) (o : Option ℕ) (calls
 out_counts mode h s o calls es k v q fs p outer m e f i r = rw (e, f) (around_counts mode s outer (calls ++ heading k (length es) ∷ []) v (unwound es q) (subst (λ z. PassesCalls mode s z (calls ++ heading k (length es) ∷ []) v (unwound es q)) (sym i) m.passes) r)
 
 -- the limit around is told by the values of definite length
-pub frames_count : (v : Opened) (q outer : Option ℕ) → Counts outer (unwound (entries v) q) → Counts outer (unwound (framed v.frames.now) q)
+pub frames_count : (v : OpenValues) (q outer : Option ℕ) → Counts outer (unwound (entries v) q) → Counts outer (unwound (framed v.frames.now) q)
 frames_count v q outer c = subst (Counts outer) (unwound_indefinites v.inner (framed v.frames.now) q) c
 
-pub frames_unwound : (v : Opened) (q r : Option ℕ) → r ≡ unwound (framed v.frames.now) q → r ≡ unwound (entries v) q
+pub frames_unwound : (v : OpenValues) (q r : Option ℕ) → r ≡ unwound (framed v.frames.now) q → r ≡ unwound (entries v) q
 frames_unwound v q r e = e ∙ sym (unwound_indefinites v.inner (framed v.frames.now) q)
 
 pub wrong_counts : (mode : Mode) (h : Header) (s : Stream) (o : Option ℕ) (calls : List Heading) (es : List Entry) (t v : Stream) (p q outer : Option ℕ) (c d : Reading) (cs : c.stream ≡ limited p t) (co : c.owed ≡ p) (ds : d.stream ≡ limited q v) (do' : d.owed ≡ q) → Moves c d → IsUnderWay mode h s o calls es t p → outer ≡ o → IfSome outer (λ n. n < 2 ^ 64) → Counts outer (unwound es q)

@@ -23,7 +23,7 @@ use Rattle.bcder.specs.calls.StringOctets.{StringOctets, whole, cut, octets_of a
 use Rattle.bcder.specs.calls.Captured.{Kept}
 use Rattle.bcder.specs.calls.Gathered.{KeptMeans}
 use Rattle.bcder.specs.calls.Meaning.{Encoded, Meaning, ValueMeans, constructed_meaning, fits_enclosed, primitive_encoded, constructed_encoded}
-use Rattle.bcder.specs.calls.Encoders.{SizeOfValues, WritesEncoding, WroteOf, HasHeader, RefusesHeader}
+use Rattle.bcder.specs.calls.Encoders.{SizeOfValues, WritesEncoding, WroteOf, MayHaveHeader, RefusesValueHeader}
 use Rattle.bcder.specs.calls.StringMeaning.{full_segments, segmented, segments_in_cer, is_cut, OctetsMean, StringMeans}
 use Rattle.bcder.specs.steps.Segmenting.{segments_size, CutSize, unwritten, to_write, IsProgress, Advanced, PartWritten, SegmentBegun}
 use Rattle.std.proofs.lemmas.List.Folds.{concat-append}
@@ -85,7 +85,7 @@ module _ (t : Tag) (w : List ℕ) (o : AreOctets w) where
   cut_in Der r is h = cc
 
   whole_at : (mode : Mode) (r : Result ℕ EncodeError) → is_cut mode (length w) ≡ false
-      → IfOk r (λ n. HasHeader t (length w) × (n ≡ length (header t false (Definite (length w))) + length w)) → IfErr r (RefusesHeader t (length w)) → SizeOfValues (OctetsMean t w mode) ⊥ r
+      → IfOk r (λ n. MayHaveHeader t (length w) × (n ≡ length (header t false (Definite (length w))) + length w)) → IfErr r (RefusesValueHeader t (length w)) → SizeOfValues (OctetsMean t w mode) ⊥ r
   whole_at mode (Ok n) is h none =
       let fits = lt-ltb _ _ h.0.1 in
       (primitive_encoded t w, inr (h.0.0, (Ok w, (refl, o), rw (is, fits) refl)), h.1 ∙ sym (length-append (header t false (Definite (length w))) w))
@@ -98,11 +98,11 @@ pub cut_size : (t : Tag) (mode : Mode) (n : ℕ) (r : Result ℕ EncodeError) �
 cut_size t mode n r is h w o e = cut_in t w o mode r (ap (is_cut mode) (sym e) ∙ is) (subst (λ k. CutSize t k r) e h)
 
 pub whole_size : (t : Tag) (mode : Mode) (n : ℕ) (r : Result ℕ EncodeError) → is_cut mode n ≡ false
-    → IfOk r (λ k. HasHeader t n × (k ≡ length (header t false (Definite n)) + n)) → IfErr r (RefusesHeader t n) → (w : List ℕ) → AreOctets w → n ≡ length w → SizeOfValues (OctetsMean t w mode) ⊥ r
+    → IfOk r (λ k. MayHaveHeader t n × (k ≡ length (header t false (Definite n)) + n)) → IfErr r (RefusesValueHeader t n) → (w : List ℕ) → AreOctets w → n ≡ length w → SizeOfValues (OctetsMean t w mode) ⊥ r
 whole_size t mode n r is ok refused w o e =
     whole_at t w o mode r (ap (is_cut mode) (sym e) ∙ is)
-    (subst (λ l. IfOk r (λ k. HasHeader t l × (k ≡ length (header t false (Definite l)) + l))) e ok)
-    (subst (λ l. IfErr r (RefusesHeader t l)) e refused)
+    (subst (λ l. IfOk r (λ k. MayHaveHeader t l × (k ≡ length (header t false (Definite l)) + l))) e ok)
+    (subst (λ l. IfErr r (RefusesValueHeader t l)) e refused)
 
 -- ---- the next segment
 

@@ -17,9 +17,9 @@ use Rattle.bcder.specs.x690.Preorder.{Heading, preorder}
 use Rattle.bcder.specs.steps.Reading.{read_header, read_contents, read_list, read_tree}
 use Rattle.bcder.specs.calls.Stream.{Stream, Grew, capped, cut, past, limited}
 use Rattle.std.proofs.lemmas.Grind.{common_steps}
-use Rattle.bcder.specs.declared.decode.header.Header.{Header as Kept}
+use Rattle.bcder.specs.declared.decode.header.Header.{Header as CodeHeader}
 use Rattle.bcder.specs.declared.length.Length.TheVariants.{Definite}
-use Rattle.bcder.specs.steps.Peek.{header as header_of, IsAllHere, IsAtHand}
+use Rattle.bcder.specs.steps.Peek.{header_of, IsAllHere, IsAtHand}
 use Rattle.bcder.specs.calls.Content.{Accepts, FitsOwed, Reading, Octets, Resembles, any, Falls, Moves, Advances, Enters, EndsBefore, EndsAt, IsDone, NotAtEnd}
 use Rattle.bcder.specs.x690.Grammar.{IsOnly}
 use Rattle.bcder.specs.calls.Walking.{HasValue, NoValue, PassesValue, RefusesWalk, AnswersNext, HasValues, Walks}
@@ -191,7 +191,7 @@ module _ (c d e : Reading) (k : Header) (s t : Stream) (o p : Option ℕ) (withi
 
 -- ---- a header of two octets of a value that is here
 
-pub whole_accepted : (j d : Reading) (h : Kept) (n : ℕ) → IsAllHere h n → n ≤ length j.stream.rest → Within j → Advances j d (take 2 j.stream.rest) → Accepts j.mode (header_of h) d.owed
+pub whole_accepted : (j d : Reading) (h : CodeHeader) (n : ℕ) → IsAllHere h n → n ≤ length j.stream.rest → Within j → Advances j d (take 2 j.stream.rest) → Accepts j.mode (header_of h) d.owed
 whole_accepted j d h n w l wi a = (w.is_value, rw (w.form, w.tells) refl, rw w.tells (go j.owed d.owed refl a.owed))
   where
     go : (p q : Option ℕ) → j.owed ≡ p → Falls p (length (take 2 j.stream.rest)) q → FitsOwed (Definite w.len) q
@@ -205,7 +205,7 @@ whole_accepted j d h n w l wi a = (w.is_value, rw (w.form, w.tells) refl, rw w.t
         omega (arith, x, y, z, u, l)
 
 -- behind the header of a primitive value whose octets are at hand, its contents octets are
-pub behind_at_hand : (p : Option ℕ) (a : ℕ) (h : Kept) (n : ℕ) → IsAllHere h n → capped p a + 2 ≡ n → IsAtHand h.len a
+pub behind_at_hand : (p : Option ℕ) (a : ℕ) (h : CodeHeader) (n : ℕ) → IsAllHere h n → capped p a + 2 ≡ n → IsAtHand h.len a
 behind_at_hand p a h n w e k t = go p e
   where
     same : Definite w.len ≡ Definite k

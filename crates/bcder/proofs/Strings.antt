@@ -87,8 +87,8 @@ too_few tag Means c k o s (primitive t contents) x h means = omega (arith, s.sho
 too_few tag Means c k o s (constructed t ts) x h means = not_values c ts k o h.1
 
 refused_octets : {X : Type 0} (tag : Tag) (c d : Reading) (e : DecodeError X) → c.kind ≡ Octets → c.state ≡ Open → RefusesReading (λ w (b : List ℕ). b ≡ w) FindNoMemory c e d → RefusesToRead tag (MeansString c.mode) c e d
-refused_octets tag c d e k o (readers.RefusesReading.missing (readers.RefusesAll.source s g)) = valued.RefusesToRead.source s g
-refused_octets tag c d e k o (readers.RefusesReading.missing (readers.RefusesAll.few s a n)) = valued.RefusesToRead.nothing (too_few tag _ c k o s) a
+refused_octets tag c d e k o (readers.RefusesReading.missing (readers.RefusesTooFew.source s g)) = valued.RefusesToRead.source s g
+refused_octets tag c d e k o (readers.RefusesReading.missing (readers.RefusesTooFew.few s a n)) = valued.RefusesToRead.nothing (too_few tag _ c k o s) a
 refused_octets tag c d e k o (readers.RefusesReading.refused h a n) = valued.RefusesToRead.memory a
 
 pub refuse_octets : {X : Type 0} (tag : Tag) (c d : Reading) (e : DecodeError X) → Reads (λ w (b : List ℕ). b ≡ w) FindNoMemory c (Err e) d → (c.kind ≡ Octets) × (c.state ≡ Open) → ReadsContent tag (MeansString c.mode) c (Err e) d

@@ -20,7 +20,7 @@ use Rattle.bcder.specs.x690.Number.{HasMagnitude}
 use Rattle.bcder.specs.x690.Tree.{Tree, primitive}
 use Rattle.bcder.specs.x690.Encoding.{IsEncoding}
 use Rattle.bcder.specs.x690.Octets.{definite}
-use Rattle.bcder.specs.calls.Meaning.{Encoded, Meaning, octets_of, ContentsMeaning, IsLawfulContents, Exactly, ExactlyOctets, truth_octets, fits_primitive, BitsMean, ValueMeans, primitive_encoded, primitive_meaning}
+use Rattle.bcder.specs.calls.Meaning.{Encoded, Meaning, encoded_octets, ContentsMeaning, IsLawfulContents, Exactly, ExactlyOctets, truth_octets, fits_primitive, BitsMean, ValueMeans, primitive_encoded, primitive_meaning}
 use Rattle.bcder.specs.declared.oid.Oid.{Oid}
 use Rattle.bcder.specs.x690.ObjectIdentifier.{IsComplete, identifier_tag}
 use Rattle.bcder.specs.calls.ReadIdentifiers.{NoIdentifier}
@@ -33,7 +33,7 @@ use Rattle.bcder.specs.calls.Takes.{HasNone}
 use Rattle.bcder.specs.calls.Readers.{MeanNothing, MeanAnother, NoInteger, NoUnsigned, IsThis, IsUnsigned, IsTruth, IsNull}
 use Rattle.bcder.specs.calls.Typed.{HasPrimitive, TakesAs, RefusesAs, TakesNextAs, PassesNextAs, TakesOneAs}
 use Rattle.bcder.specs.calls.Typed as typed
-use Rattle.bcder.specs.calls.TakenBack.{StandsIn, SourceFailed, SourceFailedOrNoMemory, Answers, TakesBack, IsTakenBackBy, IsTakenBack}
+use Rattle.bcder.specs.calls.TakenBack.{StandsIn, SourceFailed, SourceFailedOrNoMemory, AnswersLeaving, TakesBack, IsTakenBackBy, IsTakenBack}
 use Rattle.bcder.specs.laws.Complete.{only_at_front, definite_size}
 use Rattle.bcder.specs.laws.Integers.{integer_octets_are}
 use Rattle.bcder.specs.laws.Meanings.{primitive_lawful, Exactly_lawful, ExactlyOctets_lawful, BitsMean_lawful, truth_octets_are}
@@ -98,16 +98,16 @@ module _ {T X : Type 0} (Fails : Reading → DecodeError X → Reading → Type 
         let same = same_value tag c contents w after has_value v z rest h in
         excused c e d (subst (λ y. Refuses y e) same.0 r)
 
-    one_answers : (r : Result T (DecodeError X)) (d : Reading) → TakesOneAs tag Means Refuses c r d → Answers Fails x after c r d
+    one_answers : (r : Result T (DecodeError X)) (d : Reading) → TakesOneAs tag Means Refuses c r d → AnswersLeaving Fails x after c r d
     one_answers (Ok y) d t = let is = taken_is y d t.value in record { value = is.0; rest = is.1; stays = is.2; no_fault = t.no_fault; fails = tt; mode = t.mode; marked = t.marked }
     one_answers (Err e) d t = record { value = tt; rest = tt; stays = tt; no_fault = tt; fails = elim t.refused [ inl n ↦ absurd (not_none tag c contents w after has_value d n.0) | inr n ↦ refusal_fails e d n.1 ]; mode = t.mode; marked = t.marked }
 
-    next_answers : (r : Result (Option T) (DecodeError X)) (d : Reading) → TakesNextAs tag Means Refuses c r d → Answers Fails (Some x) after c r d
+    next_answers : (r : Result (Option T) (DecodeError X)) (d : Reading) → TakesNextAs tag Means Refuses c r d → AnswersLeaving Fails (Some x) after c r d
     next_answers (Ok None) d t = absurd (not_none tag c contents w after has_value d t.none)
     next_answers (Ok (Some y)) d t = let is = taken_is y d t.value in record { value = ap Some is.0; rest = is.1; stays = is.2; no_fault = t.no_fault; fails = tt; mode = t.mode; marked = t.marked }
     next_answers (Err e) d t = record { value = tt; rest = tt; stays = tt; no_fault = tt; fails = refusal_fails e d t.refused; mode = t.mode; marked = t.marked }
 
-    passed_answers : (r : Result T (DecodeError X)) (d : Reading) → PassesNextAs tag Means Refuses c r d → Answers Fails x after c r d
+    passed_answers : (r : Result T (DecodeError X)) (d : Reading) → PassesNextAs tag Means Refuses c r d → AnswersLeaving Fails x after c r d
     passed_answers (Ok y) d t = elim t.value [
       | inl v ↦ (let is = taken_is y d v in record { value = is.0; rest = is.1; stays = is.2; no_fault = t.no_fault; fails = tt; mode = t.mode; marked = t.marked })
       | inr n ↦ absurd (not_none tag c contents w after has_value d n)
@@ -251,7 +251,7 @@ module _ {C T X : Type 0} (view : C → Reading) (post : MutBor C → Result T (
   all_stands : (i : Reading) → IsAllOf s mode i → StandsIn mode back.encoded.octets [] i
   all_stands i o = record { usable = o.state; in_mode = o.mode; rest = ap (λ z. z.rest) o.stream ∙ whole ∙ sym (append-nil back.encoded.octets) }
 
-  answers_all : (i j : Reading) (r : Result T (DecodeError X)) → IsAllOf s mode i → AnsweredOn {R = Result T (DecodeError X)} view post i r j → Answers SourceFailed x [] i r j
+  answers_all : (i j : Reading) (r : Result T (DecodeError X)) → IsAllOf s mode i → AnsweredOn {R = Result T (DecodeError X)} view post i r j → AnswersLeaving SourceFailed x [] i r j
   answers_all i j r o a = (back.takes i [] (all_stands i o)).one r j (took i j r a)
 
   -- what was written is decoded
@@ -267,7 +267,7 @@ module _ {C T X : Type 0} (view : C → Reading) (post : MutBor C → Result T (
 
 -- ---- what a writing left, of values that mean one thing
 
-pub written_whole : (M : Meaning → Type 0) (lacks : Type 0) (old new : Option (List ℕ)) (a : Encoded) → ((m : Meaning) → M m → m ≡ Ok a) → Writes octets_of M lacks old new (Ok tt) → Appends old new a.octets
+pub written_whole : (M : Meaning → Type 0) (lacks : Type 0) (old new : Option (List ℕ)) (a : Encoded) → ((m : Meaning) → M m → m ≡ Ok a) → Writes encoded_octets M lacks old new (Ok tt) → Appends old new a.octets
 written_whole M lacks old new a only (inl w) =
     let same : w.what ≡ a = (let e : ◌≡◌ {A = Meaning} (Ok w.what) (Ok a) = only (Ok w.what) w.meant in cc) in
     subst (λ (z : Encoded). Appends old new z.octets) same w.wrote.done

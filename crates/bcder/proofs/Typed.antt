@@ -166,8 +166,8 @@ module _ {C T X : Type 0} (view : C → Reading) (post : Tag → MutBor C → Re
     few_octets k s contents u rest h = (short_front c f.handed f.after (any_of tag c f.after f.front) f.hands k s).none (primitive tag contents) u rest h.encodes h.rest
 
     refused_octets : f.handed.kind ≡ Octets → RefusesReading (MeansIn c.mode) (RefusesIn c.mode) f.handed e f.left → RefusesAs tag (MeansIn c.mode) (RefusesIn c.mode) c e d
-    refused_octets k (readers.RefusesReading.missing (readers.RefusesAll.source s g)) = typed.RefusesAs.source s (grew_between _ _ _ _ (no_fewer _ _ f.faults_handed) g f.faults_left)
-    refused_octets k (readers.RefusesReading.missing (readers.RefusesAll.few s o n)) = typed.RefusesAs.broken (is_broken (few_octets k s)) o
+    refused_octets k (readers.RefusesReading.missing (readers.RefusesTooFew.source s g)) = typed.RefusesAs.source s (grew_between _ _ _ _ (no_fewer _ _ f.faults_handed) g f.faults_left)
+    refused_octets k (readers.RefusesReading.missing (readers.RefusesTooFew.few s o n)) = typed.RefusesAs.broken (is_broken (few_octets k s)) o
     refused_octets k (readers.RefusesReading.refused a r n) = typed.RefusesAs.refused f.handed.stream.rest _ _ (handed_value tag c f.handed w f.after f.front f.hands k f.usable a _ (handed_before tag c f.handed w f.after f.front f.hands k a)) r
 
     refused_end : (l : Reading) → l.kind ≡ Octets → l.state ≡ Open → l.owed ≡ Some 0 → l.stream.faults ≡ f.handed.stream.faults → RefusesEnd cause_of l e f.left → RefusesAs tag (MeansIn c.mode) (RefusesIn c.mode) c e d

@@ -8,7 +8,7 @@ use Rattle.smallvec.specs.SmallVec.{SmallVec, HasRoomFor, small_vec_len}
 use Rattle.std.proofs.Common.{inl, inr, Ok, Err, Result, is_err, IsOk}
 use Rattle.std.proofs.lemmas.Bool.{cases_lt}
 use Rattle.bcder.specs.declared.decode.content.skip.Frame.{Frame}
-use Rattle.bcder.specs.declared.decode.content.skip.Opened.{Opened}
+use Rattle.bcder.specs.declared.decode.content.skip.OpenValues.{OpenValues}
 use Rattle.bcder.specs.calls.Content.{Falls}
 use Rattle.bcder.specs.laws.Sound.{none_is, some_inj}
 
@@ -30,7 +30,7 @@ pub around_count : (fs : List Frame) → length fs ≤ length (around fs)
 around_count [] = omega arith
 around_count (f ∷ fs) = (let x = around_count fs in omega (arith, x, indefinites_count f.around (around fs)))
 
-pub inner_least : (v : Opened) → IsCounted v → v.inner ≤ v.depth
+pub inner_least : (v : OpenValues) → IsCounted v → v.inner ≤ v.depth
 inner_least v c = omega (arith, c.depth, indefinites_count v.inner (framed v.frames.now))
 
 -- what was refused had no room
@@ -44,7 +44,7 @@ no_room v r h e = elim (cases_lt (small_vec_len v) v.capacity) [
     wrong (Ok x) a b = cc
     wrong (Err x) a b = cc
 
-pub full_deep : (v : Opened) → IsCounted v → v.frames.now.capacity ≤ small_vec_len v.frames.now → 4 ≤ v.depth
+pub full_deep : (v : OpenValues) → IsCounted v → v.frames.now.capacity ≤ small_vec_len v.frames.now → 4 ≤ v.depth
 full_deep v c l = (let x : 4 ≤ v.frames.now.capacity = c.inline in omega (arith, c.depth, indefinites_count v.inner (framed v.frames.now), around_count (reverse v.frames.now.items), length-reverse v.frames.now.items))
 
 pub top_definite : (n : ℕ) (fs : List Frame) (k : Kind) → n ≤ 0 → k ≡ kind.Definite → TopIs (indefinites n (around fs)) k

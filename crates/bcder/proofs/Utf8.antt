@@ -9,7 +9,7 @@ use Rattle.std.proofs.lemmas.Str.{IsUtf8-append, IsUtf8-drop, IsUtf8-from_ascii,
 use Rattle.std.specs.Int.{is_in_range}
 use Rattle.std.specs.Str.{IsAscii, IsUtf8, chars}
 use Rattle.bcder.specs.declared.string.restricted.char_set.CharSetError.{CharSetError}
-use Rattle.bcder.specs.x690.CharSet.{Front, Spells, Accepts}
+use Rattle.bcder.specs.x690.CharSet.{Front, Spells, IsOfSet}
 use Rattle.bcder.specs.calls.CharSetCalls.{NextChar}
 use Rattle.bcder.specs.x690.Utf8.{Lead, lead, six_more, read_tails, read_behind, read_led, utf8_step}
 use Rattle.bcder.specs.laws.Utf8.{utf8_accepts, encodes_utf8}
@@ -83,10 +83,10 @@ of_refused (Err y) x a w rest u l err e h is none =
 pub text_spelled : (text w : List ℕ) → IsUtf8 text → w ≡ text → Spells utf8_step w (chars text)
 text_spelled text w u e = encodes_utf8 (chars text) w (scalars-chars text u) (encodes-chars text u ∙ sym e)
 
-pub not_text : (w : List ℕ) → ¬ (IsUtf8 w) → Accepts utf8_step w → ⊥
+pub not_text : (w : List ℕ) → ¬ (IsUtf8 w) → IsOfSet utf8_step w → ⊥
 not_text w h a = h ((utf8_accepts w).0 a)
 
-pub a_text : (w : List ℕ) → IsUtf8 w → Accepts utf8_step w
+pub a_text : (w : List ℕ) → IsUtf8 w → IsOfSet utf8_step w
 a_text w = (utf8_accepts w).1
 
 pub ascii_text : (w : List ℕ) → IsAscii w → IsUtf8 w
@@ -101,7 +101,7 @@ behind_text v w u all =
     subst IsUtf8 same (IsUtf8-drop (v ++ w) (length v) all (IsCharBoundary-from_take (v ++ w) (length v) all within (subst IsUtf8 (sym front) u)))
 
 pub text_passed : (all part more rest : List ℕ) (n : ℕ) → IsUtf8 (take n part) → rest ≡ drop n part ++ more
-    → Accepts utf8_step all ↔ Accepts utf8_step (part ++ more) → Accepts utf8_step all ↔ Accepts utf8_step rest
+    → IsOfSet utf8_step all ↔ IsOfSet utf8_step (part ++ more) → IsOfSet utf8_step all ↔ IsOfSet utf8_step rest
 text_passed all part more rest n u e k =
     let split : part ++ more ≡ take n part ++ rest = ap (λ v. v ++ more) (sym (take-append-drop n part)) ∙ append_assoc (take n part) (drop n part) more ∙ ap (λ v. take n part ++ v) (sym e) in (
       λ a. a_text rest (behind_text (take n part) rest u (subst IsUtf8 split ((utf8_accepts (part ++ more)).0 (k.0 a)))),

@@ -11,7 +11,7 @@ use Rattle.bcder.specs.declared.mode.Mode.{Mode}
 use Rattle.bcder.specs.x690.Identifier.{Tag}
 use Rattle.bcder.specs.x690.Tree.{Tree, constructed, no_trees, ◌∷ₜ◌}
 use Rattle.bcder.specs.x690.Encoding.{IsEncoding, AreEncodings}
-use Rattle.bcder.specs.calls.Meaning.{Encoded, Meaning, octets_of, ValueMeans, constructed_meaning, constructed_encoded, fits_enclosed, enclosed_refusal}
+use Rattle.bcder.specs.calls.Meaning.{Encoded, Meaning, encoded_octets, ValueMeans, constructed_meaning, constructed_encoded, fits_enclosed, enclosed_refusal}
 use Rattle.bcder.specs.calls.Encoders.{Writes, WritesValues}
 use Rattle.bcder.specs.calls.Written.{WritesEncodings, EncodesConstructed, AppendsConstructed, WroteConstructed}
 
@@ -30,7 +30,7 @@ module _ (t : Tag) (mode : Mode) (P : Meaning → Type 0) where
   means_constructed encodes e (inr (v, (Err d, m, eq))) = cc
   means_constructed encodes e (inr (v, (Ok x, m, eq))) = constructed_is t mode x e (fits_enclosed mode t (length x.octets)) eq (encodes e (inr (v, (Ok x, m, eq))))
 
-  appends : (lacks : Type 0) (old new : Option (List ℕ)) (r : Result (Unit {0}) WriteError) → WritesEncodings mode (ValueMeans t (constructed_meaning t mode) P) → Writes octets_of (ValueMeans t (constructed_meaning t mode) P) lacks old new r → AppendsConstructed t mode old new r
+  appends : (lacks : Type 0) (old new : Option (List ℕ)) (r : Result (Unit {0}) WriteError) → WritesEncodings mode (ValueMeans t (constructed_meaning t mode) P) → Writes encoded_octets (ValueMeans t (constructed_meaning t mode) P) lacks old new r → AppendsConstructed t mode old new r
   appends lacks old new (Ok u) encodes (inl w) = (w.what.octets, means_constructed encodes w.what w.meant, w.wrote.done)
   appends lacks old new (Ok u) encodes (inr n) = absurd (let e = n.answered in cc)
   appends lacks old new (Err (Target e)) encodes (inl w) =

@@ -10,7 +10,7 @@ use Rattle.bcder.specs.declared.encode.slot.Failed.{Failed}
 use Rattle.bcder.specs.x690.Identifier.{Tag}
 use Rattle.bcder.specs.x690.Octets.{definite}
 use Rattle.bcder.specs.calls.Meaning.{Exactly}
-use Rattle.bcder.specs.calls.Encoders.{RefusesBy, DoneOf, WroteOf, Writes, told}
+use Rattle.bcder.specs.calls.Encoders.{RefusesBy, DoneOf, WroteOf, Writes, into_result}
 
 pub append_not_nil : (a b : List ℕ) → a ≢ [] → a ++ b ≢ []
 append_not_nil [] b h = absurd (h refl)
@@ -94,7 +94,7 @@ passed_on {lacks} {w} {a} {b} (Err d) is_err h = subst (λ x. WroteOf lacks w a 
 
 -- the same of a step that has a slot for its error
 pub halts : {lacks : Type 0} {w : List ℕ} {a b : Option (List ℕ)} {f : Failed} {e : WriteError} (r : Result (Unit {0}) Failed)
-    → IsErr r × IsErrAnd r (λ d. d ≡ f) → WroteOf lacks w a b (Err e) → WroteOf lacks w a b (told r e)
+    → IsErr r × IsErrAnd r (λ d. d ≡ f) → WroteOf lacks w a b (Err e) → WroteOf lacks w a b (into_result r e)
 halts (Ok u) is_err h = absurd is_err.1
 halts (Err d) is_err h = h
 
@@ -102,8 +102,8 @@ halts (Err d) is_err h = h
 pub same_answer : {lacks : Type 0} {w : List ℕ} {a b : Option (List ℕ)} {r s : Result (Unit {0}) WriteError} → s ≡ r → WroteOf lacks w a b r → WroteOf lacks w a b s
 same_answer {lacks} {w} {a} {b} e h = subst (λ x. WroteOf lacks w a b x) (sym e) h
 
-pub same_told : {r s : Result (Unit {0}) Failed} (why : WriteError) → r ≡ s → told r why ≡ told s why
-same_told why e = ap (λ x. told x why) e
+pub same_result : {r s : Result (Unit {0}) Failed} (why : WriteError) → r ≡ s → into_result r why ≡ into_result s why
+same_result why e = ap (λ x. into_result x why) e
 
 -- the same octets under another name
 pub same_octets : {lacks : Type 0} {v w : List ℕ} {a b : Option (List ℕ)} {r : Result (Unit {0}) WriteError} → v ≡ w → WroteOf lacks v a b r → WroteOf lacks w a b r

@@ -130,7 +130,7 @@ impl Captured {
             mode,
             start: _,
         } = self;
-        Ok(CapturedBuilder::holding(into_vec(alloc, octets)?, mode))
+        Ok(CapturedBuilder::from_octets(into_vec(alloc, octets)?, mode))
     }
 
     /// Decodes the values, in the mode that they are kept in.

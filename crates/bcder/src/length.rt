@@ -39,7 +39,7 @@ fn number_of(octets: &[u8]) -> usize
 
 /// Whether that many octets may tell the number: in CER and DER no fewer can (9.1, 10.1).
 #[tactic(auto, using(crate::proofs::nat_tests), unfolding(crate::specs::steps::Reading::may_tell))]
-fn may_be_told(mode: Mode, count: usize, len: usize) -> bool
+fn may_tell(mode: Mode, count: usize, len: usize) -> bool
     requires some { 1 ≤ count }
     requires limit { count ≤ 4 }
     ensures { result ≡ may_tell mode count len }
@@ -69,7 +69,7 @@ fn long_at(mode: Mode, count: usize, octets: &[u8]) -> Option<(Length, &[u8])>
     }
     let (digits, rest) = octets.split_at(count);
     let len = number_of(digits);
-    if may_be_told(mode, count, len) {
+    if may_tell(mode, count, len) {
         Some((Length::Definite(len), rest))
     } else {
         None
@@ -98,7 +98,7 @@ pub(crate) fn length_at(mode: Mode, octets: &[u8]) -> Option<(Length, &[u8])>
 
 /// Whether octets that hold no length octets may begin some.
 #[tactic(auto, using(crate::proofs::Beginnings::length_decides))]
-pub(crate) fn length_goes_on(octets: &[u8]) -> bool
+pub(crate) fn may_begin_length(octets: &[u8]) -> bool
     ensures short { IsTrue result → length octets.now < 5 }
     ensures refused { result ≡ false → (mode : ModeValue) (x : List ℕ)
         → read_length mode octets.now ≡ None → read_length mode (octets.now ++ x) ≡ None }

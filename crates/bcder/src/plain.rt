@@ -8,7 +8,7 @@ ghost use Rattle.bcder.specs.declared.mode.Mode.{Mode as ModeValue};
 ghost use Rattle.bcder.specs.x690.Tree.{Tree, Trees};
 ghost use Rattle.bcder.specs.x690.Length.{IsEndOfContents};
 ghost use Rattle.bcder.specs.x690.Encoding.{IsEncoding, AreEncodings, IsHeader, may_have};
-ghost use Rattle.bcder.specs.calls.ContentsLen.{told};
+ghost use Rattle.bcder.specs.calls.ContentsLen.{length_of};
 ghost use Rattle.bcder.specs.x690.Identifier.{Tag as TagValue};
 ghost use Rattle.bcder.specs.x690.Identifier.{is_value_tag};
 ghost use Rattle.bcder.specs.steps.Reading.{BeginPrimitive};
@@ -234,7 +234,7 @@ pub struct Front<'a> {
 }
 
 fn number_told(len: Length) -> Option<usize>
-    ensures { told result ≡ len }
+    ensures { length_of result ≡ len }
 {
     match len {
         Length::Definite(n) => Some(n),
@@ -247,11 +247,11 @@ fn number_told(len: Length) -> Option<usize>
 pub fn front_at<'a>(mode: Mode, octets: &'a [u8]) -> Option<Front<'a>>
     ensures found { IfSome result
         (λ f.
-        (w : List ℕ) × IsHeader mode f.tag f.constructed (told f.len) w
+        (w : List ℕ) × IsHeader mode f.tag f.constructed (length_of f.len) w
         × (octets.now ≡ w ++ f.rest.now)) }
     ensures none { IfNone result
         ((t : TagValue) (form : Bool) (n : Option ℕ) (w x : List ℕ)
-        → IsHeader mode t form (told n) w → octets.now ≡ w ++ x → ⊥) }
+        → IsHeader mode t form (length_of n) w → octets.now ≡ w ++ x → ⊥) }
 {
     let Some(header) = header_at(mode, octets) else {
         return None;

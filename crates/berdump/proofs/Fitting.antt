@@ -7,7 +7,7 @@ use Rattle.bcder.specs.x690.Identifier.{Tag}
 use Rattle.bcder.specs.x690.Length.{IsEndOfContents}
 use Rattle.bcder.specs.x690.Tree.{Tree, primitive, constructed, no_trees, ◌∷ₜ◌}
 use Rattle.bcder.specs.x690.Encoding.{IsHeader, IsFramed, IsEncoding}
-use Rattle.bcder.specs.calls.ContentsLen.{told}
+use Rattle.bcder.specs.calls.ContentsLen.{length_of}
 use Rattle.bcder.specs.laws.Complete.{one_header, one_end_of_list}
 use Rattle.berdump.specs.declared.opened.Open.{Open}
 use Rattle.berdump.specs.declared.opened.Open.TheVariants as level
@@ -59,7 +59,7 @@ pub record HasHeader (mode : Mode) (w : List ℕ) : Type 0 where
   pub len : Option ℕ
   pub header : List ℕ
   pub rest : List ℕ
-  pub is_header : IsHeader mode tag form (told len) header
+  pub is_header : IsHeader mode tag form (length_of len) header
   pub is : w ≡ header ++ rest
 
 has_header : (mode : Mode) (t : Tree) (w : List ℕ) → IsEncoding mode t w → HasHeader mode w
@@ -70,7 +70,7 @@ has_header mode (constructed t ts) w h = framed h.2
     framed (inl d) = record { tag = t; form = true; len = Some (length h.0); header = d.header; rest = h.0; is_header = d.is_header; is = d.is }
     framed (inr d) = record { tag = t; form = true; len = None; header = d.header; rest = h.0 ++ d.end; is_header = d.is_header; is = d.is }
 
-pub no_list_without_header : (mode : Mode) (es : List Open) (w : List ℕ) → GoesOn mode es w → (es ≡ [] → w ≢ []) → ((t : Tag) (form : Bool) (n : Option ℕ) (h x : List ℕ) → IsHeader mode t form (told n) h → w ≡ h ++ x → ⊥) → Fits mode es w → ⊥
+pub no_list_without_header : (mode : Mode) (es : List Open) (w : List ℕ) → GoesOn mode es w → (es ≡ [] → w ≢ []) → ((t : Tag) (form : Bool) (n : Option ℕ) (h x : List ℕ) → IsHeader mode t form (length_of n) h → w ≡ h ++ x → ⊥) → Fits mode es w → ⊥
 no_list_without_header mode es w g n none f =
     let b = begins mode es w g n f in
     let h = has_header mode b.tree b.first b.encodes in
@@ -78,11 +78,11 @@ no_list_without_header mode es w g n none f =
 
 -- ---- its contents
 
-told_some : (len : Option ℕ) (n : ℕ) → told len ≡ told (Some n) → len ≡ Some n
+told_some : (len : Option ℕ) (n : ℕ) → length_of len ≡ length_of (Some n) → len ≡ Some n
 told_some None n e = cc
 told_some (Some m) n e = let p : m ≡ n = cc in ap Some p
 
-told_none : (len : Option ℕ) → told len ≡ (told None) → len ≡ None
+told_none : (len : Option ℕ) → length_of len ≡ (length_of None) → len ≡ None
 told_none None e = refl
 told_none (Some m) e = cc
 
@@ -92,9 +92,9 @@ data Stands (mode : Mode) (es : List Open) (form : Bool) (len : Option ℕ) (r :
   values : (contents others : List ℕ) → form ≡ true → len ≡ Some (length contents) → r ≡ contents ++ others → IsList mode contents → Fits mode es others → Stands mode es form len r
   ended : form ≡ true → len ≡ None → Fits mode (level.Indefinite ∷ es) r → Stands mode es form len r
 
-module _ (mode : Mode) (es : List Open) (w r header : List ℕ) (t : Tag) (form : Bool) (len : Option ℕ) (d : IsHeader mode t form (told len) header) (is : w ≡ header ++ r) where
-  same : (u : Tag) (g : Bool) (m : Option ℕ) (v y : List ℕ) → IsHeader mode u g (told m) v → w ≡ v ++ y → (form ≡ g) × (told len ≡ told m) × (r ≡ y)
-  same u g m v y k e = let p = one_header mode t u form g (told len) (told m) header v r y d k (sym is ∙ e) in (ap (λ h. h.form) p.0, ap (λ h. h.len) p.0, p.1)
+module _ (mode : Mode) (es : List Open) (w r header : List ℕ) (t : Tag) (form : Bool) (len : Option ℕ) (d : IsHeader mode t form (length_of len) header) (is : w ≡ header ++ r) where
+  same : (u : Tag) (g : Bool) (m : Option ℕ) (v y : List ℕ) → IsHeader mode u g (length_of m) v → w ≡ v ++ y → (form ≡ g) × (length_of len ≡ length_of m) × (r ≡ y)
+  same u g m v y k e = let p = one_header mode t u form g (length_of len) (length_of m) header v r y d k (sym is ∙ e) in (ap (λ h. h.form) p.0, ap (λ h. h.len) p.0, p.1)
 
   stands_at : (tree : Tree) (first others : List ℕ) → IsEncoding mode tree first → w ≡ first ++ others → Fits mode es others → Stands mode es form len r
   stands_at (primitive u contents) first others h e f =

@@ -6,7 +6,7 @@ use Rattle.bcder.specs.declared.mode.Mode.{Mode}
 use Rattle.bcder.specs.x690.Identifier.{Tag}
 use Rattle.bcder.specs.x690.BitString.{bit_string_tag}
 use Rattle.bcder.specs.x690.Encoding.{IsHeader}
-use Rattle.bcder.specs.calls.ContentsLen.{told}
+use Rattle.bcder.specs.calls.ContentsLen.{length_of}
 use Rattle.bcder.specs.laws.Complete.{header_size}
 use Rattle.berdump.specs.declared.heading.Heading.{Heading}
 use Rattle.berdump.specs.declared.opened.Open.{Open}
@@ -20,7 +20,7 @@ use Rattle.berdump.specs.Answers.{Stands, Written, IsUnwritten, Listed}
 use Rattle.berdump.specs.Walk.{IsAt, PassesContents, Meets, Stops, left}
 use Rattle.berdump.proofs.Walking.{Front, stands, meets_primitive, meets_definite, meets_opened, meets_indefinite, no_list_at_contents, no_list_at_header, within, unlisted_by, in_part, begins, ends, closes}
 
-pub front_of : (mode : Mode) (t : Tag) (form : Bool) (len : Option ℕ) (w r : List ℕ) → (h : List ℕ) × IsHeader mode t form (told len) h × (w ≡ h ++ r) → Front mode t form len w r
+pub front_of : (mode : Mode) (t : Tag) (form : Bool) (len : Option ℕ) (w r : List ℕ) → (h : List ℕ) × IsHeader mode t form (length_of len) h × (w ≡ h ++ r) → Front mode t form len w r
 front_of mode t form len w r p = record { header = p.0; is_header = p.1; are = p.2 }
 
 module _ (deep : Bool) (mode : Mode) (b c : Option (List ℕ)) (es : List Open) (w r : List ℕ) (at : ℕ) (t : Tag) (form : Bool) (len : Option ℕ) (f : Front mode t form len w r) (open_here : GoesOn mode es w) (some : es ≡ [] → w ≢ []) (depth : ℕ) (is_depth : depth ≡ length es) where
@@ -55,7 +55,7 @@ module _ (deep : Bool) (mode : Mode) (b c : Option (List ℕ)) (es : List Open) 
       unlisted_by deep mode octets w a b c es at h e s (subst (λ z. Stands mode octets z) (sym is_h) (stands deep mode octets a b c es w r at t form len s f open_here some)) u
 
   header_long : 2 ≤ length w - length r
-  header_long = let m = header_size mode t form (told len) f.header f.is_header in omega (arith, m, ap length f.are, length-append f.header r)
+  header_long = let m = header_size mode t form (length_of len) f.header f.is_header in omega (arith, m, ap length f.are, length-append f.header r)
 
   pub less_indefinite : (fs : List Open) → fs ≡ level.Indefinite ∷ es → left fs r < left es w
   less_indefinite fs e = rw e (let m = header_long in omega (arith, m))
@@ -76,7 +76,7 @@ pub stops_at_contents : (deep : Bool) (mode : Mode) (b : Option (List ℕ)) (es 
 stops_at_contents deep mode b es w r at t form len f open_here some n is_len short why octets a s =
     (in_part deep mode octets w a b es at s, at_most deep mode octets w a b es at s, λ ts k. no_list_at_contents deep mode octets a b b es w r at t form len s f open_here some n is_len short (ts, k))
 
-pub stops_at_header : (deep : Bool) (mode : Mode) (b : Option (List ℕ)) (es : List Open) (w : List ℕ) (at : ℕ) → GoesOn mode es w → (es ≡ [] → w ≢ []) → ((t : Tag) (form : Bool) (n : Option ℕ) (h x : List ℕ) → IsHeader mode t form (told n) h → w ≡ h ++ x → ⊥) → (why : Reason)
+pub stops_at_header : (deep : Bool) (mode : Mode) (b : Option (List ℕ)) (es : List Open) (w : List ℕ) (at : ℕ) → GoesOn mode es w → (es ≡ [] → w ≢ []) → ((t : Tag) (form : Bool) (n : Option ℕ) (h x : List ℕ) → IsHeader mode t form (length_of n) h → w ≡ h ++ x → ⊥) → (why : Reason)
     → Stops deep mode es w at b b (Refused at why)
 stops_at_header deep mode b es w at open_here some none why octets a s =
     (in_part deep mode octets w a b es at s, at_most deep mode octets w a b es at s, λ ts k. no_list_at_header deep mode octets w a b es at s open_here some none (ts, k))

@@ -7,7 +7,7 @@ use Rattle.std.specs.Io.KnownBytes.{Appends, Keeps}
 use Rattle.bcder.specs.declared.mode.Mode.{Mode}
 use Rattle.bcder.specs.x690.Identifier.{Tag}
 use Rattle.bcder.specs.x690.Encoding.{IsHeader}
-use Rattle.bcder.specs.calls.ContentsLen.{told}
+use Rattle.bcder.specs.calls.ContentsLen.{length_of}
 use Rattle.berdump.specs.declared.heading.Heading.{Heading}
 use Rattle.berdump.specs.declared.opened.Open.{Open}
 use Rattle.berdump.specs.declared.opened.Open.TheVariants as level
@@ -78,7 +78,7 @@ closes deep mode octets a b es fs w v p at n s g m l e = record {
 -- a header stands at the front of the octets, and these are behind it
 pub record Front (mode : Mode) (t : Tag) (form : Bool) (len : Option ℕ) (w r : List ℕ) : Type 0 where
   pub header : List ℕ
-  pub is_header : IsHeader mode t form (told len) header
+  pub is_header : IsHeader mode t form (length_of len) header
   pub are : w ≡ header ++ r
 
 header_length : (w h r : List ℕ) → w ≡ h ++ r → length w - length r ≡ length h
@@ -119,8 +119,8 @@ module _ (deep : Bool) (mode : Mode) (octets : List ℕ) (a b c : Option (List �
       let split : r ≡ contents ++ drop n r = sym (take-append-drop n r) in
       let whole : w ≡ (f.header ++ contents) ++ drop n r = f.are ∙ ap (λ z. f.header ++ z) split ∙ sym (append_assoc f.header contents (drop n r)) in
       let hl = header_length w f.header r f.are in
-      let same : told len ≡ told (Some (length contents)) = ap told is_len ∙ ap (λ z. told (Some z)) (sym size) in
-      let listed : IsListed deep mode (f.header ++ contents) at (length es) (the_heading ∷ []) = IsListed.primitive t f.header contents (subst (λ g. IsHeader mode t g (told (Some (length contents))) f.header) is_form (subst (λ l. IsHeader mode t form l f.header) same f.is_header)) none refl (rw (is_form, is_len, hl, size) refl) in
+      let same : length_of len ≡ length_of (Some (length contents)) = ap length_of is_len ∙ ap (λ z. length_of (Some z)) (sym size) in
+      let listed : IsListed deep mode (f.header ++ contents) at (length es) (the_heading ∷ []) = IsListed.primitive t f.header contents (subst (λ g. IsHeader mode t g (length_of (Some (length contents))) f.header) is_form (subst (λ l. IsHeader mode t form l f.header) same f.is_header)) none refl (rw (is_form, is_len, hl, size) refl) in
       meets es (drop n r) (f.header ++ contents) (at + (length w - length r) + n) k
       (λ hs m. subst (λ z. Completes deep mode es z at (the_heading ∷ hs)) (sym whole) (value_first deep mode es (f.header ++ contents) (drop n r) at (the_heading ∷ []) hs listed
       (subst (λ d. Completes deep mode es (drop n r) d hs) (omega (arith, length-append f.header contents, hl, size)) m)))
@@ -135,8 +135,8 @@ module _ (deep : Bool) (mode : Mode) (octets : List ℕ) (a b c : Option (List �
       let split : r ≡ v ++ behind.now = sym (take-append-drop n r) ∙ ap (λ z. z ++ drop n r) (sym is_v) ∙ ap (λ z. v ++ z) (sym is_behind) in
       let whole : w ≡ (f.header ++ v) ++ behind.now = f.are ∙ ap (λ z. f.header ++ z) split ∙ sym (append_assoc f.header v behind.now) in
       let hl = header_length w f.header r f.are in
-      let same : told len ≡ told (Some (length v)) = ap told is_len ∙ ap (λ z. told (Some z)) (sym size) in
-      let header : IsHeader mode t true (told (Some (length v))) f.header = subst (λ g. IsHeader mode t g (told (Some (length v))) f.header) is_form (subst (λ l. IsHeader mode t form l f.header) same f.is_header) in
+      let same : length_of len ≡ length_of (Some (length v)) = ap length_of is_len ∙ ap (λ z. length_of (Some z)) (sym size) in
+      let header : IsHeader mode t true (length_of (Some (length v))) f.header = subst (λ g. IsHeader mode t g (length_of (Some (length v))) f.header) is_form (subst (λ l. IsHeader mode t form l f.header) same f.is_header) in
       meets (level.Definite behind ∷ es) v f.header (at + (length w - length r)) k
       (λ hs m. let (inside, more, listed, completes, all) = m in
       subst (λ gs. Completes deep mode es w at (the_heading ∷ gs)) (sym all) (subst (λ z. Completes deep mode es z at ((the_heading ∷ inside) ++ more)) (sym whole) (value_first deep mode es (f.header ++ v) behind.now at (the_heading ∷ inside) more
@@ -155,8 +155,8 @@ module _ (deep : Bool) (mode : Mode) (octets : List ℕ) (a b c : Option (List �
       let split : r ≡ (front ++ v) ++ behind.now = sym (take-append-drop n r) ∙ ap (λ z. z ++ drop n r) is_v ∙ ap (λ z. (front ++ v) ++ z) (sym is_behind) in
       let whole : w ≡ (f.header ++ (front ++ v)) ++ behind.now = f.are ∙ ap (λ z. f.header ++ z) split ∙ sym (append_assoc f.header (front ++ v) behind.now) in
       let hl = header_length w f.header r f.are in
-      let same : told len ≡ told (Some (length (front ++ v))) = ap told is_len ∙ ap (λ z. told (Some z)) (sym size) in
-      let header : IsHeader mode t false (told (Some (length (front ++ v)))) f.header = subst (λ g. IsHeader mode t g (told (Some (length (front ++ v)))) f.header) is_form (subst (λ l. IsHeader mode t form l f.header) same f.is_header) in
+      let same : length_of len ≡ length_of (Some (length (front ++ v))) = ap length_of is_len ∙ ap (λ z. length_of (Some z)) (sym size) in
+      let header : IsHeader mode t false (length_of (Some (length (front ++ v)))) f.header = subst (λ g. IsHeader mode t g (length_of (Some (length (front ++ v)))) f.header) is_form (subst (λ l. IsHeader mode t form l f.header) same f.is_header) in
       let place : at + (length w - length r) + (n - length v) ≡ at + length f.header + length front = omega (arith, hl, size, length-append front v) in
       meets (level.Definite behind ∷ es) v (f.header ++ front) (at + (length w - length r) + (n - length v)) k
       (λ hs m. let (inside, more, listed, completes, all) = m in
@@ -167,20 +167,20 @@ module _ (deep : Bool) (mode : Mode) (octets : List ℕ) (a b c : Option (List �
       (omega (arith, place, length-append f.header front))
       (ap (λ z. z ++ behind_all es) whole ∙ append_assoc (f.header ++ (front ++ v)) behind.now (behind_all es) ∙ ap (λ z. z ++ (behind.now ++ behind_all es)) (sym (append_assoc f.header front v)) ∙ append_assoc (f.header ++ front) v (behind.now ++ behind_all es))
 
-  always_constructed : (g : Bool) → IsHeader mode t g (told None) f.header → g ≡ true
+  always_constructed : (g : Bool) → IsHeader mode t g (length_of None) f.header → g ≡ true
   always_constructed true h = refl
   always_constructed false h = let a : false ≡ true = h.allowed in cc
 
   pub meets_indefinite : len ≡ None → Written (the_heading ∷ []) b c → IsAt deep mode octets a c (level.Indefinite ∷ es) r (at + (length w - length r))
   meets_indefinite is_len k =
       let hl = header_length w f.header r f.are in
-      let header : IsHeader mode t form (told None) f.header = subst (λ l. IsHeader mode t form l f.header) (ap told is_len) f.is_header in
+      let header : IsHeader mode t form (length_of None) f.header = subst (λ l. IsHeader mode t form l f.header) (ap length_of is_len) f.is_header in
       let is_form = always_constructed form header in
       meets (level.Indefinite ∷ es) r f.header (at + (length w - length r)) k
       (λ hs m. let (contents, end, others, inside, more, listed, is_end, completes, is, all) = m in
       let whole : w ≡ (f.header ++ (contents ++ end)) ++ others = f.are ∙ ap (λ z. f.header ++ z) (is ∙ sym (append_assoc contents end others)) ∙ sym (append_assoc f.header (contents ++ end) others) in
       subst (λ gs. Completes deep mode es w at (the_heading ∷ gs)) (sym all) (subst (λ z. Completes deep mode es z at ((the_heading ∷ inside) ++ more)) (sym whole) (value_first deep mode es (f.header ++ (contents ++ end)) others at (the_heading ∷ inside) more
-      (IsListed.indefinite t f.header contents end inside (subst (λ g. IsHeader mode t g (told None) f.header) is_form header) (subst (λ d. AreListed deep mode contents d (length es + 1) inside) (ap (λ d. at + d) hl) listed) is_end refl (rw (is_form, is_len, hl) refl))
+      (IsListed.indefinite t f.header contents end inside (subst (λ g. IsHeader mode t g (length_of None) f.header) is_form header) (subst (λ d. AreListed deep mode contents d (length es + 1) inside) (ap (λ d. at + d) hl) listed) is_end refl (rw (is_form, is_len, hl) refl))
       (subst (λ d. Completes deep mode es others d more) (omega (arith, length-append f.header (contents ++ end), length-append contents end, hl)) completes))))
       (λ h. fits_indefinite mode es w r f.header t form len f.is_header f.are open_here some h is_len)
       (omega (arith, hl))
@@ -190,7 +190,7 @@ module _ (deep : Bool) (mode : Mode) (octets : List ℕ) (a b c : Option (List �
   no_list_at_contents n is_len short h = let fits = contents_are_here mode es w r f.header t form len f.is_header f.are open_here some (s.fits h) n is_len in absurd (omega (arith, fits, short))
 
 pub no_list_at_header : (deep : Bool) (mode : Mode) (octets w : List ℕ) (a b : Option (List ℕ)) (es : List Open) (at : ℕ) → IsAt deep mode octets a b es w at → GoesOn mode es w → (es ≡ [] → w ≢ [])
-    → ((t : Tag) (form : Bool) (n : Option ℕ) (h x : List ℕ) → IsHeader mode t form (told n) h → w ≡ h ++ x → ⊥) → IsList mode octets → ⊥
+    → ((t : Tag) (form : Bool) (n : Option ℕ) (h x : List ℕ) → IsHeader mode t form (length_of n) h → w ≡ h ++ x → ⊥) → IsList mode octets → ⊥
 no_list_at_header deep mode octets w a b es at s g n none h = no_list_without_header mode es w g n none (s.fits h)
 
 pub within : (deep : Bool) (mode : Mode) (octets w : List ℕ) (a b : Option (List ℕ)) (es : List Open) (at : ℕ) → IsAt deep mode octets a b es w at → at + length w + length (behind_all es) ≡ length octets

@@ -3,7 +3,7 @@ use Rattle.std.specs.Prelude.{◌≡◌, ◌≤◌, ℕ, Bool, List, [], ◌∷�
 use Rattle.std.specs.Io.KnownBytes.{Appends, Keeps}
 use Rattle.bcder.specs.declared.mode.Mode.{Mode}
 use Rattle.bcder.specs.x690.Encoding.{IsHeader}
-use Rattle.bcder.specs.calls.ContentsLen.{told}
+use Rattle.bcder.specs.calls.ContentsLen.{length_of}
 use Rattle.berdump.specs.declared.heading.Heading.{Heading}
 use Rattle.berdump.specs.declared.list.ListError.{ListError}
 use Rattle.berdump.specs.declared.list.ListError.TheVariants.{Refused, NoMemory, Target}
@@ -16,7 +16,7 @@ pub record Stands (mode : Mode) (octets : List ℕ) (h : Heading) : Type 0 where
   pub before : List ℕ
   pub header : List ℕ
   pub others : List ℕ
-  pub is_header : IsHeader mode h.tag h.constructed (told h.len) header
+  pub is_header : IsHeader mode h.tag h.constructed (length_of h.len) header
   pub are : octets ≡ before ++ (header ++ others)
   pub offset : length before ≡ h.offset
   pub size : length header ≡ h.header

@@ -5,7 +5,7 @@ use Rattle.bcder.specs.x690.Identifier.{Tag}
 use Rattle.bcder.specs.x690.BitString.{bit_string_tag}
 use Rattle.bcder.specs.x690.OctetString.{octet_string_tag}
 use Rattle.bcder.specs.x690.Length.{IsEndOfContents}
-use Rattle.bcder.specs.calls.ContentsLen.{told}
+use Rattle.bcder.specs.calls.ContentsLen.{length_of}
 use Rattle.bcder.specs.x690.Tree.{Trees}
 use Rattle.bcder.specs.x690.Encoding.{IsHeader, AreEncodings}
 use Rattle.berdump.specs.declared.heading.Heading.{Heading}
@@ -38,13 +38,13 @@ HoldsNone mode t contents = (inside : List ℕ) → Holds mode t contents inside
 mutual
   -- w is the encoding of a value, and hs are the headings of it and of the values inside it, each before those inside it, if it stands at an offset and a depth; if deep, the values that a string holds are inside it
   pub data IsListed (deep : Bool) (mode : Mode) : List ℕ → ℕ → ℕ → List Heading → Type 0 where
-    primitive : {w : List ℕ} {at depth : ℕ} {hs : List Heading} (t : Tag) (header contents : List ℕ) → IsHeader mode t false (told (Some (length contents))) header → (deep ≡ true → HoldsNone mode t contents) → w ≡ header ++ contents
+    primitive : {w : List ℕ} {at depth : ℕ} {hs : List Heading} (t : Tag) (header contents : List ℕ) → IsHeader mode t false (length_of (Some (length contents))) header → (deep ≡ true → HoldsNone mode t contents) → w ≡ header ++ contents
         → hs ≡ heading t false depth at (length header) (Some (length contents)) ∷ [] → IsListed deep mode w at depth hs
-    definite : {w : List ℕ} {at depth : ℕ} {hs : List Heading} (t : Tag) (header contents : List ℕ) (inside : List Heading) → IsHeader mode t true (told (Some (length contents))) header → AreListed deep mode contents (at + length header) (depth + 1) inside
+    definite : {w : List ℕ} {at depth : ℕ} {hs : List Heading} (t : Tag) (header contents : List ℕ) (inside : List Heading) → IsHeader mode t true (length_of (Some (length contents))) header → AreListed deep mode contents (at + length header) (depth + 1) inside
         → w ≡ header ++ contents → hs ≡ heading t true depth at (length header) (Some (length contents)) ∷ inside → IsListed deep mode w at depth hs
-    indefinite : {w : List ℕ} {at depth : ℕ} {hs : List Heading} (t : Tag) (header contents end : List ℕ) (inside : List Heading) → IsHeader mode t true (told None) header → AreListed deep mode contents (at + length header) (depth + 1) inside → IsEndOfContents mode end
+    indefinite : {w : List ℕ} {at depth : ℕ} {hs : List Heading} (t : Tag) (header contents end : List ℕ) (inside : List Heading) → IsHeader mode t true (length_of None) header → AreListed deep mode contents (at + length header) (depth + 1) inside → IsEndOfContents mode end
         → w ≡ header ++ (contents ++ end) → hs ≡ heading t true depth at (length header) None ∷ inside → IsListed deep mode w at depth hs
-    opened : {w : List ℕ} {at depth : ℕ} {hs : List Heading} (t : Tag) (header front contents : List ℕ) (inside : List Heading) → deep ≡ true → IsHeader mode t false (told (Some (length (front ++ contents)))) header → IsFront t front → contents ≢ [] → AreListed deep mode contents (at + length header + length front) (depth + 1) inside
+    opened : {w : List ℕ} {at depth : ℕ} {hs : List Heading} (t : Tag) (header front contents : List ℕ) (inside : List Heading) → deep ≡ true → IsHeader mode t false (length_of (Some (length (front ++ contents)))) header → IsFront t front → contents ≢ [] → AreListed deep mode contents (at + length header + length front) (depth + 1) inside
         → w ≡ header ++ (front ++ contents) → hs ≡ heading t false depth at (length header) (Some (length (front ++ contents))) ∷ inside → IsListed deep mode w at depth hs
 
   -- the same of a list of values

@@ -6,11 +6,11 @@ mod trial;
 
 use crate::asserts::done;
 use bcder::Mode;
-use rows::calls::{
-    Answer, CAPTURES, CONTENTS, Call, KEPT, Line, OCTETS, PASSES, STRINGS, TAKES, TYPED, Take, Text,
-};
 use std::alloc::Global;
 use std::process::Abort;
+use tests::calls::{
+    Answer, CAPTURES, CONTENTS, Call, KEPT, Line, OCTETS, PASSES, STRINGS, TAKES, TYPED, Take, Text,
+};
 use trial::{Place, Trial};
 
 /// Where each call is tried.

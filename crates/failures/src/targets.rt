@@ -15,11 +15,11 @@ use bcder::{Mode, Tag};
 use encoders::{Encoder, write};
 use lines::{CONTENTS, FRONTS, LISTS, Line, ONE_OF, PRIMITIVES, STRINGS};
 use long::{LONG, Long, octets_of, spelled, write_long};
-use rows::encoders::Zeros;
 use std::alloc::Global;
 use std::io;
 use std::io::{Error, ErrorKind, Write};
 use std::process::Abort;
+use tests::encoders::Zeros;
 
 /// How a target fails.
 #[derive(Clone, Copy, Debug, PartialEq, Eq)]

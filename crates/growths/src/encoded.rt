@@ -4,8 +4,8 @@ use anyhow::Error;
 use bcder::captured::CapturedBuilder;
 use bcder::encode::{EncodeError, PrimitiveContent, Values, WriteError};
 use bcder::{Captured, Mode, NoMemory};
-use rows::encoders::{Nulls, Zeros};
 use std::alloc::Global;
+use tests::encoders::{Nulls, Zeros};
 
 /// The contents octets of 200.
 const CONTENTS: [u8; 2] = [0x00, 0xC8];

@@ -8,8 +8,8 @@ use bcder::decode::{
 };
 use bcder::{Mode, Tag};
 use bytes::Bytes;
-use rows::sip::Sip;
 use std::alloc::{AllocError, Global};
+use tests::sip::Sip;
 
 /// A call that passes over the next value.
 #[derive(Clone, Copy, Debug, PartialEq, Eq)]

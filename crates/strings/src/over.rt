@@ -2,9 +2,9 @@
 use crate::asserts::done;
 use bcder::decode::BytesSource;
 use bytes::Bytes;
-use rows::sip::Sip;
 use std::alloc::Global;
 use std::process::Abort;
+use tests::sip::Sip;
 
 /// A source over shared octets.
 pub fn shared(rt: &impl Abort, alloc: Global, octets: &[u8]) -> BytesSource {

@@ -8,9 +8,9 @@ use bcder::string::{
 };
 use bcder::{Mode, OctetString, Tag};
 use bytes::Bytes;
-use rows::sip::Sip;
 use std::alloc::Global;
 use std::process::Abort;
+use tests::sip::Sip;
 use user::latin_1::Latin1;
 
 /// The string of a set in front of a source, if there is one.

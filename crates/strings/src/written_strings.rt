@@ -10,9 +10,9 @@ use bcder::decode::{SliceSource, Source};
 use bcder::encode::{EncodeError, PrimitiveContent, Values, write_header};
 use bcder::{Captured, Mode, OctetString, Tag};
 use bytes::Bytes;
-use rows::encoders::{Nulls, Zeros};
 use std::alloc::Global;
 use std::process::Abort;
+use tests::encoders::{Nulls, Zeros};
 
 /// Octets that differ from those near them.
 fn octets_of(rt: &impl Abort, alloc: Global, len: usize) -> Vec<u8> {

@@ -8,10 +8,10 @@ use bcder::{Integer, Mode, Unsigned};
 use bytes::Bytes;
 use lines::fields::{find, next, octets_of};
 use lines::tally::{Differing, Tally, differ_in};
-use rows::sip::Sip;
 use std::alloc::Global;
 use std::cmp::Ordering;
 use std::convert::TryFrom;
+use tests::sip::Sip;
 
 /// What was compared.
 #[derive(Clone, Copy, Debug, Default)]

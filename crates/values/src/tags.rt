@@ -8,8 +8,8 @@ use lines::calls::{Answer, error_kind};
 use lines::fields::{find, next, number, octets_of};
 use lines::malformed::Malformed;
 use lines::tally::{Differing, Tally, differ_in};
-use rows::sip::Sip;
 use std::alloc::Global;
+use tests::sip::Sip;
 
 /// The class of a tag.
 #[derive(Clone, Copy, Debug, PartialEq, Eq)]

@@ -12,8 +12,8 @@ use lines::fields::{find, mode_of, next, number, octets_of};
 use lines::malformed::Malformed;
 use lines::row::{Row, Step, row_of};
 use lines::tally::{Differing, Tally, differ_in};
-use rows::sip::Sip;
 use std::alloc::{AllocError, Global};
+use tests::sip::Sip;
 
 /// A call on content, or on what `enter` entered.
 #[derive(Clone, Copy, Debug, PartialEq, Eq)]

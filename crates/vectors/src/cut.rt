@@ -10,8 +10,8 @@ use bcder::{BitString, Integer, Mode, OctetString, Oid, Tag, Unsigned};
 use bytes::Bytes;
 use lines::fields::{modes_of, next, octets_of};
 use lines::tally::Tally;
-use rows::sip::Sip;
 use std::alloc::{AllocError, Global};
+use tests::sip::Sip;
 
 /// A reader of the next value.
 #[derive(Clone, Copy, Debug, PartialEq, Eq)]

@@ -12,8 +12,8 @@ use bytes::Bytes;
 use lines::calls::Use;
 use lines::fields::{find, next, number, octets_of};
 use lines::tally::Tally;
-use rows::sip::Sip;
 use std::alloc::{AllocError, Global};
+use tests::sip::Sip;
 
 /// Whose `content_err` is answered.
 #[derive(Clone, Copy, Debug, PartialEq, Eq)]

@@ -5,8 +5,8 @@ use bcder::{Mode, OctetString};
 use bytes::Bytes;
 use lines::fields::{next, octets_of};
 use lines::tally::Tally;
-use rows::sip::Sip;
 use std::alloc::Global;
+use tests::sip::Sip;
 
 /// The OCTET STRING at the front of a source, and how many of so many octets are left behind.
 fn take_string<S: Source>(

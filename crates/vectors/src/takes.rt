@@ -11,8 +11,8 @@ use bytes::Bytes;
 use lines::calls::{Answer, CALLS, Call, OWN, TakeStep, Use, error_kind};
 use lines::row::{Row, row_of};
 use lines::tally::{Differing, Tally};
-use rows::sip::Sip;
 use std::alloc::{AllocError, Global};
+use tests::sip::Sip;
 
 /// Passes over the values, two at most.
 fn pass_values<S: Source>(cons: &mut Constructed<'_, S>) -> Result<(), DecodeError<S::Error>>

@@ -13,7 +13,7 @@ use Rattle.bcder.specs.calls.Cause.{cause_of, of_source}
 use Rattle.bcder.specs.declared.mode.Mode.{Mode}
 use Rattle.bcder.specs.declared.encode.primitive.Primitive.{Primitive}
 use Rattle.bcder.specs.x690.Integer.{integer_octets}
-use Rattle.bcder.specs.calls.Meaning.{Encoded, Meaning, Exactly, ValueMeans, primitive_meaning, octets_of}
+use Rattle.bcder.specs.calls.Meaning.{Encoded, Meaning, Exactly, ValueMeans, primitive_meaning, encoded_octets}
 use Rattle.bcder.proofs.Lemmas.{written_as_meant}
 use Rattle.bcder.specs.calls.Encoders.{Writes, RefusesBy}
 use Rattle.writers.specs.Numbers.{IsOfTarget}
@@ -36,13 +36,13 @@ module _ (mode : Mode) (p q : Primitive ℕ) (same : p ≡ q) (old new : Option 
   only_of : (m : Meaning) → number_means mode p m → m ≡ Ok a
   only_of m h = only m (subst (λ z. number_means mode z m) same h)
 
-  pub refused_target : (r : Result (Unit {0}) WriteError) → Writes octets_of (number_means mode p) ⊥ old new r → IfErr r IsOfTarget
+  pub refused_target : (r : Result (Unit {0}) WriteError) → Writes encoded_octets (number_means mode p) ⊥ old new r → IfErr r IsOfTarget
   refused_target (Ok u) w = tt
   refused_target (Err (Target e)) w = tt
   refused_target (Err (Refused e)) (inl w) = absurd (w.wrote.done.1)
   refused_target (Err (Refused e)) (inr n) = absurd (never_refused (number_means mode p) a only_of n.error n.refuses)
 
-  pub written : Writes octets_of (number_means mode p) ⊥ old new (Ok tt) → Appends old new a.octets
+  pub written : Writes encoded_octets (number_means mode p) ⊥ old new (Ok tt) → Appends old new a.octets
   written w = written_as_meant (number_means mode p) ⊥ old new a only_of w
 
 nothing_is_infallible : Infallible → ⊥

@@ -110,5 +110,5 @@ module _ {S : Type 0} (stream : S → Stream) (c : Both (MutBor (Constructed S))
   abbrev pub PassedOne : {T X : Type 0} → Result T (DecodeError X) → Type 0
   PassedOne r = PassesBy PassesValue HasNoValue (before stream c) r (after stream c)
 
-  abbrev pub PassedAll : {T X : Type 0} → Result T (DecodeError X) → Type 0
-  PassedAll r = PassesBy PassesToEnd HasOthers (before stream c) r (after stream c)
+  abbrev pub PassedToEnd : {T X : Type 0} → Result T (DecodeError X) → Type 0
+  PassedToEnd r = PassesBy PassesToEnd HasOthers (before stream c) r (after stream c)

@@ -6,7 +6,7 @@ use Rattle.bcder.specs.declared.decode.source.limited.LimitedSource.{LimitedSour
 use Rattle.bcder.specs.declared.decode.error.DecodeError.{DecodeError}
 use Rattle.bcder.specs.calls.Cause.{cause_of, MatchCause, IsRefusal}
 use Rattle.bcder.specs.calls.Sources.{wrapped, owed, limit_of}
-use Rattle.bcder.specs.calls.Stream.{Stream, Grew, IsUsedUp}
+use Rattle.bcder.specs.calls.Stream.{Stream, Grew, IsExhausted}
 
 module _ {S : Type 0} (stream : S → Stream) (s : Both (MutBor S) (MutBor S)) where
   -- the source counted no failure
@@ -50,4 +50,4 @@ module _ {S : Type 0} (stream : S → Stream) (s : LimitedSource S) where
 
   -- none are left up to the limit, or without one at all
   abbrev pub HasNoneLeft : Type 0
-  HasNoneLeft = IsUsedUp (limit_of s) (inside stream s).rest
+  HasNoneLeft = IsExhausted (limit_of s) (inside stream s).rest

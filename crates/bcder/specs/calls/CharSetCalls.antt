@@ -6,7 +6,7 @@ use Rattle.std.specs.declared.borrow.CowSlice.{CowSlice}
 use Rattle.bcder.specs.declared.string.restricted.char_set.CharSetError.{CharSetError}
 use Rattle.bcder.specs.declared.string.restricted.char_set.StringError.{StringError}
 use Rattle.bcder.specs.declared.string.restricted.char_set.StringError.TheVariants.{CharSet, NoMemory}
-use Rattle.bcder.specs.x690.CharSet.{Step, Spells, Accepts, HasNo}
+use Rattle.bcder.specs.x690.CharSet.{Step, Spells, IsOfSet, HasNo}
 use Rattle.std.specs.Borrow.{Bor}
 use Rattle.bcder.specs.x690.Characters.{characters}
 
@@ -19,8 +19,8 @@ module _ (step : Step) where
 
   -- whether octets are a string of the set
   abbrev pub Checks : {A : Type 0} → List ℕ → Result A CharSetError → Type 0
-  Checks w (Ok a) = Accepts step w
-  Checks w (Err e) = Accepts step w → ⊥
+  Checks w (Ok a) = IsOfSet step w
+  Checks w (Err e) = IsOfSet step w → ⊥
 
   -- octets that spell the characters of a text; or that there are none; or, where memory may lack, that it did
   abbrev pub SpellsText : {Z : Type 0} → Type 0 → List ℕ → Result (CowSlice ℕ Z) StringError → Type 0

@@ -3,6 +3,6 @@ use Rattle.std.specs.Prelude.{ℕ, Option, Some, None}
 use Rattle.bcder.specs.declared.length.Length.{Length}
 use Rattle.bcder.specs.declared.length.Length.TheVariants.{Definite, Indefinite}
 
-abbrev pub told : Option ℕ → Length
-told (Some n) = Definite n
-told None = Indefinite
+abbrev pub length_of : Option ℕ → Length
+length_of (Some n) = Definite n
+length_of None = Indefinite

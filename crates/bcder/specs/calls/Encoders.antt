@@ -12,7 +12,7 @@ use Rattle.bcder.specs.declared.length.Length.{Length}
 use Rattle.bcder.specs.declared.length.Length.TheVariants.{Definite}
 use Rattle.bcder.specs.x690.Identifier.{Tag, IsValueTag, end_of_contents}
 use Rattle.bcder.specs.x690.Octets.{header, definite, length_octets, fits_length}
-use Rattle.bcder.specs.calls.Meaning.{Encoded, Meaning, ContentsMeaning, IsOne, octets_of}
+use Rattle.bcder.specs.calls.Meaning.{Encoded, Meaning, ContentsMeaning, IsOne, encoded_octets}
 use Rattle.bcder.specs.calls.Target.{AppendsFront, AppendsShorter}
 
 -- ---- refusals and sizes
@@ -28,7 +28,7 @@ TellsSize octets M lacks (Ok n) = (a : _) × M (Ok a) × (n ≡ length (octets a
 TellsSize octets M lacks (Err e) = RefusesBy M lacks e
 
 abbrev pub SizeOfValues : (Meaning → Type 0) → Type 0 → Result ℕ EncodeError → Type 0
-SizeOfValues M lacks r = TellsSize octets_of M lacks r
+SizeOfValues M lacks r = TellsSize encoded_octets M lacks r
 
 abbrev pub SizeOfContents : (ContentsMeaning → Type 0) → Type 0 → Result ℕ EncodeError → Type 0
 SizeOfContents M lacks r = TellsSize (λ w. w) M lacks r
@@ -55,9 +55,9 @@ HasSize M None = ⊤
 -- ---- writing
 
 -- what a step's answer tells, with the error that stands in its slot
-abbrev pub told : Result (Unit {0}) Failed → WriteError → Result (Unit {0}) WriteError
-told (Ok u) why = Ok u
-told (Err f) why = Err why
+abbrev pub into_result : Result (Unit {0}) Failed → WriteError → Result (Unit {0}) WriteError
+into_result (Ok u) why = Ok u
+into_result (Err f) why = Err why
 
 -- what was written of w: all of it; where the target failed a shorter front; where memory lacked a front
 abbrev pub DoneOf : Type 0 → List ℕ → Option (List ℕ) → Option (List ℕ) → Result (Unit {0}) WriteError → Type 0
@@ -95,7 +95,7 @@ module _ {W : Type 0} (contents : W → Option (List ℕ)) (target : Both (MutBo
   WroteOctets w r = WroteOf ⊥ w (contents target.entry.now) (contents target.exit.now) r
 
   abbrev pub WritesValues : (Meaning → Type 0) → Type 0 → Result (Unit {0}) WriteError → Type 0
-  WritesValues M lacks r = Writes octets_of M lacks (contents target.entry.now) (contents target.exit.now) r
+  WritesValues M lacks r = Writes encoded_octets M lacks (contents target.entry.now) (contents target.exit.now) r
 
   abbrev pub WritesContents : (ContentsMeaning → Type 0) → Type 0 → Result (Unit {0}) WriteError → Type 0
   WritesContents M lacks r = Writes (λ w. w) M lacks (contents target.entry.now) (contents target.exit.now) r
@@ -130,16 +130,16 @@ LengthMeans len (Ok w) = (fits_length len ≡ true) × (w ≡ length_octets len)
 LengthMeans len (Err e) = (fits_length len ≡ false) × (e ≡ LengthTooLarge)
 
 -- a value may have the header
-abbrev pub HasHeader : Tag → ℕ → Type 0
-HasHeader t n = IsValueTag t × (n < 2 ^ 32)
+abbrev pub MayHaveHeader : Tag → ℕ → Type 0
+MayHaveHeader t n = IsValueTag t × (n < 2 ^ 32)
 
 -- why no value has it: for its tag, and else for its length
-abbrev pub RefusesHeader : Tag → ℕ → EncodeError → Type 0
-RefusesHeader t n e =
+abbrev pub RefusesValueHeader : Tag → ℕ → EncodeError → Type 0
+RefusesValueHeader t n e =
     ((t ≡ end_of_contents) × (e ≡ EndOfValueTag))
     ⊎ (IsValueTag t × (2 ^ 32 ≤ n) × (e ≡ LengthTooLarge))
 
 -- the octets of a header that tells n contents octets
 abbrev pub HeaderMeans : Tag → Bool → ℕ → ContentsMeaning → Type 0
-HeaderMeans t form n (Ok w) = HasHeader t n × (w ≡ header t form (Definite n))
-HeaderMeans t form n (Err e) = RefusesHeader t n e
+HeaderMeans t form n (Ok w) = MayHaveHeader t n × (w ≡ header t form (Definite n))
+HeaderMeans t form n (Err e) = RefusesValueHeader t n e

@@ -10,7 +10,7 @@ use Rattle.bcder.specs.calls.Content.{Reading, Falls}
 use Rattle.bcder.specs.calls.Views.{octets_before, octets_after}
 
 -- an error took nothing, and no call changes the mode
-pub record Leaves {T E : Type 0} (c : Reading) (r : Result T E) (d : Reading) : Type 0 where
+pub record LeavesContent {T E : Type 0} (c : Reading) (r : Result T E) (d : Reading) : Type 0 where
   pub no_fault : OnOk r (d.stream.faults ≡ c.stream.faults)
   pub kept : OnErr r (d.stream.rest ≡ c.stream.rest)
   pub still_owed : OnErr r (d.owed ≡ c.owed)
@@ -22,14 +22,14 @@ pub record TakesNextOctet {E : Type 0} (c : Reading) (r : Result (Option ℕ) E)
   pub taken : IfOk r (λ o. MatchOption o ((c.stream.rest ≡ []) × (d.stream.rest ≡ [])) (λ b. c.stream.rest ≡ b ∷ d.stream.rest))
   pub owed : IfOk r (λ o. MatchOption o (d.owed ≡ c.owed) (λ _. Falls c.owed 1 d.owed))
   pub fault : OnErr r (Grew c.stream.faults d.stream.faults)
-  pub leaves : Leaves c r d
+  pub leaves : LeavesContent c r d
 
 -- the next octet was taken; or the source failed, or there is none
 pub record TakesOctet {X : Type 0} (c : Reading) (r : Result ℕ (DecodeError X)) (d : Reading) : Type 0 where
   pub taken : IfOk r (λ b. c.stream.rest ≡ b ∷ d.stream.rest)
   pub owed : OnOk r (Falls c.owed 1 d.owed)
   pub refused : IfErr r (λ e. MatchCause (cause_of e) (Grew c.stream.faults d.stream.faults) ((d.stream.faults ≡ c.stream.faults) × (c.stream.rest ≡ []) × IsRefusal e) ⊥)
-  pub leaves : Leaves c r d
+  pub leaves : LeavesContent c r d
 
 -- n octets were passed, or all that come where these are fewer; or the source failed
 pub record SkipsOctets {E : Type 0} (n : ℕ) (c : Reading) (r : Result ℕ E) (d : Reading) : Type 0 where
@@ -37,7 +37,7 @@ pub record SkipsOctets {E : Type 0} (n : ℕ) (c : Reading) (r : Result ℕ E) (
   pub rest : IfOk r (λ k. d.stream.rest ≡ drop k c.stream.rest)
   pub owed : IfOk r (λ k. Falls c.owed k d.owed)
   pub fault : OnErr r (Grew c.stream.faults d.stream.faults)
-  pub leaves : Leaves c r d
+  pub leaves : LeavesContent c r d
 
 -- ---- the same of a parameter as a whole
 

@@ -48,9 +48,9 @@ pub record HasAll (n : ℕ) (c : Reading) : Type 0 where
   pub count : length c.stream.rest ≡ n
 
 -- why octets that are owed did not come, and e was answered
-pub data RefusesAll {X : Type 0} (c : Reading) (e : DecodeError X) (d : Reading) : Type 0 where
-  source : cause_of e ≡ of_source → Grew c.stream.faults d.stream.faults → RefusesAll c e d
-  few : IsShort c → IsRefusal e → d.stream.faults ≡ c.stream.faults → RefusesAll c e d
+pub data RefusesTooFew {X : Type 0} (c : Reading) (e : DecodeError X) (d : Reading) : Type 0 where
+  source : cause_of e ≡ of_source → Grew c.stream.faults d.stream.faults → RefusesTooFew c e d
+  few : IsShort c → IsRefusal e → d.stream.faults ≡ c.stream.faults → RefusesTooFew c e d
 
 -- they mean nothing
 abbrev pub MeanNothing : {T X : Type 0} → (List ℕ → T → Type 0) → List ℕ → DecodeError X → Type 0
@@ -79,7 +79,7 @@ FindNoMemory w e = cause_of e ≡ of_memory
 module _ {T X : Type 0} (Means : List ℕ → T → Type 0) (Refuses : List ℕ → DecodeError X → Type 0) where
   -- why contents octets were not read, and e was answered: they did not come, or were refused
   pub data RefusesReading (c : Reading) (e : DecodeError X) (d : Reading) : Type 0 where
-    missing : RefusesAll c e d → RefusesReading c e d
+    missing : RefusesTooFew c e d → RefusesReading c e d
     refused : HasAll (length c.stream.rest) c → Refuses c.stream.rest e → d.stream.faults ≡ c.stream.faults → RefusesReading c e d
 
   -- contents octets were read as what they mean, and taken; or refused, and left
@@ -100,7 +100,7 @@ pub record LooksAt {T X : Type 0} (Means : List ℕ → T → Type 0) (c : Readi
   pub value : IfOk r (λ x. Means c.stream.rest x)
   pub all : OnOk r (HasAll (length c.stream.rest) c)
   pub no_fault : OnOk r (d.stream.faults ≡ c.stream.faults)
-  pub refused : IfErr r (λ e. RefusesAll c e d)
+  pub refused : IfErr r (λ e. RefusesTooFew c e d)
   pub kept : d.stream.rest ≡ c.stream.rest
   pub still_owed : d.owed ≡ c.owed
   pub mode : d.mode ≡ c.mode

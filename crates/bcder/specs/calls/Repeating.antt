@@ -48,14 +48,14 @@ pub record Stage (F : Type 0) : Type 0 where
 
 module _ {F C T E : Type 0} (view : C → Reading) (step : F → MutBor C → Answer T E → MutBor C → F → Type 0) where
   -- one call of the closure answered so
-  pub record Answers (p : Stage F) (t : Turn C) (a : Answer T E) (q : Stage F) : Type 0 where
+  pub record AnswersTurn (p : Stage F) (t : Turn C) (a : Answer T E) (q : Stage F) : Type 0 where
     pub handed_is : view t.handed.now ≡ p.content
     pub left_is : view t.left.now ≡ q.content
     pub called : step p.closure t.handed a t.left q.closure
 
   -- one call answered `Some`, and the next may follow
   pub record GoesOn (p : Stage F) (g : Gift C T) (q : Stage F) : Type 0 where
-    pub answered : Answers p g.turn (Ok (Some g.value)) q
+    pub answered : AnswersTurn p g.turn (Ok (Some g.value)) q
     pub took : TookNothing p.content q.content → ⊥
 
   -- calls that answered `Some`, and a last one that answered so and left d
@@ -65,7 +65,7 @@ module _ {F C T E : Type 0} (view : C → Reading) (step : F → MutBor C → An
     pub went_on : FoldsTo GoesOn (record { closure = f; content = c }) gifts before
     pub turn : Turn C
     pub after : Stage F
-    pub answered : Answers before turn a after
+    pub answered : AnswersTurn before turn a after
     pub left : after.content ≡ d
 
 module _ {F C E : Type 0} (why : E → Cause ContentError) (view : C → Reading) (step : F → MutBor C → Answer (Unit {0}) E → MutBor C → F → Type 0) where
@@ -102,7 +102,7 @@ RepeatsLawfully {S} {F} {T} {E} stream c step = (f : F) (p : MutBor (Constructed
 
 -- one call of a closure on content: as f it answered so, and was left as g
 abbrev pub AnswersOnce : {S F T X : Type 0} → (S → Stream) → Both (MutBor (Constructed S)) (MutBor (Constructed S)) → (F → MutBor (Constructed S) → Answer T (DecodeError X) → MutBor (Constructed S) → F → Type 0) → F → Answer T (DecodeError X) → F → Type 0
-AnswersOnce {S} stream c step f a g = (t : Turn (Constructed S)) × Answers (of_constructed stream) step (record { closure = f; content = of_constructed stream c.entry.now }) t a (record { closure = g; content = of_constructed stream c.exit.now })
+AnswersOnce {S} stream c step f a g = (t : Turn (Constructed S)) × AnswersTurn (of_constructed stream) step (record { closure = f; content = of_constructed stream c.entry.now }) t a (record { closure = g; content = of_constructed stream c.exit.now })
 
 -- the closure f was called over content until it answered `None`, refused, or took nothing
 abbrev pub Repeated : {S F X : Type 0} → (S → Stream) → Both (MutBor (Constructed S)) (MutBor (Constructed S)) → (F → MutBor (Constructed S) → Answer (Unit {0}) (DecodeError X) → MutBor (Constructed S) → F → Type 0) → F → Result (Unit {0}) (DecodeError X) → Type 0

@@ -6,12 +6,12 @@ use Rattle.bcder.specs.declared.string.restricted.char_set.StringError.{StringEr
 use Rattle.bcder.specs.declared.string.restricted.char_set.StringError.TheVariants.{CharSet, NoMemory}
 use Rattle.bcder.specs.x690.Tree.{Tree}
 use Rattle.bcder.specs.calls.StringOctets.{StringOctets, whole, octets_of, MeansString}
-use Rattle.bcder.specs.x690.CharSet.{Step, Spells, Accepts, HasNo, HasSome}
+use Rattle.bcder.specs.x690.CharSet.{Step, Spells, IsOfSet, HasNo, HasSome}
 
 module _ (step : Step) where
   -- 8.23.3: a value is read as an octet string is, whose octets are a string of the set
   abbrev pub MeansRestricted : Mode → Tree → StringOctets → Type 0
-  MeansRestricted mode t s = MeansString mode t s × Accepts step (octets_of s)
+  MeansRestricted mode t s = MeansString mode t s × IsOfSet step (octets_of s)
 
   -- the octets of a text in one piece; or that the set hasn't all of its characters; or that memory lacked: for the set, where it may, or for a copy of octets that there are
   abbrev pub MakesText : Type 0 → List ℕ → Result StringOctets StringError → Type 0

@@ -75,9 +75,9 @@ limit_or None n = n
 limit_or (Some m) n = m
 
 -- nothing is left up to the limit, or without one at all
-abbrev pub IsUsedUp : Option ℕ → List ℕ → Type 0
-IsUsedUp None xs = xs ≡ []
-IsUsedUp (Some n) xs = n ≡ 0
+abbrev pub IsExhausted : Option ℕ → List ℕ → Type 0
+IsExhausted None xs = xs ≡ []
+IsExhausted (Some n) xs = n ≡ 0
 
 -- the smaller of two limits
 abbrev pub smaller_limit : Option ℕ → Option ℕ → Option ℕ

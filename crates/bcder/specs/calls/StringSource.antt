@@ -21,8 +21,8 @@ block_behind w None = w
 block_behind w (Some behind) = behind.octets
 
 -- octets that are said to share a block with the segments to come do
-abbrev pub StandsIn : InBlock → Option ToCome → Type 0
-StandsIn front behind = IsTrue front.is_shared → front.block ≡ block_behind front.block behind
+abbrev pub SharesBlock : InBlock → Option ToCome → Type 0
+SharesBlock front behind = IsTrue front.is_shared → front.block ≡ block_behind front.block behind
 
 -- the octets of the parts behind the one in front, if there can be any
 abbrev pub all_behind : Option ToCome → List ℕ

@@ -27,7 +27,7 @@ SourceFailedOrNoMemory c e d = SourceFailed c e d ⊎ (cause_of e ≡ of_memory)
 
 module _ {X : Type 0} (Fails : Reading → DecodeError X → Reading → Type 0) where
   -- x was answered without a fault of the source, and `after` is left of the content, which stays open; or it failed; the mode stays, and the mark
-  pub record Answers {T : Type 0} (x : T) (after : List ℕ) (c : Reading) (r : Result T (DecodeError X)) (d : Reading) : Type 0 where
+  pub record AnswersLeaving {T : Type 0} (x : T) (after : List ℕ) (c : Reading) (r : Result T (DecodeError X)) (d : Reading) : Type 0 where
     pub value : IfOk r (λ y. y ≡ x)
     pub rest : OnOk r (d.stream.rest ≡ after)
     pub stays : OnOk r (d.state ≡ Open)
@@ -39,9 +39,9 @@ module _ {X : Type 0} (Fails : Reading → DecodeError X → Reading → Type 0)
   module _ {T : Type 0} (tag : Tag) (Means : List ℕ → T → Type 0) (Refuses : List ℕ → DecodeError X → Type 0) where
     -- each typed take of c answers x, and leaves `after`
     pub record TakesBack (x : T) (after : List ℕ) (c : Reading) : Type 0 where
-      pub one : (r : Result T (DecodeError X)) (d : Reading) → TakesOneAs tag Means Refuses c r d → Answers x after c r d
-      pub next : (r : Result (Option T) (DecodeError X)) (d : Reading) → TakesNextAs tag Means Refuses c r d → Answers (Some x) after c r d
-      pub passed : (r : Result T (DecodeError X)) (d : Reading) → PassesNextAs tag Means Refuses c r d → Answers x after c r d
+      pub one : (r : Result T (DecodeError X)) (d : Reading) → TakesOneAs tag Means Refuses c r d → AnswersLeaving x after c r d
+      pub next : (r : Result (Option T) (DecodeError X)) (d : Reading) → TakesNextAs tag Means Refuses c r d → AnswersLeaving (Some x) after c r d
+      pub passed : (r : Result T (DecodeError X)) (d : Reading) → PassesNextAs tag Means Refuses c r d → AnswersLeaving x after c r d
 
     -- one thing is written of x, an encoding; wherever it stands in front of content in the mode, x is taken back
     pub record IsTakenBackBy (mode : Mode) (Writes : Meaning → Type 0) (x : T) : Type 0 where

@@ -7,7 +7,7 @@ use Rattle.std.proofs.lemmas.Str.{encode_ascii, chars-encodes}
 use Rattle.std.specs.Int.{is_in_range}
 use Rattle.std.specs.Char.{IsScalar, encode_utf8}
 use Rattle.std.specs.Str.{IsUtf8, chars, encode_utf8_all, all_scalars}
-use Rattle.bcder.specs.x690.CharSet.{Front, IsStep, Spells, Accepts}
+use Rattle.bcder.specs.x690.CharSet.{Front, IsStep, Spells, IsOfSet}
 use Rattle.bcder.specs.x690.Utf8.{Lead, lead, six_more, read_tails, read_behind, read_led, utf8_step}
 use Rattle.bcder.specs.laws.CharSets.{low_scalar}
 
@@ -306,7 +306,7 @@ utf8_text w cs h =
     let (scalars, is) = utf8_encodes cs w h in
     ((cs, (scalars, is)), ap chars (sym is) ∙ chars-encodes cs scalars)
 
-pub utf8_accepts : (w : List ℕ) → Accepts utf8_step w ↔ IsUtf8 w
+pub utf8_accepts : (w : List ℕ) → IsOfSet utf8_step w ↔ IsUtf8 w
 utf8_accepts w = (λ a. (utf8_text w a.0 a.1).0, λ u. (u.0, encodes_utf8 u.0 w u.1.0 u.1.1))
 
 some_octets : (c : ℕ) → IsScalar c → (b : ℕ) × (bs : List ℕ) × (encode_utf8 c ≡ b ∷ bs)

@@ -40,9 +40,9 @@ WritesEnclosed contents target t len mode M lacks r =
     → WroteOf lacks (enclosed mode t x.octets) (contents target.entry.now) (contents target.exit.now) r
 
 -- how many contents octets a length tells
-abbrev pub told_size : Length → Option ℕ
-told_size (Definite n) = Some n
-told_size Indefinite = None
+abbrev pub definite_len : Length → Option ℕ
+definite_len (Definite n) = Some n
+definite_len Indefinite = None
 
 -- how many octets the length takes of those behind the identifier octets
 abbrev pub length_size : ℕ → ℕ

@@ -1,20 +1,20 @@
 -- What a step over the header of the next value answers and leaves.
 use Rattle.std.specs.Prelude.{◌≡◌, ◌⊎◌, ℕ, true, Option, Result, IfOk, IfErr, IfSome, IfNone, OnOk, OnErr}
 use Rattle.bcder.specs.declared.decode.error.ContentError.{ContentError}
-use Rattle.bcder.specs.declared.decode.header.Header.{Header as Kept}
+use Rattle.bcder.specs.declared.decode.header.Header.{Header as CodeHeader}
 use Rattle.bcder.specs.declared.decode.content.State.TheVariants.{Failed}
 use Rattle.bcder.specs.calls.Calls.{HasForm}
 use Rattle.bcder.specs.calls.Cause.{Cause, IsOfContent}
 use Rattle.bcder.specs.x690.Identifier.{Tag}
-use Rattle.bcder.specs.steps.Peek.{header, octets_header}
+use Rattle.bcder.specs.steps.Peek.{header_of, octets_header}
 use Rattle.bcder.specs.calls.Stream.{Grew}
 use Rattle.bcder.specs.calls.Content.{Reading, Asked, tagged, IsAsked, Enters, RefusesHeader}
 use Rattle.bcder.specs.calls.Takes.{HasNone}
 
 module _ {E : Type 0} (c d : Reading) where
   -- the header of a value that is asked for was passed
-  abbrev pub EntersNext : Asked → Result (Option Kept) E → Type 0
-  EntersNext asked r = IfOk r (λ o. IfSome o (λ h. IsAsked asked h.tag × Enters c (header h) d))
+  abbrev pub EntersNext : Asked → Result (Option CodeHeader) E → Type 0
+  EntersNext asked r = IfOk r (λ o. IfSome o (λ h. IsAsked asked h.tag × Enters c (header_of h) d))
 
   -- there is none, and what is left
   abbrev pub FindsNone : Asked → {T : Type 0} → Result (Option T) E → Type 0
@@ -34,7 +34,7 @@ module _ {E : Type 0} (c d : Reading) where
 
 -- the header of a primitive value of the tag was passed, with so many contents octets; or there is none; or it was refused, as that of a constructed one is
 pub record EntersOctets {E : Type 0} (why : E → Cause ContentError) (t : Tag) (c : Reading) (r : Result (Option ℕ) E) (d : Reading) : Type 0 where
-  pub entered : IfOk r (λ o. IfSome o (λ n. Enters c (header (octets_header t n)) d))
+  pub entered : IfOk r (λ o. IfSome o (λ n. Enters c (header_of (octets_header t n)) d))
   pub none : IfOk r (λ o. IfNone o (HasNone (tagged t) c d))
   pub refused : IfErr r (λ e. RefusesHeader why (tagged t) c e d ⊎ HasForm true (tagged t) c × IsOfContent (why e))
   pub failed : OnErr r (d.state ≡ Failed)

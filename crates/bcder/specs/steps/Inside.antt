@@ -8,7 +8,7 @@ use Rattle.bcder.specs.declared.decode.content.Kind.{Kind}
 use Rattle.bcder.specs.declared.decode.content.Kind.TheVariants as kind
 use Rattle.bcder.specs.declared.decode.content.State.TheVariants.{Open}
 use Rattle.bcder.specs.declared.decode.error.DecodeError.{DecodeError}
-use Rattle.bcder.specs.declared.decode.header.Header.{Header as Kept}
+use Rattle.bcder.specs.declared.decode.header.Header.{Header as CodeHeader}
 use Rattle.bcder.specs.declared.decode.error.ContentError.{ContentError}
 use Rattle.bcder.specs.calls.Cause.{Cause, cause_of, IsRefusal}
 use Rattle.bcder.specs.x690.Identifier.{Tag}
@@ -34,7 +34,7 @@ limit_outside (Definite n) o left = popped o n left
 limit_outside Indefinite o left = left
 
 -- the content behind a header that was passed
-abbrev pub IsBehind : {S : Type 0} → (S → Stream) → MutBor (Constructed S) → Kept → Reading → Type 0
+abbrev pub IsBehind : {S : Type 0} → (S → Stream) → MutBor (Constructed S) → CodeHeader → Reading → Type 0
 IsBehind stream c h i = Hands (of_constructed stream c.now).mode h.constructed h.len (of_constructed stream c.now).owed (of_constructed stream c.now).stream.rest i
 
 -- a closure ran on this content

@@ -1,7 +1,7 @@
 -- What stands at the front of a source, and what can be told of it from the octets at hand.
 use Rattle.std.specs.Prelude.{◌≡◌, ℕ, ◌+◌, ◌<◌, ◌≤◌, Bool, true, false, List, [], ◌++◌, length, drop, Option, Some, None}
 use Rattle.bcder.specs.declared.mode.Mode.{Mode}
-use Rattle.bcder.specs.declared.decode.header.Header.{Header as Kept}
+use Rattle.bcder.specs.declared.decode.header.Header.{Header as CodeHeader}
 use Rattle.bcder.specs.declared.decode.header.Wanted.{Wanted}
 use Rattle.bcder.specs.declared.decode.header.Wanted.TheVariants as wanted
 use Rattle.bcder.specs.declared.decode.header.Peeked.{Peeked}
@@ -15,11 +15,11 @@ use Rattle.bcder.specs.calls.Content.{Asked, any, tagged, IsAsked}
 use Rattle.bcder.specs.calls.Stream.{Stream}
 
 -- a header as the program keeps it
-abbrev pub header : Kept → Header
-header h = record { tag = h.tag; form = h.constructed; len = h.len }
+abbrev pub header_of : CodeHeader → Header
+header_of h = record { tag = h.tag; form = h.constructed; len = h.len }
 
 -- the header of a primitive value with so many contents octets
-abbrev pub octets_header : Tag → ℕ → Kept
+abbrev pub octets_header : Tag → ℕ → CodeHeader
 octets_header t n = record { tag = t; constructed = false; len = Definite n }
 
 -- which headers are looked for, as the clauses of content say it
@@ -38,8 +38,8 @@ HasNoHeader mode asked w = (read_front mode w ≡ None) × (HasOtherTag asked w 
 -- ---- octets, of which so many are at hand
 
 -- this header stands in front, in k octets that are at hand
-abbrev pub IsFront : Mode → Kept → ℕ → ℕ → List ℕ → Type 0
-IsFront mode h k n w = (k ≤ n) × (read_front mode w ≡ Some (header h, drop k w))
+abbrev pub IsFront : Mode → CodeHeader → ℕ → ℕ → List ℕ → Type 0
+IsFront mode h k n w = (k ≤ n) × (read_front mode w ≡ Some (header_of h, drop k w))
 
 abbrev pub IsPeeked : Mode → Asked → Peeked → ℕ → List ℕ → Type 0
 IsPeeked mode asked peeked.Nothing n w = w ≡ []
@@ -49,7 +49,7 @@ IsPeeked mode asked peeked.Refused n w = (1 ≤ length w) × HasNoHeader mode as
 
 -- ---- sources
 
-abbrev pub Fronts : Mode → Kept → ℕ → Stream → Type 0
+abbrev pub Fronts : Mode → CodeHeader → ℕ → Stream → Type 0
 Fronts mode h k s = IsFront mode h k s.avail s.rest
 
 abbrev pub Peeks : Mode → Asked → Peeked → Stream → Type 0
@@ -62,7 +62,7 @@ Sees mode asked None w = (length w < 9) × HasNoHeader mode asked w
 Sees mode asked (Some p) w = (x : List ℕ) → IsPeeked mode asked p (length w) (w ++ x)
 
 -- a header of two octets, in every mode
-abbrev pub IsShort : Kept → List ℕ → Type 0
+abbrev pub IsShort : CodeHeader → List ℕ → Type 0
 IsShort h w = (mode : Mode) (x : List ℕ) → IsFront mode h 2 (length w) (w ++ x)
 
 -- the contents octets of this length are among so many
@@ -70,7 +70,7 @@ abbrev pub IsAtHand : Length → ℕ → Type 0
 IsAtHand l n = (k : ℕ) → l ≡ Definite k → k ≤ n
 
 -- the header of two octets of a primitive value, whose octets are among n
-pub record IsAllHere (h : Kept) (n : ℕ) : Type 0 where
+pub record IsAllHere (h : CodeHeader) (n : ℕ) : Type 0 where
   pub is_value : is_value_tag h.tag ≡ true
   pub form : h.constructed ≡ false
   pub len : ℕ

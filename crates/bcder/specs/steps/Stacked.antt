@@ -5,15 +5,15 @@ use denote.Triple.Both.{Both}
 use Rattle.smallvec.specs.SmallVec.{SmallVec}
 use Rattle.bcder.specs.declared.decode.content.Constructed.{Constructed}
 use Rattle.bcder.specs.declared.decode.source.limited.LimitedSource.{LimitedSource}
-use Rattle.bcder.specs.declared.decode.header.Header.{Header as Kept}
-use Rattle.bcder.specs.steps.Peek.{header as header_of}
+use Rattle.bcder.specs.declared.decode.header.Header.{Header as CodeHeader}
+use Rattle.bcder.specs.steps.Peek.{header_of}
 use Rattle.bcder.specs.declared.mode.Mode.{Mode}
 use Rattle.bcder.specs.declared.length.Length.{Length}
 use Rattle.bcder.specs.declared.length.Length.TheVariants as len
 use Rattle.bcder.specs.declared.decode.content.Kind.{Kind}
 use Rattle.bcder.specs.declared.decode.content.Kind.TheVariants as kind
 use Rattle.bcder.specs.declared.decode.content.skip.Frame.{Frame}
-use Rattle.bcder.specs.declared.decode.content.skip.Opened.{Opened}
+use Rattle.bcder.specs.declared.decode.content.skip.OpenValues.{OpenValues}
 use Rattle.bcder.specs.declared.decode.content.skip.Bar.{Bar}
 use Rattle.bcder.specs.declared.decode.content.skip.Bar.TheVariants as bar
 use Rattle.bcder.specs.declared.decode.content.skip.Halt.{Halt}
@@ -253,10 +253,10 @@ abbrev pub framed : SmallVec Frame → List Entry
 framed v = around (reverse v.items)
 
 -- the open values, the innermost first
-abbrev pub entries : Opened → List Entry
+abbrev pub entries : OpenValues → List Entry
 entries v = indefinites v.inner (framed v.frames.now)
 
-pub record IsCounted (v : Opened) : Type 0 where
+pub record IsCounted (v : OpenValues) : Type 0 where
   pub depth : v.depth ≡ length (entries v)
   pub inline : 4 ≤ v.frames.now.capacity
 
@@ -268,12 +268,12 @@ abbrev pub limit_in : {S : Type 0} → Constructed S → Option ℕ
 limit_in c = c.source.now.limit
 
 module _ {S : Type 0} (stream : S → Stream) where
-  abbrev pub Gone : {T X : Type 0} → Both (MutBor (Constructed S)) (MutBor (Constructed S)) → Both (MutBor Opened) (MutBor Opened) → Kept → Result T (Bar X) → Type 0
+  abbrev pub Gone : {T X : Type 0} → Both (MutBor (Constructed S)) (MutBor (Constructed S)) → Both (MutBor OpenValues) (MutBor OpenValues) → CodeHeader → Result T (Bar X) → Type 0
   Gone c es h r = GoneBy (header_of h) (entries es.entry.now) (source_of stream c.entry.now) (limit_in c.entry.now) r (entries es.exit.now) (source_of stream c.exit.now) (limit_in c.exit.now)
 
 module _ {S F : Type 0} (stream : S → Stream) (step : Steps F ContentError) where
-  abbrev pub Ran : {T X : Type 0} → Both (MutBor (Constructed S)) (MutBor (Constructed S)) → Kept → Both (MutBor F) (MutBor F) → Result T (Halt X) → Type 0
+  abbrev pub Ran : {T X : Type 0} → Both (MutBor (Constructed S)) (MutBor (Constructed S)) → CodeHeader → Both (MutBor F) (MutBor F) → Result T (Halt X) → Type 0
   Ran c h op r = RanBy step c.entry.now.mode (header_of h) (source_of stream c.entry.now) (limit_in c.entry.now) op.entry.now r op.exit.now (source_of stream c.exit.now) (limit_in c.exit.now)
 
-  abbrev pub RanOverSource : {T X : Type 0} → Both (MutBor (LimitedSource S)) (MutBor (LimitedSource S)) → Mode → Kept → Both (MutBor F) (MutBor F) → Result T (Halt X) → Type 0
+  abbrev pub RanOverSource : {T X : Type 0} → Both (MutBor (LimitedSource S)) (MutBor (LimitedSource S)) → Mode → CodeHeader → Both (MutBor F) (MutBor F) → Result T (Halt X) → Type 0
   RanOverSource c mode h op r = RanBy step mode (header_of h) (stream c.entry.now.source) c.entry.now.limit op.entry.now r op.exit.now (stream c.exit.now.source) c.exit.now.limit

@@ -9,7 +9,7 @@ use Rattle.bcder.specs.declared.decode.error.ContentError.{ContentError}
 use Rattle.bcder.specs.calls.Cause.{Cause, of_source}
 use Rattle.bcder.specs.steps.StopCause.{stop_cause}
 use Rattle.bcder.specs.declared.decode.stop.Stop.{Stop}
-use Rattle.bcder.specs.declared.decode.header.Header.{Header as Kept}
+use Rattle.bcder.specs.declared.decode.header.Header.{Header as CodeHeader}
 use Rattle.bcder.specs.declared.decode.content.Constructed.{Constructed}
 use Rattle.bcder.specs.calls.Views.{of_constructed}
 use Rattle.bcder.specs.calls.Calls.{TakesContent}
@@ -17,7 +17,7 @@ use Rattle.bcder.specs.declared.length.Length.TheVariants.{Definite}
 use Rattle.bcder.specs.declared.decode.content.walk.Next.{Next}
 use Rattle.bcder.specs.declared.decode.content.walk.Next.TheVariants as next
 use Rattle.bcder.specs.x690.Encoding.{Header}
-use Rattle.bcder.specs.steps.Peek.{header as header_of}
+use Rattle.bcder.specs.steps.Peek.{header_of}
 use Rattle.bcder.specs.calls.Content.{Reading, Moves, EndsAt, IsDone, Enters, Advances, any, Resembles, RefusesHeader}
 use Rattle.bcder.specs.calls.Walking.{PassesValue, PassedBy, RefusesValues, AllBy, Between}
 
@@ -103,5 +103,5 @@ module _ {S : Type 0} (stream : S → Stream) (c : Both (MutBor (Constructed S))
   PassedAll r = AllBy stop_cause (of_constructed stream c.entry.now) r (of_constructed stream c.exit.now)
 
   -- the content of a header was walked over
-  abbrev pub WalkedOver : {T X : Type 0} → Kept → Result T (Stop X) → Type 0
+  abbrev pub WalkedOver : {T X : Type 0} → CodeHeader → Result T (Stop X) → Type 0
   WalkedOver h r = TakesContent stop_cause itself (walked stop_cause) (of_constructed stream c.entry.now) (header_of h) r (of_constructed stream c.exit.now)

@@ -23,8 +23,8 @@ module _ (step : Step) where
   Spells w (c ∷ cs) = (rest : List ℕ) × (step w ≡ Some (record { char = c; rest = rest })) × Spells rest cs
 
   -- octets are a string of the set
-  abbrev pub Accepts : List ℕ → Type 0
-  Accepts w = (cs : List ℕ) × Spells w cs
+  abbrev pub IsOfSet : List ℕ → Type 0
+  IsOfSet w = (cs : List ℕ) × Spells w cs
 
   -- no octets spell these characters
   abbrev pub HasNo : List ℕ → Type 0

@@ -1,7 +1,7 @@
 -- Character sets whose strings are text as they stand (RFC 3629).
 use Rattle.std.specs.Prelude.{◌≡◌, ◌↔◌, ℕ, List, true}
 use Rattle.std.specs.Str.{IsUtf8, chars, encode_utf8_all, all_scalars}
-use Rattle.bcder.specs.x690.CharSet.{Step, Spells, Accepts}
+use Rattle.bcder.specs.x690.CharSet.{Step, Spells, IsOfSet}
 
 -- octets that spell characters are the text of these
 abbrev pub AreTexts : Step → Type 0
@@ -13,4 +13,4 @@ AreEncoded step = (w cs : List ℕ) → Spells step w cs ↔ (all_scalars cs ≡
 
 -- each text is a string of the set, and nothing else
 abbrev pub AreAllTexts : Step → Type 0
-AreAllTexts step = (w : List ℕ) → Accepts step w ↔ IsUtf8 w
+AreAllTexts step = (w : List ℕ) → IsOfSet step w ↔ IsUtf8 w

@@ -34,7 +34,7 @@ impl Model for CapturedBuilder {
 
 impl CapturedBuilder {
     /// Octets that are encodings in a mode.
-    pub(super) fn holding(octets: Vec<u8>, mode: Mode) -> CapturedBuilder
+    pub(super) fn from_octets(octets: Vec<u8>, mode: Mode) -> CapturedBuilder
         requires { AreWhole mode octets.items }
         ensures { result ≡ kept_from_start mode octets.items }
     {
@@ -46,7 +46,7 @@ impl CapturedBuilder {
     pub fn new(alloc: Global, mode: Mode) -> CapturedBuilder
         ensures { result ≡ none_kept mode }
     {
-        CapturedBuilder::holding(Vec::new(alloc), mode)
+        CapturedBuilder::from_octets(Vec::new(alloc), mode)
     }
 
     /// No values, in a mode, with memory for encodings of `capacity` octets in all.
@@ -62,7 +62,7 @@ impl CapturedBuilder {
     ) -> Result<CapturedBuilder, NoMemory>
         ensures { IfOk result (λ b. b ≡ none_kept mode) }
     {
-        Ok(CapturedBuilder::holding(Vec::with_capacity(alloc, capacity)?, mode))
+        Ok(CapturedBuilder::from_octets(Vec::with_capacity(alloc, capacity)?, mode))
     }
 
     /// Puts the values of an encoder behind those that there are, in the builder's mode.

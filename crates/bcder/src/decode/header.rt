@@ -9,9 +9,9 @@ ghost use Rattle.bcder.specs.steps.Reading.{read_identifier, read_length};
 ghost use Rattle.bcder.specs.declared.mode.Mode.{Mode as ModeValue};
 
 use crate::decode::source::Source;
-use crate::length::{Length, length_at, length_goes_on};
+use crate::length::{Length, length_at, may_begin_length};
 use crate::mode::Mode;
-use crate::tag::take::identifier_goes_on;
+use crate::tag::take::may_begin_identifier;
 use crate::tag::{Tag, identifier_at, mark_of_leading, tag_of_leading};
 
 /// Identifier octets and length octets, whatever they stand before.
@@ -74,7 +74,7 @@ fn look(mode: Mode, wanted: &Wanted, octets: &[u8]) -> Option<Peeked>
     ensures { Sees mode (asked wanted.now) result octets.now }
 {
     let Some(found) = identifier_at(octets) else {
-        if identifier_goes_on(octets) {
+        if may_begin_identifier(octets) {
             return None;
         }
         return Some(Peeked::Refused);
@@ -95,7 +95,7 @@ fn look(mode: Mode, wanted: &Wanted, octets: &[u8]) -> Option<Peeked>
             })
         }
         None => {
-            if length_goes_on(found.2) {
+            if may_begin_length(found.2) {
                 None
             } else {
                 Some(Peeked::Refused)

@@ -2,7 +2,7 @@
 
 /// Why octets were refused.
 #[derive(Clone, Copy)]
-pub(crate) enum Why {
+pub(crate) enum Reason {
     /// An earlier value was refused.
     Earlier,
 
@@ -22,16 +22,16 @@ pub(crate) enum Why {
     ValuesLeft,
 }
 
-impl Why {
+impl Reason {
     /// What is said of it.
     pub(crate) fn text(self) -> &'static str {
         match self {
-            Why::Earlier => "an earlier value was refused",
-            Why::Header => "malformed header",
-            Why::ValueHeader => "malformed value header",
-            Why::Constructed => "expected a primitive value",
-            Why::Short => "unexpected end of data",
-            Why::ValuesLeft => "values left in a constructed value",
+            Reason::Earlier => "an earlier value was refused",
+            Reason::Header => "malformed header",
+            Reason::ValueHeader => "malformed value header",
+            Reason::Constructed => "expected a primitive value",
+            Reason::Short => "unexpected end of data",
+            Reason::ValuesLeft => "values left in a constructed value",
         }
     }
 }
@@ -39,7 +39,7 @@ impl Why {
 /// Why a step stopped.
 pub(crate) enum Stop<E> {
     /// Octets were refused.
-    Refused(Why),
+    Refused(Reason),
 
     /// The source failed.
     Source(E),

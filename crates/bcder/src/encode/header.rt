@@ -4,11 +4,11 @@ ghost use Rattle.std.specs.Prelude.{IfOk, IfErr};
 ghost use Rattle.bcder.specs.declared.length.Length.TheVariants.{Definite};
 ghost use Rattle.bcder.specs.x690.Identifier.{IsValueTag, end_of_contents};
 ghost use Rattle.bcder.specs.x690.Octets.{header, fits_length};
-ghost use Rattle.bcder.specs.calls.Encoders.{HasHeader, RefusesHeader, HeaderMeans};
-ghost use Rattle.bcder.specs.calls.Encoders.{WroteOctets, WritesContents, told};
+ghost use Rattle.bcder.specs.calls.Encoders.{MayHaveHeader, RefusesValueHeader, HeaderMeans};
+ghost use Rattle.bcder.specs.calls.Encoders.{WroteOctets, WritesContents, into_result};
 
 use crate::encode::front::Front;
-use crate::encode::slot::{Failed, slot, told};
+use crate::encode::slot::{Failed, into_result, slot};
 use crate::encode::target::put_all;
 use crate::encode::{EncodeError, WriteError};
 use crate::length::Length;
@@ -22,9 +22,9 @@ use std::io;
 ///
 /// `EndOfValueTag` for `Tag::END_OF_VALUE`, and else `LengthTooLarge` for 2^32 or more octets.
 pub fn total_encoded_len(tag: Tag, len: usize) -> Result<usize, EncodeError>
-    ensures ok { IfOk result (λ n. HasHeader tag len
+    ensures ok { IfOk result (λ n. MayHaveHeader tag len
         × (n ≡ length (header tag false (Definite len)) + len)) }
-    ensures refused { IfErr result (RefusesHeader tag len) }
+    ensures refused { IfErr result (RefusesValueHeader tag len) }
 {
     if !tag.is_value() {
         return Err(EncodeError::EndOfValueTag);
@@ -56,7 +56,7 @@ pub fn write_header<W: io::Write>(
     }
     let mut why = slot();
     let outcome = put_header(target, tag, constructed, Length::Definite(len), &mut why);
-    told(outcome, why)
+    into_result(outcome, why)
 }
 
 /// Writes a header as `put_header`, of any size.
@@ -69,7 +69,7 @@ fn put_any_header<W: io::Write>(
 ) -> Result<(), Failed>
     requires { fits_length len ≡ true }
     ensures { WroteOctets W.contents target (header tag constructed len)
-        (told result why.new) }
+        (into_result result why.new) }
 {
     let mut front = Front::new();
     tag.spell(constructed, &mut front);
@@ -89,7 +89,7 @@ pub(crate) fn put_header<W: io::Write>(
 ) -> Result<(), Failed>
     requires { fits_length len ≡ true }
     ensures { WroteOctets W.contents target (header tag constructed len)
-        (told result why.new) }
+        (into_result result why.new) }
 {
     let Some(identifier) = tag.single_octet(constructed) else {
         return put_any_header(target, tag, constructed, len, why);
@@ -111,7 +111,7 @@ pub(crate) fn put_header_and<W: io::Write>(
 ) -> Result<(), Failed>
     requires { len < 2 ^ 32 }
     ensures { WroteOctets W.contents target (header tag false (Definite len) ++ first ∷ [])
-        (told result why.new) }
+        (into_result result why.new) }
 {
     let mut front = Front::new();
     tag.spell(false, &mut front);

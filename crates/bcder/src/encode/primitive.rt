@@ -7,7 +7,7 @@ ghost use Rattle.bcder.specs.calls.Meaning.{primitive_meaning};
 ghost use Rattle.bcder.specs.steps.Enclosing.{ContentsSize};
 ghost use Rattle.bcder.specs.calls.Encoders.{SizeOfContents, WritesContents, GathersContents};
 ghost use Rattle.bcder.specs.calls.Encoders.{SizeOfValues, WritesValues, HasContents};
-ghost use Rattle.bcder.specs.calls.Encoders.{WritesPrimitive, told};
+ghost use Rattle.bcder.specs.calls.Encoders.{WritesPrimitive, into_result};
 ghost use Rattle.bcder.specs.laws.Meanings.{primitive_lawful};
 
 mod identifier;
@@ -18,7 +18,7 @@ pub(crate) mod plain;
 use crate::encode::front::Front;
 use crate::encode::gather::gather_contents;
 use crate::encode::header::put_header;
-use crate::encode::slot::{Failed, kept, refused, slot, told};
+use crate::encode::slot::{Failed, into_result, slot, store, store_refusal};
 use crate::encode::target::put_all;
 use crate::encode::values::Values;
 use crate::encode::{EncodeError, WriteError};
@@ -86,16 +86,16 @@ pub trait PrimitiveContent: Sized {
         requires contents { HasContents (means self.now mode) len }
         requires fits { len < 2 ^ 32 }
         ensures { WritesPrimitive W.contents target tag
-            (means self.now mode) (may_lack self.now mode) (told result why.new) }
+            (means self.now mode) (may_lack self.now mode) (into_result result why.new) }
     {
         if len > 64 {
             put_header(target, tag, false, Length::Definite(len), why)?;
-            return kept(self.write_encoded(mode, target), why);
+            return store(self.write_encoded(mode, target), why);
         }
         let mut front = Front::new();
         tag.spell(false, &mut front);
         Length::Definite(len).spell(&mut front);
-        kept(self.write_encoded(mode, &mut front), why)?;
+        store(self.write_encoded(mode, &mut front), why)?;
         put_all(target, front.as_slice(), why)
     }
 
@@ -227,11 +227,11 @@ fn put_value<P: PrimitiveContent, W: io::Write>(
 ) -> Result<(), Failed>
     ensures { WritesValues W.contents target
         (ValueMeans tag (primitive_meaning tag) (P.means prim.now mode))
-        (P.may_lack prim.now mode) (told result why.new) }
+        (P.may_lack prim.now mode) (into_result result why.new) }
 {
     match contents_len(tag, prim, mode) {
         Ok(len) => prim.write_value(tag, len, mode, target, why),
-        Err(error) => Err(refused(why, error)),
+        Err(error) => Err(store_refusal(why, error)),
     }
 }
 
@@ -249,7 +249,7 @@ impl<P: PrimitiveContent> Values for Primitive<P> {
     fn write_encoded<W: io::Write>(&self, mode: Mode, target: &mut W) -> Result<(), WriteError> {
         let mut why = slot();
         let outcome = put_value(self.tag, &self.prim, mode, target, &mut why);
-        told(outcome, why)
+        into_result(outcome, why)
     }
 
     #[inline(always)]
@@ -262,7 +262,7 @@ impl<P: PrimitiveContent> Values for Primitive<P> {
     ) -> Result<(), Failed> {
         match self.prim.encoded_len(mode) {
             Ok(len) => self.prim.write_value(self.tag, len, mode, target, why),
-            Err(error) => Err(refused(why, error)),
+            Err(error) => Err(store_refusal(why, error)),
         }
     }
 

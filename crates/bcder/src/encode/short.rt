@@ -2,7 +2,7 @@
 ghost use Rattle.std.specs.Prelude.{◌≡◌, ◌<◌, ◌≤◌, ◌+◌, ◌-◌, ◌^◌, ◌∷◌, [], length, take, drop};
 ghost use Rattle.std.specs.Prelude.{false};
 ghost use Rattle.bcder.specs.x690.Octets.{definite};
-ghost use Rattle.bcder.specs.calls.Encoders.{WroteOctets, told};
+ghost use Rattle.bcder.specs.calls.Encoders.{WroteOctets, into_result};
 
 use crate::encode::WriteError;
 use crate::encode::front::Front;
@@ -24,7 +24,7 @@ fn put_any_few<W: io::Write>(
 ) -> Result<(), Failed>
     requires { length contents.now ≤ 64 }
     ensures { WroteOctets W.contents target (definite tag false contents.now)
-        (told result why.new) }
+        (into_result result why.new) }
 {
     let mut front = Front::new();
     tag.spell(false, &mut front);
@@ -34,7 +34,7 @@ fn put_any_few<W: io::Write>(
 }
 
 /// Writes a primitive value, its header first.
-fn put_apart<W: io::Write>(
+fn put_header_then_contents<W: io::Write>(
     tag: Tag,
     contents: &[u8],
     target: &mut W,
@@ -42,7 +42,7 @@ fn put_apart<W: io::Write>(
 ) -> Result<(), Failed>
     requires { length contents.now < 2 ^ 32 }
     ensures { WroteOctets W.contents target (definite tag false contents.now)
-        (told result why.new) }
+        (into_result result why.new) }
 {
     put_header(target, tag, false, Length::Definite(contents.len()), why)?;
     put_all(target, contents, why)
@@ -80,7 +80,7 @@ fn put_few<W: io::Write>(
 ) -> Result<(), Failed>
     requires { length contents.now ≤ 8 }
     ensures { WroteOctets W.contents target (identifier ∷ length contents.now ∷ contents.now)
-        (told result why.new) }
+        (into_result result why.new) }
 {
     let end = 2 + contents.len();
     put_all(target, &few_together(identifier, contents)[..end], why)
@@ -96,7 +96,7 @@ fn put_array<W: io::Write>(
 ) -> Result<(), Failed>
     requires { length contents.now ≤ 8 }
     ensures { WroteOctets W.contents target (identifier ∷ length contents.now ∷ contents.now)
-        (told result why.new) }
+        (into_result result why.new) }
 {
     match contents {
         [a] => put_all(target, &[identifier, 1, *a], why),
@@ -133,7 +133,7 @@ fn put_together<W: io::Write>(
 ) -> Result<(), Failed>
     requires { length contents.now ≤ 64 }
     ensures { WroteOctets W.contents target (identifier ∷ length contents.now ∷ contents.now)
-        (told result why.new) }
+        (into_result result why.new) }
 {
     let len = contents.len();
     put_all(target, &together(identifier, contents)[..2 + len], why)
@@ -150,11 +150,11 @@ pub(crate) fn put_contents<W: io::Write>(
 ) -> Result<(), Failed>
     requires { length contents.now < 2 ^ 32 }
     ensures { WroteOctets W.contents target (definite tag false contents.now)
-        (told result why.new) }
+        (into_result result why.new) }
 {
     let len = contents.len();
     if len > 64 {
-        return put_apart(tag, contents, target, why);
+        return put_header_then_contents(tag, contents, target, why);
     }
     let Some(identifier) = tag.single_octet(false) else {
         return put_any_few(tag, contents, target, why);
@@ -175,7 +175,7 @@ pub(crate) fn put_number<W: io::Write>(
 ) -> Result<(), Failed>
     requires { length contents.now < 2 ^ 32 }
     ensures { WroteOctets W.contents target (definite tag false contents.now)
-        (told result why.new) }
+        (into_result result why.new) }
 {
     let len = contents.len();
     if len > 5 {
@@ -197,7 +197,7 @@ pub(crate) fn put_short<W: io::Write>(
 ) -> Result<(), Failed>
     requires { 7 ≤ contents.start }
     ensures { WroteOctets W.contents target
-        (definite tag false (drop contents.start contents.buffer)) (told result why.new) }
+        (definite tag false (drop contents.start contents.buffer)) (into_result result why.new) }
 {
     let Some(identifier) = tag.single_octet(false) else {
         return put_any_few(tag, contents.as_slice(), target, why);
@@ -221,7 +221,7 @@ fn put_last<W: io::Write>(
 ) -> Result<(), Failed>
     requires { len ≤ 5 }
     ensures { WroteOctets W.contents target (identifier ∷ len ∷ drop (5 - len) octets)
-        (told result why.new) }
+        (into_result result why.new) }
 {
     let [a, b, c, d, e] = octets;
     match len {
@@ -246,21 +246,21 @@ pub(crate) fn put_five<W: io::Write>(
     requires { 19 ≤ contents.start }
     ensures { WroteOctets W.contents target (identifier
         ∷ length (drop contents.start contents.buffer) ∷ drop contents.start contents.buffer)
-        (told result why.new) }
+        (into_result result why.new) }
 {
     let len = contents.len();
     put_last(identifier, contents.last_five(), len, target, why)
 }
 
 /// Writes a primitive value with one contents octet, apart.
-fn put_octet_apart<W: io::Write>(
+fn put_any_octet<W: io::Write>(
     tag: Tag,
     octet: u8,
     target: &mut W,
     why: &mut WriteError,
 ) -> Result<(), Failed>
     ensures { WroteOctets W.contents target (definite tag false (octet ∷ []))
-        (told result why.new) }
+        (into_result result why.new) }
 {
     put_any_few(tag, &[octet], target, why)
 }
@@ -274,10 +274,10 @@ pub(crate) fn put_octet<W: io::Write>(
     why: &mut WriteError,
 ) -> Result<(), Failed>
     ensures { WroteOctets W.contents target (definite tag false (octet ∷ []))
-        (told result why.new) }
+        (into_result result why.new) }
 {
     let Some(identifier) = tag.single_octet(false) else {
-        return put_octet_apart(tag, octet, target, why);
+        return put_any_octet(tag, octet, target, why);
     };
     put_all(target, &[identifier, 1, octet], why)
 }
@@ -289,7 +289,7 @@ pub(crate) fn put_empty<W: io::Write>(
     target: &mut W,
     why: &mut WriteError,
 ) -> Result<(), Failed>
-    ensures { WroteOctets W.contents target (definite tag false []) (told result why.new) }
+    ensures { WroteOctets W.contents target (definite tag false []) (into_result result why.new) }
 {
     let Some(identifier) = tag.single_octet(false) else {
         return put_any_few(tag, &[], target, why);

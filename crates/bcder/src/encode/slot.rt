@@ -5,7 +5,7 @@
 //! handed. The slot is made, and told, where a public call answers.
 ghost use Rattle.std.specs.Prelude.{◌≡◌};
 ghost use Rattle.bcder.specs.declared.encode.error.WriteError.TheVariants.{Refused, Target};
-ghost use Rattle.bcder.specs.calls.Encoders.{told};
+ghost use Rattle.bcder.specs.calls.Encoders.{into_result};
 
 use crate::encode::{EncodeError, WriteError};
 use std::io;
@@ -23,8 +23,8 @@ pub(crate) fn slot() -> WriteError {
 
 /// What a public call answers for its steps.
 #[inline(always)]
-pub(crate) fn told(outcome: Result<(), Failed>, why: WriteError) -> Result<(), WriteError>
-    ensures { result ≡ told outcome why }
+pub(crate) fn into_result(outcome: Result<(), Failed>, why: WriteError) -> Result<(), WriteError>
+    ensures { result ≡ into_result outcome why }
 {
     match outcome {
         Ok(()) => Ok(()),
@@ -34,7 +34,7 @@ pub(crate) fn told(outcome: Result<(), Failed>, why: WriteError) -> Result<(), W
 
 /// Keeps a refusal.
 #[cold]
-pub(crate) fn refused(why: &mut WriteError, error: EncodeError) -> Failed
+pub(crate) fn store_refusal(why: &mut WriteError, error: EncodeError) -> Failed
     ensures { why.new ≡ Refused error }
 {
     *why = WriteError::Refused(error);
@@ -43,7 +43,7 @@ pub(crate) fn refused(why: &mut WriteError, error: EncodeError) -> Failed
 
 /// Keeps an error of the target.
 #[cold]
-pub(crate) fn target_failed(why: &mut WriteError, error: io::Error) -> Failed
+pub(crate) fn store_target_error(why: &mut WriteError, error: io::Error) -> Failed
     ensures { why.new ≡ Target error }
 {
     *why = WriteError::Target(error);
@@ -52,8 +52,8 @@ pub(crate) fn target_failed(why: &mut WriteError, error: io::Error) -> Failed
 
 /// Keeps what a public call answered.
 #[inline(always)]
-pub(crate) fn kept(outcome: Result<(), WriteError>, why: &mut WriteError) -> Result<(), Failed>
-    ensures { told result why.new ≡ outcome }
+pub(crate) fn store(outcome: Result<(), WriteError>, why: &mut WriteError) -> Result<(), Failed>
+    ensures { into_result result why.new ≡ outcome }
 {
     match outcome {
         Ok(()) => Ok(()),

@@ -1,10 +1,10 @@
 //! The loop that writes octets to a target.
 ghost use Rattle.std.specs.Prelude.{OnOk, OnErr};
-ghost use Rattle.bcder.specs.calls.Encoders.{WroteOctets, told};
+ghost use Rattle.bcder.specs.calls.Encoders.{WroteOctets, into_result};
 ghost use Rattle.bcder.specs.calls.Target.{Appended, AppendedShorter};
 
 use crate::encode::WriteError;
-use crate::encode::slot::{Failed, target_failed};
+use crate::encode::slot::{Failed, store_target_error};
 use std::io;
 use std::io::{Error, ErrorKind, Write};
 
@@ -45,10 +45,10 @@ pub(crate) fn put_all<W: Write>(
     octets: &[u8],
     why: &mut WriteError,
 ) -> Result<(), Failed>
-    ensures { WroteOctets W.contents target octets.now (told result why.new) }
+    ensures { WroteOctets W.contents target octets.now (into_result result why.new) }
 {
     match write_octets(target, octets) {
         Ok(()) => Ok(()),
-        Err(error) => Err(target_failed(why, error)),
+        Err(error) => Err(store_target_error(why, error)),
     }
 }

@@ -3,7 +3,7 @@ ghost use Rattle.std.specs.Prelude.{◌≡◌, ⊤};
 ghost use Rattle.bcder.specs.declared.mode.Mode.{Mode};
 ghost use Rattle.bcder.specs.calls.Meaning.{Meaning, IsLawful};
 ghost use Rattle.bcder.specs.calls.Encoders.{HasEncoding, SizeOfValues, WritesValues, WritesKnown};
-ghost use Rattle.bcder.specs.calls.Encoders.{HasSize, told};
+ghost use Rattle.bcder.specs.calls.Encoders.{HasSize, into_result};
 ghost use Rattle.bcder.specs.calls.Gathered.{GathersValues};
 
 pub(crate) mod choice;
@@ -17,7 +17,7 @@ pub(crate) mod slice;
 mod tuples;
 
 use crate::captured::Captured;
-use crate::encode::slot::{Failed, kept};
+use crate::encode::slot::{Failed, store};
 use crate::encode::values::constructed::Constructed;
 use crate::encode::{EncodeError, WriteError};
 use crate::mode::Mode;
@@ -82,9 +82,9 @@ pub trait Values {
         requires known { HasEncoding (means self.now mode) }
         requires sized { HasSize (means self.now mode) _size }
         ensures { WritesKnown W.contents target
-            (means self.now mode) (may_lack self.now mode) (told result why.new) }
+            (means self.now mode) (may_lack self.now mode) (into_result result why.new) }
     {
-        kept(self.write_encoded(mode, target), why)
+        store(self.write_encoded(mode, target), why)
     }
 
     /// About how much work `encoded_len` is, in constructed values: none, where it is little and

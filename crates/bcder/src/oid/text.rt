@@ -101,7 +101,7 @@ fn component(text: &str) -> Option<u32>
 
 /// Why there is no identifier where there was no memory for a component: one of those behind it is
 /// none, or that want.
-fn why_none(others: Option<&str>) -> OidError
+fn why_no_component(others: Option<&str>) -> OidError
     ensures { RefusesOthers (texts_of others.entry) result }
 {
     let mut rest = others;
@@ -129,7 +129,7 @@ fn push_others(octets: &mut Vec<u8>, others: Option<&str>) -> Result<(), OidErro
         };
         match push_subidentifier(octets, u64::from(number)) {
             Ok(()) => rest = after,
-            Err(NoMemory) => return Err(why_none(after)),
+            Err(NoMemory) => return Err(why_no_component(after)),
         }
     }
     Ok(())
@@ -163,6 +163,6 @@ pub(super) fn octets_of(alloc: Global, text: &str) -> Result<Vec<u8>, OidError>
             push_others(&mut octets, others)?;
             Ok(octets)
         }
-        Err(NoMemory) => Err(why_none(others)),
+        Err(NoMemory) => Err(why_no_component(others)),
     }
 }

@@ -1,7 +1,7 @@
 //! Restricted character strings (X.690, 8.23).
 ghost use Rattle.std.specs.Prelude.{◌≡◌, MatchResult};
 ghost use Rattle.bcder.specs.calls.StringOctets.{parts, octets_of};
-ghost use Rattle.bcder.specs.x690.CharSet.{Accepts};
+ghost use Rattle.bcder.specs.x690.CharSet.{IsOfSet};
 
 mod ascii;
 mod char_set;
@@ -35,13 +35,13 @@ pub struct RestrictedString<L: CharSet> {
 /// The clauses see the octets, as they came.
 impl<L: CharSet> Model for RestrictedString<L> {
     ghost use Rattle.bcder.specs.calls.StringOctets.{StringOctets, octets_of};
-    ghost use Rattle.bcder.specs.x690.CharSet.{Accepts};
+    ghost use Rattle.bcder.specs.x690.CharSet.{IsOfSet};
 
     ghost Value = { StringOctets };
 
     ghost view = { λ s. s.octets };
 
-    ghost invariant = { λ s. Accepts L.step (octets_of s.octets) };
+    ghost invariant = { λ s. IsOfSet L.step (octets_of s.octets) };
 }
 
 /// A string of Unicode's characters, in UTF-8 (RFC 3629).
@@ -64,8 +64,8 @@ impl<L: CharSet> RestrictedString<L> {
     /// Where they spell no characters of the set. The octets are then dropped.
     pub fn new(octets: OctetString) -> Result<Self, CharSetError>
         ensures { MatchResult result
-            (λ s. (s ≡ octets) × Accepts L.step (octets_of octets))
-            (λ _. Accepts L.step (octets_of octets) → ⊥) }
+            (λ s. (s ≡ octets) × IsOfSet L.step (octets_of octets))
+            (λ _. IsOfSet L.step (octets_of octets) → ⊥) }
     {
         L::check(octets.octets())?;
         Ok(RestrictedString {
@@ -77,7 +77,7 @@ impl<L: CharSet> RestrictedString<L> {
     /// The octets, as they came.
     pub fn octet_string(&self) -> &OctetString
         ensures octets { result.now ≡ self.now }
-        ensures accepted { Accepts L.step (octets_of self.now) }
+        ensures accepted { IsOfSet L.step (octets_of self.now) }
     {
         &self.octets
     }

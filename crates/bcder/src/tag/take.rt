@@ -31,7 +31,7 @@ enum PeekedTag {
 
 /// Whether octets that hold no identifier octets may begin some.
 #[tactic(auto, using(crate::proofs::Beginnings::identifier_decides))]
-pub(crate) fn identifier_goes_on(octets: &[u8]) -> bool
+pub(crate) fn may_begin_identifier(octets: &[u8]) -> bool
     ensures short { IsTrue result → length octets.now < 4 }
     ensures some { result ≡ false → 1 ≤ length octets.now }
     ensures refused { result ≡ false → (x : List ℕ)
@@ -55,7 +55,7 @@ fn look(octets: &[u8]) -> Option<PeekedTag>
             size: octets.len() - front.2.len(),
         }),
         None => {
-            if identifier_goes_on(octets) {
+            if may_begin_identifier(octets) {
                 None
             } else {
                 Some(PeekedTag::Refused)

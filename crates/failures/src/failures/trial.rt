@@ -5,10 +5,10 @@ use crate::asserts::{done, holds, same};
 use crate::over::{failing_sip, failing_whole};
 use bcder::decode::{Constructed, Content, DecodeError, Source};
 use bcder::{Mode, Tag};
-use rows::calls::{Answer, Call, Take, ask};
-use rows::sip::Sip;
 use std::alloc::Global;
 use std::process::Abort;
+use tests::calls::{Answer, Call, Take, ask};
+use tests::sip::Sip;
 
 /// A call, the rules and the octets that it reads, and what it answers and how many octets it
 /// leaves where the source doesn't fail.

@@ -1,11 +1,11 @@
 //! Calls on content that read.
 use anyhow::Error;
 use bcder::decode::{DecodeError, SliceSource};
-use rows::calls::{
+use std::alloc::Global;
+use tests::calls::{
     Answer, CAPTURES, CONTENTS, Call, KEPT, Kept, Line, OCTETS, PASSES, Reader, STRINGS, TAKES,
     TYPED, Text, ask,
 };
-use std::alloc::Global;
 
 /// How calls ended: as they should, with want of memory, or otherwise.
 #[derive(Clone, Copy)]

@@ -13,7 +13,7 @@ ghost use Rattle.bcder.specs.calls.Views.{of_constructed, limited_stream, Moved,
 
 use super::decode::run;
 use super::inside::either;
-use super::marker::without_marker;
+use super::marker::strip_marker;
 use super::{Constructed, Kind, State};
 use crate::captured::Captured;
 use crate::decode::error::DecodeError;
@@ -104,7 +104,7 @@ fn take_passed<'a, S: Source>(
         ((S.stream result.1.now).rest ≡ (S.stream (behind capture.entry)).rest) }
     ensures kept { (S.stream result.1.now).kept ≡ (S.stream (behind capture.entry)).kept }
 {
-    match capture.settle() {
+    match capture.request_passed() {
         Ok(()) => {
             let (octets, source) = capture.into_bytes_and_source(alloc);
             match octets {
@@ -203,7 +203,7 @@ impl<'a, S: Source> Constructed<'a, S> {
         match result {
             Ok(octets) => {
                 let mode = label(self.mode, marked);
-                let octets = without_marker(mode, alloc, octets, ends(self.state, state));
+                let octets = strip_marker(mode, alloc, octets, ends(self.state, state));
                 self.state = state;
                 Ok(Captured::new(octets, mode, start))
             }

@@ -1,7 +1,7 @@
 //! Capturing the next value, and all values.
 ghost use Rattle.bcder.specs.calls.CapturingValues.{CapturedOne, ExactlyOne, CapturedAll};
 ghost use Rattle.bcder.specs.calls.CapturingValues.{ExactlyAll};
-ghost use Rattle.bcder.specs.calls.CapturingValues.{PassedOne, PassedAll};
+ghost use Rattle.bcder.specs.calls.CapturingValues.{PassedOne, PassedToEnd};
 ghost use Rattle.bcder.specs.calls.Views.{Moved};
 
 use super::Constructed;
@@ -33,7 +33,7 @@ fn pass_all<S: Source>(
     alloc: Global,
 ) -> Result<(), DecodeError<S::Error>>
     ensures moves { Moved S.stream cons }
-    ensures passed { PassedAll S.stream cons result }
+    ensures passed { PassedToEnd S.stream cons result }
 {
     while cons.skip_one(alloc)?.is_some() {}
     Ok(())

@@ -9,7 +9,7 @@ ghost use Rattle.bcder.specs.x690.Encoding.{may_have};
 ghost use Rattle.bcder.specs.steps.Entering.{MeetsNoFault};
 ghost use Rattle.bcder.specs.steps.Inside.{kind_behind, limit_inside, limit_outside, IsBehind};
 ghost use Rattle.bcder.specs.steps.Inside.{RanInside, TakesBehind};
-ghost use Rattle.bcder.specs.steps.Peek.{header as header_of};
+ghost use Rattle.bcder.specs.steps.Peek.{header_of};
 ghost use Rattle.bcder.specs.calls.Views.{of_constructed, of_primitive, of_content, limited_stream};
 ghost use Rattle.bcder.specs.calls.Views.{content_name, content_source, content_mark, before};
 ghost use Rattle.bcder.specs.calls.Views.{after};
@@ -21,7 +21,7 @@ use super::{Constructed, Content, Kind, Primitive, State};
 use crate::decode::error::DecodeError;
 use crate::decode::header::{Header, Wanted};
 use crate::decode::source::{LimitedSource, Source};
-use crate::decode::stop::{Stop, Why};
+use crate::decode::stop::{Reason, Stop};
 use crate::length::Length;
 use crate::tag::Tag;
 
@@ -107,7 +107,7 @@ impl<'a, S: Source> Constructed<'a, S> {
                 return Ok(());
             }
         }
-        match self.finish_apart() {
+        match self.finish_slow() {
             Ok(()) => Ok(()),
             Err(stop) => Err(self.stopped(stop)),
         }
@@ -116,7 +116,7 @@ impl<'a, S: Source> Constructed<'a, S> {
     /// The same in a call of its own, with a stop in the place of an error.
     #[tactic(auto, using(crate::proofs::moves_constructed_name))]
     #[inline(never)]
-    fn finish_apart(&mut self) -> Result<(), Stop<S::Error>>
+    fn finish_slow(&mut self) -> Result<(), Stop<S::Error>>
         ensures moves { Moves (before S.stream self) (after S.stream self) }
         ensures name { self.new.source.ghost_name ≡ self.old.source.ghost_name }
         ensures marked { self.new.marked ≡ self.old.marked }
@@ -128,7 +128,7 @@ impl<'a, S: Source> Constructed<'a, S> {
     {
         match self.next_header(Wanted::Any) {
             Ok(None) => Ok(()),
-            Ok(Some(_)) => Err(Stop::Refused(Why::ValuesLeft)),
+            Ok(Some(_)) => Err(Stop::Refused(Reason::ValuesLeft)),
             Err(stop) => Err(stop),
         }
     }
@@ -302,7 +302,7 @@ impl<'a, S: Source> Constructed<'a, S> {
     /// Takes a value whose header was passed over, and which has to be primitive. The content is
     /// usable again where it was taken.
     #[inline(always)]
-    pub(super) fn octets_behind<F, T: Drop>(
+    pub(super) fn take_primitive_body<F, T: Drop>(
         &mut self,
         header: Header,
         op: F,
@@ -349,7 +349,7 @@ impl<'a, S: Source> Constructed<'a, S> {
 
     /// The same of a value that has to be constructed.
     #[inline(always)]
-    pub(super) fn values_behind<F, T: Drop>(
+    pub(super) fn take_constructed_body<F, T: Drop>(
         &mut self,
         header: Header,
         op: F,
@@ -398,7 +398,7 @@ impl<'a, S: Source> Constructed<'a, S> {
 
     /// The same of a value of either form.
     #[inline(always)]
-    pub(super) fn content_behind<F, T: Drop>(
+    pub(super) fn take_body<F, T: Drop>(
         &mut self,
         header: Header,
         op: F,

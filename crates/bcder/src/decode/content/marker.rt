@@ -52,7 +52,7 @@ fn ends_by(mode: Mode, alloc: Global, octets: &[u8], size: usize) -> bool
 ///
 /// These are two octets. Only in BER can they be more, and only where they look like it are the
 /// values before them looked at again.
-fn before_marker(mode: Mode, alloc: Global, octets: &[u8]) -> usize
+fn len_before_marker(mode: Mode, alloc: Global, octets: &[u8]) -> usize
     requires { (front : List ℕ) × EndsIn mode true octets.now front }
     ensures fits { result ≤ length octets.now }
     ensures ends { EndsIn mode true octets.now (take result octets.now) }
@@ -66,12 +66,12 @@ fn before_marker(mode: Mode, alloc: Global, octets: &[u8]) -> usize
 }
 
 /// The octets without the marker behind them, if there is one. None are copied.
-pub(super) fn without_marker(mode: Mode, alloc: Global, mut octets: Bytes, marker: bool) -> Bytes
+pub(super) fn strip_marker(mode: Mode, alloc: Global, mut octets: Bytes, marker: bool) -> Bytes
     requires { (front : List ℕ) × EndsIn mode marker octets front }
     ensures { EndsIn mode marker octets result }
 {
     if marker {
-        let front = before_marker(mode, alloc, octets.as_slice());
+        let front = len_before_marker(mode, alloc, octets.as_slice());
         octets.truncate(front);
     }
     octets

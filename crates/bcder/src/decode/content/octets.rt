@@ -37,7 +37,7 @@ impl<'a, S: Source> Constructed<'a, S> {
         ensures took { TookNextOctets S.stream self any (F.post op) result }
     {
         match self.next_header(Wanted::Any) {
-            Ok(Some(header)) => self.octets_behind(header, op),
+            Ok(Some(header)) => self.take_primitive_body(header, op),
             Ok(None) => Ok(None),
             Err(stop) => Err(self.stopped(stop)),
         }
@@ -92,7 +92,7 @@ impl<'a, S: Source> Constructed<'a, S> {
             Ok(None) => return Ok(None),
             Err(stop) => return self.stops(stop),
         };
-        self.octets_behind(
+        self.take_primitive_body(
             octets_header(tag, len),
             |_tag, octets|
                 requires { (p : _) → p.now ≡ octets.now → F.pre op p }

@@ -3,7 +3,7 @@ ghost use Rattle.std.specs.Prelude.{◌≡◌, ◌≤◌, [], false, Some, IfOk,
 ghost use Rattle.std.specs.Int.{w8, w16, w32, w64, w128};
 ghost use Rattle.bcder.specs.x690.Number.{IsNumber};
 ghost use Rattle.bcder.specs.x690.Integer.{truth, IsSmallest, Leads};
-ghost use Rattle.bcder.specs.calls.Readers.{HasAll, RefusesAll, ReadBy, ReadOctets, FindNoMemory};
+ghost use Rattle.bcder.specs.calls.Readers.{HasAll, RefusesTooFew, ReadBy, ReadOctets, FindNoMemory};
 ghost use Rattle.bcder.specs.calls.Readers.{IsSigned, IsUnsigned, IsTruth, IsNull, Told, Untold};
 ghost use Rattle.bcder.specs.calls.Readers.{LookedAt, ToldOf};
 ghost use Rattle.bcder.specs.calls.Readers.{IsThis, MeanAnother, NotSmallest, NoUnsigned};
@@ -54,7 +54,7 @@ impl<'a, S: Source> Primitive<'a, S> {
             (octets_after S.stream self).stream.faults
             ≡ (octets_before S.stream self).stream.faults) }
         ensures refused { IfErr result (λ e.
-            RefusesAll (octets_before S.stream self) e (octets_after S.stream self)) }
+            RefusesTooFew (octets_before S.stream self) e (octets_after S.stream self)) }
         ensures rest { (octets_after S.stream self).stream.rest
             ≡ (octets_before S.stream self).stream.rest }
         ensures owed { (octets_after S.stream self).owed ≡ (octets_before S.stream self).owed }
@@ -66,13 +66,13 @@ impl<'a, S: Source> Primitive<'a, S> {
             Some(owed) => match self.source.request(owed) {
                 Ok(found) => {
                     if found < owed {
-                        return Err(self.too_few());
+                        return Err(self.too_few_octets());
                     }
                     Ok(owed)
                 }
                 Err(error) => Err(DecodeError::Source(error)),
             },
-            None => Err(self.too_few()),
+            None => Err(self.too_few_octets()),
         }
     }
 

@@ -53,20 +53,20 @@ impl<'a, S: Source> Primitive<'a, S> {
             Some(owed) => match self.source.request(owed) {
                 Ok(found) => {
                     if found < owed {
-                        return Err(self.too_few());
+                        return Err(self.too_few_octets());
                     }
                     self.source.advance(owed);
                     Ok(())
                 }
                 Err(error) => Err(DecodeError::Source(error)),
             },
-            None => Err(self.too_few()),
+            None => Err(self.too_few_octets()),
         }
     }
 
     /// A refusal at the present position.
     #[cold]
-    pub(super) fn too_few(&self) -> DecodeError<S::Error>
+    pub(super) fn too_few_octets(&self) -> DecodeError<S::Error>
         ensures { IsRefusal result }
     {
         self.source

@@ -37,7 +37,7 @@ impl<'a, S: Source> Constructed<'a, S> {
         ensures took { TookNextValues S.stream self any (F.post op) result }
     {
         match self.next_header(Wanted::Any) {
-            Ok(Some(header)) => self.values_behind(header, op),
+            Ok(Some(header)) => self.take_constructed_body(header, op),
             Ok(None) => Ok(None),
             Err(stop) => Err(self.stopped(stop)),
         }
@@ -88,7 +88,7 @@ impl<'a, S: Source> Constructed<'a, S> {
         ensures took { TookNextValues S.stream self (tagged tag) (Untagged (F.post op)) result }
     {
         match self.next_header(Wanted::Tagged(tag)) {
-            Ok(Some(header)) => self.values_behind(
+            Ok(Some(header)) => self.take_constructed_body(
                 header,
                 |_tag, values|
                     requires { (p : _) → p.now ≡ values.now → F.pre op p }

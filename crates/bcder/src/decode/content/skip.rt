@@ -7,7 +7,7 @@ ghost use Rattle.bcder.specs.calls.Cause.{IsOfContent, IsRefusal};
 ghost use Rattle.bcder.specs.calls.Content.{FitsOwed, Moves, Resembles};
 ghost use Rattle.bcder.specs.x690.Encoding.{may_have};
 ghost use Rattle.bcder.specs.steps.Inside.{kind_behind, limit_inside};
-ghost use Rattle.bcder.specs.steps.Peek.{header as header_of, IsAtHand};
+ghost use Rattle.bcder.specs.steps.Peek.{header_of, IsAtHand};
 ghost use Rattle.bcder.specs.calls.Skipping.{ExactlyAll, ExactlySkipped, ExactlyValue, FoundMemory};
 ghost use Rattle.bcder.specs.steps.SkipSteps.{IsPast, MovedBehind, SkippedBehind};
 ghost use Rattle.bcder.specs.calls.Skipping.{SkippedAll, SkippedNext, SkippedOne, SkippedValue};
@@ -21,7 +21,7 @@ ghost use Rattle.bcder.specs.calls.Walking.{Between, ExactlyNext};
 ghost use Rattle.bcder.specs.steps.WalkSteps.{Fault, NoFault};
 
 use super::inside::{go_inside, kind_behind};
-use super::walk::Looked;
+use super::walk::Lookahead;
 use super::{Constructed, Kind, State};
 use crate::decode::error::{ContentError, DecodeError};
 use crate::decode::header::{Header, Wanted, peek_whole};
@@ -45,7 +45,7 @@ struct Frame {
 
 /// The values that are open. Those of definite length take memory, the others are counted.
 #[derive(Drop)]
-struct Opened<'f> {
+struct OpenValues<'f> {
     /// How many they are.
     depth: usize,
 
@@ -90,7 +90,7 @@ fn joined(behind: Option<usize>, left: Option<usize>) -> Option<usize>
 
 /// Opens a value whose header was passed over, if there is memory for it.
 #[inline(always)]
-fn open<S>(cons: &mut Constructed<'_, S>, opened: &mut Opened<'_>, len: Length) -> bool
+fn open<S>(cons: &mut Constructed<'_, S>, opened: &mut OpenValues<'_>, len: Length) -> bool
     requires counted { IsCounted opened.old }
     requires few { opened.old.depth + 1 < 2 ^ 64 }
     ensures counted { IsCounted opened.new }
@@ -133,7 +133,7 @@ fn open<S>(cons: &mut Constructed<'_, S>, opened: &mut Opened<'_>, len: Length) 
 
 /// Goes on behind the innermost open value, which ended.
 #[inline(always)]
-fn leave<S>(cons: &mut Constructed<'_, S>, opened: &mut Opened<'_>)
+fn leave<S>(cons: &mut Constructed<'_, S>, opened: &mut OpenValues<'_>)
     requires counted { IsCounted opened.old }
     requires some { 0 < opened.old.depth }
     ensures counted { IsCounted opened.new }
@@ -196,7 +196,7 @@ fn unwind<S>(source: &mut LimitedSource<S>, frames: &mut SmallVec<Frame, 4>, out
 #[inline(always)]
 fn go_into<S: Source>(
     cons: &mut Constructed<'_, S>,
-    opened: &mut Opened<'_>,
+    opened: &mut OpenValues<'_>,
     header: Header,
 ) -> Result<(), Bar<S::Error>>
     requires counted { IsCounted opened.old }
@@ -249,7 +249,7 @@ where
 {
     let outer = owed(cons.source);
     let mut frames = SmallVec::new(alloc);
-    let mut opened = Opened {
+    let mut opened = OpenValues {
         depth: 0,
         inner: 0,
         frames: &mut frames,
@@ -612,7 +612,7 @@ impl<'a, S: Source> Constructed<'a, S> {
         ensures skipped { SkippedOne S.stream self result }
         ensures exact { FoundMemory result → ExactlyNext S.stream self result }
     {
-        match self.pass_at_hand(Looked::Short) {
+        match self.pass_at_hand(Lookahead::Short) {
             Ok(true) => Ok(Some(())),
             Ok(false) => self.skip_on(alloc),
             Err(stop) => Err(self.stopped(stop)),

@@ -11,7 +11,7 @@ ghost use Rattle.bcder.specs.calls.Content.{IsAsked, Enters, TakesMarker, NoFron
 ghost use Rattle.bcder.specs.steps.Entering.{EntersNext, EntersOctets, FindsNone, RefusesNext};
 ghost use Rattle.bcder.specs.steps.Entering.{MeetsNoFault, MeetsFault};
 ghost use Rattle.bcder.specs.x690.Identifier.{AreOctets, end_of_contents};
-ghost use Rattle.bcder.specs.steps.Peek.{header as header_of, octets_header, asked, Fronts, Peeks};
+ghost use Rattle.bcder.specs.steps.Peek.{header_of, octets_header, asked, Fronts, Peeks};
 ghost use Rattle.bcder.specs.x690.Encoding.{Header as HeaderRead};
 ghost use Rattle.bcder.specs.declared.mode.Mode.{Mode as ModeValue};
 ghost use Rattle.bcder.specs.calls.Views.{before, after, limited_stream};
@@ -20,7 +20,7 @@ use super::{Constructed, Kind, Primitive, State};
 use crate::decode::error::{ContentError, DecodeError};
 use crate::decode::header::{Front, Header, Peeked, Wanted, peek};
 use crate::decode::source::{LimitedSource, Source};
-use crate::decode::stop::{Stop, Why};
+use crate::decode::stop::{Reason, Stop};
 use crate::length::Length;
 use crate::mode::Mode;
 use crate::plain::may_have;
@@ -257,7 +257,7 @@ impl<'a, S: Source> Constructed<'a, S> {
                 return Ok(None);
             }
         }
-        Err(Stop::Refused(Why::ValueHeader))
+        Err(Stop::Refused(Reason::ValueHeader))
     }
 
     /// Whether the promised octets are used up.
@@ -301,7 +301,7 @@ impl<'a, S: Source> Constructed<'a, S> {
         ensures marked { self.new.marked ≡ self.old.marked }
     {
         match self.state {
-            State::Failed => return Err(Stop::Refused(Why::Earlier)),
+            State::Failed => return Err(Stop::Refused(Reason::Earlier)),
             State::Ended => return Ok(None),
             State::Open => {}
         }
@@ -320,11 +320,11 @@ impl<'a, S: Source> Constructed<'a, S> {
                     return Ok(None);
                 }
                 self.state = State::Failed;
-                Err(Stop::Refused(Why::Short))
+                Err(Stop::Refused(Reason::Short))
             }
             Ok(Peeked::Refused) => {
                 self.state = State::Failed;
-                Err(Stop::Refused(Why::Header))
+                Err(Stop::Refused(Reason::Header))
             }
             Err(error) => {
                 self.state = State::Failed;
@@ -385,7 +385,7 @@ impl<'a, S: Source> Constructed<'a, S> {
         match self.next_header(Wanted::Tagged(tag)) {
             Ok(Some(header)) => match primitive_len(header.constructed, header.len) {
                 Some(len) => Ok(Some(len)),
-                None => Err(Stop::Refused(Why::Constructed)),
+                None => Err(Stop::Refused(Reason::Constructed)),
             },
             Ok(None) => Ok(None),
             Err(stop) => Err(stop),
@@ -403,7 +403,7 @@ impl<'a, S: Source> Constructed<'a, S> {
             (before S.stream self) result (after S.stream self) }
     {
         match self.state {
-            State::Failed => return Err(Stop::Refused(Why::Earlier)),
+            State::Failed => return Err(Stop::Refused(Reason::Earlier)),
             State::Ended => return Ok(None),
             State::Open => {}
         }

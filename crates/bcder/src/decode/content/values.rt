@@ -44,7 +44,7 @@ impl<'a, S: Source> Constructed<'a, S> {
         ensures took { TookNextContent S.stream self any (F.post op) result }
     {
         match self.next_header(Wanted::Any) {
-            Ok(Some(header)) => self.content_behind(header, op),
+            Ok(Some(header)) => self.take_body(header, op),
             Ok(None) => Ok(None),
             Err(stop) => Err(self.stopped(stop)),
         }
@@ -102,7 +102,7 @@ impl<'a, S: Source> Constructed<'a, S> {
         ensures took { TookNextContent S.stream self (tagged tag) (Untagged (F.post op)) result }
     {
         match self.next_header(Wanted::Tagged(tag)) {
-            Ok(Some(header)) => self.content_behind(
+            Ok(Some(header)) => self.take_body(
                 header,
                 |_tag, content|
                     requires { (p : _) → p.now ≡ content.now → F.pre op p }

@@ -3,7 +3,7 @@ ghost use Rattle.std.specs.Prelude.{◌≡◌, ◌≢◌, ◌≤◌, false, IsTr
 ghost use Rattle.bcder.specs.steps.StopCause.{stop_cause};
 ghost use Rattle.bcder.specs.calls.Stream.{Grew, Provides};
 ghost use Rattle.bcder.specs.x690.Identifier.{Tag as TagValue};
-ghost use Rattle.bcder.specs.steps.Peek.{header as header_of, Fronts};
+ghost use Rattle.bcder.specs.steps.Peek.{header_of, Fronts};
 ghost use Rattle.bcder.specs.calls.Content.{Moves, FitsOwed, values, Resembles};
 ghost use Rattle.bcder.specs.calls.Calls.{RanOver};
 ghost use Rattle.bcder.specs.calls.Walking.{Between, PassedNext, ExactlyNext};
@@ -78,7 +78,7 @@ fn primitive_size(header: Header, size: usize) -> Option<usize>
 
 /// Which values are looked for at hand.
 #[derive(Clone, Copy)]
-pub(super) enum Looked {
+pub(super) enum Lookahead {
     /// Primitive ones with a header of two octets.
     Short,
 
@@ -89,22 +89,22 @@ pub(super) enum Looked {
 /// How many octets the value at the front has, if it is one that is looked for and all of its
 /// octets are here.
 #[inline(always)]
-fn whole_size(mode: Mode, octets: &[u8], looked: Looked) -> Option<usize>
+fn whole_size(mode: Mode, octets: &[u8], looked: Lookahead) -> Option<usize>
     ensures { IfSome result (λ n. BeginsWhole mode octets.now n) }
 {
     match looked {
-        Looked::Short => short_size(octets),
-        Looked::Shallow => size_within(mode, octets),
+        Lookahead::Short => short_size(octets),
+        Lookahead::Shallow => size_within(mode, octets),
     }
 }
 
 /// The same of the value at the front of a source, of which nothing is taken. It asks for two
 /// octets, as the header of a value has at least. An error is the source's own.
 #[inline(always)]
-fn size_at_hand<S: Source>(
+fn size_ahead<S: Source>(
     source: &mut S,
     mode: Mode,
-    looked: Looked,
+    looked: Lookahead,
 ) -> Result<Option<usize>, S::Error>
     ensures whole { IfOk result (λ o.
         IfSome o (λ n. BeginsWhole mode (S.stream source.new).rest n)) }
@@ -148,7 +148,7 @@ impl<'a, S: Source> Constructed<'a, S> {
     /// are at hand. Nothing is taken.
     #[tactic(auto, unfolding(crate::specs::calls::Views::of_constructed))]
     #[inline(always)]
-    fn look_at_whole(&mut self, looked: Looked) -> Result<Option<usize>, S::Error>
+    fn look_ahead(&mut self, looked: Lookahead) -> Result<Option<usize>, S::Error>
         ensures same { Between S.stream self Resembles }
         ensures whole { IfOk result (λ o. IfSome o (λ n.
             BeginsWhole self.old.mode (limited_stream S.stream self.new.source.now).rest n)) }
@@ -157,19 +157,19 @@ impl<'a, S: Source> Constructed<'a, S> {
         ensures no_fault { OnOk result (NoFault S.stream self) }
         ensures fault { OnErr result (Fault S.stream self) }
     {
-        size_at_hand(self.source, self.mode, looked)
+        size_ahead(self.source, self.mode, looked)
     }
 
     /// Passes over the next value in one go where it is one that is looked for and all of its
     /// octets are at hand, and says whether it did. The source is asked once.
     #[tactic(auto, unfolding(crate::specs::calls::Views::of_constructed))]
     #[inline(always)]
-    fn pass_looked(&mut self, looked: Looked) -> Result<bool, Stop<S::Error>>
+    fn pass_ahead(&mut self, looked: Lookahead) -> Result<bool, Stop<S::Error>>
         requires { self.old.state ≡ State.Open }
         ensures moves { Between S.stream self Moves }
         ensures passed { PassedAtOnce S.stream self result }
     {
-        match self.look_at_whole(looked) {
+        match self.look_ahead(looked) {
             Ok(Some(size)) => {
                 self.pass_over(size);
                 Ok(true)
@@ -186,7 +186,7 @@ impl<'a, S: Source> Constructed<'a, S> {
     /// are owed. Where there is no limit, that is asked once too.
     #[tactic(auto, unfolding(crate::specs::calls::Views::of_constructed))]
     #[inline(always)]
-    pub(super) fn pass_at_hand(&mut self, looked: Looked) -> Result<bool, Stop<S::Error>>
+    pub(super) fn pass_at_hand(&mut self, looked: Lookahead) -> Result<bool, Stop<S::Error>>
         ensures moves { Between S.stream self Moves }
         ensures passed { PassedAtOnce S.stream self result }
     {
@@ -194,14 +194,14 @@ impl<'a, S: Source> Constructed<'a, S> {
             return Ok(false);
         };
         let Some(owed) = self.source.limit() else {
-            return self.pass_looked(looked);
+            return self.pass_ahead(looked);
         };
         if let Kind::Definite = self.kind {
             if owed == 0 {
                 return Ok(false);
             }
         }
-        self.pass_looked(looked)
+        self.pass_ahead(looked)
     }
 
     /// The same of a value that takes no more than some levels of calls, out of line.
@@ -210,7 +210,7 @@ impl<'a, S: Source> Constructed<'a, S> {
         ensures moves { Between S.stream self Moves }
         ensures passed { PassedAtOnce S.stream self result }
     {
-        self.pass_at_hand(Looked::Shallow)
+        self.pass_at_hand(Lookahead::Shallow)
     }
 
     /// Passes over a primitive value in one step where all of its octets come, and says whether it
@@ -274,9 +274,9 @@ fn walk_next<S: Source>(cons: &mut Constructed<'_, S>) -> Result<Option<()>, Sto
     ensures moves { Between S.stream cons Moves }
     ensures passed { PassedStep S.stream cons result }
 {
-    match cons.pass_at_hand(Looked::Short) {
+    match cons.pass_at_hand(Lookahead::Short) {
         Ok(true) => Ok(Some(())),
-        Ok(false) => walk_apart(cons),
+        Ok(false) => walk_copy(cons),
         Err(stop) => Err(stop),
     }
 }
@@ -285,7 +285,7 @@ fn walk_next<S: Source>(cons: &mut Constructed<'_, S>) -> Result<Option<()>, Sto
 /// passed the state of the copy is set: so content that is a local of a caller has no address, and
 /// a loop over its values neither looks its state up nor its kind.
 #[inline(always)]
-fn walk_apart<S: Source>(cons: &mut Constructed<'_, S>) -> Result<Option<()>, Stop<S::Error>>
+fn walk_copy<S: Source>(cons: &mut Constructed<'_, S>) -> Result<Option<()>, Stop<S::Error>>
     ensures moves { Between S.stream cons Moves }
     ensures passed { PassedStep S.stream cons result }
 {
@@ -317,7 +317,7 @@ fn walk_any<S: Source>(cons: &mut Constructed<'_, S>) -> Result<Option<()>, Stop
     ensures passed { PassedStep S.stream cons result }
     ensures name { cons.new.source.ghost_name ≡ cons.old.source.ghost_name }
 {
-    match cons.pass_at_hand(Looked::Shallow) {
+    match cons.pass_at_hand(Lookahead::Shallow) {
         Ok(true) => Ok(Some(())),
         Ok(false) => step(cons),
         Err(stop) => Err(stop),

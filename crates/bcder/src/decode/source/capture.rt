@@ -112,7 +112,7 @@ impl<'a, S: Source> CaptureSource<'a, S> {
     }
 
     // Makes the octets that were passed over available once more.
-    pub(crate) fn settle(&mut self) -> Result<(), S::Error>
+    pub(crate) fn request_passed(&mut self) -> Result<(), S::Error>
         requires { passed self.old ≤ length (S.stream (behind self.old)).rest }
         ensures ok { OnOk result (passed self.new ≤ (S.stream (behind self.new)).avail) }
         ensures no_fault { OnOk result

@@ -18,7 +18,7 @@ use super::capture::take_front;
 use super::{Pos, Source};
 use crate::NoMemory;
 use crate::decode::error::{ContentError, DecodeError};
-use crate::decode::stop::{Stop, Why};
+use crate::decode::stop::{Reason, Stop};
 use crate::length::Length;
 use bytes::Bytes;
 use std::alloc::Global;
@@ -148,7 +148,7 @@ impl<S: Source> LimitedSource<S> {
         match self.source.request(len) {
             Ok(found) => {
                 if found < len {
-                    return Err(Stop::Refused(Why::Short));
+                    return Err(Stop::Refused(Reason::Short));
                 }
                 self.pass_owed(len);
                 Ok(())

@@ -2,7 +2,7 @@
 ghost use Rattle.std.specs.Prelude.{pos};
 ghost use Rattle.bcder.specs.x690.Identifier.{universal};
 ghost use Rattle.bcder.specs.x690.Integer.{integer_octets};
-ghost use Rattle.bcder.specs.calls.Encoders.{SizeOfContents, WritesContents, WritesPrimitive, told};
+ghost use Rattle.bcder.specs.calls.Encoders.{SizeOfContents, WritesContents, WritesPrimitive, into_result};
 ghost use Rattle.bcder.specs.calls.Meaning.{Exactly};
 ghost use Rattle.bcder.specs.laws.Integers.{integer_octets_are};
 ghost use Rattle.bcder.specs.laws.Meanings.{Exactly_lawful};
@@ -57,7 +57,7 @@ fn put_any_unsigned<W: io::Write>(
     why: &mut WriteError,
 ) -> Result<(), Failed>
     ensures { WritesPrimitive W.contents target tag (Exactly (integer_octets (pos x))) ⊥
-        (told result why.new) }
+        (into_result result why.new) }
 {
     put_short(tag, Octets::of(false, x), target, why)
 }
@@ -72,7 +72,7 @@ fn put_unsigned<W: io::Write>(
     why: &mut WriteError,
 ) -> Result<(), Failed>
     ensures { WritesPrimitive W.contents target tag (Exactly (integer_octets (pos x))) ⊥
-        (told result why.new) }
+        (into_result result why.new) }
 {
     let contents = Octets::of(false, x);
     let len = contents.len();
@@ -93,7 +93,7 @@ fn put_any_signed<W: io::Write>(
     why: &mut WriteError,
 ) -> Result<(), Failed>
     ensures { WritesPrimitive W.contents target tag (Exactly (integer_octets x)) ⊥
-        (told result why.new) }
+        (into_result result why.new) }
 {
     put_short(tag, Octets::of_signed(x), target, why)
 }
@@ -107,7 +107,7 @@ fn put_signed<W: io::Write>(
     why: &mut WriteError,
 ) -> Result<(), Failed>
     ensures { WritesPrimitive W.contents target tag (Exactly (integer_octets x)) ⊥
-        (told result why.new) }
+        (into_result result why.new) }
 {
     let contents = Octets::of_signed(x);
     let len = contents.len();

@@ -3,7 +3,7 @@ ghost use Rattle.std.specs.Prelude.{◌≡◌, ◌<◌, ◌^◌, pos};
 ghost use Rattle.bcder.specs.x690.Identifier.{universal};
 ghost use Rattle.bcder.specs.x690.Integer.{integer_octets};
 ghost use Rattle.bcder.specs.calls.Encoders.{SizeOfContents, WritesContents};
-ghost use Rattle.bcder.specs.calls.Encoders.{HasContents, WritesPrimitive, told};
+ghost use Rattle.bcder.specs.calls.Encoders.{HasContents, WritesPrimitive, into_result};
 ghost use Rattle.bcder.specs.calls.Meaning.{Exactly};
 ghost use Rattle.bcder.specs.laws.Integers.{integer_octets_are};
 ghost use Rattle.bcder.specs.laws.Meanings.{Exactly_lawful};
@@ -46,7 +46,7 @@ fn put_integer<W: io::Write>(
     requires contents { HasContents (Exactly (integer_octets x.now)) _len }
     requires fits { _len < 2 ^ 32 }
     ensures { WritesPrimitive W.contents target tag (Exactly (integer_octets x.now)) ⊥
-        (told result why.new) }
+        (into_result result why.new) }
 {
     put_number(tag, AsSlice::as_slice(x), target, why)
 }

@@ -2,7 +2,7 @@
 ghost use Rattle.std.specs.Prelude.{◌≡◌, ◌<◌, ◌^◌, []};
 ghost use Rattle.bcder.specs.x690.Identifier.{universal};
 ghost use Rattle.bcder.specs.calls.Encoders.{SizeOfContents, WritesContents};
-ghost use Rattle.bcder.specs.calls.Encoders.{HasContents, WritesPrimitive, told};
+ghost use Rattle.bcder.specs.calls.Encoders.{HasContents, WritesPrimitive, into_result};
 ghost use Rattle.bcder.specs.calls.Meaning.{Exactly, ExactlyOctets, truth_octets};
 ghost use Rattle.bcder.specs.calls.Meaning.{fits_primitive, PieceMeans};
 ghost use Rattle.bcder.specs.declared.encode.error.EncodeError.TheVariants.{LongCerPrimitive};
@@ -118,7 +118,7 @@ pub(crate) fn put_octets<W: io::Write>(
     requires contents { HasContents (ExactlyOctets octets.now) _len }
     requires fits { _len < 2 ^ 32 }
     ensures { WritesPrimitive W.contents target tag (ExactlyOctets octets.now) ⊥
-        (told result why.new) }
+        (into_result result why.new) }
 {
     put_contents(tag, octets, target, why)
 }
@@ -171,7 +171,7 @@ fn put_string<W: io::Write>(
     requires contents { HasContents (PieceMeans LongCerPrimitive _mode octets.now) _len }
     requires fits { _len < 2 ^ 32 }
     ensures { WritesPrimitive W.contents target tag
-        (PieceMeans LongCerPrimitive _mode octets.now) ⊥ (told result why.new) }
+        (PieceMeans LongCerPrimitive _mode octets.now) ⊥ (into_result result why.new) }
 {
     put_contents(tag, octets, target, why)
 }

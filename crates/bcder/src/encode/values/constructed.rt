@@ -4,14 +4,14 @@ ghost use Rattle.bcder.specs.declared.length.Length.TheVariants.{Definite};
 ghost use Rattle.bcder.specs.x690.Identifier.{sequence_tag, set_tag, identifier as identifier_of};
 ghost use Rattle.bcder.specs.x690.Octets.{header, fits_length, constructed_length, closing};
 ghost use Rattle.bcder.specs.calls.Meaning.{ValueMeans, constructed_meaning};
-ghost use Rattle.bcder.specs.calls.Encoders.{HasEncoding, HasSize, WroteOctets, told};
+ghost use Rattle.bcder.specs.calls.Encoders.{HasEncoding, HasSize, WroteOctets, into_result};
 ghost use Rattle.bcder.specs.steps.Enclosing.{EnclosedSize, InsideSizes, KnownLength};
 ghost use Rattle.bcder.specs.steps.Enclosing.{WritesEnclosed};
-ghost use Rattle.bcder.specs.steps.Enclosing.{told_size, length_size};
+ghost use Rattle.bcder.specs.steps.Enclosing.{definite_len, length_size};
 ghost use Rattle.bcder.specs.laws.Meanings.{constructed_lawful};
 
 use crate::encode::header::put_header;
-use crate::encode::slot::{Failed, refused, slot, told};
+use crate::encode::slot::{Failed, into_result, slot, store_refusal};
 use crate::encode::target::put_all;
 use crate::encode::values::Values;
 use crate::encode::{EncodeError, WriteError};
@@ -183,7 +183,7 @@ fn known_length<V: Values>(
 /// Writes the end-of-contents octets, if the mode has them behind its constructed values.
 #[inline(always)]
 fn put_closing<W: io::Write>(mode: Mode, target: &mut W, why: &mut WriteError) -> Result<(), Failed>
-    ensures { WroteOctets W.contents target (closing mode) (told result why.new) }
+    ensures { WroteOctets W.contents target (closing mode) (into_result result why.new) }
 {
     match mode {
         Mode::Cer => put_all(target, &[0x00, 0x00], why),
@@ -193,8 +193,8 @@ fn put_closing<W: io::Write>(mode: Mode, target: &mut W, why: &mut WriteError) -
 
 /// How many contents octets a length tells.
 #[inline(always)]
-fn told_size(len: Length) -> Option<usize>
-    ensures { result ≡ told_size len }
+fn definite_len(len: Length) -> Option<usize>
+    ensures { result ≡ definite_len len }
 {
     match len {
         Length::Definite(len) => Some(len),
@@ -214,12 +214,12 @@ fn put_enclosed<V: Values, W: io::Write>(
     requires fits { fits_length len ≡ true }
     requires can { V.can_encode inner.now }
     requires known { HasEncoding (V.means inner.now mode) }
-    requires sized { HasSize (V.means inner.now mode) (told_size len) }
+    requires sized { HasSize (V.means inner.now mode) (definite_len len) }
     ensures { WritesEnclosed W.contents target tag len mode
-        (V.means inner.now mode) (V.may_lack inner.now mode) (told result why.new) }
+        (V.means inner.now mode) (V.may_lack inner.now mode) (into_result result why.new) }
 {
     put_header(target, tag, true, len, why)?;
-    inner.write_known(told_size(len), mode, target, why)?;
+    inner.write_known(definite_len(len), mode, target, why)?;
     put_closing(mode, target, why)
 }
 
@@ -240,7 +240,7 @@ impl<V: Values> Values for Constructed<V> {
         let len = constructed_length(mode, sizes.contents);
         let mut why = slot();
         let outcome = put_enclosed(self.tag, len, &self.inner, mode, target, &mut why);
-        told(outcome, why)
+        into_result(outcome, why)
     }
 
     fn write_known<W: io::Write>(
@@ -252,7 +252,7 @@ impl<V: Values> Values for Constructed<V> {
     ) -> Result<(), Failed> {
         match known_length(self.tag, size, &self.inner, mode) {
             Ok(len) => put_enclosed(self.tag, len, &self.inner, mode, target, why),
-            Err(error) => Err(refused(why, error)),
+            Err(error) => Err(store_refusal(why, error)),
         }
     }
 

@@ -5,7 +5,7 @@ ghost use Rattle.bcder.specs.calls.Joined.{Joined};
 ghost use Rattle.bcder.specs.laws.Joined.{Joined_lawful};
 
 use crate::NoMemory;
-use crate::encode::slot::{Failed, refused};
+use crate::encode::slot::{Failed, store_refusal};
 use crate::encode::values::parts::{Parts, add_len, joined_len, write_joined, write_known_parts};
 use crate::encode::values::{UNKNOWN_WEIGHT, Values};
 use crate::encode::{EncodeError, WriteError};
@@ -92,7 +92,7 @@ where
     ) -> Result<(), Failed> {
         let items = match self.items() {
             Ok(items) => items,
-            Err(_) => return Err(refused(why, EncodeError::NoMemory)),
+            Err(_) => return Err(store_refusal(why, EncodeError::NoMemory)),
         };
         for item in items {
             item.write_known(None, mode, target, why)?;

@@ -1,6 +1,6 @@
 //! The items of a slice, each encoded as what a closure gives for it.
 ghost use Rattle.std.specs.Prelude.{◌≡◌, All, Any};
-ghost use Rattle.bcder.specs.calls.Encoders.{HasEncoding, SizeOfValues, WritesParts, told};
+ghost use Rattle.bcder.specs.calls.Encoders.{HasEncoding, SizeOfValues, WritesParts, into_result};
 ghost use Rattle.bcder.specs.calls.Joined.{EachOf, Joined};
 ghost use Rattle.bcder.specs.calls.Slices.{TakesItem, Gives, ItemMeans, ItemLacks, MayMap};
 ghost use Rattle.bcder.specs.calls.Slices.{item_lawful};
@@ -73,7 +73,7 @@ fn write_item<U, V: Values + Drop, F: Fn(&U) -> V, W: io::Write>(
     requires may { MayMap F.Fn f.now V.can_encode V.means item.now }
     requires known { HasEncoding (ItemMeans F.Fn f.now V.means mode item.now) }
     ensures { WritesParts W.contents target (ItemMeans F.Fn f.now V.means mode item.now)
-        (ItemLacks F.Fn f.now V.may_lack mode item.now) (told result why.new) }
+        (ItemLacks F.Fn f.now V.may_lack mode item.now) (into_result result why.new) }
 {
     let value = call_on(f, item);
     value.write_known(None, mode, target, why)

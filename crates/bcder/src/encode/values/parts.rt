@@ -3,11 +3,11 @@ ghost use Rattle.std.specs.Prelude.{◌≡◌, ℕ, ◌+◌, ⊤, ◌⊎◌, IsT
 ghost use Rattle.bcder.specs.declared.mode.Mode.{Mode};
 ghost use Rattle.bcder.specs.calls.Meaning.{Meaning, IsLawful};
 ghost use Rattle.bcder.specs.calls.Encoders.{HasEncoding, SizeOfValues, WritesValues, WritesParts};
-ghost use Rattle.bcder.specs.calls.Encoders.{TellsSum, WritesKnown, HasSize, told};
+ghost use Rattle.bcder.specs.calls.Encoders.{TellsSum, WritesKnown, HasSize, into_result};
 ghost use Rattle.bcder.specs.calls.Joined.{Then, NoValues, Joined, IsSum};
 ghost use Rattle.bcder.specs.laws.Joined.{Then_lawful, NoValues_lawful};
 
-use crate::encode::slot::{Failed, slot, told};
+use crate::encode::slot::{Failed, into_result, slot};
 use crate::encode::values::{UNKNOWN_WEIGHT, Values};
 use crate::encode::{EncodeError, WriteError};
 use crate::mode::Mode;
@@ -39,7 +39,7 @@ pub(crate) trait Parts {
         requires known { HasEncoding (all self.now mode) }
         requires sized { HasSize (all self.now mode) size }
         ensures { WritesParts W.contents target
-            (all self.now mode) (may_lack self.now mode) (told result why.new) };
+            (all self.now mode) (may_lack self.now mode) (into_result result why.new) };
 
     /// What they weigh together, as encoders.
     #[inline(always)]
@@ -82,7 +82,7 @@ pub(crate) fn write_joined<P: Parts, W: io::Write>(
     let size = joined_len(parts, mode)?;
     let mut why = slot();
     let outcome = parts.write_parts(Some(size), mode, target, &mut why);
-    told(outcome, why)
+    into_result(outcome, why)
 }
 
 /// Writes the parts where it is known that there is an encoding.
@@ -97,7 +97,7 @@ pub(crate) fn write_known_parts<P: Parts, W: io::Write>(
     requires known { HasEncoding (Joined (P.all parts.now mode)) }
     requires sized { HasSize (Joined (P.all parts.now mode)) size }
     ensures { WritesKnown W.contents target
-        (Joined (P.all parts.now mode)) (P.may_lack parts.now mode) (told result why.new) }
+        (Joined (P.all parts.now mode)) (P.may_lack parts.now mode) (into_result result why.new) }
 {
     parts.write_parts(size, mode, target, why)
 }

@@ -5,7 +5,7 @@ ghost use Rattle.bcder.specs.declared.encode.error.EncodeError.TheVariants.{Long
 ghost use Rattle.bcder.specs.declared.encode.error.EncodeError.TheVariants.{NoMemory};
 ghost use Rattle.bcder.specs.x690.BitString.{as_written, contents_octets};
 ghost use Rattle.bcder.specs.calls.Encoders.{HasContents, SizeOfContents, WritesContents};
-ghost use Rattle.bcder.specs.calls.Encoders.{WritesPrimitive, WroteOctets, told};
+ghost use Rattle.bcder.specs.calls.Encoders.{WritesPrimitive, WroteOctets, into_result};
 ghost use Rattle.bcder.specs.steps.Front.{front_of};
 ghost use Rattle.bcder.specs.x690.Identifier.{universal};
 ghost use Rattle.bcder.specs.calls.Meaning.{BitsMean};
@@ -17,7 +17,7 @@ use super::contents::cleared_octet;
 use crate::encode::front::Front;
 use crate::encode::header::put_header_and;
 use crate::encode::primitive::plain::fits_primitive;
-use crate::encode::slot::{Failed, refused, slot, told};
+use crate::encode::slot::{Failed, into_result, slot, store_refusal};
 use crate::encode::target::put_all;
 use crate::encode::{EncodeError, PrimitiveContent, WriteError};
 use crate::length::Length;
@@ -48,7 +48,7 @@ fn put_octets<W: io::Write>(
 ) -> Result<(), Failed>
     ensures { WroteOctets W.contents target
         (as_written mode (record { unused = unused; octets = octets.now })).octets
-        (told result why.new) }
+        (into_result result why.new) }
 {
     match octets {
         [] => put_all(target, octets, why),
@@ -96,7 +96,7 @@ pub(super) fn write_bits<W: io::Write>(
 {
     let mut why = slot();
     let outcome = put_bits(unused, octets, mode, refusal, target, &mut why);
-    told(outcome, why)
+    into_result(outcome, why)
 }
 
 /// The same with a slot for the error.
@@ -110,10 +110,10 @@ fn put_bits<W: io::Write>(
 ) -> Result<(), Failed>
     requires { refusal ≢ NoMemory }
     ensures { WritesContents W.contents target (BitsMean refusal mode
-        (record { unused = unused; octets = octets.now })) ⊥ (told result why.new) }
+        (record { unused = unused; octets = octets.now })) ⊥ (into_result result why.new) }
 {
     if !fits_primitive(mode, 1 + octets.len()) {
-        return Err(refused(why, refusal));
+        return Err(store_refusal(why, refusal));
     }
     put_contents(unused, octets, mode, target, why)
 }
@@ -128,7 +128,7 @@ fn put_contents<W: io::Write>(
 ) -> Result<(), Failed>
     ensures { WroteOctets W.contents target
         (contents_octets (as_written mode (record { unused = unused; octets = octets.now })))
-        (told result why.new) }
+        (into_result result why.new) }
 {
     put_all(target, &[unused], why)?;
     put_octets(unused, octets, mode, target, why)
@@ -159,7 +159,7 @@ fn put_few<W: io::Write>(
     requires { length octets.now < 64 }
     ensures { WroteOctets W.contents target (definite tag false
         (contents_octets (as_written mode (record { unused = unused; octets = octets.now }))))
-        (told result why.new) }
+        (into_result result why.new) }
 {
     let mut front = Front::new();
     tag.spell(false, &mut front);
@@ -184,7 +184,7 @@ pub(super) fn put_value<W: io::Write>(
     requires fits { len < 2 ^ 32 }
     ensures { WroteOctets W.contents target (definite tag false
         (contents_octets (as_written mode (record { unused = unused; octets = octets.now }))))
-        (told result why.new) }
+        (into_result result why.new) }
 {
     if len <= 64 {
         return put_few(unused, octets, tag, mode, target, why);
@@ -208,7 +208,7 @@ pub(super) fn put_meant<W: io::Write>(
         (record { unused = unused; octets = octets.now })) len }
     requires fits { len < 2 ^ 32 }
     ensures { WritesPrimitive W.contents target tag (BitsMean refusal mode
-        (record { unused = unused; octets = octets.now })) ⊥ (told result why.new) }
+        (record { unused = unused; octets = octets.now })) ⊥ (into_result result why.new) }
 {
     put_value(unused, octets, tag, len, mode, target, why)
 }

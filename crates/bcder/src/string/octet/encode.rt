@@ -2,7 +2,7 @@
 ghost use Rattle.std.specs.Prelude.{◌≡◌};
 ghost use Rattle.bcder.specs.x690.OctetString.{octet_string_tag};
 ghost use Rattle.bcder.specs.calls.Encoders.{HasEncoding, SizeOfValues, WritesValues, WritesParts};
-ghost use Rattle.bcder.specs.calls.Encoders.{told};
+ghost use Rattle.bcder.specs.calls.Encoders.{into_result};
 ghost use Rattle.bcder.specs.calls.StringMeaning.{StringMeans};
 ghost use Rattle.bcder.specs.calls.WrittenStrings.{IsMadeUp};
 ghost use Rattle.bcder.specs.laws.StringMeanings.{StringMeans_lawful};
@@ -10,7 +10,7 @@ ghost use Rattle.bcder.specs.laws.StringMeanings.{StringMeans_lawful};
 use super::write::{octets_len, put_octets, put_string, string_len};
 use super::{OctetString, Octets};
 use crate::decode::source::see_octets;
-use crate::encode::slot::{slot, told};
+use crate::encode::slot::{into_result, slot};
 use crate::encode::{Constructed, EncodeError, Failed, Values, WriteError};
 use crate::mode::Mode;
 use crate::tag::Tag;
@@ -91,7 +91,7 @@ fn put<W: io::Write>(
 ) -> Result<(), Failed>
     requires { HasEncoding (StringMeans tag string.now mode) }
     ensures { WritesParts W.contents target (StringMeans tag string.now mode) ⊥
-        (told result why.new) }
+        (into_result result why.new) }
 {
     match &string.octets {
         Octets::Whole(octets) => put_octets(tag, octets.as_slice(), mode, target, why),
@@ -116,7 +116,7 @@ fn write<W: io::Write>(
     size_of(string, tag, mode)?;
     let mut why = slot();
     let outcome = put(string, tag, mode, target, &mut why);
-    told(outcome, why)
+    into_result(outcome, why)
 }
 
 impl Values for OctetStringEncoder<OctetString> {

@@ -5,7 +5,7 @@ ghost use Rattle.std.specs.List.{concat};
 ghost use Rattle.bcder.specs.x690.Identifier.{AreOctets};
 ghost use Rattle.bcder.specs.calls.StringOctets.{whole, cut};
 ghost use Rattle.bcder.specs.steps.SegmentTable.{AreWithin, segment_at, segments_at, IsTable};
-ghost use Rattle.bcder.specs.calls.StringSource.{StandsIn, all_behind, string_stream, IsJoined};
+ghost use Rattle.bcder.specs.calls.StringSource.{SharesBlock, all_behind, string_stream, IsJoined};
 
 mod front;
 
@@ -123,8 +123,8 @@ impl Behind {
 /// Makes at least `len` octets stand in front, or all that there are.
 #[inline(never)]
 fn refill(front: &mut Front, behind: &mut Behind, len: usize) -> Result<(), NoMemory>
-    requires { StandsIn front.old (Some behind.old) }
-    ensures stands { StandsIn front.new (Some behind.new) }
+    requires { SharesBlock front.old (Some behind.old) }
+    ensures stands { SharesBlock front.new (Some behind.new) }
     ensures same { front.new.octets ++ concat behind.new.parts
         ≡ front.old.octets ++ concat behind.old.parts }
     ensures no_fewer { length front.old.octets ≤ length front.new.octets }
@@ -159,7 +159,7 @@ pub struct OctetStringSource {
     /// How many octets of the string there are up to the end of those in front.
     reached: usize,
     faults: u64,
-    ghost stands: { StandsIn front behind },
+    ghost stands: { SharesBlock front behind },
     ghost are_octets: { AreOctets (front.octets ++ all_behind behind) },
     ghost fit: { length (front.octets ++ all_behind behind) < 2 ^ 64 },
     ghost counted: { length front.octets ≤ reached },

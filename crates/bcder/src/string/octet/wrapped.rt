@@ -2,7 +2,7 @@
 ghost use Rattle.std.specs.Prelude.{◌≡◌, ◌<◌, ◌^◌, ◌⊎◌, Some, IfOk, IfErr};
 ghost use Rattle.bcder.specs.x690.OctetString.{octet_string_tag};
 ghost use Rattle.bcder.specs.calls.Encoders.{HasEncoding, HasSize, SizeOfValues, WritesParts};
-ghost use Rattle.bcder.specs.calls.Encoders.{WritesValues, RefusesBy, told};
+ghost use Rattle.bcder.specs.calls.Encoders.{WritesValues, RefusesBy, into_result};
 ghost use Rattle.bcder.specs.steps.Segmenting.{InsideSize, WritesInside};
 ghost use Rattle.bcder.specs.calls.StringMeaning.{WrappedMeans, IsGathered};
 ghost use Rattle.bcder.specs.laws.StringMeanings.{WrappedMeans_lawful};
@@ -11,7 +11,7 @@ use super::OctetString;
 use super::write::{is_cut, put_octets, string_len};
 use crate::encode::front::Front;
 use crate::encode::header::put_header;
-use crate::encode::slot::{Failed, refused, slot, told};
+use crate::encode::slot::{Failed, into_result, slot, store_refusal};
 use crate::encode::target::put_all;
 use crate::encode::values::constructed::contents_size;
 use crate::encode::{EncodeError, Values, WriteError};
@@ -111,7 +111,7 @@ fn put_straight<V: Values, W: io::Write>(
     requires sized { HasSize (V.means values.now inner) (Some len) }
     requires fits { len < 2 ^ 32 }
     ensures { WritesInside W.contents target
-        (V.means values.now inner) (V.may_lack values.now inner) (told result why.new) }
+        (V.means values.now inner) (V.may_lack values.now inner) (into_result result why.new) }
 {
     if len > 64 {
         put_header(target, Tag::OCTET_STRING, false, Length::Definite(len), why)?;
@@ -140,11 +140,11 @@ fn put_gathered<V: Values, W: io::Write>(
     ensures { WritesParts W.contents target
         (WrappedMeans octet_string_tag mode (V.means values.now inner))
         (V.may_lack values.now inner ⊎ HasEncoding (V.means values.now inner))
-        (told result why.new) }
+        (into_result result why.new) }
 {
     match values.to_captured(alloc, inner) {
         Ok(gathered) => put_octets(Tag::OCTET_STRING, gathered.as_slice(), mode, target, why),
-        Err(error) => Err(refused(why, error)),
+        Err(error) => Err(store_refusal(why, error)),
     }
 }
 
@@ -164,7 +164,7 @@ fn put_wrapped<V: Values, W: io::Write>(
         (WrappedMeans octet_string_tag mode (V.means wrapped.now.values wrapped.now.mode))
         (V.may_lack wrapped.now.values wrapped.now.mode
         ⊎ IsGathered mode (V.means wrapped.now.values wrapped.now.mode))
-        (told result why.new) }
+        (into_result result why.new) }
 {
     if is_cut(mode, len) {
         put_gathered(
@@ -207,7 +207,7 @@ impl<V: Values> Values for WrappingOctetStringEncoder<V> {
         let len = inside_len(&self.values, self.mode, mode)?;
         let mut why = slot();
         let outcome = put_wrapped(self, len, mode, target, &mut why);
-        told(outcome, why)
+        into_result(outcome, why)
     }
 
     fn write_known<W: io::Write>(
@@ -219,7 +219,7 @@ impl<V: Values> Values for WrappingOctetStringEncoder<V> {
     ) -> Result<(), Failed> {
         match known_len(&self.values, size, self.mode, mode) {
             Ok(len) => put_wrapped(self, len, mode, target, why),
-            Err(error) => Err(refused(why, error)),
+            Err(error) => Err(store_refusal(why, error)),
         }
     }
 

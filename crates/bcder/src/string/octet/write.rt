@@ -5,7 +5,7 @@ ghost use Rattle.bcder.specs.x690.Identifier.{AreOctets};
 ghost use Rattle.bcder.specs.x690.Octets.{definite, enclosed};
 ghost use Rattle.bcder.specs.declared.mode.Mode.TheVariants.{Cer};
 ghost use Rattle.bcder.specs.calls.Encoders.{HasEncoding, SizeOfValues, WritesValues, WritesParts};
-ghost use Rattle.bcder.specs.calls.Encoders.{WroteOctets, told};
+ghost use Rattle.bcder.specs.calls.Encoders.{WroteOctets, into_result};
 ghost use Rattle.bcder.specs.steps.Front.{front_of};
 ghost use Rattle.bcder.specs.calls.Joined.{IsSum};
 ghost use Rattle.bcder.specs.calls.StringMeaning.{is_cut, OctetsMean, segments_in_cer};
@@ -15,7 +15,7 @@ use super::OctetStringIter;
 use super::segments::FULL;
 use crate::encode::front::Front;
 use crate::encode::header::put_header;
-use crate::encode::slot::{Failed, slot, told};
+use crate::encode::slot::{Failed, into_result, slot};
 use crate::encode::target::put_all;
 use crate::encode::values::constructed::enclosed_size;
 use crate::encode::{EncodeError, WriteError, total_encoded_len};
@@ -144,7 +144,7 @@ fn put_segments<W: io::Write>(
     requires some { 0 < len }
     requires all { len ≡ length (concat parts) }
     ensures { WroteOctets W.contents target (segments_in_cer (concat parts.entry)).octets
-        (told result why.new) }
+        (into_result result why.new) }
 {
     let mut progress = Progress {
         left: 0,
@@ -167,7 +167,7 @@ fn put_cut<W: io::Write>(
     requires some { 0 < len }
     requires all { len ≡ length (concat parts) }
     ensures { WroteOctets W.contents target
-        (enclosed Cer tag (segments_in_cer (concat parts.entry)).octets) (told result why.new) }
+        (enclosed Cer tag (segments_in_cer (concat parts.entry)).octets) (into_result result why.new) }
 {
     put_header(target, tag, true, Length::Indefinite, why)?;
     put_segments(len, parts, target, why)?;
@@ -180,7 +180,7 @@ fn put_parts<W: io::Write>(
     target: &mut W,
     why: &mut WriteError,
 ) -> Result<(), Failed>
-    ensures { WroteOctets W.contents target (concat parts.entry) (told result why.new) }
+    ensures { WroteOctets W.contents target (concat parts.entry) (into_result result why.new) }
 {
     for part in parts {
         put_all(target, part, why)?;
@@ -210,7 +210,7 @@ fn put_few<W: io::Write>(
     requires few { len ≤ 64 }
     requires all { len ≡ length (concat parts) }
     ensures { WroteOctets W.contents target (definite tag false (concat parts.entry))
-        (told result why.new) }
+        (into_result result why.new) }
 {
     let mut front = Front::new();
     tag.spell(false, &mut front);
@@ -230,7 +230,7 @@ fn put_whole<W: io::Write>(
     requires fits { len < 2 ^ 32 }
     requires all { len ≡ length (concat parts) }
     ensures { WroteOctets W.contents target (definite tag false (concat parts.entry))
-        (told result why.new) }
+        (into_result result why.new) }
 {
     if len <= 64 {
         return put_few(tag, len, parts, target, why);
@@ -251,7 +251,7 @@ pub(super) fn put_string<W: io::Write>(
     requires known { HasEncoding (OctetsMean tag (concat parts) mode) }
     requires all { len ≡ length (concat parts) }
     ensures { WritesParts W.contents target (OctetsMean tag (concat parts.entry) mode) ⊥
-        (told result why.new) }
+        (into_result result why.new) }
 {
     if is_cut(mode, len) {
         put_cut(tag, len, parts, target, why)
@@ -277,7 +277,7 @@ pub(super) fn put_octets<W: io::Write>(
 ) -> Result<(), Failed>
     requires { HasEncoding (OctetsMean tag octets.now mode) }
     ensures { WritesParts W.contents target (OctetsMean tag octets.now mode) ⊥
-        (told result why.new) }
+        (into_result result why.new) }
 {
     put_string(
         tag,
@@ -301,5 +301,5 @@ pub(super) fn write_octets<W: io::Write>(
     octets_len(tag, octets, mode)?;
     let mut why = slot();
     let outcome = put_octets(tag, octets, mode, target, &mut why);
-    told(outcome, why)
+    into_result(outcome, why)
 }

@@ -1,7 +1,7 @@
 //! Character sets whose characters are one octet each (X.680, 41).
 ghost use Rattle.std.specs.Prelude.{◌≡◌, ◌↔◌, ◌<◌, ℕ, Bool, true, IsTrue, IfSome, encode_utf8_all};
 ghost use Rattle.bcder.specs.x690.Characters.{characters};
-ghost use Rattle.bcder.specs.x690.CharSet.{Accepts};
+ghost use Rattle.bcder.specs.x690.CharSet.{IsOfSet};
 ghost use Rattle.bcder.specs.calls.CharSetCalls.{NextChar, Checks, SpellsText};
 ghost use Rattle.bcder.specs.x690.AsciiSets.{one_octet_step, is_numeric, is_printable, is_ia5};
 ghost use Rattle.bcder.specs.x690.AsciiSets.{numeric_string_tag, printable_string_tag};
@@ -25,7 +25,7 @@ trait AsciiSet {
 
     /// Whether each octet is a character of the set. All are looked at, so that many can be at once.
     fn has_all(octets: &[u8]) -> bool
-        ensures { IsTrue result ↔ Accepts (one_octet_step test) octets.now }
+        ensures { IsTrue result ↔ IsOfSet (one_octet_step test) octets.now }
     {
         let mut all = true;
         for octet in octets {
@@ -82,7 +82,7 @@ fn from_str_of<S: AsciiSet>(text: &str) -> Result<CowSlice<'_, u8>, StringError>
 
 /// The text that the octets are, where they stand in one piece.
 fn as_text_of<'a, S: AsciiSet>(octets: &OctetStringOctets<'a>) -> Option<&'a str>
-    requires { Accepts (one_octet_step S.test) octets.now }
+    requires { IsOfSet (one_octet_step S.test) octets.now }
     ensures { IfSome result (λ text.
         text.now ≡ encode_utf8_all (characters (one_octet_step S.test) octets.now)) }
 {

@@ -3,7 +3,7 @@ ghost use Rattle.std.specs.Prelude.{◌≡◌, List, ℕ, IfSome, encode_utf8_al
 ghost use Rattle.std.specs.Str.{IsUtf8};
 ghost use Rattle.bcder.specs.x690.Characters.{characters};
 ghost use Rattle.bcder.specs.x690.Identifier.{Tag as TagValue};
-ghost use Rattle.bcder.specs.x690.CharSet.{Step, IsStep, Accepts};
+ghost use Rattle.bcder.specs.x690.CharSet.{Step, IsStep, IsOfSet};
 ghost use Rattle.bcder.specs.calls.CharSetCalls.{NextChar, Checks, SpellsText};
 ghost use Rattle.bcder.specs.x690.TextSets.{AreTexts};
 
@@ -43,9 +43,9 @@ pub enum StringError {
 
 impl fmt::Display for StringError {
     ghost use Rattle.std.specs.Prelude.{Some};
-    ghost use Rattle.bcder.specs.calls.CharSetTexts.{text_of};
+    ghost use Rattle.bcder.specs.calls.CharSetTexts.{string_error_text};
 
-    ghost output = { λ e. Some (text_of e) };
+    ghost output = { λ e. Some (string_error_text e) };
 
     fn fmt<W: fmt::Write>(&self, f: &mut fmt::Formatter<W>) -> fmt::Result {
         match self {
@@ -144,7 +144,7 @@ pub trait CharSet {
     /// text as they stand lends the octets, which are then shown at once.
     #[doc(hidden)]
     fn as_text<'a>(_octets: &OctetStringOctets<'a>) -> Option<&'a str>
-        requires { Accepts step _octets.now }
+        requires { IsOfSet step _octets.now }
         ensures { IfSome result (λ text.
             text.now ≡ encode_utf8_all (characters step _octets.now)) }
     {

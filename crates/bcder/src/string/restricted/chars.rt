@@ -26,14 +26,14 @@ pub struct RestrictedStringChars<'a, L: CharSet> {
 impl<'a, L: CharSet> Model for RestrictedStringChars<'a, L> {
     ghost use Rattle.std.specs.Prelude.{ℕ, List, IfSome};
     ghost use Rattle.std.specs.Str.{IsUtf8};
-    ghost use Rattle.bcder.specs.x690.CharSet.{Accepts};
+    ghost use Rattle.bcder.specs.x690.CharSet.{IsOfSet};
     ghost use Rattle.bcder.specs.calls.CharSetCalls.{characters_left};
 
     ghost Value = { List ℕ };
 
     ghost view = { λ i. characters_left L.step i.text i.octets };
 
-    ghost invariant = { λ i. IfSome i.text (λ t. IsUtf8 t.now) × Accepts L.step i.octets };
+    ghost invariant = { λ i. IfSome i.text (λ t. IsUtf8 t.now) × IsOfSet L.step i.octets };
 }
 
 impl<L: CharSet> RestrictedString<L> {

@@ -2,7 +2,7 @@
 ghost use Rattle.std.specs.Prelude.{◌≡◌, IfOk, MatchOption, string_bytes};
 ghost use Rattle.std.specs.Str.{chars};
 ghost use Rattle.bcder.specs.calls.RestrictedString.{MakesText};
-ghost use Rattle.bcder.specs.x690.CharSet.{Accepts, Spells};
+ghost use Rattle.bcder.specs.x690.CharSet.{IsOfSet, Spells};
 ghost use Rattle.bcder.specs.calls.StringOctets.{whole, octets_of, IsCut};
 
 use super::{CharSet, RestrictedString, StringError, TextCharSet};
@@ -16,7 +16,7 @@ use std::marker::PhantomData;
 impl<L: CharSet> RestrictedString<L> {
     /// A string of octets that the set accepts, in one piece.
     fn of_bytes(octets: Bytes) -> Self
-        requires { Accepts L.step octets }
+        requires { IsOfSet L.step octets }
         ensures { result ≡ whole octets }
     {
         RestrictedString {

@@ -4,13 +4,13 @@ use Rattle.bcder.proofs.Beginnings.{has_identifier, has_front}
 use Rattle.bcder.proofs.Peeking.{unidentified, unmeasured, some_followed}
 use Rattle.bcder.proofs.decode.header.look.Goals as goal
 
-pub returns-then-identifier_goes_on : goal.returns-then-identifier_goes_on
-returns-then-identifier_goes_on c =
-    let l = c.if-identifier_goes_on.ensures.short refl in
+pub returns-then-may_begin_identifier : goal.returns-then-may_begin_identifier
+returns-then-may_begin_identifier c =
+    let l = c.if-may_begin_identifier.ensures.short refl in
     (omega arith, unidentified _ _ _ c.in_default.ensures)
 
 pub returns-in_default : goal.returns-in_default
-returns-in_default c = λ x. (some_followed _ x (c.if-identifier_goes_on.ensures.some refl), unidentified _ _ _ (c.if-identifier_goes_on.ensures.refused refl x c.in_default.ensures))
+returns-in_default c = λ x. (some_followed _ x (c.if-may_begin_identifier.ensures.some refl), unidentified _ _ _ (c.if-may_begin_identifier.ensures.refused refl x c.in_default.ensures))
 
 pub returns-then-not-is_wanted : goal.returns-then-not-is_wanted
 returns-then-not-is_wanted c = λ x.
@@ -29,15 +29,15 @@ returns-in-Some-length_at c = λ x.
     let f = has_front c.args.mode c.args.octets.now c.in-Some.found.0 c.in-Some.found.1 c.in-Some.found.2.now c.in-Some-length_at.len c.in-Some-length_at.rest.now o c.in-Some.ensures c.in-Some-length_at.ensures in
     ((omega arith, f.read x), c.if-not-is_wanted.ensures.yes refl)
 
-pub returns-then-length_goes_on : goal.returns-then-length_goes_on
-returns-then-length_goes_on c =
+pub returns-then-may_begin_length : goal.returns-then-may_begin_length
+returns-then-may_begin_length c =
     let o : AreOctets c.args.octets.now = λ i. omega (arith, c.type_inv.octets i) in
     let i = has_identifier c.args.octets.now c.in-Some.found.0 c.in-Some.found.1 c.in-Some.found.2.now o c.in-Some.ensures in
-    let l = c.if-length_goes_on.ensures.short refl in
+    let l = c.if-may_begin_length.ensures.short refl in
     (omega (arith, i.size), unmeasured _ _ _ _ _ _ c.in-Some.ensures (c.if-not-is_wanted.ensures.yes refl) c.in-None.ensures)
 
-pub returns-else-length_goes_on : goal.returns-else-length_goes_on
-returns-else-length_goes_on c = λ x.
+pub returns-else-may_begin_length : goal.returns-else-may_begin_length
+returns-else-may_begin_length c = λ x.
     let o : AreOctets c.args.octets.now = λ i. omega (arith, c.type_inv.octets i) in
     let i = has_identifier c.args.octets.now c.in-Some.found.0 c.in-Some.found.1 c.in-Some.found.2.now o c.in-Some.ensures in
-    (some_followed _ x i.some, unmeasured _ _ _ _ _ _ (i.read x) (c.if-not-is_wanted.ensures.yes refl) (c.if-length_goes_on.ensures.refused refl c.args.mode x c.in-None.ensures))
+    (some_followed _ x i.some, unmeasured _ _ _ _ _ _ (i.read x) (c.if-not-is_wanted.ensures.yes refl) (c.if-may_begin_length.ensures.refused refl c.args.mode x c.in-None.ensures))

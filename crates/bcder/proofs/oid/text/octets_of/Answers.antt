@@ -28,7 +28,7 @@ returns-in-Err-clause-err c =
     ]
     in
     refuses c.args.text.now _ _ _ _ c.split_text.ensures (ap texts_of c.in-Some.is ∙ c.split_text-2.ensures) _
-    (others_refused c.in-Some-component.ensures c.in-Some-component-2.ensures begins c.why_none.ensures)
+    (others_refused c.in-Some-component.ensures c.in-Some-component-2.ensures begins c.why_no_component.ensures)
 
 pub returns-in_err-push_others-in-Ok-clause-err : goal.returns-in_err-push_others-in-Ok-clause-err
 returns-in_err-push_others-in-Ok-clause-err c =

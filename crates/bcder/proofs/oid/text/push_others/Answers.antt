@@ -16,7 +16,7 @@ returns-in_default-component-clause-err c =
 pub returns-in-Err-clause-err : goal.returns-in-Err-clause-err
 returns-in-Err-clause-err c =
     let (v, d, goes, refused) = c.loop-rest.invariant in
-    refused_later _ _ (texts_of c.loop-rest.rest) _ (ap texts_of c.in-Some.is ∙ c.split_text.ensures) _ c.in-Some-component.ensures refused _ c.why_none.ensures
+    refused_later _ _ (texts_of c.loop-rest.rest) _ (ap texts_of c.in-Some.is ∙ c.split_text.ensures) _ c.in-Some-component.ensures refused _ c.why_no_component.ensures
 
 pub returns-clause-ok : goal.returns-clause-ok
 returns-clause-ok c =

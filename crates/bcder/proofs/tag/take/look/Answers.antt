@@ -15,8 +15,8 @@ returns-in-Some c = λ x.
     let i = has_identifier c.args.octets.now c.in-Some.front.0 c.in-Some.front.1 c.in-Some.front.2.now o c.in-Some.ensures in
     (omega arith, i.fits, identifier_stands _ _ _ _ i x)
 
-pub returns-then-identifier_goes_on : goal.returns-then-identifier_goes_on
-returns-then-identifier_goes_on c = (c.if-identifier_goes_on.ensures.short refl, begins_no_identifier _ c.in-None.ensures)
+pub returns-then-may_begin_identifier : goal.returns-then-may_begin_identifier
+returns-then-may_begin_identifier c = (c.if-may_begin_identifier.ensures.short refl, begins_no_identifier _ c.in-None.ensures)
 
-pub returns-else-identifier_goes_on : goal.returns-else-identifier_goes_on
-returns-else-identifier_goes_on c = λ x. (some_followed _ x (c.if-identifier_goes_on.ensures.some refl), begins_no_identifier _ (c.if-identifier_goes_on.ensures.refused refl x c.in-None.ensures))
+pub returns-else-may_begin_identifier : goal.returns-else-may_begin_identifier
+returns-else-may_begin_identifier c = λ x. (some_followed _ x (c.if-may_begin_identifier.ensures.some refl), begins_no_identifier _ (c.if-may_begin_identifier.ensures.refused refl x c.in-None.ensures))

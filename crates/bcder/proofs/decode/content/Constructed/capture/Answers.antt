@@ -15,9 +15,9 @@ unfolding of_constructed
 capture_over-result-requires-clause-lawful g c =
     λ p r q h. c.requires.lawful p r q (captured_hands (of_constructed g.S.Source.stream c.args.self.now) _ (g.S.Source.stream c.args.self.now.source.now.source) c.args.self.now.source.now.limit _ _ _ _ refl refl refl refl refl c.owed-limit.ensures h)
 
-pub without_marker-octets-requires : goal.without_marker-octets-requires
+pub strip_marker-octets-requires : goal.strip_marker-octets-requires
 unfolding of_constructed
-without_marker-octets-requires g c =
+strip_marker-octets-requires g c =
     let old = c.args.self.now in let new = c.capture_over-result.new.source in let r = c.capture_over-result.result in
     let d : Reading = record { stream = limited_stream g.S.Source.stream new; owed = new.limit; kind = values old.kind; state = r.1; mode = old.mode; marked = c.either-self.result; name = old.source.ghost_name } in
     captured_ends _ _ (of_constructed g.S.Source.stream old) d (g.S.Source.stream old.source.now.source) (g.S.Source.stream new.source) old.source.now.limit new.limit _ old.kind old.state r.1 old.mode r.2 refl refl refl refl refl refl refl refl refl refl c.either-self.ensures c.owed-limit.ensures _ _ c.in-Ok.is c.capture_over-result.ensures refl _ _ c.label-mode.ensures c.ends.ensures
@@ -34,7 +34,7 @@ unfolding of_constructed
 returns-in-Ok-clause-captured g c =
     let old = c.args.self.now in let new = c.capture_over-result.new.source in let r = c.capture_over-result.result in
     let d : Reading = record { stream = limited_stream g.S.Source.stream new; owed = new.limit; kind = values old.kind; state = r.1; mode = old.mode; marked = c.either-self.result; name = old.source.ghost_name } in
-    captured_what _ _ (of_constructed g.S.Source.stream old) d (g.S.Source.stream old.source.now.source) (g.S.Source.stream new.source) old.source.now.limit new.limit _ old.kind old.state r.1 old.mode r.2 refl refl refl refl refl refl refl refl refl refl c.either-self.ensures c.owed-limit.ensures _ _ c.in-Ok.is c.capture_over-result.ensures refl c.new.result _ _ c.label-mode.ensures c.ends.ensures (rw c.new.ensures.octets c.without_marker-octets.ensures) c.new.ensures.mode (c.new.ensures.start ∙ c.position-start.ensures)
+    captured_what _ _ (of_constructed g.S.Source.stream old) d (g.S.Source.stream old.source.now.source) (g.S.Source.stream new.source) old.source.now.limit new.limit _ old.kind old.state r.1 old.mode r.2 refl refl refl refl refl refl refl refl refl refl c.either-self.ensures c.owed-limit.ensures _ _ c.in-Ok.is c.capture_over-result.ensures refl c.new.result _ _ c.label-mode.ensures c.ends.ensures (rw c.new.ensures.octets c.strip_marker-octets.ensures) c.new.ensures.mode (c.new.ensures.start ∙ c.position-start.ensures)
 
 pub returns-in-Err-clause-moves : goal.returns-in-Err-clause-moves
 unfolding of_constructed

@@ -1,5 +1,5 @@
 use Rattle.std.proofs.Common.{◌∙◌, refl, sym, ap}
-use Rattle.bcder.specs.steps.Peek.{header}
+use Rattle.bcder.specs.steps.Peek.{header_of}
 use Rattle.bcder.specs.calls.Content.{values}
 use Rattle.bcder.specs.calls.Views.{of_constructed}
 use Rattle.bcder.proofs.Moving.{moves_failed, open_not_ended}
@@ -15,21 +15,21 @@ pub returns-then-accepts-clause-entered : goal.returns-then-accepts-clause-enter
 unfolding of_constructed
 returns-then-accepts-clause-entered g c = (
   refl,
-  enters (of_constructed g.S.Source.stream c.args.self.now) _ c.args.size (header c.args.header) c.pass.ensures.advances c.pass.ensures.octets c.pass.ensures.within c.requires.read.1 c.requires.usable
+  enters (of_constructed g.S.Source.stream c.args.self.now) _ c.args.size (header_of c.args.header) c.pass.ensures.advances c.pass.ensures.octets c.pass.ensures.within c.requires.read.1 c.requires.usable
       (accepted _ _ _ _ _ c.pass.ensures.mode c.limit-owed.ensures (c.accepts.ensures.yes c.if-accepts.true)) c.pass.ensures.no_fault c.pass.ensures.marked c.pass.ensures.state,
 )
 
 pub returns-then-is_end-clause-moves : goal.returns-then-is_end-clause-moves
 unfolding of_constructed
 returns-then-is_end-clause-moves g c =
-    marker_moves (of_constructed g.S.Source.stream c.args.self.now) _ c.args.size (header c.args.header) (advances_to _ _ _ _ c.pass.ensures.advances refl refl refl refl refl) c.pass.ensures.octets c.pass.ensures.within c.requires.read.1 c.requires.usable
+    marker_moves (of_constructed g.S.Source.stream c.args.self.now) _ c.args.size (header_of c.args.header) (advances_to _ _ _ _ c.pass.ensures.advances refl refl refl refl refl) c.pass.ensures.octets c.pass.ensures.within c.requires.read.1 c.requires.usable
     (c.is_end.ensures.yes c.if-is_end.true) (ap values (sym c.pass.ensures.kind ∙ c.in-Indefinite.is)) refl c.pass.ensures.marked
 
 pub returns-then-is_end-clause-ended : goal.returns-then-is_end-clause-ended
 unfolding of_constructed
 returns-then-is_end-clause-ended g c = (
   ap (λ h. h.tag) (c.is_end.ensures.yes c.if-is_end.true),
-  takes_marker (of_constructed g.S.Source.stream c.args.self.now) _ c.args.size (header c.args.header) (advances_to _ _ _ _ c.pass.ensures.advances refl refl refl refl refl) c.pass.ensures.octets c.pass.ensures.within c.requires.read.1 c.requires.usable
+  takes_marker (of_constructed g.S.Source.stream c.args.self.now) _ c.args.size (header_of c.args.header) (advances_to _ _ _ _ c.pass.ensures.advances refl refl refl refl refl) c.pass.ensures.octets c.pass.ensures.within c.requires.read.1 c.requires.usable
       (c.is_end.ensures.yes c.if-is_end.true) (ap values (sym c.pass.ensures.kind ∙ c.in-Indefinite.is)) refl,
 )
 
@@ -41,7 +41,7 @@ pub returns-clause-refused : goal.returns-clause-refused
 unfolding of_constructed
 returns-clause-refused g c = (
   tt,
-  no_front (of_constructed g.S.Source.stream c.args.self.now) _ c.args.size (header c.args.header) c.pass.ensures.advances c.pass.ensures.octets c.pass.ensures.within c.requires.read.1 c.requires.usable
+  no_front (of_constructed g.S.Source.stream c.args.self.now) _ c.args.size (header_of c.args.header) c.pass.ensures.advances c.pass.ensures.octets c.pass.ensures.within c.requires.read.1 c.requires.usable
       (λ a. c.accepts.ensures.no c.if-accepts.false (unaccepted _ _ _ _ _ c.pass.ensures.mode c.limit-owed.ensures a))
       (λ k e. elim c.match-self.branch [
         | in-Indefinite+else-is_end w ↦ w.is_end.ensures.no w.if-is_end.false e

@@ -1,5 +1,5 @@
 use Rattle.std.proofs.Common.{◌∙◌, refl, rules}
-use Rattle.bcder.specs.steps.Peek.{header}
+use Rattle.bcder.specs.steps.Peek.{header_of}
 use Rattle.bcder.specs.calls.Views.{of_constructed}
 use Rattle.bcder.specs.laws.Moved.{untouched_is_moved, moved_twice_is_moved}
 use Rattle.bcder.proofs.Entering.{looked_moves, looked_failed, no_fewer, grew_least}
@@ -16,7 +16,7 @@ returns-else-found-all-clause-moves g c =
     let j = of_constructed g.S.Source.stream c.ask.new.self in
     let s = c.ask.ensures.same in
     moved_twice_is_moved _ _ _ (looked_moves i j s (no_fewer _ _ c.in-Ok.ensures.no_fault))
-    (moves_primitive j _ (header c.args.header) c.args.size c.in-Some.all c.in-Some.ensures (looked_read i j _ _ s c.requires.read.1) c.pass_over.ensures.octets c.pass_over.ensures.within c.pass_over.ensures.advances (s.state ∙ c.requires.usable) (c.pass_over.ensures.state ∙ s.state ∙ c.requires.usable) c.pass_over.ensures.marked)
+    (moves_primitive j _ (header_of c.args.header) c.args.size c.in-Some.all c.in-Some.ensures (looked_read i j _ _ s c.requires.read.1) c.pass_over.ensures.octets c.pass_over.ensures.within c.pass_over.ensures.advances (s.state ∙ c.requires.usable) (c.pass_over.ensures.state ∙ s.state ∙ c.requires.usable) c.pass_over.ensures.marked)
 
 pub returns-else-found-all-clause-passed : goal.returns-else-found-all-clause-passed
 unfolding of_constructed
@@ -25,7 +25,7 @@ returns-else-found-all-clause-passed g c =
     let j = of_constructed g.S.Source.stream c.ask.new.self in
     let s = c.ask.ensures.same in
     record {
-      passed = λ _. looked_passes i j _ s (passes_primitive j _ (header c.args.header) c.args.size c.in-Some.all c.in-Some.ensures (looked_read i j _ _ s c.requires.read.1) c.pass_over.ensures.octets c.pass_over.ensures.within c.pass_over.ensures.advances (s.state ∙ c.requires.usable) (c.pass_over.ensures.state ∙ s.state ∙ c.requires.usable));
+      passed = λ _. looked_passes i j _ s (passes_primitive j _ (header_of c.args.header) c.args.size c.in-Some.all c.in-Some.ensures (looked_read i j _ _ s c.requires.read.1) c.pass_over.ensures.octets c.pass_over.ensures.within c.pass_over.ensures.advances (s.state ∙ c.requires.usable) (c.pass_over.ensures.state ∙ s.state ∙ c.requires.usable));
       same = search rules;
       no_fault = c.pass_over.ensures.no_fault ∙ c.in-Ok.ensures.no_fault;
       fault = search rules;

@@ -1,7 +1,7 @@
 use Rattle.std.proofs.Common.{refl}
 use Rattle.bcder.specs.calls.Cause.{cause_of}
 use Rattle.bcder.specs.steps.StopCause.{stop_cause}
-use Rattle.bcder.specs.steps.Peek.{header}
+use Rattle.bcder.specs.steps.Peek.{header_of}
 use Rattle.bcder.specs.steps.Stacked.{source_of, limit_in}
 use Rattle.bcder.specs.calls.Views.{of_constructed}
 use Rattle.bcder.proofs.Names.{within_constructed}
@@ -16,25 +16,25 @@ pub skip_content-requires-clause-allowed : goal.skip_content-requires-clause-all
 unfolding of_constructed
 skip_content-requires-clause-allowed g c =
     let e = rw c.in-Ok-Some.field-0-is at c.in-Ok-Some.ensures.entered in
-    allowed_entered (of_constructed g.S.Source.stream c.args.self.now) (header c.in-Ok-Some.header) (of_constructed g.S.Source.stream c.next_header.new.self) e.1
+    allowed_entered (of_constructed g.S.Source.stream c.args.self.now) (header_of c.in-Ok-Some.header) (of_constructed g.S.Source.stream c.next_header.new.self) e.1
 
 pub skip_content-requires-clause-fits : goal.skip_content-requires-clause-fits
 unfolding of_constructed
 skip_content-requires-clause-fits g c =
     let e = rw c.in-Ok-Some.field-0-is at c.in-Ok-Some.ensures.entered in
-    entered_fits (of_constructed g.S.Source.stream c.args.self.now) (of_constructed g.S.Source.stream c.next_header.new.self) (header c.in-Ok-Some.header) _ refl e.1
+    entered_fits (of_constructed g.S.Source.stream c.args.self.now) (of_constructed g.S.Source.stream c.next_header.new.self) (header_of c.in-Ok-Some.header) _ refl e.1
 
 pub skip_octets-requires-clause-allowed : goal.skip_octets-requires-clause-allowed
 unfolding of_constructed
 skip_octets-requires-clause-allowed g c =
     let e = rw c.in-Ok-Some.field-0-is at c.in-Ok-Some.ensures.entered in
-    allowed_entered (of_constructed g.S.Source.stream c.args.self.now) (header c.in-Ok-Some.header) (of_constructed g.S.Source.stream c.next_header.new.self) e.1
+    allowed_entered (of_constructed g.S.Source.stream c.args.self.now) (header_of c.in-Ok-Some.header) (of_constructed g.S.Source.stream c.next_header.new.self) e.1
 
 pub skip_octets-requires-clause-fits : goal.skip_octets-requires-clause-fits
 unfolding of_constructed
 skip_octets-requires-clause-fits g c =
     let e = rw c.in-Ok-Some.field-0-is at c.in-Ok-Some.ensures.entered in
-    entered_fits (of_constructed g.S.Source.stream c.args.self.now) (of_constructed g.S.Source.stream c.next_header.new.self) (header c.in-Ok-Some.header) _ refl e.1
+    entered_fits (of_constructed g.S.Source.stream c.args.self.now) (of_constructed g.S.Source.stream c.next_header.new.self) (header_of c.in-Ok-Some.header) _ refl e.1
 
 pub returns-then-not-header-clause-moves : goal.returns-then-not-header-clause-moves
 unfolding of_constructed
@@ -55,28 +55,28 @@ unfolding of_constructed
 returns-in-Ok-clause-moves g c =
     let e = rw c.in-Ok-Some.field-0-is at c.in-Ok-Some.ensures.entered in
     let w = within_constructed g.S.Source.stream g.met.S.Source.sound c.args.self.now in
-    behind_moved (of_constructed g.S.Source.stream c.args.self.now) (of_constructed g.S.Source.stream c.next_header.new.self) _ (header c.in-Ok-Some.header) c.next_header.new.self.mode (source_of g.S.Source.stream c.next_header.new.self) (g.S.Source.stream c.skip_content.new.source.source) (limit_in c.next_header.new.self) c.skip_content.new.source.limit (record { enters = e.1; octets = w.octets; fits = w.fits }) refl refl refl refl refl refl refl refl refl _ c.args.op.now c.skip_content.new.op _ c.in-Ok.ensures refl
+    behind_moved (of_constructed g.S.Source.stream c.args.self.now) (of_constructed g.S.Source.stream c.next_header.new.self) _ (header_of c.in-Ok-Some.header) c.next_header.new.self.mode (source_of g.S.Source.stream c.next_header.new.self) (g.S.Source.stream c.skip_content.new.source.source) (limit_in c.next_header.new.self) c.skip_content.new.source.limit (record { enters = e.1; octets = w.octets; fits = w.fits }) refl refl refl refl refl refl refl refl refl _ c.args.op.now c.skip_content.new.op _ c.in-Ok.ensures refl
 
 pub returns-in-Ok-clause-skipped : goal.returns-in-Ok-clause-skipped
 unfolding of_constructed
 returns-in-Ok-clause-skipped g c =
     let e = rw c.in-Ok-Some.field-0-is at c.in-Ok-Some.ensures.entered in
     let w = within_constructed g.S.Source.stream g.met.S.Source.sound c.args.self.now in
-    behind_passed (of_constructed g.S.Source.stream c.args.self.now) (of_constructed g.S.Source.stream c.next_header.new.self) _ (header c.in-Ok-Some.header) c.next_header.new.self.mode (source_of g.S.Source.stream c.next_header.new.self) (g.S.Source.stream c.skip_content.new.source.source) (limit_in c.next_header.new.self) c.skip_content.new.source.limit (record { enters = e.1; octets = w.octets; fits = w.fits }) refl refl refl refl refl refl refl refl refl _ c.args.op.now c.skip_content.new.op cause_of _ _ c.in-Ok.ensures refl
+    behind_passed (of_constructed g.S.Source.stream c.args.self.now) (of_constructed g.S.Source.stream c.next_header.new.self) _ (header_of c.in-Ok-Some.header) c.next_header.new.self.mode (source_of g.S.Source.stream c.next_header.new.self) (g.S.Source.stream c.skip_content.new.source.source) (limit_in c.next_header.new.self) c.skip_content.new.source.limit (record { enters = e.1; octets = w.octets; fits = w.fits }) refl refl refl refl refl refl refl refl refl _ c.args.op.now c.skip_content.new.op cause_of _ _ c.in-Ok.ensures refl
 
 pub returns-in-Err-skip_content-clause-moves : goal.returns-in-Err-skip_content-clause-moves
 unfolding of_constructed
 returns-in-Err-skip_content-clause-moves g c =
     let e = rw c.in-Ok-Some.field-0-is at c.in-Ok-Some.ensures.entered in
     let w = within_constructed g.S.Source.stream g.met.S.Source.sound c.args.self.now in
-    behind_stopped (of_constructed g.S.Source.stream c.args.self.now) (of_constructed g.S.Source.stream c.next_header.new.self) _ (header c.in-Ok-Some.header) c.next_header.new.self.mode (source_of g.S.Source.stream c.next_header.new.self) (g.S.Source.stream c.skip_content.new.source.source) (limit_in c.next_header.new.self) c.skip_content.new.source.limit (record { enters = e.1; octets = w.octets; fits = w.fits }) refl refl refl refl refl refl refl refl refl _ c.args.op.now c.skip_content.new.op cause_of c.in-Err-skip_content.halt c.halted.result refl c.halted.ensures.content c.halted.ensures.source c.halted.ensures.memory c.halted.ensures.closure c.in-Err-skip_content.ensures
+    behind_stopped (of_constructed g.S.Source.stream c.args.self.now) (of_constructed g.S.Source.stream c.next_header.new.self) _ (header_of c.in-Ok-Some.header) c.next_header.new.self.mode (source_of g.S.Source.stream c.next_header.new.self) (g.S.Source.stream c.skip_content.new.source.source) (limit_in c.next_header.new.self) c.skip_content.new.source.limit (record { enters = e.1; octets = w.octets; fits = w.fits }) refl refl refl refl refl refl refl refl refl _ c.args.op.now c.skip_content.new.op cause_of c.in-Err-skip_content.halt c.halted.result refl c.halted.ensures.content c.halted.ensures.source c.halted.ensures.memory c.halted.ensures.closure c.in-Err-skip_content.ensures
 
 pub returns-in-Err-skip_content-clause-skipped : goal.returns-in-Err-skip_content-clause-skipped
 unfolding of_constructed
 returns-in-Err-skip_content-clause-skipped g c =
     let e = rw c.in-Ok-Some.field-0-is at c.in-Ok-Some.ensures.entered in
     let w = within_constructed g.S.Source.stream g.met.S.Source.sound c.args.self.now in
-    behind_refused (of_constructed g.S.Source.stream c.args.self.now) (of_constructed g.S.Source.stream c.next_header.new.self) _ (header c.in-Ok-Some.header) c.next_header.new.self.mode (source_of g.S.Source.stream c.next_header.new.self) (g.S.Source.stream c.skip_content.new.source.source) (limit_in c.next_header.new.self) c.skip_content.new.source.limit (record { enters = e.1; octets = w.octets; fits = w.fits }) refl refl refl refl refl refl refl refl refl _ c.args.op.now c.skip_content.new.op cause_of c.in-Err-skip_content.halt c.halted.result refl c.halted.ensures.content c.halted.ensures.source c.halted.ensures.memory c.halted.ensures.closure c.in-Err-skip_content.ensures
+    behind_refused (of_constructed g.S.Source.stream c.args.self.now) (of_constructed g.S.Source.stream c.next_header.new.self) _ (header_of c.in-Ok-Some.header) c.next_header.new.self.mode (source_of g.S.Source.stream c.next_header.new.self) (g.S.Source.stream c.skip_content.new.source.source) (limit_in c.next_header.new.self) c.skip_content.new.source.limit (record { enters = e.1; octets = w.octets; fits = w.fits }) refl refl refl refl refl refl refl refl refl _ c.args.op.now c.skip_content.new.op cause_of c.in-Err-skip_content.halt c.halted.result refl c.halted.ensures.content c.halted.ensures.source c.halted.ensures.memory c.halted.ensures.closure c.in-Err-skip_content.ensures
 
 pub returns-in-Ok-None-clause-moves : goal.returns-in-Ok-None-clause-moves
 returns-in-Ok-None-clause-moves g c =

@@ -3,38 +3,38 @@ use Rattle.std.specs.Prelude.{Some}
 use Rattle.bcder.specs.calls.Cause.{cause_of}
 use Rattle.bcder.specs.steps.StopCause.{stop_cause}
 use Rattle.bcder.specs.calls.Content.{any}
-use Rattle.bcder.specs.steps.Peek.{header}
+use Rattle.bcder.specs.steps.Peek.{header_of}
 use Rattle.bcder.specs.calls.Views.{of_constructed}
 use Rattle.bcder.specs.laws.Moved.{moved_carries}
 use Rattle.bcder.proofs.Stopping.{header_stopped}
 use Rattle.bcder.proofs.Taking.{takes_next, moves_next, next_none, next_refused, inside_entered}
 use Rattle.bcder.proofs.decode.content.Constructed.take_opt_constructed.Goals as goal
 
-pub values_behind-requires-clause-callable : goal.values_behind-requires-clause-callable
-values_behind-requires-clause-callable g c p i =
+pub take_constructed_body-requires-clause-callable : goal.take_constructed_body-requires-clause-callable
+take_constructed_body-requires-clause-callable g c p i =
     let e = rw c.in-Ok-Some.field-0-is at c.in-Ok-Some.ensures.entered in
     c.requires.callable _ p (inside_entered (of_constructed g.S.Source.stream c.args.self.now) _ _ _ any e.0 e.1 i)
 
-pub values_behind-requires-clause-lawful : goal.values_behind-requires-clause-lawful
-values_behind-requires-clause-lawful g c p r q i d =
+pub take_constructed_body-requires-clause-lawful : goal.take_constructed_body-requires-clause-lawful
+take_constructed_body-requires-clause-lawful g c p r q i d =
     let e = rw c.in-Ok-Some.field-0-is at c.in-Ok-Some.ensures.entered in
     c.requires.lawful _ p r q (inside_entered (of_constructed g.S.Source.stream c.args.self.now) _ _ _ any e.0 e.1 i) d
 
-pub values_behind-requires-clause-fits : goal.values_behind-requires-clause-fits
+pub take_constructed_body-requires-clause-fits : goal.take_constructed_body-requires-clause-fits
 unfolding of_constructed
-values_behind-requires-clause-fits g c =
+take_constructed_body-requires-clause-fits g c =
     let e = rw c.in-Ok-Some.field-0-is at c.in-Ok-Some.ensures.entered in
     e.1.fits
 
 pub returns-in-Ok-Some-clause-moves : goal.returns-in-Ok-Some-clause-moves
 returns-in-Ok-Some-clause-moves g c =
     let e = rw c.in-Ok-Some.field-0-is at c.in-Ok-Some.ensures.entered in
-    moved_carries _ _ (moves_next (of_constructed g.S.Source.stream) _ (Some false) any (of_constructed g.S.Source.stream c.args.self.now) _ _ (header c.in-Ok-Some.header) e.0 e.1 _ c.values_behind.ensures)
+    moved_carries _ _ (moves_next (of_constructed g.S.Source.stream) _ (Some false) any (of_constructed g.S.Source.stream c.args.self.now) _ _ (header_of c.in-Ok-Some.header) e.0 e.1 _ c.take_constructed_body.ensures)
 
 pub returns-in-Ok-Some-clause-took : goal.returns-in-Ok-Some-clause-took
 returns-in-Ok-Some-clause-took g c =
     let e = rw c.in-Ok-Some.field-0-is at c.in-Ok-Some.ensures.entered in
-    takes_next (of_constructed g.S.Source.stream) _ (Some false) any (of_constructed g.S.Source.stream c.args.self.now) _ _ (header c.in-Ok-Some.header) e.0 e.1 _ c.values_behind.ensures
+    takes_next (of_constructed g.S.Source.stream) _ (Some false) any (of_constructed g.S.Source.stream c.args.self.now) _ _ (header_of c.in-Ok-Some.header) e.0 e.1 _ c.take_constructed_body.ensures
 
 pub returns-in-Ok-None-clause-moves : goal.returns-in-Ok-None-clause-moves
 returns-in-Ok-None-clause-moves g c = moved_carries _ _ c.next_header.ensures.moves

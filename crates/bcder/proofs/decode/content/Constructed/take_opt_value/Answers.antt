@@ -2,44 +2,44 @@ use Rattle.std.specs.Prelude.{None}
 use Rattle.bcder.specs.calls.Cause.{cause_of}
 use Rattle.bcder.specs.steps.StopCause.{stop_cause}
 use Rattle.bcder.specs.calls.Content.{any}
-use Rattle.bcder.specs.steps.Peek.{header}
+use Rattle.bcder.specs.steps.Peek.{header_of}
 use Rattle.bcder.specs.calls.Views.{of_constructed, of_content}
 use Rattle.bcder.specs.laws.Moved.{moved_carries}
 use Rattle.bcder.proofs.Stopping.{header_stopped}
 use Rattle.bcder.proofs.Taking.{takes_next, moves_next, next_none, next_refused, inside_entered, allowed_entered}
 use Rattle.bcder.proofs.decode.content.Constructed.take_opt_value.Goals as goal
 
-pub content_behind-requires-clause-callable : goal.content_behind-requires-clause-callable
-content_behind-requires-clause-callable g c p i =
+pub take_body-requires-clause-callable : goal.take_body-requires-clause-callable
+take_body-requires-clause-callable g c p i =
     let e = rw c.in-Ok-Some.field-0-is at c.in-Ok-Some.ensures.entered in
     c.requires.callable _ p (inside_entered (of_constructed g.S.Source.stream c.args.self.now) _ _ _ any e.0 e.1 i)
 
-pub content_behind-requires-clause-lawful : goal.content_behind-requires-clause-lawful
-content_behind-requires-clause-lawful g c p r q i d =
+pub take_body-requires-clause-lawful : goal.take_body-requires-clause-lawful
+take_body-requires-clause-lawful g c p r q i d =
     let e = rw c.in-Ok-Some.field-0-is at c.in-Ok-Some.ensures.entered in
     c.requires.lawful _ p r q (inside_entered (of_constructed g.S.Source.stream c.args.self.now) _ _ _ any e.0 e.1 i) d
 
-pub content_behind-requires-clause-allowed : goal.content_behind-requires-clause-allowed
+pub take_body-requires-clause-allowed : goal.take_body-requires-clause-allowed
 unfolding of_constructed
-content_behind-requires-clause-allowed g c =
+take_body-requires-clause-allowed g c =
     let e = rw c.in-Ok-Some.field-0-is at c.in-Ok-Some.ensures.entered in
-    allowed_entered (of_constructed g.S.Source.stream c.args.self.now) (header c.in-Ok-Some.header) _ e.1
+    allowed_entered (of_constructed g.S.Source.stream c.args.self.now) (header_of c.in-Ok-Some.header) _ e.1
 
-pub content_behind-requires-clause-fits : goal.content_behind-requires-clause-fits
+pub take_body-requires-clause-fits : goal.take_body-requires-clause-fits
 unfolding of_constructed
-content_behind-requires-clause-fits g c =
+take_body-requires-clause-fits g c =
     let e = rw c.in-Ok-Some.field-0-is at c.in-Ok-Some.ensures.entered in
     e.1.fits
 
 pub returns-in-Ok-Some-clause-moves : goal.returns-in-Ok-Some-clause-moves
 returns-in-Ok-Some-clause-moves g c =
     let e = rw c.in-Ok-Some.field-0-is at c.in-Ok-Some.ensures.entered in
-    moved_carries _ _ (moves_next (of_content g.S.Source.stream) _ None any (of_constructed g.S.Source.stream c.args.self.now) _ _ (header c.in-Ok-Some.header) e.0 e.1 _ c.content_behind.ensures)
+    moved_carries _ _ (moves_next (of_content g.S.Source.stream) _ None any (of_constructed g.S.Source.stream c.args.self.now) _ _ (header_of c.in-Ok-Some.header) e.0 e.1 _ c.take_body.ensures)
 
 pub returns-in-Ok-Some-clause-took : goal.returns-in-Ok-Some-clause-took
 returns-in-Ok-Some-clause-took g c =
     let e = rw c.in-Ok-Some.field-0-is at c.in-Ok-Some.ensures.entered in
-    takes_next (of_content g.S.Source.stream) _ None any (of_constructed g.S.Source.stream c.args.self.now) _ _ (header c.in-Ok-Some.header) e.0 e.1 _ c.content_behind.ensures
+    takes_next (of_content g.S.Source.stream) _ None any (of_constructed g.S.Source.stream c.args.self.now) _ _ (header_of c.in-Ok-Some.header) e.0 e.1 _ c.take_body.ensures
 
 pub returns-in-Ok-None-clause-moves : goal.returns-in-Ok-None-clause-moves
 returns-in-Ok-None-clause-moves g c = moved_carries _ _ c.next_header.ensures.moves

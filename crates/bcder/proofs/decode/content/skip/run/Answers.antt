@@ -1,6 +1,6 @@
 use Rattle.std.proofs.Common.{reverse, ◌∙◌, sym, ap, refl, arith, length, subst, []}
 use denote.Param.Always.{mut_next}
-use Rattle.bcder.specs.steps.Peek.{header}
+use Rattle.bcder.specs.steps.Peek.{header_of}
 use Rattle.bcder.specs.laws.Moved.{moved_keeps_kind}
 use Rattle.bcder.proofs.Entering.{kind_of}
 use Rattle.bcder.specs.steps.Stacked.{TopIs, around, entries, source_of, limit_in}
@@ -39,7 +39,7 @@ unfolding of_constructed
 unwind-requires g c =
     let i = c.loop-opened.invariant in
     let e = rw c.in-Ok-Some.field-0-is at c.in-Ok-Some.ensures.entered in
-    let m = met_entered (source_of g.S.Source.stream c.loop-opened.cons) (source_of g.S.Source.stream c.next_header.new.self) (limit_in c.loop-opened.cons) (limit_in c.next_header.new.self) (of_constructed g.S.Source.stream c.loop-opened.cons) (of_constructed g.S.Source.stream c.next_header.new.self) refl refl refl refl c.args.cons.now.mode (header c.args.outermost) (source_of g.S.Source.stream c.args.cons.now) (limit_in c.args.cons.now) i.went.0 (entries c.loop-opened.opened) i.mode (within_constructed g.S.Source.stream g.met.S.Source.sound c.loop-opened.cons) (some_entry c.loop-opened.opened i.counted c.loop-opened-test.true) i.went.2 (header c.in-Ok-Some.header) e.1 in
+    let m = met_entered (source_of g.S.Source.stream c.loop-opened.cons) (source_of g.S.Source.stream c.next_header.new.self) (limit_in c.loop-opened.cons) (limit_in c.next_header.new.self) (of_constructed g.S.Source.stream c.loop-opened.cons) (of_constructed g.S.Source.stream c.next_header.new.self) refl refl refl refl c.args.cons.now.mode (header_of c.args.outermost) (source_of g.S.Source.stream c.args.cons.now) (limit_in c.args.cons.now) i.went.0 (entries c.loop-opened.opened) i.mode (within_constructed g.S.Source.stream g.met.S.Source.sound c.loop-opened.cons) (some_entry c.loop-opened.opened i.counted c.loop-opened-test.true) i.went.2 (header_of c.in-Ok-Some.header) e.1 in
     frames_count c.loop-opened.opened _ _ (out_counts _ _ _ _ _ _ _ _ _ _ _ _ m refl refl i.outer c.owed-outer.ensures.range)
 
 pub returns-in-Err-op-clause-ran : goal.returns-in-Err-op-clause-ran
@@ -47,7 +47,7 @@ unfolding of_constructed
 returns-in-Err-op-clause-ran g c =
     let i = c.loop-opened.invariant in
     let e = rw c.in-Ok-Some.field-0-is at c.in-Ok-Some.ensures.entered in
-    let m = met_entered (source_of g.S.Source.stream c.loop-opened.cons) (source_of g.S.Source.stream c.next_header.new.self) (limit_in c.loop-opened.cons) (limit_in c.next_header.new.self) (of_constructed g.S.Source.stream c.loop-opened.cons) (of_constructed g.S.Source.stream c.next_header.new.self) refl refl refl refl c.args.cons.now.mode (header c.args.outermost) (source_of g.S.Source.stream c.args.cons.now) (limit_in c.args.cons.now) i.went.0 (entries c.loop-opened.opened) i.mode (within_constructed g.S.Source.stream g.met.S.Source.sound c.loop-opened.cons) (some_entry c.loop-opened.opened i.counted c.loop-opened-test.true) i.went.2 (header c.in-Ok-Some.header) e.1 in
+    let m = met_entered (source_of g.S.Source.stream c.loop-opened.cons) (source_of g.S.Source.stream c.next_header.new.self) (limit_in c.loop-opened.cons) (limit_in c.next_header.new.self) (of_constructed g.S.Source.stream c.loop-opened.cons) (of_constructed g.S.Source.stream c.next_header.new.self) refl refl refl refl c.args.cons.now.mode (header_of c.args.outermost) (source_of g.S.Source.stream c.args.cons.now) (limit_in c.args.cons.now) i.went.0 (entries c.loop-opened.opened) i.mode (within_constructed g.S.Source.stream g.met.S.Source.sound c.loop-opened.cons) (some_entry c.loop-opened.opened i.counted c.loop-opened-test.true) i.went.2 (header_of c.in-Ok-Some.header) e.1 in
     stayed_out _ _ _ _ _ _ _ _ _ _ (record { calls = i.went.0; called = i.went.1; under = i.went.2; no_fault = i.no_fault }) _ _ _ m c.in-Ok-Some.ensures.no_fault (entered_fits _ _ _ _ refl e.1) _ _ (entries c.loop-opened.opened) _ _ _ _ (visited_refused _ _ (entries c.loop-opened.opened) _ _ _ _ _ (rw i.counted.depth at c.in-Err-op.ensures)) (ap g.S.Source.stream c.unwind.ensures.source) (frames_unwound c.loop-opened.opened _ _ c.unwind.ensures.limit)
 
 pub returns-in-Err-op-clause-name : goal.returns-in-Err-op-clause-name
@@ -58,20 +58,20 @@ pub go_into-requires-in-Ok-Some-clause-allowed : goal.go_into-requires-in-Ok-Som
 unfolding of_constructed
 go_into-requires-in-Ok-Some-clause-allowed g c =
     let e = rw c.in-Ok-Some.field-0-is at c.in-Ok-Some.ensures.entered in
-    allowed_entered (of_constructed g.S.Source.stream c.loop-opened.cons) (header c.in-Ok-Some.header) (of_constructed g.S.Source.stream c.next_header.new.self) e.1
+    allowed_entered (of_constructed g.S.Source.stream c.loop-opened.cons) (header_of c.in-Ok-Some.header) (of_constructed g.S.Source.stream c.next_header.new.self) e.1
 
 pub go_into-requires-in-Ok-Some-clause-fits : goal.go_into-requires-in-Ok-Some-clause-fits
 unfolding of_constructed
 go_into-requires-in-Ok-Some-clause-fits g c =
     let e = rw c.in-Ok-Some.field-0-is at c.in-Ok-Some.ensures.entered in
-    entered_fits (of_constructed g.S.Source.stream c.loop-opened.cons) (of_constructed g.S.Source.stream c.next_header.new.self) (header c.in-Ok-Some.header) _ refl e.1
+    entered_fits (of_constructed g.S.Source.stream c.loop-opened.cons) (of_constructed g.S.Source.stream c.next_header.new.self) (header_of c.in-Ok-Some.header) _ refl e.1
 
 pub unwind-requires-in-Err-go_into-2 : goal.unwind-requires-in-Err-go_into-2
 unfolding of_constructed
 unwind-requires-in-Err-go_into-2 g c =
     let i = c.loop-opened.invariant in
     let e = rw c.in-Ok-Some.field-0-is at c.in-Ok-Some.ensures.entered in
-    let m = met_entered (source_of g.S.Source.stream c.loop-opened.cons) (source_of g.S.Source.stream c.next_header.new.self) (limit_in c.loop-opened.cons) (limit_in c.next_header.new.self) (of_constructed g.S.Source.stream c.loop-opened.cons) (of_constructed g.S.Source.stream c.next_header.new.self) refl refl refl refl c.args.cons.now.mode (header c.args.outermost) (source_of g.S.Source.stream c.args.cons.now) (limit_in c.args.cons.now) i.went.0 (entries c.loop-opened.opened) i.mode (within_constructed g.S.Source.stream g.met.S.Source.sound c.loop-opened.cons) (some_entry c.loop-opened.opened i.counted c.loop-opened-test.true) i.went.2 (header c.in-Ok-Some.header) e.1 in
+    let m = met_entered (source_of g.S.Source.stream c.loop-opened.cons) (source_of g.S.Source.stream c.next_header.new.self) (limit_in c.loop-opened.cons) (limit_in c.next_header.new.self) (of_constructed g.S.Source.stream c.loop-opened.cons) (of_constructed g.S.Source.stream c.next_header.new.self) refl refl refl refl c.args.cons.now.mode (header_of c.args.outermost) (source_of g.S.Source.stream c.args.cons.now) (limit_in c.args.cons.now) i.went.0 (entries c.loop-opened.opened) i.mode (within_constructed g.S.Source.stream g.met.S.Source.sound c.loop-opened.cons) (some_entry c.loop-opened.opened i.counted c.loop-opened-test.true) i.went.2 (header_of c.in-Ok-Some.header) e.1 in
     let z = c.in-Err-go_into-2.ensures.gone in
     frames_count c.go_into-in-Ok-Some.new.opened _ _ (out_counts _ _ _ _ _ _ _ _ _ _ _ _ m z.entries z.limit i.outer c.owed-outer.ensures.range)
 
@@ -80,7 +80,7 @@ unfolding of_constructed
 returns-in-Err-go_into-2-clause-ran g c =
     let i = c.loop-opened.invariant in
     let e = rw c.in-Ok-Some.field-0-is at c.in-Ok-Some.ensures.entered in
-    let m = met_entered (source_of g.S.Source.stream c.loop-opened.cons) (source_of g.S.Source.stream c.next_header.new.self) (limit_in c.loop-opened.cons) (limit_in c.next_header.new.self) (of_constructed g.S.Source.stream c.loop-opened.cons) (of_constructed g.S.Source.stream c.next_header.new.self) refl refl refl refl c.args.cons.now.mode (header c.args.outermost) (source_of g.S.Source.stream c.args.cons.now) (limit_in c.args.cons.now) i.went.0 (entries c.loop-opened.opened) i.mode (within_constructed g.S.Source.stream g.met.S.Source.sound c.loop-opened.cons) (some_entry c.loop-opened.opened i.counted c.loop-opened-test.true) i.went.2 (header c.in-Ok-Some.header) e.1 in
+    let m = met_entered (source_of g.S.Source.stream c.loop-opened.cons) (source_of g.S.Source.stream c.next_header.new.self) (limit_in c.loop-opened.cons) (limit_in c.next_header.new.self) (of_constructed g.S.Source.stream c.loop-opened.cons) (of_constructed g.S.Source.stream c.next_header.new.self) refl refl refl refl c.args.cons.now.mode (header_of c.args.outermost) (source_of g.S.Source.stream c.args.cons.now) (limit_in c.args.cons.now) i.went.0 (entries c.loop-opened.opened) i.mode (within_constructed g.S.Source.stream g.met.S.Source.sound c.loop-opened.cons) (some_entry c.loop-opened.opened i.counted c.loop-opened-test.true) i.went.2 (header_of c.in-Ok-Some.header) e.1 in
     stayed_out _ _ _ _ _ _ _ _ _ _ (record { calls = i.went.0; called = i.went.1; under = i.went.2; no_fault = i.no_fault }) _ _ _ m c.in-Ok-Some.ensures.no_fault (entered_fits _ _ _ _ refl e.1) _ _ (entries c.go_into-in-Ok-Some.new.opened) _ _ _ _ (visited_barred _ _ (entries c.loop-opened.opened) _ _ _ _ (entries c.go_into-in-Ok-Some.new.opened) _ _ (rw i.counted.depth at c.in_default-op.ensures) _ c.in-Err-go_into-2.ensures.gone) (ap g.S.Source.stream c.unwind-in-Err-go_into-2.ensures.source) (frames_unwound c.go_into-in-Ok-Some.new.opened _ _ c.unwind-in-Err-go_into-2.ensures.limit)
 
 pub returns-in-Err-go_into-2-clause-name : goal.returns-in-Err-go_into-2-clause-name
@@ -91,7 +91,7 @@ pub loop-opened-smaller-in_default-go_into-2 : goal.loop-opened-smaller-in_defau
 unfolding of_constructed
 loop-opened-smaller-in_default-go_into-2 g c =
     let e = rw c.in-Ok-Some.field-0-is at c.in-Ok-Some.ensures.entered in
-    let l = entered_shorter (source_of g.S.Source.stream c.loop-opened.cons) (source_of g.S.Source.stream c.next_header.new.self) (limit_in c.loop-opened.cons) (limit_in c.next_header.new.self) (of_constructed g.S.Source.stream c.loop-opened.cons) (of_constructed g.S.Source.stream c.next_header.new.self) refl refl refl refl (header c.in-Ok-Some.header) (entries c.loop-opened.opened) (entries c.go_into-in-Ok-Some.new.opened) (source_of g.S.Source.stream c.go_into-in-Ok-Some.new.cons) _ e.1 c.in_default-go_into-2.ensures.gone.goes in
+    let l = entered_shorter (source_of g.S.Source.stream c.loop-opened.cons) (source_of g.S.Source.stream c.next_header.new.self) (limit_in c.loop-opened.cons) (limit_in c.next_header.new.self) (of_constructed g.S.Source.stream c.loop-opened.cons) (of_constructed g.S.Source.stream c.next_header.new.self) refl refl refl refl (header_of c.in-Ok-Some.header) (entries c.loop-opened.opened) (entries c.go_into-in-Ok-Some.new.opened) (source_of g.S.Source.stream c.go_into-in-Ok-Some.new.cons) _ e.1 c.in_default-go_into-2.ensures.gone.goes in
     omega (arith, l, c.loop-opened.invariant.counted.depth, c.go_into-in-Ok-Some.ensures.counted.depth)
 
 pub loop-opened-preserved-in_default-go_into-2 : goal.loop-opened-preserved-in_default-go_into-2
@@ -99,7 +99,7 @@ unfolding of_constructed
 loop-opened-preserved-in_default-go_into-2 g c =
     let i = c.loop-opened.invariant in
     let e = rw c.in-Ok-Some.field-0-is at c.in-Ok-Some.ensures.entered in
-    let m = met_entered (source_of g.S.Source.stream c.loop-opened.cons) (source_of g.S.Source.stream c.next_header.new.self) (limit_in c.loop-opened.cons) (limit_in c.next_header.new.self) (of_constructed g.S.Source.stream c.loop-opened.cons) (of_constructed g.S.Source.stream c.next_header.new.self) refl refl refl refl c.args.cons.now.mode (header c.args.outermost) (source_of g.S.Source.stream c.args.cons.now) (limit_in c.args.cons.now) i.went.0 (entries c.loop-opened.opened) i.mode (within_constructed g.S.Source.stream g.met.S.Source.sound c.loop-opened.cons) (some_entry c.loop-opened.opened i.counted c.loop-opened-test.true) i.went.2 (header c.in-Ok-Some.header) e.1 in
+    let m = met_entered (source_of g.S.Source.stream c.loop-opened.cons) (source_of g.S.Source.stream c.next_header.new.self) (limit_in c.loop-opened.cons) (limit_in c.next_header.new.self) (of_constructed g.S.Source.stream c.loop-opened.cons) (of_constructed g.S.Source.stream c.next_header.new.self) refl refl refl refl c.args.cons.now.mode (header_of c.args.outermost) (source_of g.S.Source.stream c.args.cons.now) (limit_in c.args.cons.now) i.went.0 (entries c.loop-opened.opened) i.mode (within_constructed g.S.Source.stream g.met.S.Source.sound c.loop-opened.cons) (some_entry c.loop-opened.opened i.counted c.loop-opened-test.true) i.went.2 (header_of c.in-Ok-Some.header) e.1 in
     let w = went_in (F-step g) _ _ _ _ c.args.op.now _ c.loop-opened.op _ _ (record { calls = i.went.0; called = i.went.1; under = i.went.2; no_fault = i.no_fault }) _ _ _ m c.in-Ok-Some.ensures.no_fault (entered_fits _ _ _ _ refl e.1) _ _ (entries c.go_into-in-Ok-Some.new.opened) _ _ (visited_gone (F-step g) _ (entries c.loop-opened.opened) _ _ c.loop-opened.op c.op-in-Ok-Some.new.self (entries c.go_into-in-Ok-Some.new.opened) _ _ (rw i.counted.depth at c.in_default-op.ensures) _ _ c.in_default-go_into-2.ensures.gone) in
     record {
       callable = mut_next _ _ _ _ _ _ c.op-in-Ok-Some.ensures refl i.callable;
@@ -124,7 +124,7 @@ unfolding of_constructed
 loop-opened-preserved g c =
     let i = c.loop-opened.invariant in
     let n = rw c.in-Ok-None.field-0-is at c.in-Ok-None.ensures.none in
-    let u = went_out c.args.cons.now.mode (header c.args.outermost) (source_of g.S.Source.stream c.args.cons.now) (limit_in c.args.cons.now) i.went.0 (entries c.loop-opened.opened) (entries c.leave.new.opened) (source_of g.S.Source.stream c.loop-opened.cons) (source_of g.S.Source.stream c.next_header.new.self) (source_of g.S.Source.stream c.leave.new.cons) (limit_in c.loop-opened.cons) (limit_in c.next_header.new.self) (limit_in c.leave.new.cons) (of_constructed g.S.Source.stream c.loop-opened.cons) (of_constructed g.S.Source.stream c.next_header.new.self) c.loop-opened.cons.kind refl refl refl refl i.went.2 c.next_header.ensures.moves refl i.top i.state i.mode (within_constructed g.S.Source.stream g.met.S.Source.sound c.loop-opened.cons) n.missing.0 c.leave.ensures.leaves (ap g.S.Source.stream c.leave.ensures.source) in
+    let u = went_out c.args.cons.now.mode (header_of c.args.outermost) (source_of g.S.Source.stream c.args.cons.now) (limit_in c.args.cons.now) i.went.0 (entries c.loop-opened.opened) (entries c.leave.new.opened) (source_of g.S.Source.stream c.loop-opened.cons) (source_of g.S.Source.stream c.next_header.new.self) (source_of g.S.Source.stream c.leave.new.cons) (limit_in c.loop-opened.cons) (limit_in c.next_header.new.self) (limit_in c.leave.new.cons) (of_constructed g.S.Source.stream c.loop-opened.cons) (of_constructed g.S.Source.stream c.next_header.new.self) c.loop-opened.cons.kind refl refl refl refl i.went.2 c.next_header.ensures.moves refl i.top i.state i.mode (within_constructed g.S.Source.stream g.met.S.Source.sound c.loop-opened.cons) n.missing.0 c.leave.ensures.leaves (ap g.S.Source.stream c.leave.ensures.source) in
     record {
       callable = i.callable;
       counted = c.leave.ensures.counted;

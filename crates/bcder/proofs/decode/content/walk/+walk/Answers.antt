@@ -3,7 +3,7 @@ use Rattle.std.specs.Prelude.{Ok, Some}
 use Rattle.bcder.specs.steps.StopCause.{stop_cause}
 use Rattle.bcder.specs.calls.Content.{any, EndsAt, IsDone, values}
 use Rattle.bcder.specs.calls.Calls.{content}
-use Rattle.bcder.specs.steps.Peek.{header}
+use Rattle.bcder.specs.steps.Peek.{header_of}
 use Rattle.bcder.specs.calls.Walking.{PassesValue}
 use Rattle.bcder.specs.steps.WalkSteps.{itself, walked}
 use Rattle.bcder.specs.calls.Views.{of_constructed, limited_stream}
@@ -27,14 +27,14 @@ pub step-returns-in-Ok-clause-moves : goal.step-returns-in-Ok-clause-moves
 unfolding of_constructed
 step-returns-in-Ok-clause-moves g t c =
     let e = rw c.in-Ok-Entered.field-0-is at c.in-Ok-Entered.ensures.stepped.goes in
-    taken_moves (of_constructed g.S.Source.stream c.args.cons.now) (of_constructed g.S.Source.stream c.go_on.new.cons) (of_constructed g.S.Source.stream c.pass_content.new.cons) (header c.in-Ok-Entered.header) any refl e stop_cause itself (walked stop_cause) _ refl refl refl _ c.in-Ok.ensures.taken refl refl refl refl
+    taken_moves (of_constructed g.S.Source.stream c.args.cons.now) (of_constructed g.S.Source.stream c.go_on.new.cons) (of_constructed g.S.Source.stream c.pass_content.new.cons) (header_of c.in-Ok-Entered.header) any refl e stop_cause itself (walked stop_cause) _ refl refl refl _ c.in-Ok.ensures.taken refl refl refl refl
 
 pub step-returns-in-Ok-clause-passed : goal.step-returns-in-Ok-clause-passed
 unfolding of_constructed
 step-returns-in-Ok-clause-passed g t c =
     let e = rw c.in-Ok-Entered.field-0-is at c.in-Ok-Entered.ensures.stepped.goes in
     record {
-      value = walks_one stop_cause itself (walked stop_cause) (λ t p r q x. x) (of_constructed g.S.Source.stream c.args.cons.now) _ (Ok (Some _)) (taken_value (of_constructed g.S.Source.stream c.args.cons.now) (of_constructed g.S.Source.stream c.go_on.new.cons) (of_constructed g.S.Source.stream c.pass_content.new.cons) (header c.in-Ok-Entered.header) any refl e stop_cause itself (walked stop_cause) _ refl refl refl _ c.in-Ok.ensures.taken);
+      value = walks_one stop_cause itself (walked stop_cause) (λ t p r q x. x) (of_constructed g.S.Source.stream c.args.cons.now) _ (Ok (Some _)) (taken_value (of_constructed g.S.Source.stream c.args.cons.now) (of_constructed g.S.Source.stream c.go_on.new.cons) (of_constructed g.S.Source.stream c.pass_content.new.cons) (header_of c.in-Ok-Entered.header) any refl e stop_cause itself (walked stop_cause) _ refl refl refl _ c.in-Ok.ensures.taken);
       end = tt;
       done = tt;
       no_fault = c.in-Ok.ensures.no_fault ∙ c.in-Ok-Entered.ensures.stepped.no_fault;
@@ -48,7 +48,7 @@ pub step-returns-in-Err-pass_content-clause-moves : goal.step-returns-in-Err-pas
 unfolding of_constructed
 step-returns-in-Err-pass_content-clause-moves g t c =
     let e = rw c.in-Ok-Entered.field-0-is at c.in-Ok-Entered.ensures.stepped.goes in
-    refused_moves (of_constructed g.S.Source.stream c.args.cons.now) (of_constructed g.S.Source.stream c.go_on.new.cons) (of_constructed g.S.Source.stream c.pass_content.new.cons) (header c.in-Ok-Entered.header) any refl e stop_cause itself (walked stop_cause) _ c.in-Err-pass_content.ensures.taken
+    refused_moves (of_constructed g.S.Source.stream c.args.cons.now) (of_constructed g.S.Source.stream c.go_on.new.cons) (of_constructed g.S.Source.stream c.pass_content.new.cons) (header_of c.in-Ok-Entered.header) any refl e stop_cause itself (walked stop_cause) _ c.in-Err-pass_content.ensures.taken
 
 pub step-returns-in-Err-pass_content-clause-passed : goal.step-returns-in-Err-pass_content-clause-passed
 unfolding of_constructed
@@ -61,7 +61,7 @@ step-returns-in-Err-pass_content-clause-passed g t c =
       no_fault = tt;
       refused =
           step_refused stop_cause (of_constructed g.S.Source.stream c.args.cons.now) (of_constructed g.S.Source.stream c.pass_content.new.cons) _ (within_constructed g.S.Source.stream g.met.S.Source.sound c.args.cons.now)
-          (content (refused_front (of_constructed g.S.Source.stream c.args.cons.now) (of_constructed g.S.Source.stream c.go_on.new.cons) (of_constructed g.S.Source.stream c.pass_content.new.cons) (header c.in-Ok-Entered.header) any refl e stop_cause itself (walked stop_cause) _ c.in-Err-pass_content.ensures.taken));
+          (content (refused_front (of_constructed g.S.Source.stream c.args.cons.now) (of_constructed g.S.Source.stream c.go_on.new.cons) (of_constructed g.S.Source.stream c.pass_content.new.cons) (header_of c.in-Ok-Entered.header) any refl e stop_cause itself (walked stop_cause) _ c.in-Err-pass_content.ensures.taken));
       failed = c.pass_content.ensures.state ∙ e.opened;
       mode = c.pass_content.ensures.mode ∙ c.go_on.ensures.stepped.mode;
       marked = c.pass_content.ensures.marked ∙ c.go_on.ensures.stepped.marked;
@@ -83,7 +83,7 @@ step-returns-in-Err-clause-passed g t c = record {
 pub pass_content-returns-then-header-clause-taken : goal.pass_content-returns-then-header-clause-taken
 unfolding of_constructed
 pass_content-returns-then-header-clause-taken g t c =
-    takes_values stop_cause itself (walked stop_cause) (of_constructed g.S.Source.stream c.args.cons.now) _ (header c.args.header) _ refl refl refl refl false (or_none _ _ refl)
+    takes_values stop_cause itself (walked stop_cause) (of_constructed g.S.Source.stream c.args.cons.now) _ (header_of c.args.header) _ refl refl refl refl false (or_none _ _ refl)
     g.S.Source.stream c.in-Definite.len c.args.cons.now.source.now c.push-outer.new.source c.walk_over-result.new.source c.pop.new.source c.push-outer.result c.in-Definite.is
     refl refl c.push-outer.ensures.outer c.push-outer.ensures.limit c.push-outer.ensures.source c.pop.ensures.limit c.pop.ensures.source refl refl c.requires c.if-header.true (c.walk_over-result.ensures.ran c.args.header.tag)
 
@@ -92,14 +92,14 @@ unfolding of_constructed
 pass_content-returns-else-header-clause-taken g t c =
     let s = g.S.Source.stream c.args.cons.now.source.now.source in
     let x = g.S.Source.stream c.skip_owed.new.self.source in
-    skips stop_cause (of_constructed g.S.Source.stream c.args.cons.now) _ (header c.args.header) c.in-Definite.len s x c.args.cons.now.source.now.limit c.in-Definite.is c.if-header.false (rw c.in-Definite.is at c.requires) (g.met.S.Source.sound c.args.cons.now.source.now.source) refl refl refl refl refl refl refl
+    skips stop_cause (of_constructed g.S.Source.stream c.args.cons.now) _ (header_of c.args.header) c.in-Definite.len s x c.args.cons.now.source.now.limit c.in-Definite.is c.if-header.false (rw c.in-Definite.is at c.requires) (g.met.S.Source.sound c.args.cons.now.source.now.source) refl refl refl refl refl refl refl
     c.skip_owed.result c.skip_owed.new.self.limit refl refl c.skip_owed.ensures.limit c.skip_owed.ensures.enough c.skip_owed.ensures.rest c.skip_owed.ensures.no_fault (if_err c.skip_owed.result _ _ (λ e h. stop_reason _ _ e h) c.skip_owed.ensures.cause)
     c.skip_owed.ensures.err c.skip_owed.ensures.err_limit c.skip_owed.ensures.no_fewer c.skip_owed.ensures.kept
 
 pub pass_content-returns-in-Indefinite-clause-taken : goal.pass_content-returns-in-Indefinite-clause-taken
 unfolding of_constructed
 pass_content-returns-in-Indefinite-clause-taken g t c =
-    takes_marked stop_cause itself (walked stop_cause) (of_constructed g.S.Source.stream c.args.cons.now) _ (header c.args.header) _ refl refl refl refl false (or_none _ _ refl) c.in-Indefinite.is (c.walk_over.ensures.ran c.args.header.tag)
+    takes_marked stop_cause itself (walked stop_cause) (of_constructed g.S.Source.stream c.args.cons.now) _ (header_of c.args.header) _ refl refl refl refl false (or_none _ _ refl) c.in-Indefinite.is (c.walk_over.ensures.ran c.args.header.tag)
 
 pub walk_over-returns-clause-ran : goal.walk_over-returns-clause-ran
 unfolding of_constructed

@@ -18,12 +18,12 @@ returns-then-len-gt64 g c = λ one w meant.
     let (v, m, len_is) = c.requires.contents in
     let len_of = len_is ∙ ap length (same_ok _ one.same v w m meant) in
     let head = same_octets (ap (λ n. header c.args.tag false (Definite n)) len_of) c.in_ok-put_header.ensures in
-    follows_on head (same_answer c.kept.ensures (wrote_what _ one.same (λ x. x) _ w _ _ _ meant c.write_encoded.ensures))
+    follows_on head (same_answer c.store.ensures (wrote_what _ one.same (λ x. x) _ w _ _ _ meant c.write_encoded.ensures))
 
-pub returns-in_err-kept : goal.returns-in_err-kept
-returns-in_err-kept g c = λ one w meant.
-    let wrote = same_answer c.in_err-kept.ensures (wrote_what _ one.same (λ x. x) _ w _ _ _ meant c.write_encoded-2.ensures) in
-    halts _ c.from_residual-in_err-kept.ensures (elsewhere _ _ (definite_some c.args.tag false w) wrote)
+pub returns-in_err-store : goal.returns-in_err-store
+returns-in_err-store g c = λ one w meant.
+    let wrote = same_answer c.in_err-store.ensures (wrote_what _ one.same (λ x. x) _ w _ _ _ meant c.write_encoded-2.ensures) in
+    halts _ c.from_residual-in_err-store.ensures (elsewhere _ _ (definite_some c.args.tag false w) wrote)
 
 pub returns : goal.returns
 returns g c = λ one w meant.
@@ -32,6 +32,6 @@ returns g c = λ one w meant.
     let tag = c.spell.ensures.octets ∙ ap (λ l. l ++ identifier c.args.tag false) c.new-front.ensures.none in
     let head = c.spell-2.ensures.octets ∙ ap (λ l. l ++ length_octets (Definite c.args.len)) tag in
     let told = head ∙ ap (λ n. header c.args.tag false (Definite n)) len_of in
-    let wrote = same_answer c.in_ok-kept.ensures (wrote_what _ one.same (λ x. x) _ w _ _ _ meant c.write_encoded-2.ensures) in
+    let wrote = same_answer c.in_ok-store.ensures (wrote_what _ one.same (λ x. x) _ w _ _ _ meant c.write_encoded-2.ensures) in
     let all = c.as_slice.ensures ∙ wrote.done ∙ ap (λ l. l ++ w) told in
     lacks_more _ (λ h. absurd h) (same_octets all c.put_all.ensures)

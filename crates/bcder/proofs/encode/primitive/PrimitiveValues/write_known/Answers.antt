@@ -1,5 +1,5 @@
 use Rattle.std.proofs.Common.{length, ap, sym, arith, Err}
-use Rattle.bcder.specs.calls.Meaning.{octets_of}
+use Rattle.bcder.specs.calls.Meaning.{encoded_octets}
 use Rattle.bcder.proofs.Enclosing.{contents_of}
 use Rattle.bcder.proofs.Writing.{same_ok, same_octets, same_answer, lacked}
 use Rattle.bcder.proofs.encode.primitive.PrimitiveValues.write_known.Goals as goal
@@ -8,7 +8,7 @@ pub returns-in-Err : goal.returns-in-Err
 returns-in-Err g c = λ _ e meant.
     let one = (g.met.P.PrimitiveContent.lawful c.args.self.now.prim c.args.mode).one in
     let inside = contents_of c.args.self.now.tag _ e meant in
-    same_answer (ap Err c.refused.ensures) (lacked _ one.same inside.octets e.octets inside.meant c.in-Err.ensures)
+    same_answer (ap Err c.store_refusal.ensures) (lacked _ one.same inside.octets e.octets inside.meant c.in-Err.ensures)
 
 pub write_value-requires : goal.write_value-requires
 write_value-requires g c =
@@ -22,4 +22,4 @@ pub returns-in-Ok : goal.returns-in-Ok
 returns-in-Ok g c = λ _ e meant.
     let one = (g.met.P.PrimitiveContent.lawful c.args.self.now.prim c.args.mode).one in
     let inside = contents_of c.args.self.now.tag _ e meant in
-    same_octets (ap octets_of (sym inside.is)) (c.write_value.ensures one inside.octets inside.meant)
+    same_octets (ap encoded_octets (sym inside.is)) (c.write_value.ensures one inside.octets inside.meant)

@@ -1,7 +1,7 @@
 use Rattle.std.proofs.Common.{ap, sym, ◌∙◌, subst, length, drop, ◌++◌, ◌↔◌, List, ℕ, arith}
 use Rattle.std.proofs.lemmas.List.{length-append, length-drop}
 use Rattle.std.specs.List.{concat}
-use Rattle.bcder.specs.x690.CharSet.{Accepts}
+use Rattle.bcder.specs.x690.CharSet.{IsOfSet}
 use Rattle.bcder.specs.x690.Utf8.{utf8_step}
 use Rattle.bcder.specs.laws.Utf8.{utf8_lawful}
 use Rattle.bcder.proofs.CharSets.{went_on, went_shorter, stopped, at_end}
@@ -29,5 +29,5 @@ loop-rest-smaller c =
 pub loop-rest-preserved : goal.loop-rest-preserved
 loop-rest-preserved c =
     let passed = text_passed c.args.octets c.loop-rest.part.now (concat c.loop-rest.parts) c.from_parts-rest.result _ c.utf8_len-len.ensures.1 (c.from_parts-rest.ensures ∙ ap (λ (w : List ℕ). w ++ concat c.loop-rest.parts) c.split_at.ensures.back) c.loop-rest.invariant in
-    subst (λ (w : List ℕ). Accepts utf8_step c.args.octets ↔ Accepts utf8_step w) c.into_parts.ensures
+    subst (λ (w : List ℕ). IsOfSet utf8_step c.args.octets ↔ IsOfSet utf8_step w) c.into_parts.ensures
     (went_on utf8_step utf8_lawful c.args.octets c.from_parts-rest.result c.next_char.new.octets _ (sym c.if-is_none.ensures) c.in_ok-next_char.ensures passed)

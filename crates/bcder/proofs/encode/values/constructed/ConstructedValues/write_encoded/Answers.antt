@@ -21,5 +21,5 @@ returns g c =
     inl (record {
       what = constructed_encoded mode t x;
       meant = constructed_given t mode _ x meant (ap (fits_enclosed mode t) (sym len_is) ∙ fits) value;
-      wrote = same_answer c.told.ensures (c.put_enclosed-outcome.ensures x meant (c.constructed_length-len.ensures ∙ ap (constructed_length mode) len_is));
+      wrote = same_answer c.into_result.ensures (c.put_enclosed-outcome.ensures x meant (c.constructed_length-len.ensures ∙ ap (constructed_length mode) len_is));
     })

@@ -1,6 +1,6 @@
 use Rattle.std.proofs.Common.{ap, sym, ◌∙◌, Err}
 use Rattle.bcder.specs.x690.Octets.{fits_length}
-use Rattle.bcder.specs.calls.Meaning.{octets_of}
+use Rattle.bcder.specs.calls.Meaning.{encoded_octets}
 use Rattle.bcder.proofs.Enclosing.{inside_of, length_fits}
 use Rattle.bcder.proofs.Joining.{length_told}
 use Rattle.bcder.proofs.Writing.{same_octets, same_answer, lacked}
@@ -10,7 +10,7 @@ pub returns-in-Err : goal.returns-in-Err
 returns-in-Err g c = λ _ e meant.
     let one = (g.met.V.Values.lawful c.args.self.now.inner c.args.mode c.requires.can).one in
     let inside = inside_of c.args.self.now.tag c.args.mode _ e meant in
-    same_answer (ap Err c.refused.ensures) (lacked _ one.same inside.values e.octets inside.meant c.in-Err.ensures)
+    same_answer (ap Err c.store_refusal.ensures) (lacked _ one.same inside.values e.octets inside.meant c.in-Err.ensures)
 
 pub put_enclosed-requires : goal.put_enclosed-requires
 put_enclosed-requires g c =
@@ -22,4 +22,4 @@ put_enclosed-requires g c =
 pub returns-in-Ok : goal.returns-in-Ok
 returns-in-Ok g c = λ _ e meant.
     let inside = inside_of c.args.self.now.tag c.args.mode _ e meant in
-    same_octets (ap octets_of (sym inside.is)) (c.put_enclosed.ensures inside.values inside.meant (c.in-Ok.ensures inside.values inside.meant))
+    same_octets (ap encoded_octets (sym inside.is)) (c.put_enclosed.ensures inside.values inside.meant (c.in-Ok.ensures inside.values inside.meant))

@@ -3,7 +3,7 @@ use Rattle.std.proofs.KnownBytes.{Appends-nil}
 use Rattle.bcder.specs.calls.Meaning.{Encoded}
 use Rattle.bcder.specs.calls.Joined.{EachOf}
 use Rattle.bcder.specs.calls.Iterated.{RunsMean, as_listed, none_left, to_second}
-use Rattle.bcder.proofs.Writing.{halts, lacks_more, same_told}
+use Rattle.bcder.proofs.Writing.{halts, lacks_more, same_result}
 use Rattle.bcder.proofs.Joining.{WrittenSoFar, next_known, written_next, written_failed, written_done}
 use Rattle.bcder.proofs.Iterating.{next_of}
 use Rattle.bcder.proofs.encode.values.iterated.IterParts.write_parts.Goals as goal
@@ -42,7 +42,7 @@ loop-item-preserved g c =
     let one = (g.met.T.Item.Values.lawful x c.args.mode next.may).one in
     let wrote = λ (e : Encoded) (m : M next.first (Ok e)). c.write_known.ensures one e (to_second g.T.Item.Values.means next.first x next.same c.args.mode (Ok e) m) in
     let lacks = g.T.Item.Values.may_lack x c.args.mode in
-    record { rest = next.others; gives = next.gives; so_far = written_next (M next.first) (EachOf M next.others) lacks so_far wrote (same_told _ c.in_ok-write_known.was) }
+    record { rest = next.others; gives = next.gives; so_far = written_next (M next.first) (EachOf M next.others) lacks so_far wrote (same_result _ c.in_ok-write_known.was) }
 
 pub returns-in_err-write_known : goal.returns-in_err-write_known
 returns-in_err-write_known g c = λ e meant.
@@ -73,7 +73,7 @@ returns-in_err-write_known g c = λ e meant.
       may = h;
     })
     in
-    halts _ c.from_residual.ensures (lacks_more _ item_lacks (written_failed (M next.first) (EachOf M next.others) lacks so_far wrote (same_told _ c.in_err-write_known.was) e meant))
+    halts _ c.from_residual.ensures (lacks_more _ item_lacks (written_failed (M next.first) (EachOf M next.others) lacks so_far wrote (same_result _ c.in_err-write_known.was) e meant))
 
 pub returns : goal.returns
 returns g c = λ e meant.

@@ -1,6 +1,6 @@
 use Rattle.std.proofs.Common.{subst, sym, List, Any}
 use Rattle.bcder.specs.calls.Joined.{EachOf, Joined}
-use Rattle.bcder.specs.calls.Encoders.{WritesEncoding, HasSize, told}
+use Rattle.bcder.specs.calls.Encoders.{WritesEncoding, HasSize, into_result}
 use Rattle.bcder.specs.calls.Meaning.{IsOne}
 use Rattle.bcder.proofs.encode.values.lists.VecValues.write_known.Goals as goal
 
@@ -11,5 +11,5 @@ write_known-requires-clause-sized g c =
 pub returns : goal.returns
 returns g c =
     subst (λ (xs : List g.row.V.Denot). IsOne (Joined (EachOf (λ v. g.V.Values.means v c.args.mode) xs))
-    → WritesEncoding (Joined (EachOf (λ v. g.V.Values.means v c.args.mode) xs)) (Any (λ v. g.V.Values.may_lack v c.args.mode) xs) (g.W.Write.contents c.args.target.now) (g.W.Write.contents c.write_known.new.target) (told c.write_known.result c.write_known.new.why))
+    → WritesEncoding (Joined (EachOf (λ v. g.V.Values.means v c.args.mode) xs)) (Any (λ v. g.V.Values.may_lack v c.args.mode) xs) (g.W.Write.contents c.args.target.now) (g.W.Write.contents c.write_known.new.target) (into_result c.write_known.result c.write_known.new.why))
     c.as_slice.ensures.value c.write_known.ensures

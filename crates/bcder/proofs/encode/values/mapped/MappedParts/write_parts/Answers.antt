@@ -1,7 +1,7 @@
 use Rattle.std.proofs.Common.{subst, sym, drop, ◌+◌}
 use Rattle.bcder.specs.calls.Joined.{EachOf}
 use Rattle.bcder.specs.calls.Slices.{ItemMeans, ItemLacks, MayMap}
-use Rattle.bcder.proofs.Writing.{halts, lacks_more, same_told}
+use Rattle.bcder.proofs.Writing.{halts, lacks_more, same_result}
 use Rattle.bcder.proofs.Joining.{WrittenSoFar, written_start, next_known, written_next, written_failed, written_done, EachOf_at, EachOf_end}
 use Rattle.bcder.proofs.encode.values.mapped.MappedParts.write_parts.Goals as goal
 
@@ -28,7 +28,7 @@ loop-item-preserved g c =
     let at = EachOf_at M xs c.loop-item.item-index u c.loop-item-test.true c.item-item.is in
     let so_far = subst (λ P. WrittenSoFar (EachOf M xs) P (g.W.Write.contents c.args.target.now) (g.W.Write.contents c.loop-item.target)) at c.loop-item.invariant in
     let L = ItemLacks g.F.Fn c.args.self.now.f.now g.V.Values.may_lack c.args.mode u in
-    written_next (M u) (EachOf M (drop (c.loop-item.item-index + 1) xs)) L so_far c.write_item.ensures (same_told _ c.in_ok-write_item.was)
+    written_next (M u) (EachOf M (drop (c.loop-item.item-index + 1) xs)) L so_far c.write_item.ensures (same_result _ c.in_ok-write_item.was)
 
 pub returns-in_err-write_item : goal.returns-in_err-write_item
 returns-in_err-write_item g c = λ e meant.
@@ -39,7 +39,7 @@ returns-in_err-write_item g c = λ e meant.
     let so_far = subst (λ P. WrittenSoFar (EachOf M xs) P (g.W.Write.contents c.args.target.now) (g.W.Write.contents c.loop-item.target)) at c.loop-item.invariant in
     let L = ItemLacks g.F.Fn c.args.self.now.f.now g.V.Values.may_lack c.args.mode u in
     halts _ c.from_residual.ensures (lacks_more _ (λ h. (c.loop-item.item-index, u, c.loop-item-test.true, sym c.item-item.is, h))
-    (written_failed (M u) (EachOf M (drop (c.loop-item.item-index + 1) xs)) L so_far c.write_item.ensures (same_told _ c.in_err-write_item.was) e meant))
+    (written_failed (M u) (EachOf M (drop (c.loop-item.item-index + 1) xs)) L so_far c.write_item.ensures (same_result _ c.in_err-write_item.was) e meant))
 
 pub returns : goal.returns
 returns g c = λ e meant.

@@ -1,7 +1,7 @@
 use Rattle.std.proofs.Common.{subst, sym, All, List, Any}
 use Rattle.bcder.specs.calls.Slices.{MayMap, ItemMeans, ItemLacks}
 use Rattle.bcder.specs.calls.Joined.{EachOf, Joined}
-use Rattle.bcder.specs.calls.Encoders.{WritesEncoding, HasSize, told}
+use Rattle.bcder.specs.calls.Encoders.{WritesEncoding, HasSize, into_result}
 use Rattle.bcder.specs.calls.Meaning.{IsOne}
 use Rattle.bcder.proofs.encode.values.mapped.SliceValues.write_known.Goals as goal
 
@@ -17,5 +17,5 @@ pub returns : goal.returns
 returns g c =
     let M = ItemMeans g.F.Fn c.args.self.now.f g.V.Values.means c.args.mode in
     let L = ItemLacks g.F.Fn c.args.self.now.f g.V.Values.may_lack c.args.mode in
-    subst (λ (xs : List g.row.U.Denot). IsOne (Joined (EachOf M xs)) → WritesEncoding (Joined (EachOf M xs)) (Any L xs) (g.W.Write.contents c.args.target.now) (g.W.Write.contents c.write_known_parts.new.target) (told c.write_known_parts.result c.write_known_parts.new.why))
+    subst (λ (xs : List g.row.U.Denot). IsOne (Joined (EachOf M xs)) → WritesEncoding (Joined (EachOf M xs)) (Any L xs) (g.W.Write.contents c.args.target.now) (g.W.Write.contents c.write_known_parts.new.target) (into_result c.write_known_parts.result c.write_known_parts.new.why))
     c.as_slice-items.ensures c.write_known_parts.ensures

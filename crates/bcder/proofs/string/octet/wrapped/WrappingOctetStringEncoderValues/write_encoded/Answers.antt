@@ -5,4 +5,4 @@ use Rattle.bcder.proofs.string.octet.wrapped.WrappingOctetStringEncoderValues.wr
 pub returns : goal.returns
 returns g c =
     let (e, inside, is, (whole, meant)) = c.in_ok-len.ensures in
-    inl (record { what = whole; meant = meant; wrote = same_answer c.told.ensures (c.put_wrapped-outcome.ensures whole meant) })
+    inl (record { what = whole; meant = meant; wrote = same_answer c.into_result.ensures (c.put_wrapped-outcome.ensures whole meant) })

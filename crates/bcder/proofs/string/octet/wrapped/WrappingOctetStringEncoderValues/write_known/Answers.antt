@@ -8,4 +8,4 @@ pub returns-in-Err : goal.returns-in-Err
 returns-in-Err g c = λ one x meant.
     let inner = (g.met.V.Values.lawful c.args.self.now.values c.args.self.now.mode c.requires.can).one in
     let inside = wrapped_inside octet_string_tag c.args.mode _ x meant in
-    same_answer (ap Err c.refused.ensures) (lacks_more _ inl (lacked _ inner.same inside.0 x.octets inside.1 c.in-Err.ensures.refused))
+    same_answer (ap Err c.store_refusal.ensures) (lacks_more _ inl (lacked _ inner.same inside.0 x.octets inside.1 c.in-Err.ensures.refused))

@@ -1,8 +1,0 @@
-use Rattle.std.proofs.Common.{refl}
-use Rattle.bcder.proofs.decode.content.fn.Constructed.take_opt_primitive_if.octets_behind.Goals as goal
-
-pub op-requires : goal.op-requires
-op-requires g c = c.requires _ refl
-
-pub returns : goal.returns
-returns g c = record { handed = _; left = _; handed_is = refl; left_is = refl; called = c.op.ensures }
