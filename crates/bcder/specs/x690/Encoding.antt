@@ -55,6 +55,7 @@ abbrev mutual
   AreEncodings mode no_trees w = w ≡ []
   AreEncodings mode (t ∷ₜ ts) w = (first others : List ℕ) × IsEncoding mode t first × AreEncodings mode ts others × (w ≡ first ++ others)
 
+-- what identifier octets and length octets say (8.1.2, 8.1.3), whatever they stand before
 pub record Header : Type 0 where
   pub tag : Tag
   pub form : Bool

@@ -73,6 +73,7 @@ identifier t constructed =
     if nat_lt t.number 31 then (class_bits t.class + form_bit constructed + t.number) ∷ []
     else (class_bits t.class + form_bit constructed + 31) ∷ base128 t.number
 
+-- whether a value may have the tag: any but that of end-of-contents octets (8.1.5)
 abbrev pub is_value_tag : Tag → Bool
 is_value_tag t = is_value_class t.class t.number
   where
