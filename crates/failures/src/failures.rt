@@ -8,7 +8,7 @@ use crate::asserts::done;
 use bcder::Mode;
 use std::alloc::Global;
 use std::process::Abort;
-use tests::calls::{
+use support::calls::{
     Answer, CAPTURES, CONTENTS, Call, KEPT, Line, OCTETS, PASSES, STRINGS, TAKES, TYPED, Take, Text,
 };
 use trial::{Place, Trial};

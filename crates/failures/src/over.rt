@@ -4,7 +4,7 @@ use bcder::decode::BytesSource;
 use bytes::Bytes;
 use std::alloc::Global;
 use std::process::Abort;
-use tests::sip::Sip;
+use support::sip::Sip;
 
 /// A source over shared octets.
 pub fn shared(rt: &impl Abort, alloc: Global, octets: &[u8]) -> BytesSource {

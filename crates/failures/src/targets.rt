@@ -19,7 +19,7 @@ use std::alloc::Global;
 use std::io;
 use std::io::{Error, ErrorKind, Write};
 use std::process::Abort;
-use tests::encoders::Zeros;
+use support::encoders::Zeros;
 
 /// How a target fails.
 #[derive(Clone, Copy, Debug, PartialEq, Eq)]

@@ -5,7 +5,7 @@ use bcder::captured::CapturedBuilder;
 use bcder::encode::{EncodeError, PrimitiveContent, Values, iter};
 use bcder::{Captured, Mode, NoMemory};
 use std::alloc::{AllocError, Global};
-use tests::encoders::Nulls;
+use support::encoders::Nulls;
 
 /// The INTEGER 5.
 const FIVE: [u8; 3] = [0x02, 0x01, 0x05];

@@ -5,7 +5,7 @@ use bcder::captured::CapturedBuilder;
 use bcder::encode::{EncodeError, PrimitiveContent, Values, WriteError};
 use bcder::{Captured, Mode, NoMemory};
 use std::alloc::Global;
-use tests::encoders::{Nulls, Zeros};
+use support::encoders::{Nulls, Zeros};
 
 /// The contents octets of 200.
 const CONTENTS: [u8; 2] = [0x00, 0xC8];

@@ -9,7 +9,7 @@ use bcder::decode::{
 use bcder::{Mode, Tag};
 use bytes::Bytes;
 use std::alloc::{AllocError, Global};
-use tests::sip::Sip;
+use support::sip::Sip;
 
 /// A call that passes over the next value.
 #[derive(Clone, Copy, Debug, PartialEq, Eq)]

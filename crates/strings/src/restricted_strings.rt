@@ -10,7 +10,7 @@ use bcder::{Mode, OctetString, Tag};
 use bytes::Bytes;
 use std::alloc::Global;
 use std::process::Abort;
-use tests::sip::Sip;
+use support::sip::Sip;
 use user::latin_1::Latin1;
 
 /// The string of a set in front of a source, if there is one.

@@ -12,7 +12,7 @@ use bcder::{Captured, Mode, OctetString, Tag};
 use bytes::Bytes;
 use std::alloc::Global;
 use std::process::Abort;
-use tests::encoders::{Nulls, Zeros};
+use support::encoders::{Nulls, Zeros};
 
 /// Octets that differ from those near them.
 fn octets_of(rt: &impl Abort, alloc: Global, len: usize) -> Vec<u8> {

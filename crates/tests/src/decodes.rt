@@ -1,11 +1,11 @@
 //! Decoding over an owned and over a borrowed source, with values from outside.
 use crate::asserts::{done, holds, same};
-use crate::decoding::{drop_refusal, octet_behind, take_empty, two_empty, two_empty_of};
 use crate::over::{failing_sip, shared, sip};
 use bcder::Mode;
 use bcder::decode::{DecodeError, SliceSource, Source};
 use bytes::Bytes;
 use std::process::Abort;
+use support::decoding::{drop_refusal, octet_behind, take_empty, two_empty, two_empty_of};
 
 // NULL and an empty SEQUENCE, and an octet behind them, which `decode` leaves.
 const TWO: &[u8] = &[0x05, 0x00, 0x30, 0x00, 0x2A];

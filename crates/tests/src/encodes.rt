@@ -1,6 +1,5 @@
 //! What encoders write: octets from worked examples, sizes, and refusals.
 use crate::asserts::{done, holds, same};
-use crate::encoders::{Nulls, Zeros};
 use bcder::encode::{
     Choice2, Choice3, EncodeError, Nothing, PrimitiveContent, Values, WriteError, iter, sequence,
     sequence_as, set, set_as, slice, total_encoded_len, write_header,
@@ -10,6 +9,7 @@ use std::alloc::Global;
 use std::io;
 use std::io::{ErrorKind, Write};
 use std::process::Abort;
+use support::encoders::{Nulls, Zeros};
 
 /// The values are written as these octets, and their size is told.
 pub fn writes<V: Values>(rt: &impl Abort, alloc: Global, values: &V, mode: Mode, wanted: &[u8])

@@ -1,16 +1,10 @@
-//! Uses of the library, and tests of it with values from outside that are no lines of data: those
-//! are in `vectors` and `values`. There is one module for each subject. Tests of strings and of
-//! failures that stand on this crate are in `strings` and `failures`.
-//!
-//! [`sip`] is a source that can fail and makes available no more than what was asked for, or all it
-//! has; each module of tests runs over it too. [`encoders`] has values of any size, and [`calls`]
-//! the calls that read.
+//! Tests of the library with values from outside that are no lines of data: those are in `vectors`
+//! and `values`. There is one module for each subject, and each runs over the source of `support`
+//! too. Tests of strings and of failures are in `strings` and `failures`.
 #![tactic(auto)]
 
 #[cfg(test)]
 mod asserts;
-pub mod borrows;
-pub mod calls;
 #[cfg(test)]
 mod captured;
 #[cfg(test)]
@@ -19,10 +13,8 @@ mod captures;
 mod contents;
 #[cfg(test)]
 mod decodes;
-pub mod decoding;
 #[cfg(test)]
 mod deep;
-pub mod encoders;
 #[cfg(test)]
 mod encodes;
 #[cfg(test)]
@@ -33,11 +25,9 @@ mod loops;
 mod octets;
 #[cfg(test)]
 mod over;
-pub mod sip;
 #[cfg(test)]
 mod skips;
 #[cfg(test)]
 mod sources;
 #[cfg(test)]
 mod tag_names;
-pub mod tags;

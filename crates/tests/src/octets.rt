@@ -5,11 +5,11 @@
 ghost use Rattle.bcder.specs.calls.Views.{MovedOctets};
 
 use crate::asserts::{done, holds, same};
-use crate::calls::Answer;
 use crate::over::{failing_sip, failing_whole, shared, sip};
 use bcder::Mode;
 use bcder::decode::{DecodeError, Primitive, SliceSource, Source};
 use std::process::Abort;
+use support::calls::Answer;
 
 /// A call that takes contents octets, or passes over so many.
 #[derive(Clone, Copy)]

@@ -1,10 +1,10 @@
 //! Sources of the tests, over copies of octets.
 use crate::asserts::done;
-use crate::sip::Sip;
 use bcder::decode::BytesSource;
 use bytes::Bytes;
 use std::alloc::Global;
 use std::process::Abort;
+use support::sip::Sip;
 
 /// A source over shared octets.
 pub fn shared(rt: &impl Abort, alloc: Global, octets: &[u8]) -> BytesSource {

@@ -1,11 +1,6 @@
 //! Sources and errors, with values from outside. The digits are ASCII octets.
 use crate::asserts::{done, holds, same, shows};
-use crate::borrows::{
-    TakeError, capture_passed, capture_two, has_two, pass_two, pass_two_within, skip_two,
-    take_exactly, without_two,
-};
 use crate::over::{failing_sip, shared, sip};
-use crate::sip::SipError;
 use bcder::decode::{
     BytesSource, CaptureSource, ContentError, DecodeError, IntoSource, LimitedSource, Message, Pos,
     SliceSource, Source,
@@ -16,6 +11,11 @@ use bytes::Bytes;
 use std::alloc::Global;
 use std::convert::Infallible;
 use std::process::Abort;
+use support::borrows::{
+    TakeError, capture_passed, capture_two, has_two, pass_two, pass_two_within, skip_two,
+    take_exactly, without_two,
+};
+use support::sip::SipError;
 
 // What is left of a source.
 fn assert_rest<S: Source>(rt: &impl Abort, source: &mut S, rest: &[u8]) {

@@ -6,7 +6,7 @@ use bytes::Bytes;
 use lines::fields::{next, octets_of};
 use lines::tally::Tally;
 use std::alloc::Global;
-use tests::sip::Sip;
+use support::sip::Sip;
 
 /// The BIT STRING at the front of a source, and how many of so many octets are left behind.
 fn take_bits<S: Source>(

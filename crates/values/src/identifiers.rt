@@ -8,7 +8,7 @@ use lines::fields::{next, octets_of};
 use lines::malformed::Malformed;
 use lines::tally::{Differing, Tally, differ_in};
 use std::alloc::Global;
-use tests::sip::Sip;
+use support::sip::Sip;
 
 /// What was compared.
 #[derive(Clone, Copy, Debug, Default)]

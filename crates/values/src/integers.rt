@@ -11,7 +11,7 @@ use lines::tally::{Differing, Tally, differ_in};
 use std::alloc::Global;
 use std::cmp::Ordering;
 use std::convert::TryFrom;
-use tests::sip::Sip;
+use support::sip::Sip;
 
 /// What was compared.
 #[derive(Clone, Copy, Debug, Default)]

@@ -9,7 +9,7 @@ use lines::fields::{find, next, number, octets_of};
 use lines::malformed::Malformed;
 use lines::tally::{Differing, Tally, differ_in};
 use std::alloc::Global;
-use tests::sip::Sip;
+use support::sip::Sip;
 
 /// The class of a tag.
 #[derive(Clone, Copy, Debug, PartialEq, Eq)]

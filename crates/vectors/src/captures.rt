@@ -13,7 +13,7 @@ use lines::malformed::Malformed;
 use lines::row::{Row, Step, row_of};
 use lines::tally::{Differing, Tally, differ_in};
 use std::alloc::{AllocError, Global};
-use tests::sip::Sip;
+use support::sip::Sip;
 
 /// A call on content, or on what `enter` entered.
 #[derive(Clone, Copy, Debug, PartialEq, Eq)]

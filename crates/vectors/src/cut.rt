@@ -11,7 +11,7 @@ use bytes::Bytes;
 use lines::fields::{modes_of, next, octets_of};
 use lines::tally::Tally;
 use std::alloc::{AllocError, Global};
-use tests::sip::Sip;
+use support::sip::Sip;
 
 /// A reader of the next value.
 #[derive(Clone, Copy, Debug, PartialEq, Eq)]

@@ -9,7 +9,7 @@ use bytes::Bytes;
 use lines::fields::{find, mode_of, modes_of, next, octets_of};
 use lines::tally::Tally;
 use std::alloc::Global;
-use tests::sip::Sip;
+use support::sip::Sip;
 
 /// The content whose rules are set, of an INTEGER in a SEQUENCE in a SEQUENCE.
 #[derive(Clone, Copy, Debug, PartialEq, Eq)]

@@ -13,7 +13,7 @@ use lines::calls::Use;
 use lines::fields::{find, next, number, octets_of};
 use lines::tally::Tally;
 use std::alloc::{AllocError, Global};
-use tests::sip::Sip;
+use support::sip::Sip;
 
 /// Whose `content_err` is answered.
 #[derive(Clone, Copy, Debug, PartialEq, Eq)]

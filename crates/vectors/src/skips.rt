@@ -10,7 +10,7 @@ use lines::calls::{Answer, OWN, answer_of, error_kind, tag_of};
 use lines::fields::{modes_of, next, number, octets_of};
 use lines::tally::{Differing, Tally};
 use std::alloc::Global;
-use tests::sip::Sip;
+use support::sip::Sip;
 
 /// What was compared: headings that a closure is told, and what the other readers pass over.
 #[derive(Clone, Copy, Debug, Default)]

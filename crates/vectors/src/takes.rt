@@ -12,7 +12,7 @@ use lines::calls::{Answer, CALLS, Call, OWN, TakeStep, Use, error_kind};
 use lines::row::{Row, row_of};
 use lines::tally::{Differing, Tally};
 use std::alloc::{AllocError, Global};
-use tests::sip::Sip;
+use support::sip::Sip;
 
 /// Passes over the values, two at most.
 fn pass_values<S: Source>(cons: &mut Constructed<'_, S>) -> Result<(), DecodeError<S::Error>>

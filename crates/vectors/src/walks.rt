@@ -8,7 +8,7 @@ use bytes::Bytes;
 use lines::fields::{modes_of, next, number, octets_of};
 use lines::tally::{Differing, Tally, differ_in};
 use std::alloc::{AllocError, Global};
-use tests::sip::Sip;
+use support::sip::Sip;
 
 /// A call that passes over the next value.
 #[derive(Clone, Copy, Debug, PartialEq, Eq)]

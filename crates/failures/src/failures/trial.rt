@@ -7,8 +7,8 @@ use bcder::decode::{Constructed, Content, DecodeError, Source};
 use bcder::{Mode, Tag};
 use std::alloc::Global;
 use std::process::Abort;
-use tests::calls::{Answer, Call, Take, ask};
-use tests::sip::Sip;
+use support::calls::{Answer, Call, Take, ask};
+use support::sip::Sip;
 
 /// A call, the rules and the octets that it reads, and what it answers and how many octets it
 /// leaves where the source doesn't fail.

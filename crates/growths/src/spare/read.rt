@@ -2,7 +2,7 @@
 use anyhow::Error;
 use bcder::decode::{DecodeError, SliceSource};
 use std::alloc::Global;
-use tests::calls::{
+use support::calls::{
     Answer, CAPTURES, CONTENTS, Call, KEPT, Kept, Line, OCTETS, PASSES, Reader, STRINGS, TAKES,
     TYPED, Text, ask,
 };

@@ -6,7 +6,7 @@ ghost use Rattle.bcder.specs.calls.Meaning.{Exactly};
 ghost use Rattle.bcder.specs.calls.Joined.{Joined};
 ghost use Rattle.bcder.specs.laws.Meanings.{Exactly_lawful};
 ghost use Rattle.bcder.specs.laws.Joined.{Joined_lawful};
-ghost use Rattle.tests.specs.Counted.{zeros, zeros_are, NullsMean, nulls_lawful};
+ghost use Rattle.support.specs.Counted.{zeros, zeros_are, NullsMean, nulls_lawful};
 
 use bcder::encode::{EncodeError, PrimitiveContent, Values, WriteError};
 use bcder::{Mode, Tag};

@@ -1,6 +1,6 @@
 -- Why octets could not be taken.
-use Rattle.tests.specs.declared.borrows.TakeError.{TakeError}
-use Rattle.tests.specs.declared.borrows.TakeError.TheVariants.{Source, Short, NoMemory}
+use Rattle.support.specs.declared.borrows.TakeError.{TakeError}
+use Rattle.support.specs.declared.borrows.TakeError.TheVariants.{Source, Short, NoMemory}
 
 -- a fact for each reason
 abbrev pub MatchTakeError : {E : Type 0} → TakeError E → Type 0 → Type 0 → Type 0 → Type 0

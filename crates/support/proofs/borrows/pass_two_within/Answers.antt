@@ -2,7 +2,7 @@ use Rattle.std.proofs.Common.{rules, ◌≡◌, ℕ, ◌≤◌, List, ◌∷◌,
 use Rattle.std.specs.Bool.{OnTrue}
 use Rattle.bcder.specs.calls.Stream.{cut, past}
 use Rattle.bcder.specs.laws.Limits.{first_kept, rest_told, rest_told_after}
-use Rattle.tests.proofs.borrows.pass_two_within.Goals as goal
+use Rattle.support.proofs.borrows.pass_two_within.Goals as goal
 
 -- what a call under a limit tells of the wrapped rest
 told : {E : Type 0} (r : Result Bool E) (l m : Option ℕ) (xs ys : List ℕ) → past m ys ≡ past l xs

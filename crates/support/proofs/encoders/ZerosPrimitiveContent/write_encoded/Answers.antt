@@ -1,8 +1,8 @@
 use Rattle.std.proofs.Common.{refl, inl}
 use Rattle.bcder.proofs.Lemmas.{wrote_what_is_passed_on}
-use Rattle.tests.specs.Counted.{zeros}
-use Rattle.tests.proofs.Counting.{zero_failed}
-use Rattle.tests.proofs.encoders.ZerosPrimitiveContent.write_encoded.Goals as goal
+use Rattle.support.specs.Counted.{zeros}
+use Rattle.support.proofs.Counting.{zero_failed}
+use Rattle.support.proofs.encoders.ZerosPrimitiveContent.write_encoded.Goals as goal
 
 pub returns-in_err-write_encoded : goal.returns-in_err-write_encoded
 returns-in_err-write_encoded g c =

@@ -1,7 +1,7 @@
 use Rattle.std.proofs.Common.{refl, sym}
 use Rattle.std.proofs.lemmas.List.{length-replicate}
-use Rattle.tests.specs.Counted.{zeros}
-use Rattle.tests.proofs.encoders.ZerosPrimitiveContent.encoded_len.Goals as goal
+use Rattle.support.specs.Counted.{zeros}
+use Rattle.support.proofs.encoders.ZerosPrimitiveContent.encoded_len.Goals as goal
 
 pub returns : goal.returns
 returns c = (zeros c.args.self.now.0, refl, sym (length-replicate c.args.self.now.0 0x00))

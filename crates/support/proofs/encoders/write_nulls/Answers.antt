@@ -1,8 +1,8 @@
 use Rattle.std.proofs.Common.{subst, ap, ◌-◌, ◌+◌}
 use Rattle.bcder.proofs.Lemmas.{wrote_what_is_passed_on, WrittenSoFar, written_none, written_one_more, written_not_one_more, written_all}
-use Rattle.tests.specs.Counted.{NullMeans, NullsMean}
-use Rattle.tests.proofs.Counting.{nulls_all, nulls_next, nulls_end, null_written}
-use Rattle.tests.proofs.encoders.write_nulls.Goals as goal
+use Rattle.support.specs.Counted.{NullMeans, NullsMean}
+use Rattle.support.proofs.Counting.{nulls_all, nulls_next, nulls_end, null_written}
+use Rattle.support.proofs.encoders.write_nulls.Goals as goal
 
 pub loop-init : goal.loop-init
 loop-init g c = subst (λ P. WrittenSoFar (NullsMean c.args.count) P (g.W.Write.contents c.args.target.now) (g.W.Write.contents c.args.target.now)) (nulls_all c.args.count) written_none

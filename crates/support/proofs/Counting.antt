@@ -13,7 +13,7 @@ use Rattle.bcder.specs.calls.Encoders.{WroteOf, Writes, WritesEncoding, SizeOfVa
 use Rattle.bcder.specs.laws.Octets.{AreOctets-nil}
 use Rattle.bcder.specs.laws.Meanings.{Exactly_lawful, primitive_lawful}
 use Rattle.bcder.proofs.Lemmas.{primitive_means, wrote_what_is_meant, wrote_after, wrote_no_further, wrote_same}
-use Rattle.tests.specs.Counted.{zeros, NullMeans, NullsMean}
+use Rattle.support.specs.Counted.{zeros, NullMeans, NullsMean}
 
 -- ---- zeros
 

@@ -1,7 +1,7 @@
 //! A source for tests, which makes available exactly what is asked for, and can fail.
 ghost use Rattle.std.specs.Prelude.{◌≡◌, ℕ, ◌+◌, ◌-◌, ◌^◌, ◌<◌, ◌≤◌, length, drop};
 ghost use Rattle.bcder.specs.x690.Identifier.{AreOctets};
-ghost use Rattle.tests.specs.Sip.{sipped, sipped_sound};
+ghost use Rattle.support.specs.Sip.{sipped, sipped_sound};
 
 use bcder::NoMemory;
 use bcder::decode::{Pos, Source};

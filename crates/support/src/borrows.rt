@@ -3,7 +3,7 @@ ghost use Rattle.std.specs.Prelude.{◌≡◌, ◌<◌, ◌≤◌, ◌++◌, len
 ghost use Rattle.std.specs.Prelude.{IfOk, IfErr, IfSome, OnOk, OnErr, if◌then◌else◌};
 ghost use Rattle.std.specs.Bool.{OnTrue};
 ghost use Rattle.bcder.specs.calls.Stream.{Grew};
-ghost use Rattle.tests.specs.Taken.{MatchTakeError};
+ghost use Rattle.support.specs.Taken.{MatchTakeError};
 
 use bcder::decode::{CaptureSource, DecodeError, LimitedSource, Source};
 use bytes::Bytes;
