@@ -10,10 +10,12 @@ use Rattle.bcder.specs.declared.length.Length.TheVariants.{Definite}
 use Rattle.bcder.specs.declared.decode.content.State.TheVariants.{Open}
 use Rattle.bcder.specs.x690.Identifier.{AreOctets}
 use Rattle.bcder.specs.x690.Encoding.{Header, IsHeader, IsEncoding, may_have}
+use Rattle.bcder.specs.declared.decode.header.Header.{Header as CodeHeader}
+use Rattle.bcder.specs.steps.Peek.{header_of}
 use Rattle.bcder.specs.steps.Reading.{read_front}
 use Rattle.bcder.specs.x690.Tree.{Tree, primitive}
 use Rattle.bcder.specs.x690.Grammar.{IsOnly}
-use Rattle.bcder.specs.calls.Content.{Reading, Advances, Moves, Resembles, HasMarker, IsAtEnd, of_octets, of_definite, of_indefinite, of_unbounded, EndsBefore, NotAtEnd}
+use Rattle.bcder.specs.calls.Content.{Reading, Advances, Moves, Enters, Resembles, HasMarker, IsAtEnd, of_octets, of_definite, of_indefinite, of_unbounded, EndsBefore, NotAtEnd}
 use Rattle.bcder.specs.calls.Walking.{NoValue, PassesValue, PassedBy}
 use Rattle.bcder.specs.steps.WalkSteps.{IsPrimitive}
 use Rattle.bcder.specs.calls.Walking as walking
@@ -22,6 +24,7 @@ use Rattle.bcder.specs.laws.Limits.{AreOctets-drop}
 use Rattle.bcder.specs.laws.Stands.{Headed, primitive_encodes}
 use Rattle.bcder.proofs.Headers.{header_of_front, size_is}
 use Rattle.bcder.proofs.Moving.{moves_value}
+use Rattle.bcder.proofs.Entering.{looked_enters, no_fewer}
 
 -- octets at the front of open content were passed that are the encoding of a value
 module _ (c d : Reading) (n : ℕ) (t : Tree) (k : IsEncoding c.mode t (take n c.stream.rest)) (a : Advances c d (take n c.stream.rest)) (s : c.state ≡ Open) (e : d.state ≡ Open) where
@@ -111,6 +114,13 @@ looked_nothing c d s n = record { none = λ t w after k r. n.none t w after (sub
 
 pub looked_open : (c d : Reading) → Resembles c d → NotAtEnd d → NotAtEnd c
 looked_open c d s n = record { none = λ after e. n.none after (looked_ends d c after (resembles_sym c d s) e) }
+
+pub looked_twice : (c d e : Reading) → Resembles c d → Resembles d e → Resembles c e
+looked_twice c d e s p = record { rest = p.rest ∙ s.rest; kept = p.kept ∙ s.kept; owed = p.owed ∙ s.owed; kind = p.kind ∙ s.kind; state = p.state ∙ s.state; mode = p.mode ∙ s.mode; marked = p.marked ∙ s.marked; name = p.name ∙ s.name }
+
+-- a header that was passed behind two looks
+pub looked_at_last : (c d e x : Reading) (h k : CodeHeader) → Resembles c d → d.stream.faults ≡ c.stream.faults → Resembles d e → e.stream.faults ≡ d.stream.faults → (h ≡ k) × Enters e (header_of k) x → Enters c (header_of h) x
+looked_at_last c d e x h k s f p n y = subst (λ z. Enters c (header_of z) x) (sym y.0) (looked_enters c d s (no_fewer _ _ f) f _ x (looked_enters d e p (no_fewer _ _ n) n _ x y.1))
 
 module _ {E : Type 0} (why : E → Cause ContentError) (c d e : Reading) (s : Resembles c d) (f : d.stream.faults ≡ c.stream.faults) where
   pub looked_refused : (x : E) → walking.RefusesWalk why d x e → walking.RefusesWalk why c x e

@@ -323,6 +323,10 @@ module _ {X : Type 0} (why : X → Cause ContentError) (c d e : Reading) where
   pub one_at_once : {T : Type 0} (x : T) → PassesValue c d → d.stream.faults ≡ c.stream.faults → d.mode ≡ c.mode → d.marked ≡ c.marked → SkippedOneBy {X = X} why c (Ok (Some x)) d
   one_at_once x p n m k = record { value = p; end = tt; done = tt; no_fault = n; refused = tt; failed = tt; mode = m; marked = k }
 
+  -- and one that was refused at once
+  pub refused_at_once : {T : Type 0} (x : X) → RefusesOne why c x d → d.state ≡ Failed → d.mode ≡ c.mode → d.marked ≡ c.marked → SkippedOneBy {T = T} why c (Err x) d
+  refused_at_once x r f m k = record { value = tt; end = tt; done = tt; no_fault = tt; refused = r; failed = f; mode = m; marked = k }
+
   -- content that was only looked at before
   looked_calls : Resembles c d → (calls : List Heading) → WereCalls d calls e → WereCalls c calls e
   looked_calls s calls w = record {

@@ -545,6 +545,7 @@ impl<'a, S: Source> Constructed<'a, S> {
     fn skip_stacked(&mut self, alloc: Global) -> Result<Option<()>, DecodeError<S::Error>>
         ensures moves { Moves (before S.stream self) (after S.stream self) }
         ensures skipped { SkippedOne S.stream self result }
+        ensures name { self.new.source.ghost_name ≡ self.old.source.ghost_name }
     {
         let mut all = |_tag: Tag, _constructed: bool, _depth: usize| -> Result<(), ContentError> {
             Ok(())
@@ -552,22 +553,8 @@ impl<'a, S: Source> Constructed<'a, S> {
         self.skip_opt(alloc, &mut all)
     }
 
-    /// As `skip_one`, whatever stands in front.
-    #[inline(always)]
-    fn skip_any(&mut self, alloc: Global) -> Result<Option<()>, DecodeError<S::Error>>
-        ensures moves { Moves (before S.stream self) (after S.stream self) }
-        ensures skipped { SkippedOne S.stream self result }
-        ensures name { self.new.source.ghost_name ≡ self.old.source.ghost_name }
-    {
-        match self.pass_shallow() {
-            Ok(true) => Ok(Some(())),
-            Ok(false) => self.skip_stacked(alloc),
-            Err(stop) => Err(self.stopped(stop)),
-        }
-    }
-
-    /// The same. It lends a copy of the content, and where no value was passed the state of the
-    /// copy is set: so content that is a local of a caller has no address, and a loop over its
+    /// As `skip_one`, whatever stands in front. It lends a copy of the content, and where no value
+    /// was passed the state of the copy is set: so content that is a local of a caller has no address, and a loop over its
     /// values neither looks its state up nor its kind.
     #[inline(always)]
     fn skip_on(&mut self, alloc: Global) -> Result<Option<()>, DecodeError<S::Error>>
@@ -582,15 +569,22 @@ impl<'a, S: Source> Constructed<'a, S> {
             marked: self.marked,
             start: self.start,
         };
-        match copy.skip_any(alloc) {
-            Ok(Some(())) => Ok(Some(())),
-            Ok(None) => {
-                self.state = copy.state;
-                Ok(None)
-            }
-            Err(error) => {
+        match copy.pass_shallow() {
+            Ok(true) => Ok(Some(())),
+            Ok(false) => match copy.skip_stacked(alloc) {
+                Ok(Some(())) => Ok(Some(())),
+                Ok(None) => {
+                    self.state = copy.state;
+                    Ok(None)
+                }
+                Err(error) => {
+                    self.state = State::Failed;
+                    Err(error)
+                }
+            },
+            Err(stop) => {
                 self.state = State::Failed;
-                Err(error)
+                Err(self.stopped(stop))
             }
         }
     }
