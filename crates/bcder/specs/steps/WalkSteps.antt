@@ -17,7 +17,7 @@ use Rattle.bcder.specs.declared.length.Length.TheVariants.{Definite}
 use Rattle.bcder.specs.x690.Encoding.{Header}
 use Rattle.bcder.specs.steps.Peek.{header_of}
 use Rattle.bcder.specs.calls.Content.{Reading, Moves, IsDone, Advances, Resembles}
-use Rattle.bcder.specs.calls.Walking.{PassesValue, PassedBy, RefusesValues, AllBy, Between}
+use Rattle.bcder.specs.calls.Walking.{PassesValue, PassedBy, RefusesWalk, RefusesValues, AllBy, Between}
 
 -- a header of so many octets is that of a primitive value of n octets in all
 pub record IsPrimitive (h : Header) (size n : ℕ) : Type 0 where
@@ -71,7 +71,7 @@ module _ {S : Type 0} (stream : S → Stream) (c : Both (MutBor (Constructed S))
 
   -- with a stop in the place of an error
   abbrev pub PassedStep : {T X : Type 0} → Result (Option T) (Stop X) → Type 0
-  PassedStep r = PassedBy stop_cause (of_constructed stream c.entry.now) r (of_constructed stream c.exit.now)
+  PassedStep r = PassedBy (RefusesWalk stop_cause) (of_constructed stream c.entry.now) r (of_constructed stream c.exit.now)
 
   abbrev pub PassedOver : ℕ → Type 0
   PassedOver n = Between stream c (λ c d. PassesOver c n d)
@@ -80,7 +80,7 @@ module _ {S : Type 0} (stream : S → Stream) (c : Both (MutBor (Constructed S))
   PassedAtOnce r = AtOnceBy stop_cause (of_constructed stream c.entry.now) r (of_constructed stream c.exit.now)
 
   abbrev pub PassedAll : {T X : Type 0} → Result T (Stop X) → Type 0
-  PassedAll r = AllBy stop_cause (of_constructed stream c.entry.now) r (of_constructed stream c.exit.now)
+  PassedAll r = AllBy (RefusesValues stop_cause) (of_constructed stream c.entry.now) r (of_constructed stream c.exit.now)
 
   -- the content of a header was walked over
   abbrev pub WalkedOver : {T X : Type 0} → CodeHeader → Result T (Stop X) → Type 0

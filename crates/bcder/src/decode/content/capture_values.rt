@@ -1,6 +1,6 @@
 //! Capturing the next value, and all values.
 ghost use Rattle.bcder.specs.calls.CapturingValues.{CapturedOne, ExactlyOne, CapturedAll};
-ghost use Rattle.bcder.specs.calls.CapturingValues.{ExactlyAll};
+ghost use Rattle.bcder.specs.calls.CapturingValues.{CapturesExactlyAll};
 ghost use Rattle.bcder.specs.calls.CapturingValues.{PassedOne, PassedToEnd};
 ghost use Rattle.bcder.specs.calls.Sources.{capturing};
 ghost use Rattle.bcder.specs.calls.Views.{Moved, limited_stream};
@@ -73,7 +73,7 @@ impl<'a, S: Source> Constructed<'a, S> {
     pub fn capture_all(&mut self, alloc: Global) -> Result<Captured, DecodeError<S::Error>>
         ensures moves { Moved S.stream self }
         ensures captured { CapturedAll S.stream self result }
-        ensures exact { ExactlyAll S.stream self result }
+        ensures exact { CapturesExactlyAll S.stream self result }
     {
         self.capture(alloc, |cons| pass_all(cons, alloc))
     }

@@ -109,7 +109,7 @@ impl<'a, S: Source> Constructed<'a, S> {
         }
         match self.finish_slow() {
             Ok(()) => Ok(()),
-            Err(stop) => Err(self.stopped(stop)),
+            Err(stop) => Err(self.stop_error(stop)),
         }
     }
 

@@ -46,9 +46,9 @@ pub fn walk<S: Source>(cons: &mut Constructed<'_, S>) -> Result<Option<()>, Deco
         Ok(true) => Ok(Some(())),
         Ok(false) => match walk_copy(cons) {
             Ok(passed) => Ok(passed),
-            Err(stop) => Err(cons.stopped(stop)),
+            Err(stop) => Err(cons.stop_error(stop)),
         },
-        Err(stop) => Err(cons.stopped(stop)),
+        Err(stop) => Err(cons.stop_error(stop)),
     }
 }
 

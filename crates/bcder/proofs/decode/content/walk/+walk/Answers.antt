@@ -5,7 +5,7 @@ use Rattle.bcder.specs.calls.Content.{any, nothing, EndsAt, IsDone, values}
 use Rattle.bcder.specs.calls.Calls.{content}
 use Rattle.bcder.specs.steps.Peek.{header_of}
 use Rattle.bcder.specs.calls.Stream.{Grew}
-use Rattle.bcder.specs.calls.Walking.{source, PassesValue}
+use Rattle.bcder.specs.calls.Walking.{source, PassesValue, RefusesValues}
 use Rattle.bcder.specs.steps.WalkSteps.{itself, walked}
 use Rattle.bcder.specs.calls.Views.{of_constructed, limited_stream}
 use Rattle.bcder.specs.laws.Moved.{moved_twice_is_moved, moved_is_no_longer}
@@ -175,7 +175,7 @@ walk_all-returns-in_err-step-clause-passed g t c =
     let i = of_constructed g.S.Source.stream c.args.cons.now in
     let j = of_constructed g.S.Source.stream c.loop.cons in
     let k = of_constructed g.S.Source.stream c.step.new.cons in
-    all_refused stop_cause i k c.from_residual.result _ c.from_residual.ensures.1
+    all_refused (RefusesValues stop_cause) i k c.from_residual.result _ c.from_residual.ensures.1
     (walks_refused stop_cause _ i j k (constructed_form g.S.Source.stream c.args.cons.now) c.loop.invariant.walks c.in_err-step.ensures.passed.refused)
     c.in_err-step.ensures.passed.failed
     (c.in_err-step.ensures.passed.mode ∙ c.loop.invariant.walks.mode)
