@@ -16,7 +16,8 @@ use Rattle.bcder.specs.calls.Captured.{Kept, AreWhole}
 use Rattle.bcder.specs.calls.Capturing.{IsCaptureOf, Captures, RefusesCapture, RefusesLeft, by_content, by_source, by_memory}
 use Rattle.bcder.specs.calls.CapturingValues.{RefusesWhere, failed, source, nothing, memory, WantsMemory, CapturesBy, PassesBy, CapturesValue, HasNoValue, CapturesValues, HasOthers, PassesToEnd}
 use Rattle.bcder.specs.calls.Content.{Reading, Form, octets, values, Octets, IndefiniteValues, label, Closes, Moves, Falls, HasMarker, EndsAt, IsDone, IsUsedUp}
-use Rattle.bcder.specs.calls.Decoding.{AnsweredOn, by_closure, left_failed}
+use Rattle.bcder.specs.calls.Calls.{Answered}
+use Rattle.bcder.specs.calls.Decoding.{by_closure, left_failed}
 use Rattle.bcder.specs.calls.Walking.{HasValue, PassesValue, ClosesBefore, HasValues, Walks}
 use Rattle.bcder.specs.calls.Walking as walking
 use Rattle.bcder.specs.calls.Skipping.{RefusesOne}
@@ -79,7 +80,7 @@ or_false false = refl
 module _ {C X : Type 0} (view : C → Reading) (post : MutBor C → Result (Unit {0}) (DecodeError X) → MutBor C → Type 0) (Q : Reading → Reading → Type 0) (HasNone : Reading → Type 0)
     (law : (p : MutBor C) (r : Result (Unit {0}) (DecodeError X)) (q : MutBor C) → post p r q → PassesBy Q HasNone (view p.now) r (view q.now))
     (around : (c i : Reading) → IsCaptureOf c i → HasNone i → HasNone c) (usable : (i j : Reading) → Q i j → j.state ≢ Failed) where
-  did : (i j : Reading) (r : Result (Unit {0}) (DecodeError X)) → AnsweredOn {R = Result (Unit {0}) (DecodeError X)} view post i r j → PassesBy Q HasNone i r j
+  did : (i j : Reading) (r : Result (Unit {0}) (DecodeError X)) → Answered {R = Result (Unit {0}) (DecodeError X)} view post i r j → PassesBy Q HasNone i r j
   did i j r a = subst (λ z. PassesBy Q HasNone i r z) a.left_is (subst (λ z. PassesBy Q HasNone z r (view a.left.now)) a.handed_is (law a.handed r a.left a.called))
 
   left_mark : (i j : Reading) (e : DecodeError X) (n : ℕ) → RefusesLeft view post i e j n → j.marked ≡ i.marked

@@ -6,7 +6,7 @@ use Rattle.std.proofs.lemmas.List.{length-append, take_all, drop_all}
 use Rattle.bcder.specs.declared.mode.Mode.{Mode}
 use Rattle.bcder.specs.declared.length.Length.{Length}
 use Rattle.bcder.specs.declared.length.Length.TheVariants as len
-use Rattle.bcder.specs.steps.Stacked.{Entry, Definite, Indefinite, Reached, after, lack, is_indefinite, ends, next_to}
+use Rattle.bcder.specs.steps.Stacked.{Entry, Definite, Indefinite, Reached, after_headings, lack, is_indefinite, ends, next_to}
 use Rattle.bcder.specs.x690.Identifier.{AreOctets, Tag}
 use Rattle.bcder.specs.x690.Tree.{Tree, constructed, Trees, ◌∷ₜ◌}
 use Rattle.bcder.specs.x690.Preorder.{Heading, preorder, preorders}
@@ -27,11 +27,11 @@ take_front : (h z : List ℕ) → take (length h) (h ++ z) ≡ h
 take_front [] z = refl
 take_front (b ∷ h) z = ap (λ l. b ∷ l) (take_front h z)
 
-pub no_calls : (r : Reached) → after [] r ≡ r
+pub no_calls : (r : Reached) → after_headings [] r ≡ r
 no_calls None = refl
 no_calls (Some o) = refl
 
-pub two_calls : (a b : List Heading) (r : Reached) → after a (after b r) ≡ after (a ++ b) r
+pub two_calls : (a b : List Heading) (r : Reached) → after_headings a (after_headings b r) ≡ after_headings (a ++ b) r
 two_calls a b None = refl
 two_calls a b (Some o) = ap (λ l. Some (l, o.1)) (sym (append_assoc a b o.0))
 
@@ -52,25 +52,25 @@ pub goes_on : (mode : Mode) (top : Entry) (es : List Entry) (x y : List ℕ) (m 
 unfolding ends
 goes_on mode (Definite out) es x y zero o e = rw (read_list_step mode false x o, e) (go (read_tree mode x))
   where
-    inner : (t : Tree) (z : List ℕ) (r : Option (Trees × List ℕ)) → option_and_then (λ ts. after (preorders ts.0 (suc (length es))) (ends mode es (cut out y) (lack out y) (past out y).octets)) (option_map {U = Trees × List ℕ} (λ ts. (t ∷ₜ ts.0, ts.1)) r) ≡ after (preorder t (suc (length es))) (option_and_then (λ ts. after (preorders ts.0 (suc (length es))) (ends mode es (cut out y) (lack out y) (past out y).octets)) r)
+    inner : (t : Tree) (z : List ℕ) (r : Option (Trees × List ℕ)) → option_and_then (λ ts. after_headings (preorders ts.0 (suc (length es))) (ends mode es (cut out y) (lack out y) (past out y).octets)) (option_map {U = Trees × List ℕ} (λ ts. (t ∷ₜ ts.0, ts.1)) r) ≡ after_headings (preorder t (suc (length es))) (option_and_then (λ ts. after_headings (preorders ts.0 (suc (length es))) (ends mode es (cut out y) (lack out y) (past out y).octets)) r)
     inner t z None = refl
     inner t z (Some ts) = sym (two_calls (preorder t (suc (length es))) (preorders ts.0 (suc (length es))) (ends mode es (cut out y) (lack out y) (past out y).octets))
 
-    go : (r : Option (Tree × List ℕ)) → option_and_then (λ ts. after (preorders ts.0 (suc (length es))) (ends mode es (cut out y) (lack out y) (past out y).octets)) (option_and_then {U = Trees × List ℕ} (λ t. option_map (λ ts. (t.0 ∷ₜ ts.0, ts.1)) (read_list mode false t.1)) r) ≡ option_and_then (λ t. after (preorder t.0 (suc (length es))) (ends mode (Definite out ∷ es) t.1 0 y)) r
+    go : (r : Option (Tree × List ℕ)) → option_and_then (λ ts. after_headings (preorders ts.0 (suc (length es))) (ends mode es (cut out y) (lack out y) (past out y).octets)) (option_and_then {U = Trees × List ℕ} (λ t. option_map (λ ts. (t.0 ∷ₜ ts.0, ts.1)) (read_list mode false t.1)) r) ≡ option_and_then (λ t. after_headings (preorder t.0 (suc (length es))) (ends mode (Definite out ∷ es) t.1 0 y)) r
     go None = refl
     go (Some t) = inner t.0 t.1 (read_list mode false t.1)
 goes_on mode (Definite out) es x y (suc m) o e = go (read_tree mode x)
   where
-    go : (r : Option (Tree × List ℕ)) → None ≡ option_and_then {U = List Heading × (List ℕ × ℕ × List ℕ)} (λ t. after (preorder t.0 (suc (length es))) (ends mode (Definite out ∷ es) t.1 (suc m) y)) r
+    go : (r : Option (Tree × List ℕ)) → None ≡ option_and_then {U = List Heading × (List ℕ × ℕ × List ℕ)} (λ t. after_headings (preorder t.0 (suc (length es))) (ends mode (Definite out ∷ es) t.1 (suc m) y)) r
     go None = refl
     go (Some t) = refl
 goes_on mode Indefinite es x y m o e = rw (read_list_step mode true x o, e) (go (read_tree mode x))
   where
-    inner : (t : Tree) (r : Option (Trees × List ℕ)) → option_and_then (λ ts. after (preorders ts.0 (suc (length es))) (ends mode es ts.1 m y)) (option_map {U = Trees × List ℕ} (λ ts. (t ∷ₜ ts.0, ts.1)) r) ≡ after (preorder t (suc (length es))) (option_and_then (λ ts. after (preorders ts.0 (suc (length es))) (ends mode es ts.1 m y)) r)
+    inner : (t : Tree) (r : Option (Trees × List ℕ)) → option_and_then (λ ts. after_headings (preorders ts.0 (suc (length es))) (ends mode es ts.1 m y)) (option_map {U = Trees × List ℕ} (λ ts. (t ∷ₜ ts.0, ts.1)) r) ≡ after_headings (preorder t (suc (length es))) (option_and_then (λ ts. after_headings (preorders ts.0 (suc (length es))) (ends mode es ts.1 m y)) r)
     inner t None = refl
     inner t (Some ts) = sym (two_calls (preorder t (suc (length es))) (preorders ts.0 (suc (length es))) (ends mode es ts.1 m y))
 
-    go : (r : Option (Tree × List ℕ)) → option_and_then (λ ts. after (preorders ts.0 (suc (length es))) (ends mode es ts.1 m y)) (option_and_then {U = Trees × List ℕ} (λ t. option_map (λ ts. (t.0 ∷ₜ ts.0, ts.1)) (read_list mode true t.1)) r) ≡ option_and_then (λ t. after (preorder t.0 (suc (length es))) (ends mode (Indefinite ∷ es) t.1 m y)) r
+    go : (r : Option (Tree × List ℕ)) → option_and_then (λ ts. after_headings (preorders ts.0 (suc (length es))) (ends mode es ts.1 m y)) (option_and_then {U = Trees × List ℕ} (λ t. option_map (λ ts. (t.0 ∷ₜ ts.0, ts.1)) (read_list mode true t.1)) r) ≡ option_and_then (λ t. after_headings (preorder t.0 (suc (length es))) (ends mode (Indefinite ∷ es) t.1 m y)) r
     go None = refl
     go (Some t) = inner t.0 (read_list mode true t.1)
 
@@ -81,7 +81,7 @@ pub too_long : (inside : Inside) (t : Tag) (f : Bool) (n : ℕ) (z : List ℕ) �
 too_long inside t false n z l = rw (lt-ltb _ _ l) refl
 too_long inside t true n z l = rw (lt-ltb _ _ l) refl
 
-pub octets_there : (mode : Mode) (es : List Entry) (t : Tag) (n : ℕ) (z y : List ℕ) (m : ℕ) → n ≤ length z → next_to mode es (read_contents (read_list mode) t false (len.Definite n) z) m y ≡ after (record { tag = t; constructed = false; depth = length es } ∷ []) (ends mode es (drop n z) m y)
+pub octets_there : (mode : Mode) (es : List Entry) (t : Tag) (n : ℕ) (z y : List ℕ) (m : ℕ) → n ≤ length z → next_to mode es (read_contents (read_list mode) t false (len.Definite n) z) m y ≡ after_headings (record { tag = t; constructed = false; depth = length es } ∷ []) (ends mode es (drop n z) m y)
 octets_there mode es t n z y m l = rw (le-ltb _ _ l) refl
 
 -- a limit gives back what it cut
@@ -90,25 +90,25 @@ pub record Restores (out : Option ℕ) (z y : List ℕ) (m : ℕ) : Type 0 where
   pub missing : lack out (z ++ y) ≡ m
   pub behind : (past out (z ++ y)).octets ≡ y
 
-pub definite_there : (mode : Mode) (es : List Entry) (t : Tag) (n : ℕ) (z y : List ℕ) (m : ℕ) (out : Option ℕ) → n ≤ length z → Restores out (drop n z) y m → next_to mode es (read_contents (read_list mode) t true (len.Definite n) z) m y ≡ after (record { tag = t; constructed = true; depth = length es } ∷ []) (ends mode (Definite out ∷ es) (take n z) 0 (drop n z ++ y))
+pub definite_there : (mode : Mode) (es : List Entry) (t : Tag) (n : ℕ) (z y : List ℕ) (m : ℕ) (out : Option ℕ) → n ≤ length z → Restores out (drop n z) y m → next_to mode es (read_contents (read_list mode) t true (len.Definite n) z) m y ≡ after_headings (record { tag = t; constructed = true; depth = length es } ∷ []) (ends mode (Definite out ∷ es) (take n z) 0 (drop n z ++ y))
 unfolding ends
 definite_there mode es t n z y m out l r = rw (le-ltb _ _ l, r.within, r.missing, r.behind) (go (read_list mode false (take n z)))
   where
-    go : (r : Option (Trees × List ℕ)) → option_and_then {U = List Heading × (List ℕ × ℕ × List ℕ)} (λ t. after (preorder t.0 (length es)) (ends mode es t.1 m y)) (option_map {U = Tree × List ℕ} (λ ts. (constructed t ts.0, drop n z)) r) ≡ after (record { tag = t; constructed = true; depth = length es } ∷ []) (option_and_then (λ ts. after (preorders ts.0 (suc (length es))) (ends mode es (drop n z) m y)) r)
+    go : (r : Option (Trees × List ℕ)) → option_and_then {U = List Heading × (List ℕ × ℕ × List ℕ)} (λ t. after_headings (preorder t.0 (length es)) (ends mode es t.1 m y)) (option_map {U = Tree × List ℕ} (λ ts. (constructed t ts.0, drop n z)) r) ≡ after_headings (record { tag = t; constructed = true; depth = length es } ∷ []) (option_and_then (λ ts. after_headings (preorders ts.0 (suc (length es))) (ends mode es (drop n z) m y)) r)
     go None = refl
     go (Some ts) = rw add-one (sym (two_calls (record { tag = t; constructed = true; depth = length es } ∷ []) (preorders ts.0 (suc (length es))) (ends mode es (drop n z) m y)))
 
 -- the same where the content isn't all there: nothing on either side
-pub definite_short : (mode : Mode) (es : List Entry) (t : Tag) (n : ℕ) (x z y v : List ℕ) (m k : ℕ) (out : Option ℕ) → length z < n → 0 < k → next_to mode es (read_contents (read_list mode) t true (len.Definite n) z) m y ≡ after (record { tag = t; constructed = true; depth = length es } ∷ []) (ends mode (Definite out ∷ es) x k v)
+pub definite_short : (mode : Mode) (es : List Entry) (t : Tag) (n : ℕ) (x z y v : List ℕ) (m k : ℕ) (out : Option ℕ) → length z < n → 0 < k → next_to mode es (read_contents (read_list mode) t true (len.Definite n) z) m y ≡ after_headings (record { tag = t; constructed = true; depth = length es } ∷ []) (ends mode (Definite out ∷ es) x k v)
 unfolding ends
 definite_short mode es t n x z y v m zero out l s = absurd (omega arith)
 definite_short mode es t n x z y v m (suc k) out l s = rw (lt-ltb _ _ l) refl
 
-pub indefinite_there : (mode : Mode) (es : List Entry) (t : Tag) (z y : List ℕ) (m : ℕ) → next_to mode es (read_contents (read_list mode) t true len.Indefinite z) m y ≡ after (record { tag = t; constructed = true; depth = length es } ∷ []) (ends mode (Indefinite ∷ es) z m y)
+pub indefinite_there : (mode : Mode) (es : List Entry) (t : Tag) (z y : List ℕ) (m : ℕ) → next_to mode es (read_contents (read_list mode) t true len.Indefinite z) m y ≡ after_headings (record { tag = t; constructed = true; depth = length es } ∷ []) (ends mode (Indefinite ∷ es) z m y)
 unfolding ends
 indefinite_there mode es t z y m = go (read_list mode true z)
   where
-    go : (r : Option (Trees × List ℕ)) → option_and_then {U = List Heading × (List ℕ × ℕ × List ℕ)} (λ t. after (preorder t.0 (length es)) (ends mode es t.1 m y)) (option_map {U = Tree × List ℕ} (λ ts. (constructed t ts.0, ts.1)) r) ≡ after (record { tag = t; constructed = true; depth = length es } ∷ []) (option_and_then (λ ts. after (preorders ts.0 (suc (length es))) (ends mode es ts.1 m y)) r)
+    go : (r : Option (Trees × List ℕ)) → option_and_then {U = List Heading × (List ℕ × ℕ × List ℕ)} (λ t. after_headings (preorder t.0 (length es)) (ends mode es t.1 m y)) (option_map {U = Tree × List ℕ} (λ ts. (constructed t ts.0, ts.1)) r) ≡ after_headings (record { tag = t; constructed = true; depth = length es } ∷ []) (option_and_then (λ ts. after_headings (preorders ts.0 (suc (length es))) (ends mode es ts.1 m y)) r)
     go None = refl
     go (Some ts) = rw add-one (sym (two_calls (record { tag = t; constructed = true; depth = length es } ∷ []) (preorders ts.0 (suc (length es))) (ends mode es ts.1 m y)))
 
@@ -132,9 +132,9 @@ first_heading inside t true len.Indefinite z d = first_constructed t d (λ ts. t
 first_heading inside t true (len.Definite n) z d = first_of_if _ d (ltb (length z) n) _ (first_constructed t d (λ ts. drop n z) (inside false (take n z)))
 
 -- whatever it announces, the headings begin with its own
-pub heads : (mode : Mode) (es : List Entry) (h : Heading) (r : Option (Tree × List ℕ)) (y : List ℕ) (m : ℕ) → FirstIs h (length es) r → (o : Reached) × (next_to mode es r m y ≡ after (h ∷ []) o)
+pub heads : (mode : Mode) (es : List Entry) (h : Heading) (r : Option (Tree × List ℕ)) (y : List ℕ) (m : ℕ) → FirstIs h (length es) r → (o : Reached) × (next_to mode es r m y ≡ after_headings (h ∷ []) o)
 heads mode es h None y m f = (None, refl)
-heads mode es h (Some u) y m f = (after f.0 (ends mode es u.1 m y), ap (λ l. after l (ends mode es u.1 m y)) f.1 ∙ sym (two_calls (h ∷ []) f.0 (ends mode es u.1 m y)))
+heads mode es h (Some u) y m f = (after_headings f.0 (ends mode es u.1 m y), ap (λ l. after_headings l (ends mode es u.1 m y)) f.1 ∙ sym (two_calls (h ∷ []) f.0 (ends mode es u.1 m y)))
 
 -- the limit that was left, less the length, does
 pub Restores-none : (z : List ℕ) → Restores None z [] 0

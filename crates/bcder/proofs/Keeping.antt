@@ -14,7 +14,7 @@ use Rattle.bcder.specs.x690.Encoding.{IsEncoding, AreEncodings}
 use Rattle.bcder.specs.calls.Stream.{Stream, borrowed}
 use Rattle.bcder.specs.calls.Content.{Reading, label, Moves, Whole, Closes, UnboundedValues, IndefiniteValues, Octets}
 use Rattle.bcder.specs.calls.Decoding.{HandsAll, Decodes, RefusesDecode}
-use Rattle.bcder.specs.calls.Captured.{Kept, AreWhole, kept_stream, DecodesFront, RefusesFront, by_decode}
+use Rattle.bcder.specs.calls.Captured.{Kept, AreWhole, kept_stream, DecodesFront, RefusesKept, by_decode}
 use Rattle.bcder.specs.calls.Views.{of_constructed, lent}
 use Rattle.bcder.specs.laws.Complete.{two_octets, one_encoding}
 use Rattle.bcder.specs.laws.Canonical.{IsEncoding-in_ber, AreEncodings-in_ber}
@@ -107,6 +107,6 @@ module _ {S T X : Type 0} (stream : S → Stream) (post : MutBor (Constructed (M
       }
 
 -- what was refused of a source over kept octets
-pub refused_at : {S T X : Type 0} (stream : S → Stream) (post : MutBor (Constructed (MutBor S)) → Result T (DecodeError X) → MutBor (Constructed (MutBor S)) → Type 0) (c : Kept) (e : DecodeError X) (s s' : Stream) → s ≡ kept_stream c → (name : ℕ) (m : Mode) → RefusesDecode cause_of (of_constructed (lent stream)) post (borrowed name s) m e (borrowed name s') → m ≡ c.mode → RefusesFront stream post c e
+pub refused_at : {S T X : Type 0} (stream : S → Stream) (post : MutBor (Constructed (MutBor S)) → Result T (DecodeError X) → MutBor (Constructed (MutBor S)) → Type 0) (c : Kept) (e : DecodeError X) (s s' : Stream) → s ≡ kept_stream c → (name : ℕ) (m : Mode) → RefusesDecode cause_of (of_constructed (lent stream)) post (borrowed name s) m e (borrowed name s') → m ≡ c.mode → RefusesKept stream post c e
 refused_at stream post c e s s' here name m h i =
     by_decode name s' (subst (λ z. RefusesDecode cause_of (of_constructed (lent stream)) post (borrowed name (kept_stream c)) z e (borrowed name s')) i (subst (λ z. RefusesDecode cause_of (of_constructed (lent stream)) post (borrowed name z) m e (borrowed name s')) here h))

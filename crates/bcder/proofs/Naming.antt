@@ -11,7 +11,7 @@ use Rattle.bcder.specs.calls.Stream.{Stream}
 use Rattle.bcder.specs.calls.Content.{Reading, Form, Moves, Whole, IsAtEnd, of_octets, of_definite, of_indefinite, of_unbounded, EndsBefore, NotAtEnd}
 use Rattle.bcder.specs.calls.Walking.{NoValue, PassesValue, PassedBy}
 use Rattle.bcder.specs.calls.Walking as walking
-use Rattle.bcder.specs.calls.Skipping.{WereCalls, RefusesOne, SkippedOneBy}
+use Rattle.bcder.specs.calls.Skipping.{WereCalls, RefusesOne}
 use Rattle.bcder.specs.calls.Skipping as skipping
 
 -- the same content, behind a borrow of this name
@@ -81,10 +81,11 @@ module _ (n : GName) where
     refused_named x (walking.RefusesWalk.source h g) = walking.RefusesWalk.source h g
     refused_named x (walking.RefusesWalk.nothing h v q o) = walking.RefusesWalk.nothing h (nothing_named c v) (open_named c q) o
 
-    passed_named : {T : Type 0} (r : Result (Option T) E) → PassedBy why c r d → PassedBy why (named n c) r (named n d)
-    passed_named (Ok None) p = record { value = tt; end = ends_named c d.stream.rest p.end; done = p.done; no_fault = p.no_fault; refused = tt; failed = tt; mode = p.mode; marked = p.marked }
-    passed_named (Ok (Some x)) p = record { value = value_named c d p.value; end = tt; done = tt; no_fault = p.no_fault; refused = tt; failed = tt; mode = p.mode; marked = p.marked }
-    passed_named (Err x) p = record { value = tt; end = tt; done = tt; no_fault = tt; refused = refused_named x p.refused; failed = p.failed; mode = p.mode; marked = p.marked }
+    -- whatever is refused of the content behind the other borrow too
+    passed_named : {T : Type 0} (Refuses : Reading → E → Reading → Type 0) → ((x : E) → Refuses c x d → Refuses (named n c) x (named n d)) → (r : Result (Option T) E) → PassedBy Refuses c r d → PassedBy Refuses (named n c) r (named n d)
+    passed_named Refuses f (Ok None) p = record { value = tt; end = ends_named c d.stream.rest p.end; done = p.done; no_fault = p.no_fault; refused = tt; failed = tt; mode = p.mode; marked = p.marked }
+    passed_named Refuses f (Ok (Some x)) p = record { value = value_named c d p.value; end = tt; done = tt; no_fault = p.no_fault; refused = tt; failed = tt; mode = p.mode; marked = p.marked }
+    passed_named Refuses f (Err x) p = record { value = tt; end = tt; done = tt; no_fault = tt; refused = f x p.refused; failed = p.failed; mode = p.mode; marked = p.marked }
 
     calls_named : (calls : List Heading) → WereCalls c calls d → WereCalls (named n c) calls (named n d)
     calls_named calls w = record {
@@ -98,11 +99,6 @@ module _ (n : GName) where
     one_named : (y : E) → RefusesOne why c y d → RefusesOne why (named n c) y (named n d)
     one_named y (skipping.RefusesOne.by_walk r) = skipping.RefusesOne.by_walk (refused_named y r)
     one_named y (skipping.RefusesOne.by_depth g j) = skipping.RefusesOne.by_depth (record { calls = g.calls; last = g.last; were = calls_named _ g.were; constructed = g.constructed; deep = g.deep }) j
-
-    skipped_named : {T : Type 0} (r : Result (Option T) E) → SkippedOneBy why c r d → SkippedOneBy why (named n c) r (named n d)
-    skipped_named (Ok None) p = record { value = tt; end = ends_named c d.stream.rest p.end; done = p.done; no_fault = p.no_fault; refused = tt; failed = tt; mode = p.mode; marked = p.marked }
-    skipped_named (Ok (Some x)) p = record { value = value_named c d p.value; end = tt; done = tt; no_fault = p.no_fault; refused = tt; failed = tt; mode = p.mode; marked = p.marked }
-    skipped_named (Err x) p = record { value = tt; end = tt; done = tt; no_fault = tt; refused = one_named x p.refused; failed = p.failed; mode = p.mode; marked = p.marked }
 
 same_fields : (s s' : Stream) → s ≡ s' → (o o' : Option ℕ) → o ≡ o' → (k k' : Form) → k ≡ k' → (t t' : State) → t ≡ t' → (m m' : Mode) → m ≡ m' → (b b' : Bool) → b ≡ b' → (n n' : GName) → n ≡ n' → ◌≡◌ {A = Reading} (record { stream = s; owed = o; kind = k; state = t; mode = m; marked = b; name = n }) (record { stream = s'; owed = o'; kind = k'; state = t'; mode = m'; marked = b'; name = n' })
 same_fields s s' es o o' eo k k' ek t t' et m m' em b b' eb n n' en = cc
@@ -119,8 +115,8 @@ module _ (n : GName) (c d e : Reading) (s : d.stream ≡ e.stream) (o : d.owed �
   pub moves_behind : Moves (named n c) e
   moves_behind = subst (λ z. Moves (named n c) z) is_named (moves_named n c d mv)
 
-  pub passed_behind : {T E : Type 0} (why : E → Cause ContentError) (r : Result (Option T) E) → PassedBy why c r d → PassedBy why (named n c) r e
-  passed_behind why r p = subst (λ z. PassedBy why (named n c) r z) is_named (passed_named n why c d r p)
+  pub passed_behind : {T E : Type 0} (why : E → Cause ContentError) (r : Result (Option T) E) → PassedBy (walking.RefusesWalk why) c r d → PassedBy (walking.RefusesWalk why) (named n c) r e
+  passed_behind why r p = subst (λ z. PassedBy (walking.RefusesWalk why) (named n c) r z) is_named (passed_named n why c d (walking.RefusesWalk why) (refused_named n why c d) r p)
 
-  pub skipped_behind : {T E : Type 0} (why : E → Cause ContentError) (r : Result (Option T) E) → SkippedOneBy why c r d → SkippedOneBy why (named n c) r e
-  skipped_behind why r p = subst (λ z. SkippedOneBy why (named n c) r z) is_named (skipped_named n why c d r p)
+  pub skipped_behind : {T E : Type 0} (why : E → Cause ContentError) (r : Result (Option T) E) → PassedBy (RefusesOne why) c r d → PassedBy (RefusesOne why) (named n c) r e
+  skipped_behind why r p = subst (λ z. PassedBy (RefusesOne why) (named n c) r z) is_named (passed_named n why c d (RefusesOne why) (one_named n why c d) r p)

@@ -10,10 +10,12 @@ use Rattle.bcder.specs.declared.length.Length.TheVariants.{Definite}
 use Rattle.bcder.specs.declared.decode.content.State.TheVariants.{Open}
 use Rattle.bcder.specs.x690.Identifier.{AreOctets}
 use Rattle.bcder.specs.x690.Encoding.{Header, IsHeader, IsEncoding, may_have}
+use Rattle.bcder.specs.declared.decode.header.Header.{Header as CodeHeader}
+use Rattle.bcder.specs.steps.Peek.{header_of}
 use Rattle.bcder.specs.steps.Reading.{read_front}
 use Rattle.bcder.specs.x690.Tree.{Tree, primitive}
 use Rattle.bcder.specs.x690.Grammar.{IsOnly}
-use Rattle.bcder.specs.calls.Content.{Reading, Advances, Moves, Resembles, HasMarker, IsAtEnd, of_octets, of_definite, of_indefinite, of_unbounded, EndsBefore, NotAtEnd}
+use Rattle.bcder.specs.calls.Content.{Reading, Advances, Moves, Enters, Resembles, HasMarker, IsAtEnd, of_octets, of_definite, of_indefinite, of_unbounded, EndsBefore, NotAtEnd}
 use Rattle.bcder.specs.calls.Walking.{NoValue, PassesValue, PassedBy}
 use Rattle.bcder.specs.steps.WalkSteps.{IsPrimitive}
 use Rattle.bcder.specs.calls.Walking as walking
@@ -22,6 +24,7 @@ use Rattle.bcder.specs.laws.Limits.{AreOctets-drop}
 use Rattle.bcder.specs.laws.Stands.{Headed, primitive_encodes}
 use Rattle.bcder.proofs.Headers.{header_of_front, size_is}
 use Rattle.bcder.proofs.Moving.{moves_value}
+use Rattle.bcder.proofs.Entering.{looked_enters, no_fewer}
 
 -- octets at the front of open content were passed that are the encoding of a value
 module _ (c d : Reading) (n : ℕ) (t : Tree) (k : IsEncoding c.mode t (take n c.stream.rest)) (a : Advances c d (take n c.stream.rest)) (s : c.state ≡ Open) (e : d.state ≡ Open) where
@@ -112,6 +115,20 @@ looked_nothing c d s n = record { none = λ t w after k r. n.none t w after (sub
 pub looked_open : (c d : Reading) → Resembles c d → NotAtEnd d → NotAtEnd c
 looked_open c d s n = record { none = λ after e. n.none after (looked_ends d c after (resembles_sym c d s) e) }
 
+pub looked_twice : (c d e : Reading) → Resembles c d → Resembles d e → Resembles c e
+looked_twice c d e s p = record { rest = p.rest ∙ s.rest; kept = p.kept ∙ s.kept; owed = p.owed ∙ s.owed; kind = p.kind ∙ s.kind; state = p.state ∙ s.state; mode = p.mode ∙ s.mode; marked = p.marked ∙ s.marked; name = p.name ∙ s.name }
+
+-- a header that was passed behind two looks
+pub looked_at_last : (c d e x : Reading) (h k : CodeHeader) → Resembles c d → d.stream.faults ≡ c.stream.faults → Resembles d e → e.stream.faults ≡ d.stream.faults → (h ≡ k) × Enters e (header_of k) x → Enters c (header_of h) x
+looked_at_last c d e x h k s f p n y = subst (λ z. Enters c (header_of z) x) (sym y.0) (looked_enters c d s (no_fewer _ _ f) f _ x (looked_enters d e p (no_fewer _ _ n) n _ x y.1))
+
+-- whatever a call refuses that went on from there
+module _ {E : Type 0} (c d e : Reading) (s : Resembles c d) (f : d.stream.faults ≡ c.stream.faults) (Refuses : Reading → E → Reading → Type 0) (refused : (x : E) → Refuses d x e → Refuses c x e) where
+  pub looked_by : {T : Type 0} (r : Result (Option T) E) → PassedBy Refuses d r e → PassedBy Refuses c r e
+  looked_by (Ok None) p = record { value = tt; end = looked_ends c d e.stream.rest s p.end; done = p.done; no_fault = p.no_fault ∙ f; refused = tt; failed = tt; mode = p.mode ∙ s.mode; marked = p.marked ∙ s.marked }
+  looked_by (Ok (Some x)) p = record { value = looked_passes c d e s p.value; end = tt; done = tt; no_fault = p.no_fault ∙ f; refused = tt; failed = tt; mode = p.mode ∙ s.mode; marked = p.marked ∙ s.marked }
+  looked_by (Err x) p = record { value = tt; end = tt; done = tt; no_fault = tt; refused = refused x p.refused; failed = p.failed; mode = p.mode ∙ s.mode; marked = p.marked ∙ s.marked }
+
 module _ {E : Type 0} (why : E → Cause ContentError) (c d e : Reading) (s : Resembles c d) (f : d.stream.faults ≡ c.stream.faults) where
   pub looked_refused : (x : E) → walking.RefusesWalk why d x e → walking.RefusesWalk why c x e
   looked_refused x (walking.RefusesWalk.failed h o) = walking.RefusesWalk.failed (sym s.state ∙ h) o
@@ -119,34 +136,5 @@ module _ {E : Type 0} (why : E → Cause ContentError) (c d e : Reading) (s : Re
   looked_refused x (walking.RefusesWalk.nothing h n q o) = walking.RefusesWalk.nothing (sym s.state ∙ h) (looked_nothing c d s n) (looked_open c d s q) o
 
   -- a call that went on from there went on from the content itself
-  pub looked_next : {T : Type 0} (r : Result (Option T) E) → PassedBy why d r e → PassedBy why c r e
-  looked_next (Ok None) p = record {
-    value = tt;
-    end = looked_ends c d e.stream.rest s p.end;
-    done = p.done;
-    no_fault = p.no_fault ∙ f;
-    refused = tt;
-    failed = tt;
-    mode = p.mode ∙ s.mode;
-    marked = p.marked ∙ s.marked;
-  }
-  looked_next (Ok (Some x)) p = record {
-    value = looked_passes c d e s p.value;
-    end = tt;
-    done = tt;
-    no_fault = p.no_fault ∙ f;
-    refused = tt;
-    failed = tt;
-    mode = p.mode ∙ s.mode;
-    marked = p.marked ∙ s.marked;
-  }
-  looked_next (Err x) p = record {
-    value = tt;
-    end = tt;
-    done = tt;
-    no_fault = tt;
-    refused = looked_refused x p.refused;
-    failed = p.failed;
-    mode = p.mode ∙ s.mode;
-    marked = p.marked ∙ s.marked;
-  }
+  pub looked_next : {T : Type 0} (r : Result (Option T) E) → PassedBy (walking.RefusesWalk why) d r e → PassedBy (walking.RefusesWalk why) c r e
+  looked_next r = looked_by c d e s f (walking.RefusesWalk why) looked_refused r

@@ -8,7 +8,7 @@ use Rattle.bcder.specs.declared.mode.Mode.{Mode}
 use Rattle.bcder.specs.declared.length.Length.TheVariants as len
 use Rattle.bcder.specs.declared.decode.content.Kind.{Kind}
 use Rattle.bcder.specs.declared.decode.content.State.TheVariants.{Open}
-use Rattle.bcder.specs.steps.Stacked.{Entry, entries, remain, due, heading, unwound, TopIs, Passes, GoesInto, octets, Leaves, Counts, PassesCalls, IsUnderWay, IsBroken, StaysAt, for_memory, by_failure, too_few, GoneBy, IsCounted, framed, StaysOut, refused, wanted, failing, few, VisitedBy, Breaks, by_source, by_content, by_closure, by_memory, RanBy}
+use Rattle.bcder.specs.steps.Stacked.{Entry, entries, remain, due, heading, unwound, TopIs, Passes, GoesInto, octets, LeavesInnermost, Counts, PassesCalls, IsUnderWay, IsBroken, StaysAt, for_memory, by_failure, too_few, GoneBy, IsCounted, framed, StaysOut, refused, wanted, failing, few, VisitedBy, Breaks, by_source, by_content, by_closure, by_memory, RanBy}
 use Rattle.bcder.specs.declared.decode.content.skip.Bar.{Bar}
 use Rattle.bcder.specs.declared.decode.content.skip.Bar.TheVariants as bar
 use Rattle.bcder.specs.declared.decode.content.skip.Halt.{Halt}
@@ -84,7 +84,7 @@ pub entered_fits : (c d : Reading) (k : Header) (q : Option ℕ) → d.owed ≡ 
 entered_fits c d k q do' e = subst (FitsOwed k.len) do' e.fits
 
 -- the innermost value was left
-pub went_out : (mode : Mode) (h : Header) (s : Stream) (o : Option ℕ) (calls : List Heading) (es fs : List Entry) (t v x : Stream) (p q r : Option ℕ) (c d : Reading) (k : Kind) (cs : c.stream ≡ limited p t) (co : c.owed ≡ p) (ds : d.stream ≡ limited q v) (do' : d.owed ≡ q) → IsUnderWay mode h s o calls es t p → Moves c d → c.kind ≡ values k → TopIs es k → c.state ≡ Open → c.mode ≡ mode → Within c → EndsAt c d → Leaves es q fs r → x ≡ v → IsUnderWay mode h s o calls fs x r
+pub went_out : (mode : Mode) (h : Header) (s : Stream) (o : Option ℕ) (calls : List Heading) (es fs : List Entry) (t v x : Stream) (p q r : Option ℕ) (c d : Reading) (k : Kind) (cs : c.stream ≡ limited p t) (co : c.owed ≡ p) (ds : d.stream ≡ limited q v) (do' : d.owed ≡ q) → IsUnderWay mode h s o calls es t p → Moves c d → c.kind ≡ values k → TopIs es k → c.state ≡ Open → c.mode ≡ mode → Within c → EndsAt c d → LeavesInnermost es q fs r → x ≡ v → IsUnderWay mode h s o calls fs x r
 went_out mode h s o calls es fs t v x p q r c d k cs co ds do' u m ck ti st cm wi e l i =
     let a = passing t v p q c d cs co ds do' m in
     subst (λ z. IsUnderWay mode h s o calls fs z r) (sym i)
@@ -260,10 +260,10 @@ out_counts mode h s o calls es k v q fs p outer m e f i r = rw (e, f) (around_co
 
 -- the limit around is told by the values of definite length
 pub frames_count : (v : OpenValues) (q outer : Option ℕ) → Counts outer (unwound (entries v) q) → Counts outer (unwound (framed v.frames.now) q)
-frames_count v q outer c = subst (Counts outer) (unwound_indefinites v.inner (framed v.frames.now) q) c
+frames_count v q outer c = subst (Counts outer) (unwound_indefinites v.indefinite (framed v.frames.now) q) c
 
 pub frames_unwound : (v : OpenValues) (q r : Option ℕ) → r ≡ unwound (framed v.frames.now) q → r ≡ unwound (entries v) q
-frames_unwound v q r e = e ∙ sym (unwound_indefinites v.inner (framed v.frames.now) q)
+frames_unwound v q r e = e ∙ sym (unwound_indefinites v.indefinite (framed v.frames.now) q)
 
 pub wrong_counts : (mode : Mode) (h : Header) (s : Stream) (o : Option ℕ) (calls : List Heading) (es : List Entry) (t v : Stream) (p q outer : Option ℕ) (c d : Reading) (cs : c.stream ≡ limited p t) (co : c.owed ≡ p) (ds : d.stream ≡ limited q v) (do' : d.owed ≡ q) → Moves c d → IsUnderWay mode h s o calls es t p → outer ≡ o → IfSome outer (λ n. n < 2 ^ 64) → Counts outer (unwound es q)
 wrong_counts mode h s o calls es t v p q outer c d cs co ds do' m u i r =

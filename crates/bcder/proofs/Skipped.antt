@@ -22,10 +22,10 @@ use Rattle.bcder.specs.declared.length.Length.TheVariants.{Definite}
 use Rattle.bcder.specs.steps.Peek.{header_of, IsAllHere, IsAtHand}
 use Rattle.bcder.specs.calls.Content.{Accepts, FitsOwed, Reading, Octets, Resembles, any, Falls, Moves, Advances, Enters, EndsBefore, EndsAt, IsDone, NotAtEnd}
 use Rattle.bcder.specs.x690.Grammar.{IsOnly}
-use Rattle.bcder.specs.calls.Walking.{HasValue, NoValue, PassesValue, RefusesWalk, AnswersNext, HasValues, Walks}
+use Rattle.bcder.specs.calls.Walking.{HasValue, NoValue, PassesValue, RefusesWalk, PassedBy, AnswersNext, HasValues, AllBy, Walks}
 use Rattle.bcder.specs.calls.Walking as walking
 use Rattle.bcder.specs.steps.SkipSteps.{IsPast}
-use Rattle.bcder.specs.calls.Skipping.{Steps, Called, WereCalls, SkipsValue, RefusesSkip, SkippedBy, AnswersAll, IsShallow, AnswersSkip, AnswersValue, SkippedValueBy, RefusesOne, SkippedOneBy, RefusesAll, SkippedAllBy, FoundMemory}
+use Rattle.bcder.specs.calls.Skipping.{Steps, Called, WereCalls, SkipsValue, RefusesSkip, SkippedBy, AnswersAll, IsShallow, AnswersSkip, AnswersValue, SkippedValueBy, RefusesOne, RefusesAll, FoundMemory}
 use Rattle.bcder.specs.calls.Skipping as skipping
 use Rattle.bcder.specs.steps.Stacked.{heading, halt_cause, PassesCalls, IsUnderWay, IsBroken, RanBy, Breaks, by_source, by_content, by_closure, by_memory}
 use Rattle.bcder.specs.laws.Complete.{header_complete, header_size, tree_complete, only_at_front}
@@ -37,7 +37,7 @@ use Rattle.bcder.proofs.Entering.{Within, header_not_at_end, header_entered}
 use Rattle.bcder.proofs.Inner.{layers_eq}
 use Rattle.bcder.proofs.Moving.{moves_value, moves_failed, advances_trans, open_not_ended, open_not_failed}
 use Rattle.bcder.proofs.Skips.{cut_falls, past_falls, finished}
-use Rattle.bcder.proofs.Passing.{looked_passes, looked_ends, looked_open, looked_refused}
+use Rattle.bcder.proofs.Passing.{looked_ends, looked_open, looked_refused, looked_by}
 use Rattle.bcder.proofs.Walked.{answers_next}
 use Rattle.bcder.proofs.Walking.{value_not_at_end, value_once, walks_refused}
 
@@ -320,8 +320,12 @@ module _ {F S T U : Type 0} (step : Steps F ContentError) (c : Reading) (f : F) 
 
 module _ {X : Type 0} (why : X → Cause ContentError) (c d e : Reading) where
   -- a value that was passed at once
-  pub one_at_once : {T : Type 0} (x : T) → PassesValue c d → d.stream.faults ≡ c.stream.faults → d.mode ≡ c.mode → d.marked ≡ c.marked → SkippedOneBy {X = X} why c (Ok (Some x)) d
+  pub one_at_once : {T : Type 0} (x : T) → PassesValue c d → d.stream.faults ≡ c.stream.faults → d.mode ≡ c.mode → d.marked ≡ c.marked → PassedBy {E = X} (RefusesOne why) c (Ok (Some x)) d
   one_at_once x p n m k = record { value = p; end = tt; done = tt; no_fault = n; refused = tt; failed = tt; mode = m; marked = k }
+
+  -- and one that was refused at once
+  pub refused_at_once : {T : Type 0} (x : X) → RefusesOne why c x d → d.state ≡ Failed → d.mode ≡ c.mode → d.marked ≡ c.marked → PassedBy {T = T} (RefusesOne why) c (Err x) d
+  refused_at_once x r f m k = record { value = tt; end = tt; done = tt; no_fault = tt; refused = r; failed = f; mode = m; marked = k }
 
   -- content that was only looked at before
   looked_calls : Resembles c d → (calls : List Heading) → WereCalls d calls e → WereCalls c calls e
@@ -337,10 +341,8 @@ module _ {X : Type 0} (why : X → Cause ContentError) (c d e : Reading) where
   looked_one s f y (skipping.RefusesOne.by_walk r) = skipping.RefusesOne.by_walk (looked_refused why c d e s f y r)
   looked_one s f y (skipping.RefusesOne.by_depth g j) = skipping.RefusesOne.by_depth (record { calls = g.calls; last = g.last; were = looked_calls s (g.calls ++ g.last ∷ []) g.were; constructed = g.constructed; deep = g.deep }) j
 
-  pub looked_skipped : {T : Type 0} (r : Result (Option T) X) → Resembles c d → d.stream.faults ≡ c.stream.faults → SkippedOneBy why d r e → SkippedOneBy why c r e
-  looked_skipped (Ok None) s f p = record { value = tt; end = looked_ends c d e.stream.rest s p.end; done = p.done; no_fault = p.no_fault ∙ f; refused = tt; failed = tt; mode = p.mode ∙ s.mode; marked = p.marked ∙ s.marked }
-  looked_skipped (Ok (Some x)) s f p = record { value = looked_passes c d e s p.value; end = tt; done = tt; no_fault = p.no_fault ∙ f; refused = tt; failed = tt; mode = p.mode ∙ s.mode; marked = p.marked ∙ s.marked }
-  looked_skipped (Err x) s f p = record { value = tt; end = tt; done = tt; no_fault = tt; refused = looked_one s f x p.refused; failed = p.failed; mode = p.mode ∙ s.mode; marked = p.marked ∙ s.marked }
+  pub looked_skipped : {T : Type 0} (r : Result (Option T) X) → Resembles c d → d.stream.faults ≡ c.stream.faults → PassedBy (RefusesOne why) d r e → PassedBy (RefusesOne why) c r e
+  looked_skipped r s f = looked_by c d e s f (RefusesOne why) (looked_one s f) r
 
 -- a call with a closure that went on from there went on from the content itself
 module _ {F X : Type 0} (why : X → Cause ContentError) (step : Steps F ContentError) (c d e : Reading) (f g : F) (s : Resembles c d) (nf : d.stream.faults ≡ c.stream.faults) where
@@ -368,25 +370,21 @@ walk_of_one : {S : Type 0} (c d : Reading) (e : DecodeError S) → (cause_of e �
 walk_of_one c d e n (skipping.RefusesOne.by_walk r) = r
 walk_of_one c d e n (skipping.RefusesOne.by_depth g j) = absurd (n j)
 
-pub one_exact : {S T : Type 0} (c d : Reading) (r : Result (Option T) (DecodeError S)) → Within c → SkippedOneBy cause_of c r d → FoundMemory r → (Grew c.stream.faults d.stream.faults → ⊥) → AnswersNext c r d
+pub one_exact : {S T : Type 0} (c d : Reading) (r : Result (Option T) (DecodeError S)) → Within c → PassedBy (RefusesOne cause_of) c r d → FoundMemory r → (Grew c.stream.faults d.stream.faults → ⊥) → AnswersNext c r d
 one_exact c d (Ok None) w s m n = answers_next cause_of c d (Ok None) w tt s.end tt n
 one_exact c d (Ok (Some x)) w s m n = answers_next cause_of c d (Ok (Some x)) w s.value tt tt n
 one_exact c d (Err e) w s m n = answers_next cause_of c d (Err e) w tt tt (walk_of_one c d e m s.refused) n
 
 -- ---- all values
 
-pub all_refused : {X : Type 0} (why : X → Cause ContentError) (e : X) (i j k : Reading) → i.kind ≢ Octets → Walks i j → RefusesOne why j e k → RefusesAll why i e k
-all_refused why e i j k o w (skipping.RefusesOne.by_walk r) = skipping.RefusesAll.by_values (walks_refused why e i j k o w r)
-all_refused why e i j k o w (skipping.RefusesOne.by_depth g h) = skipping.RefusesAll.by_depth j w g h
-
-pub all_err : {T X : Type 0} (why : X → Cause ContentError) (c d : Reading) (r : Result T X) (e : X) → IsErrAnd r (λ x. x ≡ e) → RefusesAll why c e d → d.state ≡ Failed → d.mode ≡ c.mode → d.marked ≡ c.marked → SkippedAllBy why c r d
-all_err why c d (Ok x) e h a f m g = absurd h
-all_err why c d (Err x) e h a f m g = record { all = tt; done = tt; no_fault = tt; refused = subst (λ y. RefusesAll why c y d) (sym h) a; failed = f; mode = m; marked = g }
+pub loop_refused : {X : Type 0} (why : X → Cause ContentError) (e : X) (i j k : Reading) → i.kind ≢ Octets → Walks i j → RefusesOne why j e k → RefusesAll why i e k
+loop_refused why e i j k o w (skipping.RefusesOne.by_walk r) = skipping.RefusesAll.by_values (walks_refused why e i j k o w r)
+loop_refused why e i j k o w (skipping.RefusesOne.by_depth g h) = skipping.RefusesAll.by_depth j w g h
 
 octets_no_values : (c : Reading) → c.kind ≡ Octets → HasValues c → ⊥
 octets_no_values c k h = (let x : ⊥ = subst (λ z. walking.ClosesBefore z c.mode c.owed h.all h.after) k h.closes in x)
 
-pub all_exact : {S T : Type 0} (c d : Reading) (r : Result T (DecodeError S)) → SkippedAllBy cause_of c r d → (Grew c.stream.faults d.stream.faults → ⊥) → FoundMemory r → c.state ≡ Open → HasValues c → IsOk r
+pub all_exact : {S T : Type 0} (c d : Reading) (r : Result T (DecodeError S)) → AllBy (RefusesAll cause_of) c r d → (Grew c.stream.faults d.stream.faults → ⊥) → FoundMemory r → c.state ≡ Open → HasValues c → IsOk r
 all_exact c d (Ok x) s n m o h = refl
 all_exact c d (Err e) s n m o h = absurd (go s.refused)
   where

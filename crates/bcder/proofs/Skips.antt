@@ -10,7 +10,7 @@ use Rattle.bcder.specs.declared.length.Length.TheVariants as len
 use Rattle.bcder.specs.declared.decode.content.Kind.{Kind}
 use Rattle.bcder.specs.declared.decode.content.Kind.TheVariants as kind
 use Rattle.bcder.specs.declared.decode.content.State.TheVariants.{Open}
-use Rattle.bcder.specs.steps.Stacked.{Entry, Definite, Indefinite, Reached, after, lack, joined, unwound, restored, HasLimit, AreLimited, TopIs, is_indefinite, ends, next_to, remain, due, heading, Passes, entry_of, GoesInto, octets, values as open_values, Leaves, IsPart, PassesCalls, IsUnderWay, IsBroken}
+use Rattle.bcder.specs.steps.Stacked.{Entry, Definite, Indefinite, Reached, after_headings, lack, limit_around, unwound, restored, HasLimit, AreLimited, TopIs, is_indefinite, ends, next_to, remain, due, heading, Passes, entry_of, GoesInto, octets, values as open_values, LeavesInnermost, IsPart, PassesCalls, IsUnderWay, IsBroken}
 use Rattle.bcder.specs.x690.Identifier.{AreOctets, Tag}
 use Rattle.bcder.specs.x690.Tree.{Tree, primitive, constructed, Trees, no_trees, ◌∷ₜ◌}
 use Rattle.bcder.specs.x690.Encoding.{IsHeader, IsEncoding, Header}
@@ -38,7 +38,7 @@ use Rattle.bcder.proofs.Growing.{preorders-grown, AreOpen-grown, AreOpen-new}
 
 -- ---- limits
 
-falls_joined : (b p q : Option ℕ) (k : ℕ) → Falls p k q → Falls (joined b p) k (joined b q)
+falls_joined : (b p q : Option ℕ) (k : ℕ) → Falls p k q → Falls (limit_around b p) k (limit_around b q)
 falls_joined None p q k f = refl
 falls_joined (Some b) None None k f = refl
 falls_joined (Some b) None (Some q) k f = absurd (f refl)
@@ -48,7 +48,7 @@ falls_joined (Some b) (Some p) (Some q) k f = omega arith
 -- the limit around open values falls with the innermost one
 pub falls_unwound : (es : List Entry) (p q : Option ℕ) (k : ℕ) → Falls p k q → Falls (unwound es p) k (unwound es q)
 falls_unwound [] p q k f = f
-falls_unwound (Definite b ∷ es) p q k f = falls_unwound es (joined b p) (joined b q) k (falls_joined b p q k f)
+falls_unwound (Definite b ∷ es) p q k f = falls_unwound es (limit_around b p) (limit_around b q) k (falls_joined b p q k f)
 falls_unwound (Indefinite ∷ es) p q k f = falls_unwound es p q k f
 
 has_falls : (p q : Option ℕ) (k : ℕ) → Falls p k q → HasLimit p → HasLimit q
@@ -209,7 +209,7 @@ partly k done l p = inr (l, p)
 
 -- ---- into the content of a header
 
-into_octets : (mode : Mode) (es : List Entry) (tag : Tag) (n : ℕ) (t v : Stream) (p : Option ℕ) → FitsOwed (len.Definite n) p → n ≤ length t.rest → v.rest ≡ drop n t.rest → due mode es (record { tag = tag; form = false; len = len.Definite n }) p t.rest ≡ after (record { tag = tag; constructed = false; depth = length es } ∷ []) (remain mode es (popped p n (Some 0)) v.rest)
+into_octets : (mode : Mode) (es : List Entry) (tag : Tag) (n : ℕ) (t v : Stream) (p : Option ℕ) → FitsOwed (len.Definite n) p → n ≤ length t.rest → v.rest ≡ drop n t.rest → due mode es (record { tag = tag; form = false; len = len.Definite n }) p t.rest ≡ after_headings (record { tag = tag; constructed = false; depth = length es } ∷ []) (remain mode es (popped p n (Some 0)) v.rest)
 into_octets mode es tag n t v p f l e =
     let w : List ℕ = take n t.rest in
     let k : length w ≡ n = grind (arith, common_steps) in
@@ -222,9 +222,9 @@ into_octets mode es tag n t v p f l e =
     let a : past p t.rest ≡ past q v.rest = ap (past p) is ∙ past_falls p q w v.rest falls in
     let fits : n ≤ length (cut p t.rest) = omega (arith, k, ap length c, length-append w (cut q v.rest)) in
     octets_there mode es tag n (cut p t.rest) (past p t.rest).octets (lack p t.rest) fits
-    ∙ ap (λ x. after (record { tag = tag; constructed = false; depth = length es } ∷ []) (ends mode es x (lack p t.rest) (past p t.rest).octets)) d
-    ∙ ap (λ x. after (record { tag = tag; constructed = false; depth = length es } ∷ []) (ends mode es (cut q v.rest) x (past p t.rest).octets)) b
-    ∙ ap (λ x. after (record { tag = tag; constructed = false; depth = length es } ∷ []) (ends mode es (cut q v.rest) (lack q v.rest) x.octets)) a
+    ∙ ap (λ x. after_headings (record { tag = tag; constructed = false; depth = length es } ∷ []) (ends mode es x (lack p t.rest) (past p t.rest).octets)) d
+    ∙ ap (λ x. after_headings (record { tag = tag; constructed = false; depth = length es } ∷ []) (ends mode es (cut q v.rest) x (past p t.rest).octets)) b
+    ∙ ap (λ x. after_headings (record { tag = tag; constructed = false; depth = length es } ∷ []) (ends mode es (cut q v.rest) (lack q v.rest) x.octets)) a
 
 restores : (p : Option ℕ) (n : ℕ) (w : List ℕ) → FitsOwed (len.Definite n) p → n ≤ length (cut p w) → Restores (limit_left p n) (drop n (cut p w)) (past p w).octets (lack p w)
 restores None n w f l = Restores-none (drop n w)
@@ -238,7 +238,7 @@ restores (Some k) n w f l = elim (cases_lt (length w) k) [
       rw e (Restores-all (drop n (take k w)) (drop k w) (k - n) g))
 ]
 
-into_definite : (mode : Mode) (es : List Entry) (tag : Tag) (n : ℕ) (w : List ℕ) (p : Option ℕ) → FitsOwed (len.Definite n) p → due mode es (record { tag = tag; form = true; len = len.Definite n }) p w ≡ after (record { tag = tag; constructed = true; depth = length es } ∷ []) (remain mode (Definite (limit_left p n) ∷ es) (Some n) w)
+into_definite : (mode : Mode) (es : List Entry) (tag : Tag) (n : ℕ) (w : List ℕ) (p : Option ℕ) → FitsOwed (len.Definite n) p → due mode es (record { tag = tag; form = true; len = len.Definite n }) p w ≡ after_headings (record { tag = tag; constructed = true; depth = length es } ∷ []) (remain mode (Definite (limit_left p n) ∷ es) (Some n) w)
 into_definite mode es tag n w p f = elim (cases_lt (length (cut p w)) n) [
   | inl x ↦ definite_short mode es tag n (take n w) (cut p w) (past p w).octets (drop n w) (lack p w) (n - length w) (limit_left p n) x (few p f x)
   | inr x ↦ (let z : List ℕ = cut p w in
@@ -248,20 +248,20 @@ into_definite mode es tag n w p f = elim (cases_lt (length (cut p w)) n) [
       let b : drop n z ++ y ≡ drop n w = sym (drop-append-le n z y x) ∙ ap (drop n) is in
       let c : 0 ≡ n - length w = omega (arith, ap length is, length-append z y) in
       definite_there mode es tag n z y (lack p w) (limit_left p n) x (restores p n w f x)
-      ∙ ap (λ u. after (record { tag = tag; constructed = true; depth = length es } ∷ []) (ends mode (Definite (limit_left p n) ∷ es) u 0 (drop n z ++ y))) a
-      ∙ ap (λ u. after (record { tag = tag; constructed = true; depth = length es } ∷ []) (ends mode (Definite (limit_left p n) ∷ es) (take n w) u (drop n z ++ y))) c
-      ∙ ap (λ u. after (record { tag = tag; constructed = true; depth = length es } ∷ []) (ends mode (Definite (limit_left p n) ∷ es) (take n w) (n - length w) u)) b)
+      ∙ ap (λ u. after_headings (record { tag = tag; constructed = true; depth = length es } ∷ []) (ends mode (Definite (limit_left p n) ∷ es) u 0 (drop n z ++ y))) a
+      ∙ ap (λ u. after_headings (record { tag = tag; constructed = true; depth = length es } ∷ []) (ends mode (Definite (limit_left p n) ∷ es) (take n w) u (drop n z ++ y))) c
+      ∙ ap (λ u. after_headings (record { tag = tag; constructed = true; depth = length es } ∷ []) (ends mode (Definite (limit_left p n) ∷ es) (take n w) (n - length w) u)) b)
 ]
   where
     few : (p : Option ℕ) → FitsOwed (len.Definite n) p → length (cut p w) < n → 0 < n - length w
     few None f x = omega arith
     few (Some k) f x = (let y : length (take k w) < n = x in grind (arith, common_steps))
 
-pub into : (mode : Mode) (h : Header) (es fs : List Entry) (t v : Stream) (p q : Option ℕ) → FitsOwed h.len p → GoesInto h es t p fs v q → due mode es h p t.rest ≡ after (heading h (length es) ∷ []) (remain mode fs q v.rest)
+pub into : (mode : Mode) (h : Header) (es fs : List Entry) (t v : Stream) (p q : Option ℕ) → FitsOwed h.len p → GoesInto h es t p fs v q → due mode es h p t.rest ≡ after_headings (heading h (length es) ∷ []) (remain mode fs q v.rest)
 into mode h es fs t v p q f (octets n a b l e r k i) = rw (a, b, e, i) (into_octets mode es h.tag n t v p (rw b at f) l r)
 into mode h es fs t v p q f (open_values a e k i) = go h.len refl
   where
-    go : (n : Length) → h.len ≡ n → due mode es h p t.rest ≡ after (heading h (length es) ∷ []) (remain mode fs q v.rest)
+    go : (n : Length) → h.len ≡ n → due mode es h p t.rest ≡ after_headings (heading h (length es) ∷ []) (remain mode fs q v.rest)
     go (len.Definite n) b = rw (a, e, k, i, b) (into_definite mode es h.tag n t.rest p (rw b at f))
     go len.Indefinite b = rw (a, e, k, i, b) (indefinite_there mode es h.tag (cut p t.rest) (past p t.rest).octets (lack p t.rest))
 
@@ -291,7 +291,7 @@ module _ (mode : Mode) (s : Stream) (o : Option ℕ) (calls : List Heading) (h :
 -- ---- what the outcome tells of the calls
 
 -- what is still to come of no open value is what was read
-pub front_of : (calls : List Heading) (r : Reached) (u : Tree) (x : List ℕ) (m : ℕ) (y : List ℕ) (mode : Mode) → next_to mode [] (Some (u, x)) m y ≡ after calls r → (more : List Heading) × (preorder u 0 ≡ calls ++ more)
+pub front_of : (calls : List Heading) (r : Reached) (u : Tree) (x : List ℕ) (m : ℕ) (y : List ℕ) (mode : Mode) → next_to mode [] (Some (u, x)) m y ≡ after_headings calls r → (more : List Heading) × (preorder u 0 ≡ calls ++ more)
 unfolding ends
 front_of calls None u x m y mode e = absurd (none_is _ (sym e))
 front_of calls (Some p) u x m y mode e = (p.0, sym (append-nil (preorder u 0)) ∙ ap (λ q. q.0) (some_inj _ _ e))
@@ -301,7 +301,7 @@ unfolding ends
 nothing_read mode None m y e = refl
 nothing_read mode (Some u) m y e = absurd (none_is _ (sym e))
 
-pub read_whole : (mode : Mode) (r : Option (Tree × List ℕ)) (m k : ℕ) (x y z : List ℕ) (calls : List Heading) → next_to mode [] r m y ≡ after calls (ends mode [] x k z) → (u : Tree) × (r ≡ Some (u, x)) × (preorder u 0 ≡ calls)
+pub read_whole : (mode : Mode) (r : Option (Tree × List ℕ)) (m k : ℕ) (x y z : List ℕ) (calls : List Heading) → next_to mode [] r m y ≡ after_headings calls (ends mode [] x k z) → (u : Tree) × (r ≡ Some (u, x)) × (preorder u 0 ≡ calls)
 unfolding ends
 read_whole mode None m k x y z calls e = absurd (none_is _ e)
 read_whole mode (Some u) m k x y z calls e =
@@ -337,7 +337,7 @@ header_begins mode h w x i = subst BeginsValue (sym (ap (λ l. l ++ x) i.is ∙ 
 
 -- the header k was passed, while these values are open
 pub record IsMet (mode : Mode) (h : Header) (s : Stream) (o : Option ℕ) (calls : List Heading) (es : List Entry) (k : Header) (t : Stream) (p : Option ℕ) : Type 0 where
-  pub outcome : due mode [] h o s.rest ≡ after (heading h 0 ∷ calls) (due mode es k p t.rest)
+  pub outcome : due mode [] h o s.rest ≡ after_headings (heading h 0 ∷ calls) (due mode es k p t.rest)
   pub passes : PassesCalls mode s o (calls ++ heading k (length es) ∷ []) t (unwound es p)
   pub part : IsPart (length es) (heading h 0 ∷ calls)
   pub limits : AreLimited es p
@@ -358,7 +358,7 @@ met mode h s o calls (top ∷ es) k t v p q w u l a e j f i =
     ∙ ap (λ (x : Layer). next_to mode (top ∷ es) (read_contents (read_list mode) k.tag k.form k.len (cut q v.rest)) (lack q v.rest) x.octets) c
     in
     record {
-      outcome = u.outcome ∙ ap (after (heading h 0 ∷ calls)) r;
+      outcome = u.outcome ∙ ap (after_headings (heading h 0 ∷ calls)) r;
       passes = calls_met mode s o calls t v (unwound (top ∷ es) p) (unwound (top ∷ es) q) w u.passes g (falls_unwound (top ∷ es) p q (length w) f) k (length (top ∷ es)) i;
       part = u.part;
       limits = limited_falls (top ∷ es) p q (length w) f u.limits;
@@ -368,7 +368,7 @@ met mode h s o calls (top ∷ es) k t v p q w u l a e j f i =
 module _ (mode : Mode) (h : Header) (s : Stream) (o : Option ℕ) (calls : List Heading) (es : List Entry) (k : Header) (t : Stream) (p : Option ℕ) (m : IsMet mode h s o calls es k t p) where
   pub met_gone : (fs : List Entry) (v : Stream) (q : Option ℕ) → FitsOwed k.len p → GoesInto k es t p fs v q → IsUnderWay mode h s o (calls ++ heading k (length es) ∷ []) fs v q
   met_gone fs v q f g = record {
-    outcome = m.outcome ∙ ap (after (heading h 0 ∷ calls)) (into mode k es fs t v p q f g) ∙ two_calls (heading h 0 ∷ calls) (heading k (length es) ∷ []) (remain mode fs q v.rest);
+    outcome = m.outcome ∙ ap (after_headings (heading h 0 ∷ calls)) (into mode k es fs t v p q f g) ∙ two_calls (heading h 0 ∷ calls) (heading k (length es) ∷ []) (remain mode fs q v.rest);
     passes = gone_calls mode s o (calls ++ heading k (length es) ∷ []) k es fs t v p q f g m.passes;
     part = gone_part mode s o calls k es fs t v p q f g (heading h 0 ∷ calls) (partly (length es) (heading h 0 ∷ calls) m.inside m.part);
     limits = gone_limits mode s o calls k es fs t v p q f g m.limits;
@@ -378,7 +378,7 @@ module _ (mode : Mode) (h : Header) (s : Stream) (o : Option ℕ) (calls : List 
   met_one u x r =
       let n = heads mode es (heading k (length es)) (read_contents (read_list mode) k.tag k.form k.len (cut p t.rest)) (past p t.rest).octets (lack p t.rest) (first_heading (read_list mode) k.tag k.form k.len (cut p t.rest) (length es)) in
       front_of (heading h 0 ∷ (calls ++ heading k (length es) ∷ [])) n.0 u x (lack o s.rest) (past o s.rest).octets mode
-      (sym (ap (λ y. next_to mode [] y (lack o s.rest) (past o s.rest).octets) r) ∙ m.outcome ∙ ap (after (heading h 0 ∷ calls)) n.1 ∙ two_calls (heading h 0 ∷ calls) (heading k (length es) ∷ []) n.0)
+      (sym (ap (λ y. next_to mode [] y (lack o s.rest) (past o s.rest).octets) r) ∙ m.outcome ∙ ap (after_headings (heading h 0 ∷ calls)) n.1 ∙ two_calls (heading h 0 ∷ calls) (heading k (length es) ∷ []) n.0)
 
   pub met_broken : (v : Stream) (q : Option ℕ) → v.rest ≡ t.rest → v.kept ≡ t.kept → q ≡ unwound es p → IsBroken mode h s o (calls ++ heading k (length es) ∷ []) v q
   met_broken v q e j i = record {
@@ -403,7 +403,7 @@ module _ (mode : Mode) (es : List Entry) (t v : Stream) (p q : Option ℕ) (w : 
       let same : t.rest ≡ v.rest = g.rest ∙ ap (λ x. x ++ v.rest) (empty w n.0) in
       let z : 0 - length t.rest ≡ 0 = omega arith in (
         ap (λ x. remain mode (Definite b ∷ es) x t.rest) e ∙ ap (λ m. ends mode (Definite b ∷ es) [] m t.rest) z ∙ definite_ends mode b es t.rest ∙ ap (remain mode es b) same,
-        ap (λ x. unwound es (joined b x)) n.1 ∙ ap (unwound es) (back b),
+        ap (λ x. unwound es (limit_around b x)) n.1 ∙ ap (unwound es) (back b),
       )
     where
       ended : (q : Option ℕ) → Falls (Some 0) (length w) q → (length w ≡ 0) × (q ≡ Some 0)
@@ -414,7 +414,7 @@ module _ (mode : Mode) (es : List Entry) (t v : Stream) (p q : Option ℕ) (w : 
       empty [] x = refl
       empty (c ∷ w) x = absurd (omega arith)
 
-      back : (b : Option ℕ) → joined b (Some 0) ≡ b
+      back : (b : Option ℕ) → limit_around b (Some 0) ≡ b
       back None = refl
       back (Some m) = ap Some (let y : m + 0 ≡ m = omega arith in y)
 
@@ -440,13 +440,13 @@ module _ (mode : Mode) (es : List Entry) (t v : Stream) (p q : Option ℕ) (w : 
 pub left : (mode : Mode) (h : Header) (s : Stream) (o : Option ℕ) (calls : List Heading) (es fs : List Entry) (t v : Stream) (p q r : Option ℕ) (w : List ℕ) (c d : Reading) (k : Kind)
     → IsUnderWay mode h s o calls es t p → Passes t w v → Falls p (length w) q → past q v.rest ≡ past p t.rest
     → c.kind ≡ values k → TopIs es k → c.state ≡ Open → c.mode ≡ mode → c.owed ≡ p → c.stream.rest ≡ cut p t.rest → d.stream.rest ≡ cut q v.rest → AreOctets (cut p t.rest) → EndsAt c d
-    → Leaves es q fs r → IsUnderWay mode h s o calls fs v r
+    → LeavesInnermost es q fs r → IsUnderWay mode h s o calls fs v r
 left mode h s o calls es fs t v p q r w c d k u g f l ck ti cs cm co cr dr a e x =
     let is : es ≡ x.top ∷ fs = x.is in
     let b = end_left mode fs t v p q w g f l c d k x.top ck (subst (λ z. TopIs z k) is ti) cs cm co cr dr a e in
     let i : unwound es q ≡ unwound fs r = ap (λ z. unwound z q) is ∙ b.1 ∙ ap (unwound fs) (sym x.limit) in
     record {
-      outcome = u.outcome ∙ ap (after (heading h 0 ∷ calls)) (ap (λ z. remain mode z p t.rest) is ∙ b.0 ∙ ap (λ z. remain mode fs z v.rest) (sym x.limit));
+      outcome = u.outcome ∙ ap (after_headings (heading h 0 ∷ calls)) (ap (λ z. remain mode z p t.rest) is ∙ b.0 ∙ ap (λ z. remain mode fs z v.rest) (sym x.limit));
       passes = subst (PassesCalls mode s o calls v) i (calls_on mode s o calls t v (unwound es p) (unwound es q) w u.passes g (falls_unwound es p q (length w) f));
       part = record { tree = u.part.tree; opened = AreOpen-less (length fs) (length es) (u.part.tree ∷ₜ no_trees) (omega (arith, ap length is)) u.part.opened; are = u.part.are };
       limits = subst (AreLimited fs) (sym x.limit) (limited_left x.top fs q (subst (λ z. AreLimited z q) is (limited_falls es p q (length w) f u.limits)));
@@ -503,8 +503,8 @@ pub finished : (mode : Mode) (h : Header) (s : Stream) (o : Option ℕ) (calls :
 finished mode h s o calls t p u = read_whole mode (read_contents (read_list mode) h.tag h.form h.len (cut o s.rest)) (lack o s.rest) (lack p t.rest) (cut p t.rest) (past o s.rest).octets (past p t.rest).octets (heading h 0 ∷ calls) u.outcome
 
 -- a refusal of a header means that the content of the first isn't there
-pub nothing_whole : (mode : Mode) (h : Header) (s : Stream) (o : Option ℕ) (calls : List Heading) (r : Reached) → due mode [] h o s.rest ≡ after calls r → r ≡ None → read_contents (read_list mode) h.tag h.form h.len (cut o s.rest) ≡ None
-nothing_whole mode h s o calls r e n = nothing_read mode (read_contents (read_list mode) h.tag h.form h.len (cut o s.rest)) (lack o s.rest) (past o s.rest).octets (e ∙ ap (after calls) n)
+pub nothing_whole : (mode : Mode) (h : Header) (s : Stream) (o : Option ℕ) (calls : List Heading) (r : Reached) → due mode [] h o s.rest ≡ after_headings calls r → r ≡ None → read_contents (read_list mode) h.tag h.form h.len (cut o s.rest) ≡ None
+nothing_whole mode h s o calls r e n = nothing_read mode (read_contents (read_list mode) h.tag h.form h.len (cut o s.rest)) (lack o s.rest) (past o s.rest).octets (e ∙ ap (after_headings calls) n)
 
 -- fewer octets than the header of a primitive value tells
 pub few_there : (mode : Mode) (es : List Entry) (h : Header) (t : Stream) (p : Option ℕ) (n : ℕ) → h.len ≡ len.Definite n → length t.rest < n → read_contents (read_list mode) h.tag h.form h.len (cut p t.rest) ≡ None

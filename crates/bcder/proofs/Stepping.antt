@@ -33,7 +33,7 @@ held : Reading → MutBor Reading
 held i = record { ref_ptr = (0, 0); ghost_name = i.name; now = i }
 
 module _ {T E : Type 0} (why : E → Cause ContentError) where
-  answered : (t : Tag) (i j : Reading) (r : Result T E) → WalksBy why i r j → Answered {R = Result T E} itself (walked why) t i r j
+  answered : (t : Tag) (i j : Reading) (r : Result T E) → WalksBy why i r j → Answered {R = Result T E} itself (walked why t) i r j
   unfolding held
   answered t i j r w = record { handed = held i; left = held j; handed_is = refl; left_is = refl; called = w }
 

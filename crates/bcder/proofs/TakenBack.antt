@@ -10,7 +10,8 @@ use Rattle.bcder.specs.declared.decode.error.DecodeError.{DecodeError}
 use Rattle.std.specs.Int.{FitsUnsignedBits}
 use Rattle.bcder.specs.x690.Identifier.{universal, Tag, IsValueTag, AreOctets, boolean_tag, integer_tag, null_tag}
 use Rattle.bcder.specs.calls.Cause.{cause_of, of_source, of_memory}
-use Rattle.bcder.specs.calls.Decoding.{IsAllOf, AnsweredOn, by_closure, left_failed, Decodes, RefusesDecode}
+use Rattle.bcder.specs.calls.Calls.{Answered}
+use Rattle.bcder.specs.calls.Decoding.{IsAllOf, by_closure, left_failed, Decodes, RefusesDecode}
 use Rattle.bcder.specs.calls.Encoders.{Writes}
 use Rattle.bcder.specs.calls.Stream.{Stream}
 use Rattle.std.specs.Borrow.{MutBor}
@@ -245,13 +246,13 @@ module _ {X : Type 0} (refusal : EncodeError) (mode : Mode) (x : Bits) (is : IsB
 module _ {C T X : Type 0} (view : C → Reading) (post : MutBor C → Result T (DecodeError X) → MutBor C → Type 0) (no_fault : (e : DecodeError X) → cause_of e ≡ of_source → ⊥) (tag : Tag) (Means : List ℕ → T → Type 0)
     (takes : (p : MutBor C) (r : Result T (DecodeError X)) (q : MutBor C) → post p r q → TakesOneAs tag Means (MeanNothing Means) (view p.now) r (view q.now))
     (mode : Mode) (Writes : Meaning → Type 0) (x : T) (back : IsTakenBack X tag Means mode Writes x) (s : Stream) (whole : s.rest ≡ back.encoded.octets) where
-  took : (i j : Reading) (r : Result T (DecodeError X)) → AnsweredOn {R = Result T (DecodeError X)} view post i r j → TakesOneAs tag Means (MeanNothing Means) i r j
+  took : (i j : Reading) (r : Result T (DecodeError X)) → Answered {R = Result T (DecodeError X)} view post i r j → TakesOneAs tag Means (MeanNothing Means) i r j
   took i j r a = subst (λ z. TakesOneAs tag Means (MeanNothing Means) z r j) a.handed_is (subst (λ z. TakesOneAs tag Means (MeanNothing Means) (view a.handed.now) r z) a.left_is (takes a.handed r a.left a.called))
 
   all_stands : (i : Reading) → IsAllOf s mode i → StandsIn mode back.encoded.octets [] i
   all_stands i o = record { usable = o.state; in_mode = o.mode; rest = ap (λ z. z.rest) o.stream ∙ whole ∙ sym (append-nil back.encoded.octets) }
 
-  answers_all : (i j : Reading) (r : Result T (DecodeError X)) → IsAllOf s mode i → AnsweredOn {R = Result T (DecodeError X)} view post i r j → AnswersLeaving SourceFailed x [] i r j
+  answers_all : (i j : Reading) (r : Result T (DecodeError X)) → IsAllOf s mode i → Answered {R = Result T (DecodeError X)} view post i r j → AnswersLeaving SourceFailed x [] i r j
   answers_all i j r o a = (back.takes i [] (all_stands i o)).one r j (took i j r a)
 
   -- what was written is decoded

@@ -14,7 +14,6 @@ use Rattle.bcder.specs.x690.Tree.{Tree}
 use Rattle.bcder.specs.x690.Encoding.{may_have, IsHeader, IsEncoding, Header}
 use Rattle.bcder.specs.calls.Content.{Reading, Form, Octets, DefiniteValues, IndefiniteValues, UnboundedValues, label, Moves, Advances, Asked, IsAsked, HasHeader, Enters, RefusesHeader}
 use Rattle.bcder.specs.calls.Content as content
-use Rattle.bcder.specs.calls.Decoding.{AnsweredOn}
 use Rattle.bcder.specs.calls.Calls.{IsFormOf, ContentOf, Hands, Untagged, Answered, AnswersDone, RefusesContent, by_closure, unfinished, TakesContent, TakesValue, RefusesFront, RefusesValue, IsInside}
 use Rattle.bcder.specs.calls.Calls as calls
 use Rattle.bcder.specs.steps.Inside.{TakesBehind, of_form, refused, taken}
@@ -192,17 +191,17 @@ module _ {C T X : Type 0} (view : C → Reading) (post : Tag → MutBor C → Re
 
 -- a closure that hands on what it is handed to one of content alone
 module _ {C R : Type 0} (view : C → Reading) (post : MutBor C → R → MutBor C → Type 0) where
-  pub moves_on : (P : Reading → Type 0) → ((p : MutBor C) (r : R) (q : MutBor C) → P (view p.now) → post p r q → Moves (view p.now) (view q.now)) → (i : Reading) (r : R) (j : Reading) → P i → AnsweredOn view post i r j → Moves i j
+  pub moves_on : (P : Reading → Type 0) → ((p : MutBor C) (r : R) (q : MutBor C) → P (view p.now) → post p r q → Moves (view p.now) (view q.now)) → (i : Reading) (r : R) (j : Reading) → P i → Answered view post i r j → Moves i j
   moves_on P k i r j h a =
       let m : Moves (view a.handed.now) (view a.left.now) = k a.handed r a.left (subst P (sym a.handed_is) h) a.called in
       subst (λ z. Moves z j) a.handed_is (subst (λ z. Moves (view a.handed.now) z) a.left_is m)
 
 module _ {C T X : Type 0} (view : C → Reading) (post : Tag → MutBor C → Result T (DecodeError X) → MutBor C → Type 0) (last : MutBor C → Result T (DecodeError X) → MutBor C → Type 0)
-    (k : (t : Tag) (p : MutBor C) (r : Result T (DecodeError X)) (q : MutBor C) → post t p r q → AnsweredOn view last (view p.now) r (view q.now)) where
+    (k : (t : Tag) (p : MutBor C) (r : Result T (DecodeError X)) (q : MutBor C) → post t p r q → Answered view last (view p.now) r (view q.now)) where
   abbrev post' : Tag → MutBor C → Result T (DecodeError X) → MutBor C → Type 0
   post' = Untagged last
 
-  said_of : (t : Tag) (i : Reading) (r : Result T (DecodeError X)) (j : Reading) → Answered view post t i r j → Answered view post' t i r j
+  said_of : (t : Tag) (i : Reading) (r : Result T (DecodeError X)) (j : Reading) → Answered view (post t) i r j → Answered view (post' t) i r j
   said_of t i r j a =
       let m = k t a.handed r a.left a.called in
       record { handed = m.handed; left = m.left; handed_is = m.handed_is ∙ a.handed_is; left_is = m.left_is ∙ a.left_is; called = m.called }

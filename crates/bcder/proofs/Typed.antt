@@ -117,16 +117,16 @@ module _ (tag : Tag) (c i : Reading) (w : Within c) (after : List ℕ) (f : HasH
 module _ {C T X : Type 0} (view : C → Reading) (post : Tag → MutBor C → Result T (DecodeError X) → MutBor C → Type 0) (tag : Tag) (MeansIn : Mode → List ℕ → T → Type 0) (RefusesIn : Mode → List ℕ → DecodeError X → Type 0)
     (octets : (x : C) → ((view x).kind ≡ Octets) × ((view x).state ≡ Open))
     (reads : (t : Tag) (p : MutBor C) (r : Result T (DecodeError X)) (q : MutBor C) → post t p r q → Reads (MeansIn (view p.now).mode) (RefusesIn (view p.now).mode) (view p.now) r (view q.now)) where
-  answered_reads : (m : Mode) (t : Tag) (i j : Reading) (r : Result T (DecodeError X)) → Answered {R = Result T (DecodeError X)} view post t i r j → i.mode ≡ m → Reads (MeansIn m) (RefusesIn m) i r j
+  answered_reads : (m : Mode) (t : Tag) (i j : Reading) (r : Result T (DecodeError X)) → Answered {R = Result T (DecodeError X)} view (post t) i r j → i.mode ≡ m → Reads (MeansIn m) (RefusesIn m) i r j
   answered_reads m t i j r a e =
       subst (λ z. Reads (MeansIn z) (RefusesIn z) i r j) e
       (subst (λ z. Reads (MeansIn z.mode) (RefusesIn z.mode) z r j) a.handed_is
       (subst (λ z. Reads (MeansIn (view a.handed.now).mode) (RefusesIn (view a.handed.now).mode) (view a.handed.now) r z) a.left_is (reads t a.handed r a.left a.called)))
 
-  handed_is_octets : (t : Tag) (i j : Reading) (r : Result T (DecodeError X)) → Answered {R = Result T (DecodeError X)} view post t i r j → i.kind ≡ Octets
+  handed_is_octets : (t : Tag) (i j : Reading) (r : Result T (DecodeError X)) → Answered {R = Result T (DecodeError X)} view (post t) i r j → i.kind ≡ Octets
   handed_is_octets t i j r a = subst (λ z. z.kind ≡ Octets) a.handed_is (octets a.handed.now).0
 
-  left_is_octets : (t : Tag) (i j : Reading) (r : Result T (DecodeError X)) → Answered {R = Result T (DecodeError X)} view post t i r j → (j.kind ≡ Octets) × (j.state ≡ Open)
+  left_is_octets : (t : Tag) (i j : Reading) (r : Result T (DecodeError X)) → Answered {R = Result T (DecodeError X)} view (post t) i r j → (j.kind ≡ Octets) × (j.state ≡ Open)
   left_is_octets t i j r a = subst (λ z. (z.kind ≡ Octets) × (z.state ≡ Open)) a.left_is (octets a.left.now)
 
   -- ---- taken

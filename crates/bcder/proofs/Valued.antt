@@ -159,7 +159,7 @@ not_done l e (inr h) = open_not_failed l.state h.0 e
 
 module _ {C T X : Type 0} (view : C → Reading) (post : Tag → MutBor C → Result T (DecodeError X) → MutBor C → Type 0) (tag : Tag) (Means : Mode → Tree → T → Type 0)
     (reads : (t : Tag) (p : MutBor C) (r : Result T (DecodeError X)) (q : MutBor C) → post t p r q → ReadsAny Means (view p.now) r (view q.now)) where
-  answered_reads : (m : Mode) (u t : Tag) (i j : Reading) (r : Result T (DecodeError X)) → Answered {R = Result T (DecodeError X)} view post t i r j → i.mode ≡ m → ReadsContent u (Means m) i r j
+  answered_reads : (m : Mode) (u t : Tag) (i j : Reading) (r : Result T (DecodeError X)) → Answered {R = Result T (DecodeError X)} view (post t) i r j → i.mode ≡ m → ReadsContent u (Means m) i r j
   answered_reads m u t i j r a e =
       subst (λ z. ReadsContent u (Means z) i r j) e
       (subst (λ z. ReadsContent u (Means z.mode) z r j) a.handed_is

@@ -25,7 +25,7 @@ abbrev pub WalksContent : {C T E : Type 0} → (E → Cause ContentError) → (C
 WalksContent {C} {T} {E} why view post = (t : Tag) (p : MutBor C) (r : Result T E) (q : MutBor C) → post t p r q → WalksBy why (view p.now) r (view q.now)
 
 module _ {C T E : Type 0} (why : E → Cause ContentError) (view : C → Reading) (post : Tag → MutBor C → Result T E → MutBor C → Type 0) (k : WalksContent why view post) where
-  walks_by : (t : Tag) (i j : Reading) (r : Result T E) → Answered {R = Result T E} view post t i r j → WalksBy why i r j
+  walks_by : (t : Tag) (i j : Reading) (r : Result T E) → Answered {R = Result T E} view (post t) i r j → WalksBy why i r j
   walks_by t i j r a = subst (λ z. WalksBy why z r j) a.handed_is (subst (λ z. WalksBy why (view a.handed.now) r z) a.left_is (k t a.handed r a.left a.called))
 
   -- ---- refused

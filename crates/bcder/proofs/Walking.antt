@@ -176,9 +176,9 @@ walks_refused why e i j k o w (walking.RefusesWalk.source s f) = walking.Refuses
 walks_refused why e i j k o w (walking.RefusesWalk.nothing s n f a) = walking.RefusesValues.broken o (λ h. no_values j s n f (w.remain h)) a
 
 -- and answers the error that it met
-pub all_refused : {T E : Type 0} (why : E → Cause ContentError) (c d : Reading) (r : Result T E) (e : E) → IsErrAnd r (λ x. x ≡ e) → walking.RefusesValues why c e d → d.state ≡ Failed → d.mode ≡ c.mode → d.marked ≡ c.marked → AllBy why c r d
-all_refused why c d (Ok x) e h a f m g = absurd h
-all_refused why c d (Err x) e h a f m g = record { all = tt; done = tt; no_fault = tt; refused = subst (λ y. walking.RefusesValues why c y d) (sym h) a; failed = f; mode = m; marked = g }
+pub all_refused : {T E : Type 0} (Refuses : Reading → E → Reading → Type 0) (c d : Reading) (r : Result T E) (e : E) → IsErrAnd r (λ x. x ≡ e) → Refuses c e d → d.state ≡ Failed → d.mode ≡ c.mode → d.marked ≡ c.marked → AllBy Refuses c r d
+all_refused Refuses c d (Ok x) e h a f m g = absurd h
+all_refused Refuses c d (Err x) e h a f m g = record { all = tt; done = tt; no_fault = tt; refused = subst (λ y. Refuses c y d) (sym h) a; failed = f; mode = m; marked = g }
 
 -- at the end no values are left
 pub none_left : (c : Reading) (after : List ℕ) → c.kind ≢ Octets → IsAtEnd c after → HasValues c

@@ -11,7 +11,6 @@ ghost use Rattle.bcder.specs.x690.Encoding.{IsEncoding, AreEncodings, IsHeader, 
 ghost use Rattle.bcder.specs.calls.ContentsLen.{length_of};
 ghost use Rattle.bcder.specs.x690.Identifier.{Tag as TagValue};
 ghost use Rattle.bcder.specs.x690.Identifier.{is_value_tag};
-ghost use Rattle.bcder.specs.steps.Reading.{BeginPrimitive};
 ghost use Rattle.bcder.specs.steps.Reading.{read_header, after_tree, after_list, Leaves};
 ghost use Rattle.bcder.specs.x690.Grammar.{IsOnly, BeginsWhole};
 
@@ -55,19 +54,8 @@ pub(crate) fn header_at(mode: Mode, octets: &[u8]) -> Option<(Tag, bool, Length,
     }
 }
 
-/// Whether these are the identifier octet and the length octet of a primitive value, which no mode
-/// refuses (8.1.2.2, 8.1.3.4).
-#[tactic(auto, using(crate::proofs::Skip::short_header))]
-#[inline(always)]
-fn is_primitive(first: u8, len: u8) -> bool
-    ensures { IsTrue result → BeginPrimitive first len }
-{
-    let low = first % 64;
-    1 <= low && low <= 30 && len < 0x80
-}
-
 /// How many octets the value at the front has, if it is primitive, has one identifier octet and one
-/// length octet, and is all here.
+/// length octet (8.1.2.2, 8.1.3.4), and is all here. No mode refuses it.
 #[inline(always)]
 pub(crate) fn short_size(octets: &[u8]) -> Option<usize>
     ensures some { IfSome result (λ n. 2 ≤ n) }
@@ -76,8 +64,9 @@ pub(crate) fn short_size(octets: &[u8]) -> Option<usize>
 {
     match octets {
         [first, len, ..] => {
+            let kind = *first % 64;
             let size = 2 + usize::from(*len);
-            if is_primitive(*first, *len) && size <= octets.len() {
+            if 1 <= kind && kind <= 30 && *len < 0x80 && size <= octets.len() {
                 Some(size)
             } else {
                 None

@@ -13,8 +13,8 @@ use Rattle.bcder.specs.x690.Tree.{Trees}
 use Rattle.bcder.specs.x690.Encoding.{AreEncodings}
 use Rattle.bcder.specs.calls.Stream.{Stream, Grew}
 use Rattle.bcder.specs.calls.Content.{Reading, UnboundedValues, IsDone}
-use Rattle.bcder.specs.calls.Walking.{ClosesBefore, HasValues, RefusesValues}
-use Rattle.bcder.specs.calls.Skipping.{SkippedAllBy}
+use Rattle.bcder.specs.calls.Walking.{ClosesBefore, HasValues, RefusesValues, AllBy}
+use Rattle.bcder.specs.calls.Skipping.{RefusesAll}
 use Rattle.bcder.specs.calls.Skipping as skipping
 use Rattle.bcder.specs.calls.Decoding.{IsAllOf, Decodes, RefusesOn, RefusesDecode}
 use Rattle.bcder.specs.calls.Decoding as decoding
@@ -96,7 +96,7 @@ values_list i mode w k m r h =
     let e : h.all ≡ w = sym (append-nil h.all) ∙ ap (λ z. h.all ++ z) (sym n) ∙ sym h.rest ∙ r in
     (h.trees, subst (AreEncodings mode h.trees) e (subst (λ z. AreEncodings z h.trees h.all) m h.encode))
 
-module _ {C T S : Type 0} (view : C → Reading) (post : MutBor C → Result T (DecodeError S) → MutBor C → Type 0) (faultless : (c : C) → (view c).stream.faults ≡ 0) (k : (p : MutBor C) (r : Result T (DecodeError S)) (q : MutBor C) → post p r q → SkippedAllBy cause_of (view p.now) r (view q.now)) (s : Stream) (mode : Mode) where
+module _ {C T S : Type 0} (view : C → Reading) (post : MutBor C → Result T (DecodeError S) → MutBor C → Type 0) (faultless : (c : C) → (view c).stream.faults ≡ 0) (k : (p : MutBor C) (r : Result T (DecodeError S)) (q : MutBor C) → post p r q → AllBy (RefusesAll cause_of) (view p.now) r (view q.now)) (s : Stream) (mode : Mode) where
   all_of : (i : Reading) → IsAllOf s mode i → (i.state ≡ Open → HasValues i) → IsList mode s.rest
   all_of i o h = values_list i mode s.rest o.kind o.mode (ap (λ (z : Stream). z.rest) o.stream) (h o.state)
 

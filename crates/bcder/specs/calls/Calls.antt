@@ -4,6 +4,7 @@ use Rattle.std.specs.Borrow.{MutBor}
 use Rattle.bcder.specs.declared.mode.Mode.{Mode}
 use Rattle.bcder.specs.declared.length.Length.{Length}
 use Rattle.bcder.specs.declared.length.Length.TheVariants.{Definite, Indefinite}
+use Rattle.bcder.specs.declared.decode.content.State.{State}
 use Rattle.bcder.specs.declared.decode.content.State.TheVariants.{Open, Failed}
 use Rattle.bcder.specs.x690.Identifier.{Tag, IsValueTag}
 use Rattle.bcder.specs.x690.Tree.{Tree}
@@ -34,12 +35,12 @@ pub record Hands (m : Mode) (f : Bool) (len : Length) (owed : Option ℕ) (after
   pub form : IsFormOf f len i.kind
   pub octets : ContentOf len owed after i.owed i.stream.rest
 
--- content over a stream, as it is handed to a closure
-pub record IsOver (s : Stream) (o : Option ℕ) (k : Form) (m : Mode) (i : Reading) : Type 0 where
+-- unmarked content over a stream, as it is handed to a closure
+pub record IsOver (s : Stream) (o : Option ℕ) (k : Form) (st : State) (m : Mode) (i : Reading) : Type 0 where
   pub stream : i.stream ≡ s
   pub owed : i.owed ≡ o
   pub kind : i.kind ≡ k
-  pub state : i.state ≡ Open
+  pub state : i.state ≡ st
   pub mode : i.mode ≡ m
   pub marked : i.marked ≡ false
 
@@ -93,17 +94,17 @@ Untagged post t p r q = post p r q
 
 module _ {C R : Type 0} (view : C → Reading) where
   -- handed content i, it answered r and left content j
-  pub record Answered (post : Tag → MutBor C → R → MutBor C → Type 0) (t : Tag) (i : Reading) (r : R) (j : Reading) : Type 0 where
+  pub record Answered (post : MutBor C → R → MutBor C → Type 0) (i : Reading) (r : R) (j : Reading) : Type 0 where
     pub handed : MutBor C
     pub left : MutBor C
     pub handed_is : view handed.now ≡ i
     pub left_is : view left.now ≡ j
-    pub called : post t handed r left
+    pub called : post handed r left
 
   -- and so it did, and what it left is at its end once a marker there is taken, as j
   pub record AnswersDone (post : Tag → MutBor C → R → MutBor C → Type 0) (t : Tag) (i : Reading) (r : R) (j : Reading) : Type 0 where
     pub left : Reading
-    pub answered : Answered post t i r left
+    pub answered : Answered (post t) i r left
     pub finishes : Moves left j
     pub marked : j.marked ≡ left.marked
     pub no_fault : j.stream.faults ≡ left.stream.faults
@@ -118,8 +119,8 @@ pub data RefusesEnd {E : Type 0} (why : E → Cause ContentError) (c : Reading) 
 
 -- why the content i of a value was refused with e, whose cause `why` tells, and left as j: the closure refused it, or what the closure left is not at its end
 pub data RefusesContent {C T E : Type 0} (why : E → Cause ContentError) (view : C → Reading) (post : Tag → MutBor C → Result T E → MutBor C → Type 0) (t : Tag) (i : Reading) (e : E) (j : Reading) : Type 0 where
-  by_closure : Answered {R = Result T E} view post t i (Err e) j → RefusesContent why view post t i e j
-  unfinished : (x : T) (left : Reading) → Answered {R = Result T E} view post t i (Ok x) left → Moves left j → j.marked ≡ left.marked → RefusesEnd why left e j → RefusesContent why view post t i e j
+  by_closure : Answered {R = Result T E} view (post t) i (Err e) j → RefusesContent why view post t i e j
+  unfinished : (x : T) (left : Reading) → Answered {R = Result T E} view (post t) i (Ok x) left → Moves left j → j.marked ≡ left.marked → RefusesEnd why left e j → RefusesContent why view post t i e j
 
 -- ---- a value that was taken, or not
 

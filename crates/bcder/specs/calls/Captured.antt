@@ -53,13 +53,13 @@ module _ {S : Type 0} (stream : S → Stream) where
       pub back : AreEncodings c.mode left d.octets
 
     -- nothing was decoded from the kept octets c, but e answered
-    pub data RefusesFront (c : Kept) (e : DecodeError X) : Type 0 where
-      by_decode : (name : ℕ) (left : Stream) → RefusesDecode cause_of (of_constructed (lent stream)) post (borrowed name (kept_stream c)) c.mode e (borrowed name left) → RefusesFront c e
-      by_memory : cause_of e ≡ of_memory → RefusesFront c e
+    pub data RefusesKept (c : Kept) (e : DecodeError X) : Type 0 where
+      by_decode : (name : ℕ) (left : Stream) → RefusesDecode cause_of (of_constructed (lent stream)) post (borrowed name (kept_stream c)) c.mode e (borrowed name left) → RefusesKept c e
+      by_memory : cause_of e ≡ of_memory → RefusesKept c e
 
     module _ (c : Both (MutBor Kept) (MutBor Kept)) (r : Result T (DecodeError X)) where
       abbrev pub DecodesPart : Type 0
       DecodesPart = IfOk r (λ x. DecodesFront c.entry.now x c.exit.now)
 
       abbrev pub RefusesPart : Type 0
-      RefusesPart = IfErr r (λ e. RefusesFront c.entry.now e)
+      RefusesPart = IfErr r (λ e. RefusesKept c.entry.now e)

@@ -17,8 +17,8 @@ use Rattle.bcder.specs.calls.Stream.{Stream, Grew, cut}
 use Rattle.bcder.specs.calls.Sources.{capturing}
 use Rattle.bcder.specs.calls.Captured.{Kept, AreWhole}
 use Rattle.bcder.specs.calls.Content.{Form, Reading, values, label, Closes, Moves}
-use Rattle.bcder.specs.calls.Calls.{MayBeCalledOn, IsLawfulOn}
-use Rattle.bcder.specs.calls.Decoding.{AnsweredOn, RefusesOn}
+use Rattle.bcder.specs.calls.Calls.{Answered, IsOver, MayBeCalledOn, IsLawfulOn}
+use Rattle.bcder.specs.calls.Decoding.{RefusesOn}
 use Rattle.bcder.specs.calls.Views.{of_constructed, limited_stream, before, after}
 
 -- unmarked content of these octets, over a source that has failed so often
@@ -48,7 +48,7 @@ module _ {C X : Type 0} (view : C → Reading) (post : MutBor C → Result (Unit
     pub handed : Reading
     pub left : Reading
     pub hands : IsCaptureOf c handed
-    pub answered : AnsweredOn {R = Result (Unit {0}) (DecodeError X)} view post handed (Ok tt) left
+    pub answered : Answered {R = Result (Unit {0}) (DecodeError X)} view post handed (Ok tt) left
     pub moves : Moves handed left
     pub usable : left.state ≢ Failed
     pub rest : d.stream.rest ≡ left.stream.rest
@@ -63,8 +63,8 @@ module _ {C X : Type 0} (view : C → Reading) (post : MutBor C → Result (Unit
   -- why nothing was captured where the closure left this content, and the source these faults, and e was answered: the closure refused, or left failed content; or then the source failed, or there was no memory
   pub data RefusesLeft (handed : Reading) (e : DecodeError X) (left : Reading) (faults : ℕ) : Type 0 where
     by_content : RefusesOn cause_of view post handed e left → faults ≡ left.stream.faults → RefusesLeft handed e left faults
-    by_source : AnsweredOn {R = Result (Unit {0}) (DecodeError X)} view post handed (Ok tt) left → left.state ≢ Failed → cause_of e ≡ of_source → Grew left.stream.faults faults → RefusesLeft handed e left faults
-    by_memory : AnsweredOn {R = Result (Unit {0}) (DecodeError X)} view post handed (Ok tt) left → left.state ≢ Failed → cause_of e ≡ of_memory → faults ≡ left.stream.faults → RefusesLeft handed e left faults
+    by_source : Answered {R = Result (Unit {0}) (DecodeError X)} view post handed (Ok tt) left → left.state ≢ Failed → cause_of e ≡ of_source → Grew left.stream.faults faults → RefusesLeft handed e left faults
+    by_memory : Answered {R = Result (Unit {0}) (DecodeError X)} view post handed (Ok tt) left → left.state ≢ Failed → cause_of e ≡ of_memory → faults ≡ left.stream.faults → RefusesLeft handed e left faults
 
   -- nothing was captured from c, and e answered: its rest and its state are as they were
   pub record RefusesCapture (c : Reading) (e : DecodeError X) (d : Reading) : Type 0 where
@@ -121,28 +121,19 @@ pub record EndsBy (mode : Mode) (w : List ℕ) (n : ℕ) : Type 0 where
 
 -- ---- the steps inside a capture
 
--- content over a stream, as it is handed to a closure in whatever state
-pub record IsFrom (s : Stream) (o : Option ℕ) (k : Kind) (st : State) (m : Mode) (i : Reading) : Type 0 where
-  pub stream : i.stream ≡ s
-  pub owed : i.owed ≡ o
-  pub kind : i.kind ≡ values k
-  pub state : i.state ≡ st
-  pub mode : i.mode ≡ m
-  pub marked : i.marked ≡ false
-
 module _ {C E : Type 0} (why : E → Cause ContentError) (view : C → Reading) (post : MutBor C → Result (Unit {0}) E → MutBor C → Type 0) where
-  -- a closure ran on that content, and left its state and mark so
+  -- a closure ran on content over a stream in whatever state, and left its state and mark so
   pub record RanFrom (s : Stream) (o : Option ℕ) (k : Kind) (st : State) (m : Mode) (r : Result (Unit {0}) E) (st' : State) (mark : Bool) (s' : Stream) (o' : Option ℕ) : Type 0 where
     pub handed : Reading
     pub left : Reading
-    pub from : IsFrom s o k st m handed
+    pub from : IsOver s o (values k) st m handed
     pub left_stream : left.stream ≡ s'
     pub left_owed : left.owed ≡ o'
     pub left_state : left.state ≡ st'
     pub left_marked : left.marked ≡ mark
     pub moves : Moves handed left
     pub usable : OnOk r (left.state ≢ Failed)
-    pub answers : IfOk r (λ x. AnsweredOn {R = Result (Unit {0}) E} view post handed (Ok x) left)
+    pub answers : IfOk r (λ x. Answered {R = Result (Unit {0}) E} view post handed (Ok x) left)
     pub refuses : IfErr r (λ e. RefusesOn why view post handed e left)
 
 -- content over a source up to a limit, as it is handed to a closure in whatever state
@@ -152,7 +143,7 @@ HandsOver s o k st m i = IsHanded (cut o s.rest) s.faults o (values k) st m i
 module _ {C X : Type 0} (view : C → Reading) (post : MutBor C → Result (Unit {0}) (DecodeError X) → MutBor C → Type 0) where
   -- the octets b were passed by the closure, and then taken from the source
   pub record TakesPassed (s : Stream) (handed : Reading) (b : List ℕ) (left : Reading) (s' : Stream) : Type 0 where
-    pub answered : AnsweredOn {R = Result (Unit {0}) (DecodeError X)} view post handed (Ok tt) left
+    pub answered : Answered {R = Result (Unit {0}) (DecodeError X)} view post handed (Ok tt) left
     pub usable : left.state ≢ Failed
     pub rest : s.rest ≡ b ++ s'.rest
     pub passed : handed.stream.rest ≡ b ++ left.stream.rest

@@ -104,8 +104,8 @@ module _ {S : Type 0} (stream : S → Stream) (c : Both (MutBor (Constructed S))
     CapturedAll = CapturesBy CapturesValues HasOthers (before stream c) r (after stream c)
 
     -- unless the source failed or memory was wanted, they are captured where the rest up to the end is encodings, and where the content has ended
-    abbrev pub ExactlyAll : Type 0
-    ExactlyAll = (Grew (before stream c).stream.faults (after stream c).stream.faults → ⊥) → (WantsMemory r → ⊥) → (HasValues (before stream c) → (before stream c).state ≡ Open → IsOk r) × ((before stream c).state ≡ Ended → IsOk r)
+    abbrev pub CapturesExactlyAll : Type 0
+    CapturesExactlyAll = (Grew (before stream c).stream.faults (after stream c).stream.faults → ⊥) → (WantsMemory r → ⊥) → (HasValues (before stream c) → (before stream c).state ≡ Open → IsOk r) × ((before stream c).state ≡ Ended → IsOk r)
 
   abbrev pub PassedOne : {T X : Type 0} → Result T (DecodeError X) → Type 0
   PassedOne r = PassesBy PassesValue HasNoValue (before stream c) r (after stream c)

@@ -2,7 +2,7 @@
 use Rattle.std.specs.Prelude.{◌≡◌, ◌≢◌, ℕ, Option, None, Result, Ok, Err, IfOk, IfErr, OnOk}
 use Rattle.std.specs.Borrow.{MutBor}
 use Rattle.bcder.specs.declared.mode.Mode.{Mode}
-use Rattle.bcder.specs.declared.decode.content.State.TheVariants.{Failed}
+use Rattle.bcder.specs.declared.decode.content.State.TheVariants.{Open, Failed}
 use Rattle.bcder.specs.calls.Stream.{Stream, limited, borrowed}
 use Rattle.bcder.specs.declared.decode.error.ContentError.{ContentError}
 use Rattle.bcder.specs.declared.decode.content.Constructed.{Constructed}
@@ -10,29 +10,21 @@ use Rattle.bcder.specs.declared.decode.error.DecodeError.{DecodeError}
 use Rattle.bcder.specs.calls.Cause.{Cause, cause_of, IsOfContent}
 use denote.Triple.Both.{Both}
 use Rattle.bcder.specs.calls.Content.{Reading, UnboundedValues, Moves}
-use Rattle.bcder.specs.calls.Calls.{IsOver, RunsOver, MayBeCalledOn, IsLawfulOn}
+use Rattle.bcder.specs.calls.Calls.{Answered, IsOver, RunsOver, MayBeCalledOn, IsLawfulOn}
 use Rattle.bcder.specs.calls.Views.{of_constructed, lent}
 
 -- all values of a source, as a closure is handed them: open, unmarked, unbounded content over it
 abbrev pub IsAllOf : Stream → Mode → Reading → Type 0
-IsAllOf s m i = IsOver (limited None s) None UnboundedValues m i
+IsAllOf s m i = IsOver (limited None s) None UnboundedValues Open m i
 
 -- the same of a source behind a borrow
 abbrev pub IsAllBehind : Stream → Mode → Reading → Type 0
 IsAllBehind s m i = (name : ℕ) × IsAllOf (borrowed name s) m i
 
--- handed content i, a closure of content alone answered r and left content j
-pub record AnsweredOn {C R : Type 0} (view : C → Reading) (post : MutBor C → R → MutBor C → Type 0) (i : Reading) (r : R) (j : Reading) : Type 0 where
-  pub handed : MutBor C
-  pub left : MutBor C
-  pub handed_is : view handed.now ≡ i
-  pub left_is : view left.now ≡ j
-  pub called : post handed r left
-
 -- why content i was refused with e, and left as j: the closure refused it, or answered and left failed content; `why` tells its cause
 pub data RefusesOn {C T E : Type 0} (why : E → Cause ContentError) (view : C → Reading) (post : MutBor C → Result T E → MutBor C → Type 0) (i : Reading) (e : E) (j : Reading) : Type 0 where
-  by_closure : AnsweredOn {R = Result T E} view post i (Err e) j → RefusesOn why view post i e j
-  left_failed : (x : T) → AnsweredOn {R = Result T E} view post i (Ok x) j → j.state ≡ Failed → IsOfContent (why e) → RefusesOn why view post i e j
+  by_closure : Answered {R = Result T E} view post i (Err e) j → RefusesOn why view post i e j
+  left_failed : (x : T) → Answered {R = Result T E} view post i (Ok x) j → j.state ≡ Failed → IsOfContent (why e) → RefusesOn why view post i e j
 
 -- a closure ran on values up to the end of a source
 pub record RanOn {C T E : Type 0} (why : E → Cause ContentError) (view : C → Reading) (post : MutBor C → Result T E → MutBor C → Type 0) (s : Stream) (o : Option ℕ) (m : Mode) (r : Result T E) (s' : Stream) (o' : Option ℕ) : Type 0 where
@@ -40,7 +32,7 @@ pub record RanOn {C T E : Type 0} (why : E → Cause ContentError) (view : C →
   pub left : Reading
   pub runs : RunsOver s o UnboundedValues m handed left s' o'
   pub usable : OnOk r (left.state ≢ Failed)
-  pub answers : IfOk r (λ x. AnsweredOn {R = Result T E} view post handed (Ok x) left)
+  pub answers : IfOk r (λ x. Answered {R = Result T E} view post handed (Ok x) left)
   pub refuses : IfErr r (λ e. RefusesOn why view post handed e left)
 
 -- content i over the source s was handed, and j over s' was left
@@ -54,7 +46,7 @@ pub record Decodes {C T E : Type 0} (view : C → Reading) (post : MutBor C → 
   pub handed : Reading
   pub left : Reading
   pub hands : HandsAll s m handed left s'
-  pub answered : AnsweredOn {R = Result T E} view post handed (Ok x) left
+  pub answered : Answered {R = Result T E} view post handed (Ok x) left
   pub usable : left.state ≢ Failed
 
 -- nothing was decoded from the source s in a mode, but e answered, and s' is left of it

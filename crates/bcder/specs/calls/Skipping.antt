@@ -16,7 +16,7 @@ use Rattle.bcder.specs.x690.Encoding.{IsHeader}
 use Rattle.bcder.specs.x690.Preorder.{Heading, preorder}
 use Rattle.bcder.specs.calls.Stream.{Stream, Grew}
 use Rattle.bcder.specs.calls.Content.{any, Reading, EndsBefore, EndsAt, IsDone, NotAtEnd}
-use Rattle.bcder.specs.calls.Walking.{HasValue, PassesValue, RefusesWalk, HasValues, Walks, RefusesValues}
+use Rattle.bcder.specs.calls.Walking.{HasValue, PassesValue, RefusesWalk, PassedBy, HasValues, Walks, RefusesValues, AllBy}
 use Rattle.bcder.specs.calls.Takes.{HasNone}
 use Rattle.bcder.specs.calls.Views.{of_constructed}
 
@@ -148,33 +148,11 @@ pub data RefusesOne {X : Type 0} (why : X → Cause ContentError) (c : Reading) 
   by_walk : RefusesWalk why c e d → RefusesOne why c e d
   by_depth : GoesDeep c d → why e ≡ of_memory → RefusesOne why c e d
 
--- a call passed over the next value, or found the end, or refused; `why` tells the cause of its error
-pub record SkippedOneBy {T X : Type 0} (why : X → Cause ContentError) (c : Reading) (r : Result (Option T) X) (d : Reading) : Type 0 where
-  pub value : IfOk r (λ o. IfSome o (λ _. PassesValue c d))
-  pub end : IfOk r (λ o. IfNone o (EndsAt c d))
-  pub done : IfOk r (λ o. IfNone o (IsDone d))
-  pub no_fault : OnOk r (d.stream.faults ≡ c.stream.faults)
-  pub refused : IfErr r (λ e. RefusesOne why c e d)
-  pub failed : OnErr r (d.state ≡ Failed)
-  pub mode : d.mode ≡ c.mode
-  pub marked : d.marked ≡ c.marked
-
 -- why values weren't passed up to the end of c, and e was answered; `why` tells its cause
 pub data RefusesAll {X : Type 0} (why : X → Cause ContentError) (c : Reading) (e : X) (d : Reading) : Type 0 where
   by_values : RefusesValues why c e d → RefusesAll why c e d
   -- some values were passed, and then a deep one met
   by_depth : (j : Reading) → Walks c j → GoesDeep j d → why e ≡ of_memory → RefusesAll why c e d
-
--- a call passed over all values up to the end, or refused; `why` tells the cause of its error
-pub record SkippedAllBy {T X : Type 0} (why : X → Cause ContentError) (c : Reading) (r : Result T X) (d : Reading) : Type 0 where
-  -- the rest up to the end was encodings, and content is at its end
-  pub all : OnOk r (c.state ≡ Open → HasValues c)
-  pub done : OnOk r (IsDone d)
-  pub no_fault : OnOk r (d.stream.faults ≡ c.stream.faults)
-  pub refused : IfErr r (λ e. RefusesAll why c e d)
-  pub failed : OnErr r (d.state ≡ Failed)
-  pub mode : d.mode ≡ c.mode
-  pub marked : d.marked ≡ c.marked
 
 -- want of memory was not answered
 abbrev pub FoundMemory : {T X : Type 0} → Result T (DecodeError X) → Type 0
@@ -201,10 +179,10 @@ module _ {S F : Type 0} (stream : S → Stream) (step : Steps F ContentError) (c
 
 module _ {S : Type 0} (stream : S → Stream) (c : Both (MutBor (Constructed S)) (MutBor (Constructed S))) where
   abbrev pub SkippedOne : {T X : Type 0} → Result (Option T) (DecodeError X) → Type 0
-  SkippedOne r = SkippedOneBy cause_of (of_constructed stream c.entry.now) r (of_constructed stream c.exit.now)
+  SkippedOne r = PassedBy (RefusesOne cause_of) (of_constructed stream c.entry.now) r (of_constructed stream c.exit.now)
 
   abbrev pub SkippedAll : {T X : Type 0} → Result T (DecodeError X) → Type 0
-  SkippedAll r = SkippedAllBy cause_of (of_constructed stream c.entry.now) r (of_constructed stream c.exit.now)
+  SkippedAll r = AllBy (RefusesAll cause_of) (of_constructed stream c.entry.now) r (of_constructed stream c.exit.now)
 
   -- unless the source failed or memory was wanted, Ok is answered exactly where values go on up to the end
   abbrev pub ExactlyAll : {T X : Type 0} → Result T (DecodeError X) → Type 0

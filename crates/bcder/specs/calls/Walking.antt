@@ -47,8 +47,8 @@ pub record AnswersNext {T E : Type 0} (c : Reading) (r : Result (Option T) E) (d
   pub found : (t : Tree) (w after : List ℕ) → HasValue c t w after → IsOkAnd r (λ o. IsTrue (is_some o)) × (d.stream.rest ≡ after)
   pub ended : (after : List ℕ) → EndsBefore c after → IsOkAnd r (λ o. IsTrue (is_none o))
 
--- a call passed over the next value, or found the end, or refused; `why` tells the cause of its error
-pub record PassedBy {T E : Type 0} (why : E → Cause ContentError) (c : Reading) (r : Result (Option T) E) (d : Reading) : Type 0 where
+-- a call passed over the next value, or found the end, or refused
+pub record PassedBy {T E : Type 0} (Refuses : Reading → E → Reading → Type 0) (c : Reading) (r : Result (Option T) E) (d : Reading) : Type 0 where
   -- Some: the one value that stands in front was passed
   pub value : IfOk r (λ o. IfSome o (λ _. PassesValue c d))
   -- None: content was at its end, whose marker, if any, was taken
@@ -57,7 +57,7 @@ pub record PassedBy {T E : Type 0} (why : E → Cause ContentError) (c : Reading
   -- no answer is given over a failure of the source
   pub no_fault : OnOk r (d.stream.faults ≡ c.stream.faults)
   -- an error tells why no value was passed, and content has failed
-  pub refused : IfErr r (λ e. RefusesWalk why c e d)
+  pub refused : IfErr r (λ e. Refuses c e d)
   pub failed : OnErr r (d.state ≡ Failed)
   -- the mode stays, and the mark
   pub mode : d.mode ≡ c.mode
@@ -97,15 +97,15 @@ pub data RefusesValues {E : Type 0} (why : E → Cause ContentError) (c : Readin
   broken : c.kind ≢ Octets → (HasValues c → ⊥) → IsOfContent (why e) → RefusesValues why c e d
   short : c.kind ≡ Octets → IsShort c → IsOfContent (why e) → RefusesValues why c e d
 
--- content was passed to its end, or refused; `why` tells the cause of the error
-pub record AllBy {T E : Type 0} (why : E → Cause ContentError) (c : Reading) (r : Result T E) (d : Reading) : Type 0 where
+-- content was passed to its end, or refused
+pub record AllBy {T E : Type 0} (Refuses : Reading → E → Reading → Type 0) (c : Reading) (r : Result T E) (d : Reading) : Type 0 where
   -- there were values up to the end, and content is at it
   pub all : OnOk r (c.state ≡ Open → HasValues c)
   pub done : OnOk r (IsDone d)
   -- no answer is given over a failure of the source
   pub no_fault : OnOk r (d.stream.faults ≡ c.stream.faults)
   -- an error tells why not, and content has failed
-  pub refused : IfErr r (λ e. RefusesValues why c e d)
+  pub refused : IfErr r (λ e. Refuses c e d)
   pub failed : OnErr r (d.state ≡ Failed)
   -- the mode stays, and the mark
   pub mode : d.mode ≡ c.mode
@@ -130,7 +130,7 @@ module _ {S : Type 0} (stream : S → Stream) (c : Both (MutBor (Constructed S))
 
   -- what a call that passes over the next value promises of content and of its answer
   abbrev pub PassedNext : {T X : Type 0} → Result (Option T) (DecodeError X) → Type 0
-  PassedNext r = PassedBy cause_of (of_constructed stream c.entry.now) r (of_constructed stream c.exit.now)
+  PassedNext r = PassedBy (RefusesWalk cause_of) (of_constructed stream c.entry.now) r (of_constructed stream c.exit.now)
 
   -- unless the source failed, Some is answered exactly where a value stands in front, and None exactly at the end
   abbrev pub ExactlyNext : {T E : Type 0} → Result (Option T) E → Type 0

@@ -62,8 +62,8 @@ Sees mode asked None w = (length w < 9) × HasNoHeader mode asked w
 Sees mode asked (Some p) w = (x : List ℕ) → IsPeeked mode asked p (length w) (w ++ x)
 
 -- a header of two octets, in every mode
-abbrev pub IsShort : CodeHeader → List ℕ → Type 0
-IsShort h w = (mode : Mode) (x : List ℕ) → IsFront mode h 2 (length w) (w ++ x)
+abbrev pub IsShortHeader : CodeHeader → List ℕ → Type 0
+IsShortHeader h w = (mode : Mode) (x : List ℕ) → IsFront mode h 2 (length w) (w ++ x)
 
 -- the contents octets of this length are among so many
 abbrev pub IsAtHand : Length → ℕ → Type 0

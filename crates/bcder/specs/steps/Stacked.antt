@@ -54,15 +54,15 @@ lack None w = 0
 lack (Some n) w = n - length w
 
 -- what is owed once the octets of a value are given back to those behind it
-abbrev pub joined : Option ℕ → Option ℕ → Option ℕ
-joined (Some behind) (Some left) = Some (behind + left)
-joined (Some behind) None = None
-joined None left = None
+abbrev pub limit_around : Option ℕ → Option ℕ → Option ℕ
+limit_around (Some behind) (Some left) = Some (behind + left)
+limit_around (Some behind) None = None
+limit_around None left = None
 
 -- the limit around all open values, the innermost first, where so much is owed of that one
 abbrev pub unwound : List Entry → Option ℕ → Option ℕ
 unwound [] o = o
-unwound (Definite behind ∷ es) o = unwound es (joined behind o)
+unwound (Definite behind ∷ es) o = unwound es (limit_around behind o)
 unwound (Indefinite ∷ es) o = unwound es o
 
 -- the limit behind an open value that ended
@@ -92,8 +92,8 @@ TopIs (Indefinite ∷ es) k = k ≡ kind.Indefinite
 abbrev pub Reached : Type 0
 Reached = Option (List Heading × (List ℕ × ℕ × List ℕ))
 
-abbrev pub after : List Heading → Reached → Reached
-after done r = option_map (λ o. (done ++ o.0, o.1)) r
+abbrev pub after_headings : List Heading → Reached → Reached
+after_headings done r = option_map (λ o. (done ++ o.0, o.1)) r
 
 abbrev pub is_indefinite : Entry → Bool
 is_indefinite (Definite behind) = false
@@ -107,13 +107,13 @@ if_all (suc m) r = None
 unfoldable pub ends : Mode → List Entry → List ℕ → ℕ → List ℕ → Reached
 ends mode [] x m y = Some ([], (x, m, y))
 ends mode (Definite o ∷ es) x m y =
-    if_all m (option_and_then (λ ts. after (preorders ts.0 (suc (length es))) (ends mode es (cut o y) (lack o y) (past o y).octets)) (read_list mode false x))
+    if_all m (option_and_then (λ ts. after_headings (preorders ts.0 (suc (length es))) (ends mode es (cut o y) (lack o y) (past o y).octets)) (read_list mode false x))
 ends mode (Indefinite ∷ es) x m y =
-    option_and_then (λ ts. after (preorders ts.0 (suc (length es))) (ends mode es ts.1 m y)) (read_list mode true x)
+    option_and_then (λ ts. after_headings (preorders ts.0 (suc (length es))) (ends mode es ts.1 m y)) (read_list mode true x)
 
 -- the same behind a value that was read in front
 abbrev pub next_to : Mode → List Entry → Option (Tree × List ℕ) → ℕ → List ℕ → Reached
-next_to mode es r m y = option_and_then (λ t. after (preorder t.0 (length es)) (ends mode es t.1 m y)) r
+next_to mode es r m y = option_and_then (λ t. after_headings (preorder t.0 (length es)) (ends mode es t.1 m y)) r
 
 -- the same of octets with a limit
 abbrev pub remain : Mode → List Entry → Option ℕ → List ℕ → Reached
@@ -144,7 +144,7 @@ pub data GoesInto (h : Header) (es : List Entry) (s : Stream) (o : Option ℕ) (
   values : h.form ≡ true → fs ≡ entry_of h.len o ∷ es → t ≡ s → p ≡ limit_inside h.len o → GoesInto h es s o fs t p
 
 -- the innermost open value was left, which ended
-pub record Leaves (es : List Entry) (o : Option ℕ) (fs : List Entry) (p : Option ℕ) : Type 0 where
+pub record LeavesInnermost (es : List Entry) (o : Option ℕ) (fs : List Entry) (p : Option ℕ) : Type 0 where
   pub top : Entry
   pub is : es ≡ top ∷ fs
   pub limit : p ≡ restored top o
@@ -173,7 +173,7 @@ pub record PassesCalls (mode : Mode) (s : Stream) (o : Option ℕ) (calls : List
 
 -- the closure was called at the header h and at the headings after it, and these values are open
 pub record IsUnderWay (mode : Mode) (h : Header) (s : Stream) (o : Option ℕ) (calls : List Heading) (es : List Entry) (t : Stream) (p : Option ℕ) : Type 0 where
-  pub outcome : due mode [] h o s.rest ≡ after (heading h 0 ∷ calls) (remain mode es p t.rest)
+  pub outcome : due mode [] h o s.rest ≡ after_headings (heading h 0 ∷ calls) (remain mode es p t.rest)
   pub passes : PassesCalls mode s o calls t (unwound es p)
   pub part : IsPart (length es) (heading h 0 ∷ calls)
   pub limits : AreLimited es p
@@ -247,14 +247,14 @@ indefinites (suc n) es = Indefinite ∷ indefinites n es
 -- values of definite length, the innermost first, and those of indefinite length around them
 abbrev pub around : List Frame → List Entry
 around [] = []
-around (f ∷ fs) = Definite f.behind ∷ indefinites f.around (around fs)
+around (f ∷ fs) = Definite f.behind ∷ indefinites f.indefinite_around (around fs)
 
 abbrev pub framed : SmallVec Frame → List Entry
 framed v = around (reverse v.items)
 
 -- the open values, the innermost first
 abbrev pub entries : OpenValues → List Entry
-entries v = indefinites v.inner (framed v.frames.now)
+entries v = indefinites v.indefinite (framed v.frames.now)
 
 pub record IsCounted (v : OpenValues) : Type 0 where
   pub depth : v.depth ≡ length (entries v)

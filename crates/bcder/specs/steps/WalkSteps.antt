@@ -14,12 +14,10 @@ use Rattle.bcder.specs.declared.decode.content.Constructed.{Constructed}
 use Rattle.bcder.specs.calls.Views.{of_constructed}
 use Rattle.bcder.specs.calls.Calls.{TakesContent}
 use Rattle.bcder.specs.declared.length.Length.TheVariants.{Definite}
-use Rattle.bcder.specs.declared.decode.content.walk.Next.{Next}
-use Rattle.bcder.specs.declared.decode.content.walk.Next.TheVariants as next
 use Rattle.bcder.specs.x690.Encoding.{Header}
 use Rattle.bcder.specs.steps.Peek.{header_of}
-use Rattle.bcder.specs.calls.Content.{Reading, Moves, EndsAt, IsDone, Enters, Advances, any, Resembles, RefusesHeader}
-use Rattle.bcder.specs.calls.Walking.{PassesValue, PassedBy, RefusesValues, AllBy, Between}
+use Rattle.bcder.specs.calls.Content.{Reading, Moves, IsDone, Advances, Resembles}
+use Rattle.bcder.specs.calls.Walking.{PassesValue, PassedBy, RefusesWalk, RefusesValues, AllBy, Between}
 
 -- a header of so many octets is that of a primitive value of n octets in all
 pub record IsPrimitive (h : Header) (size n : ℕ) : Type 0 where
@@ -28,12 +26,6 @@ pub record IsPrimitive (h : Header) (size n : ℕ) : Type 0 where
   pub len : ℕ
   pub tells : h.len ≡ Definite len
   pub all : n ≡ size + len
-
--- a step over content went to the inside of a value, over a value, or to the end
-abbrev pub Goes : Reading → Next → Reading → Type 0
-Goes c (next.Entered h) d = Enters c (header_of h) d
-Goes c next.Passed d = PassesValue c d
-Goes c next.Ended d = EndsAt c d × IsDone d
 
 -- the first n octets were passed, and nothing else changed
 pub record PassesOver (c : Reading) (n : ℕ) (d : Reading) : Type 0 where
@@ -51,15 +43,6 @@ pub record AtOnceBy {E : Type 0} (why : E → Cause ContentError) (c : Reading) 
   -- the source failed exactly where an error is answered, and content has failed
   pub no_fault : OnOk r (d.stream.faults ≡ c.stream.faults)
   pub fault : IfErr r (λ e. (why e ≡ of_source) × Grew c.stream.faults d.stream.faults)
-  pub failed : OnErr r (d.state ≡ Failed)
-  pub mode : d.mode ≡ c.mode
-  pub marked : d.marked ≡ c.marked
-
--- a step went over the next value, over its header or to the end, or was refused; `why` tells the cause of its error
-pub record StepsBy {E : Type 0} (why : E → Cause ContentError) (c : Reading) (r : Result Next E) (d : Reading) : Type 0 where
-  pub goes : IfOk r (λ n. Goes c n d)
-  pub no_fault : OnOk r (d.stream.faults ≡ c.stream.faults)
-  pub refused : IfErr r (λ e. RefusesHeader why any c e d)
   pub failed : OnErr r (d.state ≡ Failed)
   pub mode : d.mode ≡ c.mode
   pub marked : d.marked ≡ c.marked
@@ -88,7 +71,7 @@ module _ {S : Type 0} (stream : S → Stream) (c : Both (MutBor (Constructed S))
 
   -- with a stop in the place of an error
   abbrev pub PassedStep : {T X : Type 0} → Result (Option T) (Stop X) → Type 0
-  PassedStep r = PassedBy stop_cause (of_constructed stream c.entry.now) r (of_constructed stream c.exit.now)
+  PassedStep r = PassedBy (RefusesWalk stop_cause) (of_constructed stream c.entry.now) r (of_constructed stream c.exit.now)
 
   abbrev pub PassedOver : ℕ → Type 0
   PassedOver n = Between stream c (λ c d. PassesOver c n d)
@@ -96,11 +79,8 @@ module _ {S : Type 0} (stream : S → Stream) (c : Both (MutBor (Constructed S))
   abbrev pub PassedAtOnce : {X : Type 0} → Result Bool (Stop X) → Type 0
   PassedAtOnce r = AtOnceBy stop_cause (of_constructed stream c.entry.now) r (of_constructed stream c.exit.now)
 
-  abbrev pub Stepped : {X : Type 0} → Result Next (Stop X) → Type 0
-  Stepped r = StepsBy stop_cause (of_constructed stream c.entry.now) r (of_constructed stream c.exit.now)
-
   abbrev pub PassedAll : {T X : Type 0} → Result T (Stop X) → Type 0
-  PassedAll r = AllBy stop_cause (of_constructed stream c.entry.now) r (of_constructed stream c.exit.now)
+  PassedAll r = AllBy (RefusesValues stop_cause) (of_constructed stream c.entry.now) r (of_constructed stream c.exit.now)
 
   -- the content of a header was walked over
   abbrev pub WalkedOver : {T X : Type 0} → CodeHeader → Result T (Stop X) → Type 0

@@ -4,7 +4,7 @@ ghost use Rattle.std.specs.Prelude.{Some, None, IfSome, IfOk, OnOk, OnErr};
 ghost use Rattle.bcder.specs.calls.Changed.{SameFaults, MoreFaults, SameRest, SamePosition};
 ghost use Rattle.bcder.specs.calls.Changed.{SameKept};
 ghost use Rattle.bcder.specs.calls.Content.{IsAsked};
-ghost use Rattle.bcder.specs.steps.Peek.{asked, Fronts, Peeks, Sees, IsShort, IsAllHere};
+ghost use Rattle.bcder.specs.steps.Peek.{asked, Fronts, Peeks, Sees, IsShortHeader, IsAllHere};
 ghost use Rattle.bcder.specs.steps.Reading.{read_identifier, read_length};
 ghost use Rattle.bcder.specs.declared.mode.Mode.{Mode as ModeValue};
 
@@ -110,7 +110,7 @@ fn look(mode: Mode, wanted: &Wanted, octets: &[u8]) -> Option<Peeked>
 #[tactic(auto, using(crate::proofs::nat_tests))]
 #[inline(always)]
 fn short_header(all: bool, octets: &[u8]) -> Option<Header>
-    ensures { IfSome result (λ h. IsShort h octets.now) }
+    ensures { IfSome result (λ h. IsShortHeader h octets.now) }
 {
     match octets {
         [leading, len, ..] if all && *len == 0 && *leading == 0 => Some(Header {

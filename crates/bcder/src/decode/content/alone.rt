@@ -1,6 +1,7 @@
 //! Octets read as the contents octets of a primitive value.
 ghost use Rattle.std.specs.Prelude.{◌≡◌, ◌≢◌, false, IsTrue, Some, length};
 ghost use Rattle.bcder.specs.calls.Alone.{IsAllOctets, RanAlone};
+ghost use Rattle.bcder.specs.declared.decode.content.State.TheVariants.{Open};
 ghost use Rattle.bcder.specs.calls.Calls.{IsLawfulOn, IsOver, MayBeCalledOn};
 ghost use Rattle.bcder.specs.calls.Content.{Octets};
 ghost use Rattle.bcder.specs.calls.Stream.{at_hand};
@@ -38,9 +39,11 @@ where
     F: FnOnce(&mut Primitive<'_, S>) -> Result<T, DecodeError<S::Error>>,
     requires limit { source.old.limit ≡ Some len }
     requires callable { MayBeCalledOn (of_primitive S.stream)
-        (IsOver (limited_stream S.stream source.old) (Some len) Octets mode) (F.pre op) }
+        (IsOver (limited_stream S.stream source.old) (Some len) Octets Open mode)
+        (F.pre op) }
     requires lawful { IsLawfulOn (of_primitive S.stream)
-        (IsOver (limited_stream S.stream source.old) (Some len) Octets mode) (F.post op) }
+        (IsOver (limited_stream S.stream source.old) (Some len) Octets Open mode)
+        (F.post op) }
     ensures { RanAlone (of_primitive S.stream) (F.post op)
         (S.stream source.old.source) len mode result }
 {

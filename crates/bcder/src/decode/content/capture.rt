@@ -1,12 +1,12 @@
 //! Capturing values.
 ghost use Rattle.std.specs.Prelude.{◌≡◌, ◌≤◌, ◌++◌, ◌↔◌, length, IsTrue, IfOk, IfErr};
 ghost use Rattle.std.specs.Prelude.{OnOk, OnErr};
-ghost use Rattle.bcder.specs.calls.Calls.{MayBeCalledOn, IsLawfulOn};
+ghost use Rattle.bcder.specs.calls.Calls.{IsOver, MayBeCalledOn, IsLawfulOn};
 ghost use Rattle.bcder.specs.calls.Capturing.{CallableOnCapture, LawfulOnCapture, CapturedWhat};
-ghost use Rattle.bcder.specs.calls.Capturing.{RefusedCapture, IsFrom, RanFrom, CapturesOver};
+ghost use Rattle.bcder.specs.calls.Capturing.{RefusedCapture, RanFrom, CapturesOver};
 ghost use Rattle.bcder.specs.calls.Capturing.{CallableOver, LawfulOver};
 ghost use Rattle.bcder.specs.calls.Cause.{cause_of, MatchCause};
-ghost use Rattle.bcder.specs.calls.Content.{label};
+ghost use Rattle.bcder.specs.calls.Content.{label, values};
 ghost use Rattle.bcder.specs.calls.Sources.{behind, passed, borrow_of, capturing};
 ghost use Rattle.bcder.specs.calls.Stream.{Grew};
 ghost use Rattle.bcder.specs.calls.Views.{of_constructed, limited_stream, Moved, before, after};
@@ -54,10 +54,12 @@ where
     F: FnOnce(&mut Constructed<'_, CaptureSource<'_, S>>) -> Result<(), DecodeError<S::Error>>,
     requires fresh { passed view.old.source ≡ 0 }
     requires callable { MayBeCalledOn (of_constructed (capturing S.stream))
-        (IsFrom (limited_stream (capturing S.stream) view.old) view.old.limit kind state mode)
+        (IsOver (limited_stream (capturing S.stream) view.old) view.old.limit (values kind)
+        state mode)
         (F.pre op) }
     requires lawful { IsLawfulOn (of_constructed (capturing S.stream))
-        (IsFrom (limited_stream (capturing S.stream) view.old) view.old.limit kind state mode)
+        (IsOver (limited_stream (capturing S.stream) view.old) view.old.limit (values kind)
+        state mode)
         (F.post op) }
     ensures ran { RanFrom cause_of (of_constructed (capturing S.stream)) (F.post op)
         (limited_stream (capturing S.stream) view.old) view.old.limit kind state mode

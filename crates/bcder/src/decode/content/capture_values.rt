@@ -1,30 +1,15 @@
 //! Capturing the next value, and all values.
 ghost use Rattle.bcder.specs.calls.CapturingValues.{CapturedOne, ExactlyOne, CapturedAll};
-ghost use Rattle.bcder.specs.calls.CapturingValues.{ExactlyAll};
+ghost use Rattle.bcder.specs.calls.CapturingValues.{CapturesExactlyAll};
 ghost use Rattle.bcder.specs.calls.CapturingValues.{PassedOne, PassedToEnd};
-ghost use Rattle.bcder.specs.calls.Views.{Moved};
+ghost use Rattle.bcder.specs.calls.Sources.{capturing};
+ghost use Rattle.bcder.specs.calls.Views.{Moved, limited_stream};
 
 use super::Constructed;
 use crate::captured::Captured;
 use crate::decode::error::DecodeError;
 use crate::decode::source::Source;
 use std::alloc::Global;
-
-/// Passes over the next value, which has to be there.
-#[tactic(auto, using(crate::specs::laws::Moved::untouched_is_moved, crate::specs::laws::Moved::moved_carries))]
-fn pass_one<S: Source>(
-    cons: &mut Constructed<'_, S>,
-    alloc: Global,
-) -> Result<(), DecodeError<S::Error>>
-    ensures moves { Moved S.stream cons }
-    ensures passed { PassedOne S.stream cons result }
-{
-    match cons.skip_one(alloc) {
-        Ok(Some(())) => Ok(()),
-        Ok(None) => Err(cons.refusal("expected another value")),
-        Err(error) => Err(error),
-    }
-}
 
 /// Passes over all values up to the end of the content, whose marker it takes.
 #[tactic(auto, using(crate::specs::laws::Moved::untouched_is_moved, crate::specs::laws::Moved::moved_carries))]
@@ -58,7 +43,19 @@ impl<'a, S: Source> Constructed<'a, S> {
         ensures captured { CapturedOne S.stream self result }
         ensures exact { ExactlyOne S.stream self result }
     {
-        self.capture(alloc, |cons| pass_one(cons, alloc))
+        self.capture(
+            alloc,
+            |cons|
+                ensures moves { Moved (capturing (limited_stream S.stream)) cons }
+                ensures passed { PassedOne (capturing (limited_stream S.stream)) cons result }
+            {
+                match cons.skip_one(alloc) {
+                    Ok(Some(())) => Ok(()),
+                    Ok(None) => Err(cons.refusal("expected another value")),
+                    Err(error) => Err(error),
+                }
+            },
+        )
     }
 
     /// Captures all values up to the end of the content, which may be none.
@@ -76,7 +73,7 @@ impl<'a, S: Source> Constructed<'a, S> {
     pub fn capture_all(&mut self, alloc: Global) -> Result<Captured, DecodeError<S::Error>>
         ensures moves { Moved S.stream self }
         ensures captured { CapturedAll S.stream self result }
-        ensures exact { ExactlyAll S.stream self result }
+        ensures exact { CapturesExactlyAll S.stream self result }
     {
         self.capture(alloc, |cons| pass_all(cons, alloc))
     }

@@ -1,9 +1,9 @@
 //! Decoding the values of a source.
 ghost use Rattle.std.specs.Prelude.{◌≡◌, ◌≢◌, ◌≤◌, ◌++◌, ℕ, List, Ok, None, IfErr, IfOk, OnOk};
-ghost use Rattle.bcder.specs.calls.Calls.{MayBeCalledOn, IsLawfulOn, IsOver};
+ghost use Rattle.bcder.specs.calls.Calls.{Answered, MayBeCalledOn, IsLawfulOn, IsOver};
 ghost use Rattle.bcder.specs.calls.Cause.{cause_of};
 ghost use Rattle.bcder.specs.calls.Content.{Moves, UnboundedValues};
-ghost use Rattle.bcder.specs.calls.Decoding.{AnsweredOn, RefusesOn, RanOn, Decodes};
+ghost use Rattle.bcder.specs.calls.Decoding.{RefusesOn, RanOn, Decodes};
 ghost use Rattle.bcder.specs.calls.Decoding.{RefusesDecode, CallableOnAll, LawfulOnAll};
 ghost use Rattle.bcder.specs.calls.Decoding.{CallableOnLent};
 ghost use Rattle.bcder.specs.calls.Decoding.{LawfulOnLent, DecodesAll, RefusesAll, DecodesLent};
@@ -31,7 +31,7 @@ where
     ensures name { cons.new.source.ghost_name ≡ cons.old.source.ghost_name }
     ensures usable { OnOk result (cons.new.state ≢ State.Failed) }
     ensures ok { IfOk result (λ x.
-        AnsweredOn (of_constructed S.stream) (F.post op)
+        Answered (of_constructed S.stream) (F.post op)
         (before S.stream cons) (Ok x) (after S.stream cons)) }
     ensures refused { IfErr result (λ e.
         RefusesOn cause_of (of_constructed S.stream) (F.post op)
@@ -56,10 +56,12 @@ fn run_over<S: Source, F, T: Drop>(
 where
     F: FnOnce(&mut Constructed<'_, S>) -> Result<T, DecodeError<S::Error>>,
     requires callable { MayBeCalledOn (of_constructed S.stream)
-        (IsOver (limited_stream S.stream source.old) source.old.limit UnboundedValues mode)
+        (IsOver (limited_stream S.stream source.old) source.old.limit UnboundedValues State.Open
+        mode)
         (F.pre op) }
     requires lawful { IsLawfulOn (of_constructed S.stream)
-        (IsOver (limited_stream S.stream source.old) source.old.limit UnboundedValues mode)
+        (IsOver (limited_stream S.stream source.old) source.old.limit UnboundedValues State.Open
+        mode)
         (F.post op) }
     ensures { RanOn cause_of (of_constructed S.stream) (F.post op)
         (limited_stream S.stream source.old) source.old.limit mode result

@@ -1,9 +1,8 @@
 //! What a closure makes of content of one form.
 ghost use Rattle.std.specs.Prelude.{◌≡◌, ◌≢◌, ◌⊎◌, Ok, Err, IfOk, IfErr};
-ghost use Rattle.bcder.specs.calls.Calls.{MayBeCalledOn, IsLawfulOn};
+ghost use Rattle.bcder.specs.calls.Calls.{Answered, MayBeCalledOn, IsLawfulOn};
 ghost use Rattle.bcder.specs.calls.Cause.{IsRefusal};
 ghost use Rattle.bcder.specs.calls.Content.{Octets};
-ghost use Rattle.bcder.specs.calls.Decoding.{AnsweredOn};
 ghost use Rattle.bcder.specs.calls.Views.{of_constructed, of_primitive, of_content, content_before};
 ghost use Rattle.bcder.specs.calls.Views.{content_after, MovedContent};
 
@@ -27,13 +26,13 @@ impl<'a, S: Source> Content<'a, S> {
             (λ i. i ≡ of_content S.stream self.old) (F.post op) }
         ensures moves { MovedContent S.stream self }
         ensures ok { IfOk result (λ x.
-            AnsweredOn (of_primitive S.stream) (F.post op)
+            Answered (of_primitive S.stream) (F.post op)
             (content_before S.stream self) (Ok x) (content_after S.stream self)) }
         ensures refused { IfErr result (λ e.
             ((content_before S.stream self).kind ≢ Octets)
             × (content_after S.stream self ≡ content_before S.stream self)
             × IsRefusal e
-            ⊎ AnsweredOn (of_primitive S.stream) (F.post op)
+            ⊎ Answered (of_primitive S.stream) (F.post op)
             (content_before S.stream self) (Err e) (content_after S.stream self)) }
     {
         match self {
@@ -58,13 +57,13 @@ impl<'a, S: Source> Content<'a, S> {
             (λ i. i ≡ of_content S.stream self.old) (F.post op) }
         ensures moves { MovedContent S.stream self }
         ensures ok { IfOk result (λ x.
-            AnsweredOn (of_constructed S.stream) (F.post op)
+            Answered (of_constructed S.stream) (F.post op)
             (content_before S.stream self) (Ok x) (content_after S.stream self)) }
         ensures refused { IfErr result (λ e.
             ((content_before S.stream self).kind ≡ Octets)
             × (content_after S.stream self ≡ content_before S.stream self)
             × IsRefusal e
-            ⊎ AnsweredOn (of_constructed S.stream) (F.post op)
+            ⊎ Answered (of_constructed S.stream) (F.post op)
             (content_before S.stream self) (Err e) (content_after S.stream self)) }
     {
         match self {

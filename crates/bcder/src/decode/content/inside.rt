@@ -109,7 +109,7 @@ impl<'a, S: Source> Constructed<'a, S> {
         }
         match self.finish_slow() {
             Ok(()) => Ok(()),
-            Err(stop) => Err(self.stopped(stop)),
+            Err(stop) => Err(self.stop_error(stop)),
         }
     }
 
@@ -152,19 +152,6 @@ impl<'a, S: Source> Content<'a, S> {
         match self {
             Content::Primitive(octets) => octets.finish(),
             Content::Constructed(values) => values.finish(),
-        }
-    }
-
-    /// Whether a mode was changed, and the source, which goes back to its owner.
-    #[inline(always)]
-    fn into_mark_and_source(self) -> (bool, &'a mut LimitedSource<S>)
-        ensures marked { result.0 ≡ content_mark self.entry }
-        ensures name { result.1.ghost_name ≡ content_name self.entry }
-        ensures now { result.1.now ≡ content_source self.entry }
-    {
-        match self {
-            Content::Primitive(Primitive { source, marked, .. }) => (marked, source),
-            Content::Constructed(Constructed { source, marked, .. }) => (marked, source),
         }
     }
 }
@@ -293,8 +280,10 @@ where
         result.0 result.1 (limited_stream S.stream result.2.now) result.2.now.limit }
 {
     let result = run(&mut content, tag, op);
-    let (marked, source) = content.into_mark_and_source();
-    (result, marked, source)
+    match content {
+        Content::Primitive(Primitive { source, marked, .. }) => (result, marked, source),
+        Content::Constructed(Constructed { source, marked, .. }) => (result, marked, source),
+    }
 }
 
 #[tactic(auto, unfolding(crate::specs::calls::Views::views))]

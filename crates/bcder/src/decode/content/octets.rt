@@ -1,8 +1,7 @@
 //! Taking primitive values.
 ghost use Rattle.std.specs.Prelude.{◌≡◌};
-ghost use Rattle.bcder.specs.calls.Calls.{Untagged};
+ghost use Rattle.bcder.specs.calls.Calls.{Answered, Untagged};
 ghost use Rattle.bcder.specs.calls.Content.{any, tagged};
-ghost use Rattle.bcder.specs.calls.Decoding.{AnsweredOn};
 ghost use Rattle.bcder.specs.calls.Takes.{CallableOnOctets, LawfulOnOctets, TookOctets};
 ghost use Rattle.bcder.specs.calls.Takes.{TookNextOctets};
 ghost use Rattle.bcder.specs.calls.Views.{of_primitive, octets_before, octets_after, Moved};
@@ -39,7 +38,7 @@ impl<'a, S: Source> Constructed<'a, S> {
         match self.next_header(Wanted::Any) {
             Ok(Some(header)) => self.take_primitive_body(header, op),
             Ok(None) => Ok(None),
-            Err(stop) => Err(self.stopped(stop)),
+            Err(stop) => Err(self.stop_error(stop)),
         }
     }
 
@@ -90,13 +89,13 @@ impl<'a, S: Source> Constructed<'a, S> {
         let len = match self.next_octets_if(tag) {
             Ok(Some(len)) => len,
             Ok(None) => return Ok(None),
-            Err(stop) => return self.stops(stop),
+            Err(stop) => return self.answer_stop(stop),
         };
         self.take_primitive_body(
             octets_header(tag, len),
             |_tag, octets|
                 requires { (p : _) → p.now ≡ octets.now → F.pre op p }
-                ensures { AnsweredOn (of_primitive S.stream) (F.post op)
+                ensures { Answered (of_primitive S.stream) (F.post op)
                     (octets_before S.stream octets) result (octets_after S.stream octets) }
             { op(octets) },
         )
@@ -123,7 +122,7 @@ impl<'a, S: Source> Constructed<'a, S> {
     {
         match self.take_opt_primitive_if(tag, op) {
             Ok(Some(value)) => Ok(value),
-            Ok(None) => Err(self.expected(tag)),
+            Ok(None) => Err(self.expected_tag_error(tag)),
             Err(error) => Err(error),
         }
     }

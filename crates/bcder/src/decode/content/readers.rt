@@ -457,7 +457,7 @@ impl<'a, S: Source> Primitive<'a, S> {
                     self.pass_all(len);
                     Ok(())
                 } else {
-                    Err(self.another(expected))
+                    Err(self.wrong_number_error(expected))
                 }
             }
             None => Err(self.refusal("no integer of this type")),
@@ -466,7 +466,7 @@ impl<'a, S: Source> Primitive<'a, S> {
 
     /// A refusal of what is not this number.
     #[cold]
-    fn another(&self, expected: u8) -> DecodeError<S::Error>
+    fn wrong_number_error(&self, expected: u8) -> DecodeError<S::Error>
         ensures { cause_of result ≡ of_content (ContentError.ExpectedInteger expected) }
     {
         self.source

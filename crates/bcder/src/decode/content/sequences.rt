@@ -1,8 +1,7 @@
 //! Taking constructed values.
 ghost use Rattle.std.specs.Prelude.{◌≡◌};
-ghost use Rattle.bcder.specs.calls.Calls.{Untagged};
+ghost use Rattle.bcder.specs.calls.Calls.{Answered, Untagged};
 ghost use Rattle.bcder.specs.calls.Content.{any, tagged};
-ghost use Rattle.bcder.specs.calls.Decoding.{AnsweredOn};
 ghost use Rattle.bcder.specs.x690.Identifier.{sequence_tag, set_tag};
 ghost use Rattle.bcder.specs.calls.Takes.{CallableOnValues, LawfulOnValues, TookValues};
 ghost use Rattle.bcder.specs.calls.Takes.{TookNextValues};
@@ -39,7 +38,7 @@ impl<'a, S: Source> Constructed<'a, S> {
         match self.next_header(Wanted::Any) {
             Ok(Some(header)) => self.take_constructed_body(header, op),
             Ok(None) => Ok(None),
-            Err(stop) => Err(self.stopped(stop)),
+            Err(stop) => Err(self.stop_error(stop)),
         }
     }
 
@@ -92,12 +91,12 @@ impl<'a, S: Source> Constructed<'a, S> {
                 header,
                 |_tag, values|
                     requires { (p : _) → p.now ≡ values.now → F.pre op p }
-                    ensures { AnsweredOn (of_constructed S.stream) (F.post op)
+                    ensures { Answered (of_constructed S.stream) (F.post op)
                         (before S.stream values) result (after S.stream values) }
                 { op(values) },
             ),
             Ok(None) => Ok(None),
-            Err(stop) => Err(self.stopped(stop)),
+            Err(stop) => Err(self.stop_error(stop)),
         }
     }
 
@@ -122,7 +121,7 @@ impl<'a, S: Source> Constructed<'a, S> {
     {
         match self.take_opt_constructed_if(tag, op) {
             Ok(Some(value)) => Ok(value),
-            Ok(None) => Err(self.expected(tag)),
+            Ok(None) => Err(self.expected_tag_error(tag)),
             Err(error) => Err(error),
         }
     }

@@ -11,9 +11,9 @@ ghost use Rattle.bcder.specs.steps.Peek.{header_of, IsAtHand};
 ghost use Rattle.bcder.specs.calls.Skipping.{ExactlyAll, ExactlySkipped, ExactlyValue, FoundMemory};
 ghost use Rattle.bcder.specs.steps.SkipSteps.{IsPast, MovedBehind, SkippedBehind};
 ghost use Rattle.bcder.specs.calls.Skipping.{SkippedAll, SkippedNext, SkippedOne, SkippedValue};
-ghost use Rattle.bcder.specs.steps.Stacked.{Counts, Gone, IsCounted, Leaves, Ran, RanOverSource};
+ghost use Rattle.bcder.specs.steps.Stacked.{Counts, Gone, IsCounted, LeavesInnermost, Ran, RanOverSource};
 ghost use Rattle.bcder.specs.steps.Stacked.{TopIs};
-ghost use Rattle.bcder.specs.steps.Stacked.{entries, entry_of, framed, halt_cause, joined};
+ghost use Rattle.bcder.specs.steps.Stacked.{entries, entry_of, framed, halt_cause, limit_around};
 ghost use Rattle.bcder.specs.steps.Stacked.{limit_in};
 ghost use Rattle.bcder.specs.steps.Stacked.{source_of, unwound};
 ghost use Rattle.bcder.specs.calls.Views.{after, before, Moved};
@@ -40,7 +40,7 @@ struct Frame {
     behind: Option<usize>,
 
     /// How many values of indefinite length are open around it, up to the next of definite length.
-    around: usize,
+    indefinite_around: usize,
 }
 
 /// The values that are open. Those of definite length take memory, the others are counted.
@@ -50,7 +50,7 @@ struct OpenValues<'f> {
     depth: usize,
 
     /// How many of indefinite length are open inside the innermost of definite length.
-    inner: usize,
+    indefinite: usize,
 
     /// Those of definite length, the innermost last. They stand apart, so that the numbers need no
     /// place in memory.
@@ -78,9 +78,9 @@ enum Halt<E> {
 
 /// What is owed in all where so much is owed behind a value and so much in it.
 #[inline(always)]
-fn joined(behind: Option<usize>, left: Option<usize>) -> Option<usize>
-    requires { IfSome (joined behind left) (λ n. n < 2 ^ 64) }
-    ensures { result ≡ joined behind left }
+fn limit_around(behind: Option<usize>, left: Option<usize>) -> Option<usize>
+    requires { IfSome (limit_around behind left) (λ n. n < 2 ^ 64) }
+    ensures { result ≡ limit_around behind left }
 {
     match (behind, left) {
         (Some(behind), Some(left)) => Some(behind + left),
@@ -115,14 +115,14 @@ fn open<S>(cons: &mut Constructed<'_, S>, opened: &mut OpenValues<'_>, len: Leng
             };
             let frame = Frame {
                 behind,
-                around: opened.inner,
+                indefinite_around: opened.indefinite,
             };
             if opened.frames.push(frame).is_err() {
                 return false;
             }
-            opened.inner = 0;
+            opened.indefinite = 0;
         }
-        Length::Indefinite => opened.inner += 1,
+        Length::Indefinite => opened.indefinite += 1,
     }
     opened.depth += 1;
     go_inside(cons.source, len);
@@ -137,7 +137,7 @@ fn leave<S>(cons: &mut Constructed<'_, S>, opened: &mut OpenValues<'_>)
     requires counted { IsCounted opened.old }
     requires some { 0 < opened.old.depth }
     ensures counted { IsCounted opened.new }
-    ensures leaves { Leaves (entries opened.old) (limit_in cons.old)
+    ensures leaves { LeavesInnermost (entries opened.old) (limit_in cons.old)
         (entries opened.new) (limit_in cons.new) }
     ensures fewer { opened.new.depth + 1 ≡ opened.old.depth }
     ensures kind { TopIs (entries opened.new) cons.new.kind }
@@ -148,13 +148,13 @@ fn leave<S>(cons: &mut Constructed<'_, S>, opened: &mut OpenValues<'_>)
     ensures marked { cons.new.marked ≡ cons.old.marked }
 {
     opened.depth -= 1;
-    if opened.inner > 0 {
-        opened.inner -= 1;
+    if opened.indefinite > 0 {
+        opened.indefinite -= 1;
     } else if let Some(frame) = opened.frames.pop() {
-        opened.inner = frame.around;
+        opened.indefinite = frame.indefinite_around;
         cons.source.set_limit(frame.behind);
     }
-    cons.kind = if opened.inner > 0 {
+    cons.kind = if opened.indefinite > 0 {
         Kind::Indefinite
     } else {
         Kind::Definite
@@ -187,7 +187,7 @@ fn unwind<S>(source: &mut LimitedSource<S>, frames: &mut SmallVec<Frame, 4>, out
         return;
     }
     while let Some(frame) = frames.pop() {
-        source.set_limit(joined(frame.behind, source.limit()));
+        source.set_limit(limit_around(frame.behind, source.limit()));
     }
 }
 
@@ -251,7 +251,7 @@ where
     let mut frames = SmallVec::new(alloc);
     let mut opened = OpenValues {
         depth: 0,
-        inner: 0,
+        indefinite: 0,
         frames: &mut frames,
     };
     if let Err(error) = op(outermost.tag, outermost.constructed, 0) {
@@ -313,7 +313,7 @@ where
 impl<'a, S: Source> Constructed<'a, S> {
     /// The error that a halt is, at the present position.
     #[cold]
-    fn halted(&self, halt: Halt<S::Error>) -> DecodeError<S::Error>
+    fn halt_error(&self, halt: Halt<S::Error>) -> DecodeError<S::Error>
         ensures content { IsOfContent (halt_cause halt) → IsRefusal result }
         ensures source { halt_cause halt ≡ of_source → cause_of result ≡ of_source }
         ensures memory { halt_cause halt ≡ of_memory → cause_of result ≡ of_memory }
@@ -321,7 +321,7 @@ impl<'a, S: Source> Constructed<'a, S> {
     {
         match halt {
             Halt::Refused(error) => self.source.content_err(error),
-            Halt::Barred(Bar::Stopped(stop)) => self.stopped(stop),
+            Halt::Barred(Bar::Stopped(stop)) => self.stop_error(stop),
             Halt::Barred(Bar::NoMemory) => DecodeError::no_memory(),
         }
     }
@@ -344,7 +344,7 @@ impl<'a, S: Source> Constructed<'a, S> {
         ensures skipped { SkippedBehind S.stream F.step self header op result }
     {
         if let Err(error) = op(header.tag, header.constructed, 0) {
-            return Err(self.halted(Halt::Refused(error)));
+            return Err(self.halt_error(Halt::Refused(error)));
         }
         match header.len {
             Length::Definite(len) => match self.source.skip_owed(len) {
@@ -352,7 +352,7 @@ impl<'a, S: Source> Constructed<'a, S> {
                     self.state = State::Open;
                     Ok(Some(()))
                 }
-                Err(stop) => Err(self.halted(Halt::Barred(Bar::Stopped(stop)))),
+                Err(stop) => Err(self.halt_error(Halt::Barred(Bar::Stopped(stop)))),
             },
             // No primitive value has it (X.690, 8.1.3.2).
             Length::Indefinite => unreachable!(),
@@ -377,7 +377,7 @@ impl<'a, S: Source> Constructed<'a, S> {
         ensures skipped { SkippedBehind S.stream F.step self header op result }
     {
         if let Err(error) = op(header.tag, header.constructed, 0) {
-            return Err(self.halted(Halt::Refused(error)));
+            return Err(self.halt_error(Halt::Refused(error)));
         }
         match header.len {
             Length::Definite(len) => {
@@ -450,11 +450,11 @@ impl<'a, S: Source> Constructed<'a, S> {
                         self.state = State::Open;
                         Ok(Some(()))
                     }
-                    Err(halt) => Err(self.halted(halt)),
+                    Err(halt) => Err(self.halt_error(halt)),
                 }
             }
             Ok(None) => Ok(None),
-            Err(stop) => Err(self.stopped(stop)),
+            Err(stop) => Err(self.stop_error(stop)),
         }
     }
 
@@ -513,7 +513,7 @@ impl<'a, S: Source> Constructed<'a, S> {
         match self.enter_at_hand() {
             Ok(Some(header)) => self.skip_octets_at_hand(header, op),
             Ok(None) => self.skip_next_on(alloc, op),
-            Err(stop) => Err(self.stopped(stop)),
+            Err(stop) => Err(self.stop_error(stop)),
         }
     }
 
@@ -545,6 +545,7 @@ impl<'a, S: Source> Constructed<'a, S> {
     fn skip_stacked(&mut self, alloc: Global) -> Result<Option<()>, DecodeError<S::Error>>
         ensures moves { Moves (before S.stream self) (after S.stream self) }
         ensures skipped { SkippedOne S.stream self result }
+        ensures name { self.new.source.ghost_name ≡ self.old.source.ghost_name }
     {
         let mut all = |_tag: Tag, _constructed: bool, _depth: usize| -> Result<(), ContentError> {
             Ok(())
@@ -552,25 +553,11 @@ impl<'a, S: Source> Constructed<'a, S> {
         self.skip_opt(alloc, &mut all)
     }
 
-    /// As `skip_one`, whatever stands in front.
-    #[inline(always)]
-    fn skip_any(&mut self, alloc: Global) -> Result<Option<()>, DecodeError<S::Error>>
-        ensures moves { Moves (before S.stream self) (after S.stream self) }
-        ensures skipped { SkippedOne S.stream self result }
-        ensures name { self.new.source.ghost_name ≡ self.old.source.ghost_name }
-    {
-        match self.pass_shallow() {
-            Ok(true) => Ok(Some(())),
-            Ok(false) => self.skip_stacked(alloc),
-            Err(stop) => Err(self.stopped(stop)),
-        }
-    }
-
-    /// The same. It lends a copy of the content, and where no value was passed the state of the
-    /// copy is set: so content that is a local of a caller has no address, and a loop over its
+    /// As `skip_one`, whatever stands in front. It lends a copy of the content, and where no value
+    /// was passed the state of the copy is set: so content that is a local of a caller has no address, and a loop over its
     /// values neither looks its state up nor its kind.
     #[inline(always)]
-    fn skip_on(&mut self, alloc: Global) -> Result<Option<()>, DecodeError<S::Error>>
+    fn skip_copy(&mut self, alloc: Global) -> Result<Option<()>, DecodeError<S::Error>>
         ensures moves { Moves (before S.stream self) (after S.stream self) }
         ensures skipped { SkippedOne S.stream self result }
     {
@@ -582,15 +569,22 @@ impl<'a, S: Source> Constructed<'a, S> {
             marked: self.marked,
             start: self.start,
         };
-        match copy.skip_any(alloc) {
-            Ok(Some(())) => Ok(Some(())),
-            Ok(None) => {
-                self.state = copy.state;
-                Ok(None)
-            }
-            Err(error) => {
+        match copy.pass_shallow() {
+            Ok(true) => Ok(Some(())),
+            Ok(false) => match copy.skip_stacked(alloc) {
+                Ok(Some(())) => Ok(Some(())),
+                Ok(None) => {
+                    self.state = copy.state;
+                    Ok(None)
+                }
+                Err(error) => {
+                    self.state = State::Failed;
+                    Err(error)
+                }
+            },
+            Err(stop) => {
                 self.state = State::Failed;
-                Err(error)
+                Err(self.stop_error(stop))
             }
         }
     }
@@ -614,8 +608,8 @@ impl<'a, S: Source> Constructed<'a, S> {
     {
         match self.pass_at_hand(Lookahead::Short) {
             Ok(true) => Ok(Some(())),
-            Ok(false) => self.skip_on(alloc),
-            Err(stop) => Err(self.stopped(stop)),
+            Ok(false) => self.skip_copy(alloc),
+            Err(stop) => Err(self.stop_error(stop)),
         }
     }
 

@@ -143,7 +143,7 @@ impl<'a, S: Source> Constructed<'a, S> {
 
     /// The error that a stop is, at the present position.
     #[cold]
-    pub(super) fn stopped(&self, stop: Stop<S::Error>) -> DecodeError<S::Error>
+    pub(super) fn stop_error(&self, stop: Stop<S::Error>) -> DecodeError<S::Error>
         ensures refused { IsOfContent (stop_cause stop) → IsRefusal result }
         ensures source { stop_cause stop ≡ of_source → cause_of result ≡ of_source }
     {
@@ -156,16 +156,16 @@ impl<'a, S: Source> Constructed<'a, S> {
     /// The same as an answer. It is a call of its own, so that no room for an error is cleared
     /// where nothing stops.
     #[inline(always)]
-    pub(super) fn stops<T>(&self, stop: Stop<S::Error>) -> Result<T, DecodeError<S::Error>>
+    pub(super) fn answer_stop<T>(&self, stop: Stop<S::Error>) -> Result<T, DecodeError<S::Error>>
         ensures { IsErrAnd result (λ e. (IsOfContent (stop_cause stop) → IsRefusal e)
             × (stop_cause stop ≡ of_source → cause_of e ≡ of_source)) }
     {
-        Err(self.stopped(stop))
+        Err(self.stop_error(stop))
     }
 
     /// A refusal of what is not this tag.
     #[cold]
-    pub(super) fn expected(&self, tag: Tag) -> DecodeError<S::Error>
+    pub(super) fn expected_tag_error(&self, tag: Tag) -> DecodeError<S::Error>
         ensures { NamesTag tag result }
     {
         self.source.content_err(ContentError::ExpectedTag(tag))

@@ -1,8 +1,7 @@
 //! Taking values of either form.
 ghost use Rattle.std.specs.Prelude.{◌≡◌};
-ghost use Rattle.bcder.specs.calls.Calls.{Untagged};
+ghost use Rattle.bcder.specs.calls.Calls.{Answered, Untagged};
 ghost use Rattle.bcder.specs.calls.Content.{any, tagged};
-ghost use Rattle.bcder.specs.calls.Decoding.{AnsweredOn};
 ghost use Rattle.bcder.specs.calls.Takes.{CallableOnContent, LawfulOnContent, TookContent};
 ghost use Rattle.bcder.specs.calls.Takes.{TookNextContent};
 ghost use Rattle.bcder.specs.calls.Views.{of_content, content_before, content_after, Moved};
@@ -46,7 +45,7 @@ impl<'a, S: Source> Constructed<'a, S> {
         match self.next_header(Wanted::Any) {
             Ok(Some(header)) => self.take_body(header, op),
             Ok(None) => Ok(None),
-            Err(stop) => Err(self.stopped(stop)),
+            Err(stop) => Err(self.stop_error(stop)),
         }
     }
 
@@ -106,13 +105,13 @@ impl<'a, S: Source> Constructed<'a, S> {
                 header,
                 |_tag, content|
                     requires { (p : _) → p.now ≡ content.now → F.pre op p }
-                    ensures { AnsweredOn (of_content S.stream) (F.post op)
+                    ensures { Answered (of_content S.stream) (F.post op)
                         (content_before S.stream content) result
                         (content_after S.stream content) }
                 { op(content) },
             ),
             Ok(None) => Ok(None),
-            Err(stop) => Err(self.stopped(stop)),
+            Err(stop) => Err(self.stop_error(stop)),
         }
     }
 
@@ -135,7 +134,7 @@ impl<'a, S: Source> Constructed<'a, S> {
     {
         match self.take_opt_value_if(tag, op) {
             Ok(Some(value)) => Ok(value),
-            Ok(None) => Err(self.expected(tag)),
+            Ok(None) => Err(self.expected_tag_error(tag)),
             Err(error) => Err(error),
         }
     }

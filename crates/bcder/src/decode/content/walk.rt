@@ -8,7 +8,7 @@ ghost use Rattle.bcder.specs.calls.Content.{Moves, FitsOwed, values, Resembles};
 ghost use Rattle.bcder.specs.calls.Calls.{RanOver};
 ghost use Rattle.bcder.specs.calls.Walking.{Between, PassedNext, ExactlyNext};
 ghost use Rattle.bcder.specs.steps.WalkSteps.{NoFault, Fault, PassedStep};
-ghost use Rattle.bcder.specs.steps.WalkSteps.{PassedOver, PassedAtOnce, Stepped};
+ghost use Rattle.bcder.specs.steps.WalkSteps.{PassedOver, PassedAtOnce};
 ghost use Rattle.bcder.specs.steps.WalkSteps.{PassedAll, WalkedOver};
 ghost use Rattle.bcder.specs.x690.Grammar.{BeginsWhole};
 ghost use Rattle.bcder.specs.steps.WalkSteps.{IsPrimitive, itself, walked};
@@ -17,7 +17,7 @@ ghost use Rattle.bcder.specs.calls.Views.{Moved, of_constructed, limited_stream}
 use super::take::{pop, push};
 use super::{Constructed, Kind, State};
 use crate::decode::error::DecodeError;
-use crate::decode::header::{Front, Header, Wanted};
+use crate::decode::header::{Header, Wanted};
 use crate::decode::source::{LimitedSource, Source};
 use crate::decode::stop::Stop;
 use crate::length::Length;
@@ -42,22 +42,14 @@ pub fn walk<S: Source>(cons: &mut Constructed<'_, S>) -> Result<Option<()>, Deco
     ensures passed { PassedNext S.stream cons result }
     ensures exact { ExactlyNext S.stream cons result }
 {
-    match walk_next(cons) {
-        Ok(passed) => Ok(passed),
-        Err(stop) => Err(cons.stopped(stop)),
+    match cons.pass_at_hand(Lookahead::Short) {
+        Ok(true) => Ok(Some(())),
+        Ok(false) => match walk_copy(cons) {
+            Ok(passed) => Ok(passed),
+            Err(stop) => Err(cons.stop_error(stop)),
+        },
+        Err(stop) => Err(cons.stop_error(stop)),
     }
-}
-
-/// What a step over content did.
-enum Next {
-    /// It passed over the header of a value, whose content comes next.
-    Entered(Header),
-
-    /// It passed over a value.
-    Passed,
-
-    /// It found the end of the content, and took its marker.
-    Ended,
 }
 
 /// How many octets a primitive value has in all, with those of its header.
@@ -205,10 +197,12 @@ impl<'a, S: Source> Constructed<'a, S> {
     }
 
     /// The same of a value that takes no more than some levels of calls, out of line.
+    #[tactic(auto, using(crate::proofs::moves_constructed_name))]
     #[inline(never)]
     pub(super) fn pass_shallow(&mut self) -> Result<bool, Stop<S::Error>>
         ensures moves { Between S.stream self Moves }
         ensures passed { PassedAtOnce S.stream self result }
+        ensures name { self.new.source.ghost_name ≡ self.old.source.ghost_name }
     {
         self.pass_at_hand(Lookahead::Shallow)
     }
@@ -245,45 +239,10 @@ impl<'a, S: Source> Constructed<'a, S> {
     }
 }
 
-/// Passes over all of the next value if it is primitive and its octets come, and else over its
-/// header.
-#[tactic(auto, unfolding(crate::specs::calls::Views::of_constructed))]
-#[inline(always)]
-fn go_on<S: Source>(cons: &mut Constructed<'_, S>) -> Result<Next, Stop<S::Error>>
-    ensures moves { Between S.stream cons Moves }
-    ensures stepped { Stepped S.stream cons result }
-{
-    match cons.front(&Wanted::Any) {
-        Ok(Some(front)) => match cons.pass_primitive(front.header, front.size) {
-            Ok(true) => Ok(Next::Passed),
-            Ok(false) => match cons.enter(front.header, front.size) {
-                Ok(Some(header)) => Ok(Next::Entered(header)),
-                Ok(None) => Ok(Next::Ended),
-                Err(stop) => Err(stop),
-            },
-            Err(stop) => Err(stop),
-        },
-        Ok(None) => Ok(Next::Ended),
-        Err(stop) => Err(stop),
-    }
-}
-
-/// As `walk`, with a stop in the place of an error. Values that need few steps are passed here.
-#[inline(always)]
-fn walk_next<S: Source>(cons: &mut Constructed<'_, S>) -> Result<Option<()>, Stop<S::Error>>
-    ensures moves { Between S.stream cons Moves }
-    ensures passed { PassedStep S.stream cons result }
-{
-    match cons.pass_at_hand(Lookahead::Short) {
-        Ok(true) => Ok(Some(())),
-        Ok(false) => walk_copy(cons),
-        Err(stop) => Err(stop),
-    }
-}
-
-/// The same, whatever stands in front. It lends a copy of the content, and where no value was
-/// passed the state of the copy is set: so content that is a local of a caller has no address, and
-/// a loop over its values neither looks its state up nor its kind.
+/// As `walk`, whatever stands in front, with a stop in the place of an error. It lends a copy of
+/// the content, and where no value was passed the state of the copy is set: so content that is a
+/// local of a caller has no address, and a loop over its values neither looks its state up nor its
+/// kind.
 #[inline(always)]
 fn walk_copy<S: Source>(cons: &mut Constructed<'_, S>) -> Result<Option<()>, Stop<S::Error>>
     ensures moves { Between S.stream cons Moves }
@@ -324,7 +283,7 @@ fn walk_any<S: Source>(cons: &mut Constructed<'_, S>) -> Result<Option<()>, Stop
     }
 }
 
-/// The same, header by header.
+/// The same, header by header: a primitive value is passed in one step where its octets come.
 #[cycle(walk)]
 #[tactic(auto, unfolding(crate::specs::calls::Views::of_constructed))]
 #[inline(always)]
@@ -332,16 +291,23 @@ fn step<S: Source>(cons: &mut Constructed<'_, S>) -> Result<Option<()>, Stop<S::
     ensures moves { Between S.stream cons Moves }
     ensures passed { PassedStep S.stream cons result }
 {
-    match go_on(cons) {
-        Ok(Next::Entered(header)) => match pass_content(cons, header) {
-            Ok(()) => {
-                cons.state = State::Open;
-                Ok(Some(()))
-            }
+    match cons.front(&Wanted::Any) {
+        Ok(Some(front)) => match cons.pass_primitive(front.header, front.size) {
+            Ok(true) => Ok(Some(())),
+            Ok(false) => match cons.enter(front.header, front.size) {
+                Ok(Some(header)) => match pass_content(cons, header) {
+                    Ok(()) => {
+                        cons.state = State::Open;
+                        Ok(Some(()))
+                    }
+                    Err(stop) => Err(stop),
+                },
+                Ok(None) => Ok(None),
+                Err(stop) => Err(stop),
+            },
             Err(stop) => Err(stop),
         },
-        Ok(Next::Passed) => Ok(Some(())),
-        Ok(Next::Ended) => Ok(None),
+        Ok(None) => Ok(None),
         Err(stop) => Err(stop),
     }
 }

@@ -5,9 +5,10 @@ use Rattle.bcder.specs.calls.Walking.{PassesValue}
 use Rattle.bcder.specs.calls.Views.{of_constructed}
 use Rattle.bcder.specs.laws.Moved.{moved_carries, untouched_is_moved, moved_twice_is_moved}
 use Rattle.bcder.proofs.Names.{within_constructed, constructed_form}
-use Rattle.bcder.proofs.Skipped.{all_refused, all_err, all_exact}
+use Rattle.bcder.specs.calls.Skipping.{RefusesAll}
+use Rattle.bcder.proofs.Skipped.{loop_refused, all_exact}
 use Rattle.bcder.proofs.Walked.{some_value, none_value}
-use Rattle.bcder.proofs.Walking.{walks_refl, walks_value, walks_all, value_shorter}
+use Rattle.bcder.proofs.Walking.{all_refused, walks_refl, walks_value, walks_all, value_shorter}
 use Rattle.bcder.proofs.decode.content.Constructed.skip_all.Goals as goal
 
 pub loop-init : goal.loop-init
@@ -25,8 +26,8 @@ returns-in_err-skip_one-clause-skipped g c =
     let i = of_constructed g.S.Source.stream c.args.self.now in
     let j = of_constructed g.S.Source.stream c.loop.self in
     let k = of_constructed g.S.Source.stream c.skip_one.new.self in
-    all_err cause_of i k c.from_residual.result _ c.from_residual.ensures.1
-    (all_refused cause_of _ i j k (constructed_form g.S.Source.stream c.args.self.now) c.loop.invariant.walks c.in_err-skip_one.ensures.skipped.refused)
+    all_refused (RefusesAll cause_of) i k c.from_residual.result _ c.from_residual.ensures.1
+    (loop_refused cause_of _ i j k (constructed_form g.S.Source.stream c.args.self.now) c.loop.invariant.walks c.in_err-skip_one.ensures.skipped.refused)
     c.in_err-skip_one.ensures.skipped.failed
     (c.skip_one.ensures.skipped.mode ∙ c.loop.invariant.walks.mode)
     (c.skip_one.ensures.skipped.marked ∙ c.loop.invariant.walks.marked)
@@ -36,8 +37,8 @@ returns-in_err-skip_one-clause-exact g c =
     let i = of_constructed g.S.Source.stream c.args.self.now in
     let j = of_constructed g.S.Source.stream c.loop.self in
     let k = of_constructed g.S.Source.stream c.skip_one.new.self in
-    λ n m o h. all_exact i k _ (all_err cause_of i k c.from_residual.result _ c.from_residual.ensures.1
-    (all_refused cause_of _ i j k (constructed_form g.S.Source.stream c.args.self.now) c.loop.invariant.walks c.in_err-skip_one.ensures.skipped.refused)
+    λ n m o h. all_exact i k _ (all_refused (RefusesAll cause_of) i k c.from_residual.result _ c.from_residual.ensures.1
+    (loop_refused cause_of _ i j k (constructed_form g.S.Source.stream c.args.self.now) c.loop.invariant.walks c.in_err-skip_one.ensures.skipped.refused)
     c.in_err-skip_one.ensures.skipped.failed
     (c.skip_one.ensures.skipped.mode ∙ c.loop.invariant.walks.mode)
     (c.skip_one.ensures.skipped.marked ∙ c.loop.invariant.walks.marked)) n m o h

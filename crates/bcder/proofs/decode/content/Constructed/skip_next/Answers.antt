@@ -69,14 +69,14 @@ unfolding of_constructed
 returns-in-Err-skip_content-clause-moves g c =
     let e = rw c.in-Ok-Some.field-0-is at c.in-Ok-Some.ensures.entered in
     let w = within_constructed g.S.Source.stream g.met.S.Source.sound c.args.self.now in
-    behind_stopped (of_constructed g.S.Source.stream c.args.self.now) (of_constructed g.S.Source.stream c.next_header.new.self) _ (header_of c.in-Ok-Some.header) c.next_header.new.self.mode (source_of g.S.Source.stream c.next_header.new.self) (g.S.Source.stream c.skip_content.new.source.source) (limit_in c.next_header.new.self) c.skip_content.new.source.limit (record { enters = e.1; octets = w.octets; fits = w.fits }) refl refl refl refl refl refl refl refl refl _ c.args.op.now c.skip_content.new.op cause_of c.in-Err-skip_content.halt c.halted.result refl c.halted.ensures.content c.halted.ensures.source c.halted.ensures.memory c.halted.ensures.closure c.in-Err-skip_content.ensures
+    behind_stopped (of_constructed g.S.Source.stream c.args.self.now) (of_constructed g.S.Source.stream c.next_header.new.self) _ (header_of c.in-Ok-Some.header) c.next_header.new.self.mode (source_of g.S.Source.stream c.next_header.new.self) (g.S.Source.stream c.skip_content.new.source.source) (limit_in c.next_header.new.self) c.skip_content.new.source.limit (record { enters = e.1; octets = w.octets; fits = w.fits }) refl refl refl refl refl refl refl refl refl _ c.args.op.now c.skip_content.new.op cause_of c.in-Err-skip_content.halt c.halt_error.result refl c.halt_error.ensures.content c.halt_error.ensures.source c.halt_error.ensures.memory c.halt_error.ensures.closure c.in-Err-skip_content.ensures
 
 pub returns-in-Err-skip_content-clause-skipped : goal.returns-in-Err-skip_content-clause-skipped
 unfolding of_constructed
 returns-in-Err-skip_content-clause-skipped g c =
     let e = rw c.in-Ok-Some.field-0-is at c.in-Ok-Some.ensures.entered in
     let w = within_constructed g.S.Source.stream g.met.S.Source.sound c.args.self.now in
-    behind_refused (of_constructed g.S.Source.stream c.args.self.now) (of_constructed g.S.Source.stream c.next_header.new.self) _ (header_of c.in-Ok-Some.header) c.next_header.new.self.mode (source_of g.S.Source.stream c.next_header.new.self) (g.S.Source.stream c.skip_content.new.source.source) (limit_in c.next_header.new.self) c.skip_content.new.source.limit (record { enters = e.1; octets = w.octets; fits = w.fits }) refl refl refl refl refl refl refl refl refl _ c.args.op.now c.skip_content.new.op cause_of c.in-Err-skip_content.halt c.halted.result refl c.halted.ensures.content c.halted.ensures.source c.halted.ensures.memory c.halted.ensures.closure c.in-Err-skip_content.ensures
+    behind_refused (of_constructed g.S.Source.stream c.args.self.now) (of_constructed g.S.Source.stream c.next_header.new.self) _ (header_of c.in-Ok-Some.header) c.next_header.new.self.mode (source_of g.S.Source.stream c.next_header.new.self) (g.S.Source.stream c.skip_content.new.source.source) (limit_in c.next_header.new.self) c.skip_content.new.source.limit (record { enters = e.1; octets = w.octets; fits = w.fits }) refl refl refl refl refl refl refl refl refl _ c.args.op.now c.skip_content.new.op cause_of c.in-Err-skip_content.halt c.halt_error.result refl c.halt_error.ensures.content c.halt_error.ensures.source c.halt_error.ensures.memory c.halt_error.ensures.closure c.in-Err-skip_content.ensures
 
 pub returns-in-Ok-None-clause-moves : goal.returns-in-Ok-None-clause-moves
 returns-in-Ok-None-clause-moves g c =
@@ -95,4 +95,4 @@ returns-in-Err-clause-moves g c =
 pub returns-in-Err-clause-skipped : goal.returns-in-Err-clause-skipped
 unfolding of_constructed
 returns-in-Err-clause-skipped g c =
-    skipped_none cause_of _ (of_constructed g.S.Source.stream c.args.self.now) (of_constructed g.S.Source.stream c.next_header.new.self) c.args.op.now c.next_header.ensures.mode c.next_header.ensures.marked c.stopped.result c.next_header.ensures.moves (walk_stopped stop_cause cause_of _ _ c.stopped.ensures.refused c.stopped.ensures.source _ _ (next_refused stop_cause (of_constructed g.S.Source.stream c.args.self.now) (of_constructed g.S.Source.stream c.next_header.new.self) _ (within_constructed g.S.Source.stream g.met.S.Source.sound c.args.self.now) c.in-Err.ensures.refused)) c.in-Err.ensures.failed
+    skipped_none cause_of _ (of_constructed g.S.Source.stream c.args.self.now) (of_constructed g.S.Source.stream c.next_header.new.self) c.args.op.now c.next_header.ensures.mode c.next_header.ensures.marked c.stop_error.result c.next_header.ensures.moves (walk_stopped stop_cause cause_of _ _ c.stop_error.ensures.refused c.stop_error.ensures.source _ _ (next_refused stop_cause (of_constructed g.S.Source.stream c.args.self.now) (of_constructed g.S.Source.stream c.next_header.new.self) _ (within_constructed g.S.Source.stream g.met.S.Source.sound c.args.self.now) c.in-Err.ensures.refused)) c.in-Err.ensures.failed

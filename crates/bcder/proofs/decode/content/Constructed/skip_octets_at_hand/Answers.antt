@@ -12,11 +12,11 @@ use Rattle.bcder.proofs.decode.content.Constructed.skip_octets_at_hand.Goals as 
 
 pub returns-in-Err-clause-moves : goal.returns-in-Err-clause-moves
 unfolding of_constructed
-returns-in-Err-clause-moves g c = λ b i. behind_stopped b (of_constructed g.S.Source.stream c.args.self.now) _ (header_of c.args.header) c.args.self.now.mode (source_of g.S.Source.stream c.args.self.now) (source_of g.S.Source.stream c.args.self.now) (limit_in c.args.self.now) (limit_in c.args.self.now) i refl refl refl refl refl refl refl refl refl (F-step g) c.args.op.now c.op.new.self cause_of (halt.Refused c.in-Err.error) c.halted.result refl c.halted.ensures.content c.halted.ensures.source c.halted.ensures.memory c.halted.ensures.closure (octets_refused _ _ _ _ _ _ c.requires.primitive _ _ c.in-Err.ensures)
+returns-in-Err-clause-moves g c = λ b i. behind_stopped b (of_constructed g.S.Source.stream c.args.self.now) _ (header_of c.args.header) c.args.self.now.mode (source_of g.S.Source.stream c.args.self.now) (source_of g.S.Source.stream c.args.self.now) (limit_in c.args.self.now) (limit_in c.args.self.now) i refl refl refl refl refl refl refl refl refl (F-step g) c.args.op.now c.op.new.self cause_of (halt.Refused c.in-Err.error) c.halt_error.result refl c.halt_error.ensures.content c.halt_error.ensures.source c.halt_error.ensures.memory c.halt_error.ensures.closure (octets_refused _ _ _ _ _ _ c.requires.primitive _ _ c.in-Err.ensures)
 
 pub returns-in-Err-clause-skipped : goal.returns-in-Err-clause-skipped
 unfolding of_constructed
-returns-in-Err-clause-skipped g c = λ b i. behind_refused b (of_constructed g.S.Source.stream c.args.self.now) _ (header_of c.args.header) c.args.self.now.mode (source_of g.S.Source.stream c.args.self.now) (source_of g.S.Source.stream c.args.self.now) (limit_in c.args.self.now) (limit_in c.args.self.now) i refl refl refl refl refl refl refl refl refl _ c.args.op.now c.op.new.self cause_of (halt.Refused c.in-Err.error) c.halted.result refl c.halted.ensures.content c.halted.ensures.source c.halted.ensures.memory c.halted.ensures.closure (octets_refused _ _ _ _ _ _ c.requires.primitive _ _ c.in-Err.ensures)
+returns-in-Err-clause-skipped g c = λ b i. behind_refused b (of_constructed g.S.Source.stream c.args.self.now) _ (header_of c.args.header) c.args.self.now.mode (source_of g.S.Source.stream c.args.self.now) (source_of g.S.Source.stream c.args.self.now) (limit_in c.args.self.now) (limit_in c.args.self.now) i refl refl refl refl refl refl refl refl refl _ c.args.op.now c.op.new.self cause_of (halt.Refused c.in-Err.error) c.halt_error.result refl c.halt_error.ensures.content c.halt_error.ensures.source c.halt_error.ensures.memory c.halt_error.ensures.closure (octets_refused _ _ _ _ _ _ c.requires.primitive _ _ c.in-Err.ensures)
 
 pub returns-clause-moves : goal.returns-clause-moves
 unfolding of_constructed

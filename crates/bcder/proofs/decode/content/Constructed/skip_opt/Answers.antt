@@ -48,11 +48,11 @@ returns-in-Err-clause-moves g c = moved_carries _ _ c.enter_at_hand.ensures.move
 
 pub returns-in-Err-clause-skipped : goal.returns-in-Err-clause-skipped
 unfolding of_constructed
-returns-in-Err-clause-skipped g c = skipped_none cause_of _ (of_constructed g.S.Source.stream c.args.self.now) (of_constructed g.S.Source.stream c.enter_at_hand.new.self) c.args.op.now c.enter_at_hand.ensures.mode c.enter_at_hand.ensures.marked c.stopped.result c.enter_at_hand.ensures.moves (source (c.stopped.ensures.source c.in-Err.ensures.fault.0) c.in-Err.ensures.fault.1) c.in-Err.ensures.failed
+returns-in-Err-clause-skipped g c = skipped_none cause_of _ (of_constructed g.S.Source.stream c.args.self.now) (of_constructed g.S.Source.stream c.enter_at_hand.new.self) c.args.op.now c.enter_at_hand.ensures.mode c.enter_at_hand.ensures.marked c.stop_error.result c.enter_at_hand.ensures.moves (source (c.stop_error.ensures.source c.in-Err.ensures.fault.0) c.in-Err.ensures.fault.1) c.in-Err.ensures.failed
 
 pub returns-in-Err-clause-exact : goal.returns-in-Err-clause-exact
 unfolding of_constructed
-returns-in-Err-clause-exact g c = λ n. answers_skip cause_of _ _ _ _ _ (within_constructed g.S.Source.stream g.met.S.Source.sound c.args.self.now) n _ (skipped_none cause_of _ (of_constructed g.S.Source.stream c.args.self.now) (of_constructed g.S.Source.stream c.enter_at_hand.new.self) c.args.op.now c.enter_at_hand.ensures.mode c.enter_at_hand.ensures.marked c.stopped.result c.enter_at_hand.ensures.moves (source (c.stopped.ensures.source c.in-Err.ensures.fault.0) c.in-Err.ensures.fault.1) c.in-Err.ensures.failed)
+returns-in-Err-clause-exact g c = λ n. answers_skip cause_of _ _ _ _ _ (within_constructed g.S.Source.stream g.met.S.Source.sound c.args.self.now) n _ (skipped_none cause_of _ (of_constructed g.S.Source.stream c.args.self.now) (of_constructed g.S.Source.stream c.enter_at_hand.new.self) c.args.op.now c.enter_at_hand.ensures.mode c.enter_at_hand.ensures.marked c.stop_error.result c.enter_at_hand.ensures.moves (source (c.stop_error.ensures.source c.in-Err.ensures.fault.0) c.in-Err.ensures.fault.1) c.in-Err.ensures.failed)
 
 pub skip_octets_at_hand-requires-clause-at_hand : goal.skip_octets_at_hand-requires-clause-at_hand
 unfolding of_constructed

@@ -53,4 +53,4 @@ returns-in-Err-clause-moves g c = moved_carries _ _ c.next_header.ensures.moves
 
 pub returns-in-Err-clause-took : goal.returns-in-Err-clause-took
 unfolding of_constructed
-returns-in-Err-clause-took g c = next_refused (of_content g.S.Source.stream) _ None any _ (of_constructed g.S.Source.stream c.next_header.new.self) c.next_header.ensures.mode _ (header_stopped stop_cause cause_of _ _ c.stopped.ensures.refused c.stopped.ensures.source _ _ any c.in-Err.ensures.refused) c.next_header.ensures.marked c.in-Err.ensures.failed
+returns-in-Err-clause-took g c = next_refused (of_content g.S.Source.stream) _ None any _ (of_constructed g.S.Source.stream c.next_header.new.self) c.next_header.ensures.mode _ (header_stopped stop_cause cause_of _ _ c.stop_error.ensures.refused c.stop_error.ensures.source _ _ any c.in-Err.ensures.refused) c.next_header.ensures.marked c.in-Err.ensures.failed

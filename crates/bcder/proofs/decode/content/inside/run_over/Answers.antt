@@ -1,16 +1,29 @@
-use Rattle.std.proofs.Common.{refl, ap, sym, ◌∙◌}
-use Rattle.bcder.specs.calls.Views.{of_content, limited_stream}
-use Rattle.bcder.proofs.Names.{stream_of_content, owed_of_content, mark_of_content}
+use Rattle.std.proofs.Common.{refl, ap}
+use Rattle.bcder.specs.calls.Views.{of_constructed, of_primitive, of_content}
 use Rattle.bcder.proofs.decode.content.inside.run_over.Goals as goal
 
-pub returns-clause-ran : goal.returns-clause-ran
-returns-clause-ran g c =
+pub returns-in-Primitive-clause-ran : goal.returns-in-Primitive-clause-ran
+unfolding of_primitive
+returns-in-Primitive-clause-ran g c =
     let left = c.run-result.new.content in
     record {
       handed = of_content g.S.Source.stream c.args.content;
       left = of_content g.S.Source.stream left;
-      runs = record { stream = refl; owed = refl; kind = refl; state = c.requires.usable; mode = refl; marked = c.requires.unmarked; left_stream = stream_of_content g.S.Source.stream left ∙ ap (limited_stream g.S.Source.stream) (sym c.into_mark_and_source-marked.ensures.now); left_owed = owed_of_content g.S.Source.stream left ∙ ap (λ z. z.limit) (sym c.into_mark_and_source-marked.ensures.now); moves = c.run-result.ensures.moves };
-      marks = mark_of_content g.S.Source.stream left ∙ sym c.into_mark_and_source-marked.ensures.marked;
+      runs = record { stream = refl; owed = refl; kind = refl; state = c.requires.usable; mode = refl; marked = c.requires.unmarked; left_stream = ap (λ z. (of_content g.S.Source.stream z).stream) c.in-Primitive.is; left_owed = ap (λ z. (of_content g.S.Source.stream z).owed) c.in-Primitive.is; moves = c.run-result.ensures.moves };
+      marks = ap (λ z. (of_content g.S.Source.stream z).marked) c.in-Primitive.is;
+      answers = c.run-result.ensures.ok;
+      refuses = c.run-result.ensures.refused;
+    }
+
+pub returns-in-Constructed-clause-ran : goal.returns-in-Constructed-clause-ran
+unfolding of_constructed
+returns-in-Constructed-clause-ran g c =
+    let left = c.run-result.new.content in
+    record {
+      handed = of_content g.S.Source.stream c.args.content;
+      left = of_content g.S.Source.stream left;
+      runs = record { stream = refl; owed = refl; kind = refl; state = c.requires.usable; mode = refl; marked = c.requires.unmarked; left_stream = ap (λ z. (of_content g.S.Source.stream z).stream) c.in-Constructed.is; left_owed = ap (λ z. (of_content g.S.Source.stream z).owed) c.in-Constructed.is; moves = c.run-result.ensures.moves };
+      marks = ap (λ z. (of_content g.S.Source.stream z).marked) c.in-Constructed.is;
       answers = c.run-result.ensures.ok;
       refuses = c.run-result.ensures.refused;
     }
