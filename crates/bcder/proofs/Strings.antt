@@ -1,6 +1,6 @@
 -- Octet strings that are read from content.
-use Rattle.std.proofs.Common.{◌≡◌, ◌≢◌, ℕ, ◌<◌, ◌≤◌, List, ◌++◌, length, Option, Some, None, refl, ap, sym, ◌∙◌, arith, subst, inl, inr}
-use Rattle.std.specs.Prelude.{◌⊎◌, Ok, Err}
+use Rattle.std.proofs.Common.{◌≡◌, ◌≢◌, ℕ, ◌<◌, ◌≤◌, List, ◌++◌, length, Option, Some, None, false, refl, ap, sym, ◌∙◌, arith, subst, inl, inr}
+use Rattle.std.specs.Prelude.{◌⊎◌, Result, Ok, Err}
 use Rattle.std.proofs.lemmas.Bool.{cases_lt}
 use Rattle.bcder.specs.declared.mode.Mode.{Mode}
 use Rattle.bcder.specs.declared.mode.Mode.TheVariants.{Ber, Cer, Der}
@@ -14,7 +14,7 @@ use Rattle.bcder.specs.x690.Encoding.{AreEncodings}
 use Rattle.bcder.specs.calls.Cause.{IsRefusal}
 use Rattle.bcder.specs.calls.Stream.{limit_or}
 use Rattle.bcder.specs.calls.Captured.{Kept}
-use Rattle.bcder.specs.calls.Content.{Reading, Octets, Closes, IsDone, IsUsedUp}
+use Rattle.bcder.specs.calls.Content.{Reading, Octets, Closes, HasHeader, IsDone, IsUsedUp, tagged}
 use Rattle.bcder.specs.calls.Walking.{HasValues, IsShort}
 use Rattle.bcder.specs.calls.Readers.{Reads, RefusesReading, FindNoMemory}
 use Rattle.bcder.specs.calls.Readers as readers
@@ -23,13 +23,17 @@ use Rattle.bcder.specs.calls.CapturingValues as capturing
 use Rattle.bcder.specs.calls.StringOctets.{StringOctets, whole, cut, MeansString}
 use Rattle.bcder.specs.x690.OctetString.{segments_of, AreSegmentsIn, MayBeWhole, AreCut}
 use Rattle.bcder.specs.steps.SegmentTable.{segments_at, IsTable}
-use Rattle.bcder.specs.calls.Valued.{HoldsValues, HoldsNone, ReadsTree, RefusesToRead, ReadsContent}
+use Rattle.bcder.specs.calls.Valued.{HoldsValues, HoldsNone, ReadsTree, RefusesToRead, ReadsContent, HasTagged, HasNoTree, RefusesTree, TakesNextTree}
 use Rattle.bcder.specs.calls.Valued as valued
 use Rattle.bcder.specs.laws.Lists.{empty_list}
 use Rattle.bcder.proofs.Moving.{open_not_ended, open_not_failed}
-use Rattle.bcder.proofs.Valued.{one_values, no_values_of_octets}
+use Rattle.bcder.proofs.Valued.{one_values, no_values_of_octets, primitive_in_front}
 
 -- ---- in one piece
+
+-- contents octets, as those of a string in one piece
+abbrev MeansPiece : Mode → Tree → List ℕ → Type 0
+MeansPiece mode t w = MeansString mode t (whole w)
 
 whole_in : (mode : Mode) (w : List ℕ) → (mode ≡ Cer → length w ≤ 1000) → MayBeWhole mode w
 whole_in Ber w h = tt
@@ -59,11 +63,11 @@ done_octets : (d : Reading) → d.kind ≡ Octets → d.state ≡ Open → d.owe
 done_octets d k o e = inr (o, subst (λ f. IsUsedUp f d.owed d.stream.rest) (sym k) e)
 
 -- what is answered of contents octets
-pub read_whole : {X : Type 0} (tag : Tag) (c d : Reading) (b : List ℕ) (s : StringOctets) → Reads {X = X} (λ w b. b ≡ w) FindNoMemory c (Ok b) d → s ≡ whole b → (c.kind ≡ Octets) × (c.state ≡ Open) → (d.kind ≡ Octets) × (d.state ≡ Open) → (c.mode ≡ Cer → limit_or c.owed 0 ≤ 1000) → ReadsContent tag (MeansString c.mode) {X = X} c (Ok s) d
-read_whole tag c d b s r is k l most =
+read_whole : {X : Type 0} (tag : Tag) (c d : Reading) (b : List ℕ) → Reads {X = X} (λ w b. b ≡ w) FindNoMemory c (Ok b) d → (c.kind ≡ Octets) × (c.state ≡ Open) → (d.kind ≡ Octets) × (d.state ≡ Open) → (c.mode ≡ Cer → limit_or c.owed 0 ≤ 1000) → ReadsContent tag (MeansPiece c.mode) {X = X} c (Ok b) d
+read_whole tag c d b r k l most =
     let n : limit_or c.owed 0 ≡ length c.stream.rest = limit_is c.owed (length c.stream.rest) r.all.owed in
     record {
-      value = record { tree = primitive tag c.stream.rest; holds = (refl, record { usable = k.1; form = k.0; owed = r.all.owed; rest = refl }); means = (whole_in c.mode c.stream.rest (λ m. (let q = most m in omega (arith, q, n))), is ∙ ap whole r.value) };
+      value = record { tree = primitive tag c.stream.rest; holds = (refl, record { usable = k.1; form = k.0; owed = r.all.owed; rest = refl }); means = (whole_in c.mode c.stream.rest (λ m. (let q = most m in omega (arith, q, n))), ap whole r.value) };
       done = done_octets d l.0 l.1 r.none_owed;
       no_fault = r.no_fault;
       refused = tt;
@@ -71,28 +75,82 @@ read_whole tag c d b s r is k l most =
       marked = r.marked;
     }
 
-pub refuse_long : {X : Type 0} (tag : Tag) (c : Reading) (e : DecodeError X) → IsRefusal e → (c.kind ≡ Octets) × (c.state ≡ Open) → ((c.mode ≡ Cer → limit_or c.owed 0 ≤ 1000) → ⊥) → ReadsContent tag (MeansString c.mode) c (Err e) c
+pub refuse_long : {X : Type 0} (tag : Tag) (c : Reading) (e : DecodeError X) → IsRefusal e → (c.kind ≡ Octets) × (c.state ≡ Open) → ((c.mode ≡ Cer → limit_or c.owed 0 ≤ 1000) → ⊥) → ReadsContent tag (MeansPiece c.mode) c (Err e) c
 refuse_long tag c e a k long = record { value = tt; done = tt; no_fault = tt; refused = valued.RefusesToRead.nothing (by_mode c.mode refl) a; mode = refl; marked = refl }
   where
-    by_mode : (m : Mode) → c.mode ≡ m → HoldsNone tag (MeansString c.mode) c
+    by_mode : (m : Mode) → c.mode ≡ m → HoldsNone tag (MeansPiece c.mode) c
     by_mode Ber m = absurd (long (λ q. (let x : ◌≡◌ {A = Mode} Ber Cer = sym m ∙ q in cc)))
-    by_mode Cer m = too_long c.mode tag c m (not_most (limit_or c.owed 0) (λ q. long (λ z. q))) k.0 k.1
+    by_mode Cer m = λ t w h means. too_long c.mode tag c m (not_most (limit_or c.owed 0) (λ q. long (λ z. q))) k.0 k.1 t (whole w) h means
       where
         not_most : (n : ℕ) → (n ≤ 1000 → ⊥) → 1000 < n
         not_most n f = elim (cases_lt 1000 n) [ inl l ↦ l | inr l ↦ absurd (f l) ]
     by_mode Der m = absurd (long (λ q. (let x : ◌≡◌ {A = Mode} Der Cer = sym m ∙ q in cc)))
 
-too_few : (tag : Tag) (Means : Tree → StringOctets → Type 0) (c : Reading) → c.kind ≡ Octets → c.state ≡ Open → IsShort c → HoldsNone tag Means c
+too_few : {T : Type 0} (tag : Tag) (Means : Tree → T → Type 0) (c : Reading) → c.kind ≡ Octets → c.state ≡ Open → IsShort c → HoldsNone tag Means c
 too_few tag Means c k o s (primitive t contents) x h means = omega (arith, s.short (length contents) h.1.owed, ap length h.1.rest)
 too_few tag Means c k o s (constructed t ts) x h means = not_values c ts k o h.1
 
-refused_octets : {X : Type 0} (tag : Tag) (c d : Reading) (e : DecodeError X) → c.kind ≡ Octets → c.state ≡ Open → RefusesReading (λ w (b : List ℕ). b ≡ w) FindNoMemory c e d → RefusesToRead tag (MeansString c.mode) c e d
+refused_octets : {X : Type 0} (tag : Tag) (c d : Reading) (e : DecodeError X) → c.kind ≡ Octets → c.state ≡ Open → RefusesReading (λ w (b : List ℕ). b ≡ w) FindNoMemory c e d → RefusesToRead tag (MeansPiece c.mode) c e d
 refused_octets tag c d e k o (readers.RefusesReading.missing (readers.RefusesTooFew.source s g)) = valued.RefusesToRead.source s g
 refused_octets tag c d e k o (readers.RefusesReading.missing (readers.RefusesTooFew.few s a n)) = valued.RefusesToRead.nothing (too_few tag _ c k o s) a
 refused_octets tag c d e k o (readers.RefusesReading.refused h a n) = valued.RefusesToRead.memory a
 
-pub refuse_octets : {X : Type 0} (tag : Tag) (c d : Reading) (e : DecodeError X) → Reads (λ w (b : List ℕ). b ≡ w) FindNoMemory c (Err e) d → (c.kind ≡ Octets) × (c.state ≡ Open) → ReadsContent tag (MeansString c.mode) c (Err e) d
+refuse_octets : {X : Type 0} (tag : Tag) (c d : Reading) (e : DecodeError X) → Reads (λ w (b : List ℕ). b ≡ w) FindNoMemory c (Err e) d → (c.kind ≡ Octets) × (c.state ≡ Open) → ReadsContent tag (MeansPiece c.mode) c (Err e) d
 refuse_octets tag c d e r k = record { value = tt; done = tt; no_fault = tt; refused = refused_octets tag c d e k.0 k.1 r.refused; mode = r.mode; marked = r.marked }
+
+pub read_piece : {X : Type 0} (tag : Tag) (c d : Reading) (r : Result (List ℕ) (DecodeError X)) → Reads (λ w b. b ≡ w) FindNoMemory c r d → (c.kind ≡ Octets) × (c.state ≡ Open) → (d.kind ≡ Octets) × (d.state ≡ Open) → (c.mode ≡ Cer → limit_or c.owed 0 ≤ 1000) → ReadsContent tag (MeansPiece c.mode) c r d
+read_piece tag c d (Ok b) r k l most = read_whole tag c d b r k l most
+read_piece tag c d (Err e) r k l most = refuse_octets tag c d e r k
+
+-- what is told of contents octets holds of the string in one piece
+module _ {X : Type 0} (tag : Tag) (c d : Reading) where
+  pub piece_read : (w : List ℕ) (s : StringOctets) → s ≡ whole w → ReadsContent tag (MeansPiece c.mode) {X = X} c (Ok w) d → ReadsContent tag (MeansString c.mode) {X = X} c (Ok s) d
+  piece_read w s e k = record {
+    value = record { tree = k.value.tree; holds = k.value.holds; means = subst (MeansString c.mode k.value.tree) (sym e) k.value.means };
+    done = k.done;
+    no_fault = k.no_fault;
+    refused = tt;
+    mode = k.mode;
+    marked = k.marked;
+  }
+
+  pub piece_refused : (c.kind ≡ Octets) × (c.state ≡ Open) → (e : DecodeError X) → ReadsContent {T = List ℕ} tag (MeansPiece c.mode) c (Err e) d → ReadsContent {T = StringOctets} tag (MeansString c.mode) c (Err e) d
+  piece_refused o e k = record { value = tt; done = tt; no_fault = tt; refused = of_piece k.refused; mode = k.mode; marked = k.marked }
+    where
+      none : HoldsNone tag (MeansPiece c.mode) c → HoldsNone tag (MeansString c.mode) c
+      none n (primitive t contents) x h means = n (primitive t contents) contents h (means.0, refl)
+      none n (constructed t ts) x h means = not_values c ts o.0 o.1 h.1
+
+      of_piece : RefusesToRead tag (MeansPiece c.mode) c e d → RefusesToRead tag (MeansString c.mode) c e d
+      of_piece (valued.RefusesToRead.failed s i) = valued.RefusesToRead.failed s i
+      of_piece (valued.RefusesToRead.source s g) = valued.RefusesToRead.source s g
+      of_piece (valued.RefusesToRead.memory s) = valued.RefusesToRead.memory s
+      of_piece (valued.RefusesToRead.nothing n i) = valued.RefusesToRead.nothing (none n) i
+
+  pub piece_taken : (w : List ℕ) (s : StringOctets) → s ≡ whole w → TakesNextTree tag (MeansPiece c.mode) {X = X} c (Ok (Some w)) d → TakesNextTree tag (MeansString c.mode) {X = X} c (Ok (Some s)) d
+  piece_taken w s e k = record {
+    value = record { tree = k.value.tree; octets = k.value.octets; has = k.value.has; means = subst (MeansString c.mode k.value.tree) (sym e) k.value.means; stays = k.value.stays };
+    none = tt;
+    no_fault = k.no_fault;
+    refused = tt;
+    failed = tt;
+    mode = k.mode;
+    marked = k.marked;
+  }
+
+  -- behind the header of a primitive value
+  pub piece_not_taken : (after : List ℕ) (f : HasHeader (tagged tag) c after) → f.form ≡ false → (e : DecodeError X) → TakesNextTree {T = List ℕ} tag (MeansPiece c.mode) c (Err e) d → TakesNextTree {T = StringOctets} tag (MeansString c.mode) c (Err e) d
+  piece_not_taken after f p e k = record { value = tt; none = tt; no_fault = tt; refused = of_piece k.refused; failed = k.failed; mode = k.mode; marked = k.marked }
+    where
+      none : HasNoTree tag (MeansPiece c.mode) c → (t : Tree) (w rest : List ℕ) (x : StringOctets) → HasTagged tag c t w rest → MeansString c.mode t x → ⊥
+      none n (primitive t contents) w rest x h means = n.value (primitive t contents) w rest contents h (means.0, refl)
+      none n (constructed t ts) w rest x h means = primitive_in_front tag c after f p t ts w rest h
+
+      of_piece : RefusesTree tag (MeansPiece c.mode) c e d → RefusesTree tag (MeansString c.mode) c e d
+      of_piece (valued.RefusesTree.failed s i) = valued.RefusesTree.failed s i
+      of_piece (valued.RefusesTree.source s g) = valued.RefusesTree.source s g
+      of_piece (valued.RefusesTree.memory s) = valued.RefusesTree.memory s
+      of_piece (valued.RefusesTree.broken n i) = valued.RefusesTree.broken (record { usable = n.usable; value = none n; absent = n.absent }) i
 
 -- ---- cut into segments
 

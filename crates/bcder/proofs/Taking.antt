@@ -189,6 +189,12 @@ module _ {C T X : Type 0} (view : C → Reading) (post : Tag → MutBor C → Re
     pub next_refused : (e : DecodeError X) → RefusesHeader cause_of asked c e d → d.marked ≡ c.marked → d.state ≡ Failed → TakesNext view post form asked c (Err e) d
     next_refused e h m f = record { value = tt; shorter = tt; none = tt; refused = by_header h m; failed = f; mode = mo }
 
+-- no value stands there of the form that is refused
+pub of_either_form : {C T X : Type 0} (view : C → Reading) (post : Tag → MutBor C → Result T (DecodeError X) → MutBor C → Type 0) (form : Option Bool) (c : Reading) (h : Header) (r : Result (Option T) (DecodeError X)) (d : Reading) → (form ≡ Some h.form → ⊥) → TakesBehind view post form c h r d → TakesBehind view post None c h r d
+of_either_form view post form c h r d n (of_form e q f o s) = absurd (n f)
+of_either_form view post form c h r d n (refused e q a) = refused e q a
+of_either_form view post form c h r d n (taken v m q a s) = taken v m q a s
+
 -- a closure that hands on what it is handed to one of content alone
 module _ {C R : Type 0} (view : C → Reading) (post : MutBor C → R → MutBor C → Type 0) where
   pub moves_on : (P : Reading → Type 0) → ((p : MutBor C) (r : R) (q : MutBor C) → P (view p.now) → post p r q → Moves (view p.now) (view q.now)) → (i : Reading) (r : R) (j : Reading) → P i → Answered view post i r j → Moves i j

@@ -1,6 +1,6 @@
 -- Values of either form that are taken by readers of their content.
 use Rattle.std.proofs.Common.{◌≡◌, ℕ, Bool, true, false, List, [], ◌++◌, length, take, Option, Some, None, refl, ap, sym, ◌∙◌, arith, length-append, append_assoc, append-nil, subst, inl, inr}
-use Rattle.std.specs.Prelude.{◌≤◌, Result, Ok, Err}
+use Rattle.std.specs.Prelude.{◌≤◌, IsTrue, Result, Ok, Err}
 use Rattle.std.specs.Borrow.{MutBor}
 use Rattle.std.proofs.lemmas.List.{take_at}
 use Rattle.bcder.specs.declared.mode.Mode.{Mode}
@@ -13,9 +13,9 @@ use Rattle.bcder.specs.declared.decode.error.DecodeError.{DecodeError}
 use Rattle.bcder.specs.x690.Identifier.{Tag}
 use Rattle.bcder.specs.x690.Length.{IsEndOfContents}
 use Rattle.bcder.specs.x690.Tree.{Tree, primitive, constructed, Trees}
-use Rattle.bcder.specs.x690.Encoding.{IsHeader, IsDefinite, IsFramed, IsEncoding, AreEncodings}
+use Rattle.bcder.specs.x690.Encoding.{may_have, IsHeader, IsDefinite, IsFramed, IsEncoding, AreEncodings}
 use Rattle.bcder.specs.calls.Cause.{cause_of}
-use Rattle.bcder.specs.calls.Content.{Reading, Form, octets, values, Octets, DefiniteValues, IndefiniteValues, tagged, label, HasHeader, HasMarker, IsDone}
+use Rattle.bcder.specs.calls.Content.{Reading, Form, octets, values, Octets, DefiniteValues, IndefiniteValues, tagged, label, HasHeader, HasMarker, IsDone, RefusesHeader}
 use Rattle.bcder.specs.calls.Content as content
 use Rattle.bcder.specs.calls.Calls.{Hands, IsFormOf, ContentOf, Answered, TakesValue, RefusesFront, RefusesContent, by_closure, unfinished, RefusesEnd, left_failed, source_failed, left_open}
 use Rattle.bcder.specs.calls.Takes.{HasNone, TakesNext, Takes, RefusesTake, by_header, by_form, by_content}
@@ -153,6 +153,35 @@ module _ (c : Reading) (w : Within c) where
 
 -- ---- taken, or refused
 
+-- behind the header of a primitive value no constructed one is
+pub primitive_in_front : (tag : Tag) (c : Reading) (after : List ℕ) (f : HasHeader (tagged tag) c after) → f.form ≡ false → (t : Tag) (ts : Trees) (v rest : List ℕ) → HasTagged tag c (constructed t ts) v rest → ⊥
+primitive_in_front tag c after f p t ts v rest h = of_shaped (shaped c.mode f.tag f.form f.len f.octets after f.is_header (constructed t ts) v rest h.0.encodes (sym h.0.rest ∙ f.rest))
+  where
+    no_values : {b : List ℕ} → ◌≡◌ {A = Tree} (constructed t ts) (primitive f.tag b) → ⊥
+    no_values e = cc
+
+    both : f.form ≡ true → ⊥
+    both e = (let x : ◌≡◌ {A = Bool} false true = sym p ∙ e in cc)
+
+    of_shaped : Shaped c.mode f.form f.len after rest f.tag (constructed t ts) → ⊥
+    of_shaped (of_octets b is l n e) = no_values is
+    of_shaped (of_definite us b is l n q e) = both l
+    of_shaped (of_indefinite us b end is l q s e) = (let x : IsTrue false = subst (λ z. IsTrue (may_have c.mode z Indefinite)) p (subst (λ z. IsTrue (may_have c.mode f.form z)) l f.is_header.allowed) in cc)
+
+-- no header was passed
+refused_header : {T X : Type 0} (tag : Tag) (Means : Tree → T → Type 0) (c d : Reading) → Within c → (e : DecodeError X) → RefusesHeader cause_of (tagged tag) c e d → RefusesTree tag Means c e d
+refused_header tag Means c d w e (content.RefusesHeader.failed s a) = valued.RefusesTree.failed s a
+refused_header tag Means c d w e (content.RefusesHeader.source s g) = valued.RefusesTree.source s g
+refused_header tag Means c d w e (content.RefusesHeader.nothing n a) = valued.RefusesTree.broken (record { usable = n.usable; value = λ t v rest x h k. (let y = tagged_header c w tag t v rest h in n.header y.0 y.1); absent = n.absent }) a
+
+-- what the calls say where none was
+module _ {T X : Type 0} (tag : Tag) (Means : Tree → T → Type 0) (c d : Reading) where
+  pub no_tree : d.mode ≡ c.mode → HasNone (tagged tag) c d → TakesNextTree tag Means {X = X} c (Ok None) d
+  no_tree m h = record { value = tt; none = h; no_fault = h.no_fault; refused = tt; failed = tt; mode = m; marked = h.marked }
+
+  pub stopped_tree : Within c → d.mode ≡ c.mode → (e : DecodeError X) → RefusesHeader cause_of (tagged tag) c e d → d.marked ≡ c.marked → d.state ≡ Failed → TakesNextTree tag Means c (Err e) d
+  stopped_tree w m e h k f = record { value = tt; none = tt; no_fault = tt; refused = refused_header tag Means c d w e h; failed = f; mode = m; marked = k }
+
 not_done : (l : Reading) → l.state ≡ Failed → IsDone l → ⊥
 not_done l e (inl h) = (let x : ◌≡◌ {A = State} Failed Ended = sym e ∙ h in cc)
 not_done l e (inr h) = open_not_failed l.state h.0 e
@@ -224,9 +253,7 @@ module _ {C T X : Type 0} (view : C → Reading) (post : Tag → MutBor C → Re
     refused_unmarked (unfinished y l a m k z) = k ∙ (answered_reads c.mode f.front.tag f.front.tag f.handed l (Ok y) a f.hands.mode).marked ∙ f.hands.marked
 
   refused_tree : (c d : Reading) → Within c → (e : DecodeError X) → RefusesTake view post None (tagged tag) c e d → RefusesTree tag (Means c.mode) c e d
-  refused_tree c d w e (by_header (content.RefusesHeader.failed s a) m) = valued.RefusesTree.failed s a
-  refused_tree c d w e (by_header (content.RefusesHeader.source s g) m) = valued.RefusesTree.source s g
-  refused_tree c d w e (by_header (content.RefusesHeader.nothing n a) m) = valued.RefusesTree.broken (record { usable = n.usable; value = λ t v rest x h k. (let y = tagged_header c w tag t v rest h in n.header y.0 y.1); absent = n.absent }) a
+  refused_tree c d w e (by_header h m) = refused_header tag (Means c.mode) c d w e h
   refused_tree c d w e (by_form f a m) = absurd f
   refused_tree c d w e (by_content f) = refused_content c d w e f f.refuses
 
@@ -238,7 +265,7 @@ module _ {C T X : Type 0} (view : C → Reading) (post : Tag → MutBor C → Re
 
   pub next_tree : (c d : Reading) (r : Result (Option T) (DecodeError X)) → Within c → TakesNext view post None (tagged tag) c r d → TakesNextTree tag (Means c.mode) c r d
   next_tree c d (Ok (Some x)) w n = record { value = taken c d x n.value; none = tt; no_fault = taken_faults c d x n.value; refused = tt; failed = tt; mode = n.mode; marked = taken_marked c d x n.value }
-  next_tree c d (Ok None) w n = (let h : HasNone (tagged tag) c d = n.none in record { value = tt; none = h; no_fault = h.no_fault; refused = tt; failed = tt; mode = n.mode; marked = h.marked })
+  next_tree c d (Ok None) w n = no_tree tag (Means c.mode) c d n.mode n.none
   next_tree c d (Err e) w n = record { value = tt; none = tt; no_fault = tt; refused = refused_tree c d w e n.refused; failed = n.failed; mode = n.mode; marked = refused_marked c d w e n.refused }
 
   pub one_tree : (c d : Reading) (r : Result T (DecodeError X)) → Within c → Takes view post None (tagged tag) c r d → TakesOneTree tag (Means c.mode) c r d

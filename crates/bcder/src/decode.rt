@@ -1,7 +1,7 @@
 //! Decoding: sources of octets, errors, and content.
 mod content;
 mod error;
-mod header;
+pub(crate) mod header;
 pub(crate) mod source;
 mod stop;
 

@@ -291,7 +291,7 @@ impl<'a, S: Source> Constructed<'a, S> {
     /// Takes a value whose header was passed over, and which has to be primitive. The content is
     /// usable again where it was taken.
     #[inline(always)]
-    pub(super) fn take_primitive_body<F, T: Drop>(
+    pub(crate) fn take_primitive_body<F, T: Drop>(
         &mut self,
         header: Header,
         op: F,
@@ -338,7 +338,7 @@ impl<'a, S: Source> Constructed<'a, S> {
 
     /// The same of a value that has to be constructed.
     #[inline(always)]
-    pub(super) fn take_constructed_body<F, T: Drop>(
+    pub(crate) fn take_constructed_body<F, T: Drop>(
         &mut self,
         header: Header,
         op: F,

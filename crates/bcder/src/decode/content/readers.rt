@@ -201,6 +201,7 @@ impl<'a, S: Source> Primitive<'a, S> {
     ///
     /// Where fewer octets come than are owed, where the source fails, and where there is no memory
     /// for them. Then none is taken.
+    #[inline(always)]
     pub fn take_all(&mut self, alloc: Global) -> Result<Bytes, DecodeError<S::Error>>
         ensures moves { MovedOctets S.stream self }
         ensures read { ReadBy S.stream self (λ w b. b ≡ w) FindNoMemory result }

@@ -143,7 +143,7 @@ impl<'a, S: Source> Constructed<'a, S> {
 
     /// The error that a stop is, at the present position.
     #[cold]
-    pub(super) fn stop_error(&self, stop: Stop<S::Error>) -> DecodeError<S::Error>
+    pub(crate) fn stop_error(&self, stop: Stop<S::Error>) -> DecodeError<S::Error>
         ensures refused { IsOfContent (stop_cause stop) → IsRefusal result }
         ensures source { stop_cause stop ≡ of_source → cause_of result ≡ of_source }
     {
@@ -165,7 +165,7 @@ impl<'a, S: Source> Constructed<'a, S> {
 
     /// A refusal of what is not this tag.
     #[cold]
-    pub(super) fn expected_tag_error(&self, tag: Tag) -> DecodeError<S::Error>
+    pub(crate) fn expected_tag_error(&self, tag: Tag) -> DecodeError<S::Error>
         ensures { NamesTag tag result }
     {
         self.source.content_err(ContentError::ExpectedTag(tag))
@@ -338,7 +338,7 @@ impl<'a, S: Source> Constructed<'a, S> {
     /// looked for. After a header the content has failed until the value is taken.
     #[tactic(auto, using(crate::specs::laws::Moved::untouched_is_moved), unfolding(crate::specs::calls::Views::views))]
     #[inline(always)]
-    pub(super) fn next_header(&mut self, wanted: Wanted) -> Result<Option<Header>, Stop<S::Error>>
+    pub(crate) fn next_header(&mut self, wanted: Wanted) -> Result<Option<Header>, Stop<S::Error>>
         ensures moves { Moves (before S.stream self) (after S.stream self) }
         ensures entered { EntersNext (before S.stream self) (after S.stream self)
             (asked wanted) result }

@@ -1,16 +1,18 @@
 //! Reading octet strings (X.690, 8.7, 9.2, 10.2).
 ghost use Rattle.std.specs.Prelude.{◌≡◌, ◌≤◌, ◌↔◌, IsTrue};
 ghost use Rattle.bcder.specs.x690.OctetString.{octet_string_tag};
-ghost use Rattle.bcder.specs.calls.StringOctets.{MeansString};
+ghost use Rattle.bcder.specs.calls.StringOctets.{whole, MeansString};
 ghost use Rattle.bcder.specs.calls.Valued.{ReadsAny, ReadTree, TookNextTree, TookOneTree};
 ghost use Rattle.bcder.specs.calls.Views.{before, after, octets_before, octets_after};
 ghost use Rattle.bcder.specs.calls.Views.{Moved, MovedOctets, MovedContent};
 
 use super::OctetString;
 use super::segments::{FULL, table_of};
+use crate::decode::header::Wanted;
 use crate::decode::{Constructed, Content, DecodeError, Primitive, Source};
 use crate::mode::Mode;
 use crate::tag::Tag;
+use bytes::Bytes;
 use std::alloc::Global;
 
 /// Whether a string in one piece may have so many octets in a mode (9.2).
@@ -25,27 +27,27 @@ fn may_be_whole(mode: Mode, len: usize) -> bool
     }
 }
 
-/// Takes all contents octets as a string in one piece, which in CER has 1000 at most.
+/// Takes all contents octets as those of a string in one piece, which in CER has 1000 at most.
 #[tactic(auto, using(crate::proofs::moves))]
-fn from_primitive<S: Source>(
+#[inline(always)]
+fn take_piece<S: Source>(
     alloc: Global,
     octets: &mut Primitive<'_, S>,
-) -> Result<OctetString, DecodeError<S::Error>>
+) -> Result<Bytes, DecodeError<S::Error>>
     ensures moves { MovedOctets S.stream octets }
-    ensures read { ReadsAny MeansString
+    ensures read { ReadsAny (λ mode t w. MeansString mode t (whole w))
         (octets_before S.stream octets) result (octets_after S.stream octets) }
 {
     if !may_be_whole(octets.mode(), octets.remaining()) {
         return Err(octets.refusal("an octet string that is to be cut"));
     }
-    match octets.take_all(alloc) {
-        Ok(octets) => Ok(OctetString::new(octets)),
-        Err(error) => Err(error),
-    }
+    octets.take_all(alloc)
 }
 
 /// Takes all values as the segments of a string.
 #[tactic(auto, using(crate::proofs::moves))]
+#[cold]
+#[inline(never)]
 fn from_constructed<S: Source>(
     alloc: Global,
     values: &mut Constructed<'_, S>,
@@ -71,12 +73,47 @@ fn from_constructed<S: Source>(
 
 #[tactic(auto, using(crate::specs::laws::Moved::untouched_is_moved))]
 impl OctetString {
+    /// Takes the next value if it has this tag, as a string. Each form has a closure of its own, so
+    /// that a string in one piece is made where it is answered.
+    #[inline(always)]
+    pub(crate) fn take_opt_if<S: Source>(
+        alloc: Global,
+        cons: &mut Constructed<'_, S>,
+        tag: Tag,
+    ) -> Result<Option<Self>, DecodeError<S::Error>>
+        ensures moves { Moved S.stream cons }
+        ensures took { TookNextTree S.stream cons tag MeansString result }
+    {
+        match cons.next_header(Wanted::Tagged(tag)) {
+            Ok(Some(header)) => {
+                if header.constructed {
+                    cons.take_constructed_body(
+                        header,
+                        |_tag, values| from_constructed(alloc, values),
+                    )
+                } else {
+                    match cons.take_primitive_body(
+                        header,
+                        |_tag, octets| take_piece(alloc, octets),
+                    ) {
+                        Ok(Some(octets)) => Ok(Some(OctetString::new(octets))),
+                        Ok(None) => Ok(None),
+                        Err(error) => Err(error),
+                    }
+                }
+            }
+            Ok(None) => Ok(None),
+            Err(stop) => Err(cons.stop_error(stop)),
+        }
+    }
+
     /// Takes the next value, which has to be an OCTET STRING.
     ///
     /// # Errors
     ///
     /// Those of [`take_opt_from`](Self::take_opt_from), and `ContentError::ExpectedTag` where that
     /// answers `None`: the content then stays usable.
+    #[inline(always)]
     pub fn take_from<S: Source>(
         alloc: Global,
         cons: &mut Constructed<'_, S>,
@@ -84,10 +121,11 @@ impl OctetString {
         ensures moves { Moved S.stream cons }
         ensures took { TookOneTree S.stream cons octet_string_tag MeansString result }
     {
-        cons.take_value_if(
-            Tag::OCTET_STRING,
-            |content| OctetString::from_content(alloc, content),
-        )
+        match OctetString::take_opt_if(alloc, cons, Tag::OCTET_STRING) {
+            Ok(Some(string)) => Ok(string),
+            Ok(None) => Err(cons.expected_tag_error(Tag::OCTET_STRING)),
+            Err(error) => Err(error),
+        }
     }
 
     /// Takes the next value if it is an OCTET STRING, or answers `None` at the end and at a value
@@ -105,6 +143,7 @@ impl OctetString {
     /// octets that are no value; where an earlier value was refused; where the source fails; and
     /// where there is no memory for the octets, for the table, or for a segment that is open at a
     /// depth of four or more. The content has then failed.
+    #[inline(always)]
     pub fn take_opt_from<S: Source>(
         alloc: Global,
         cons: &mut Constructed<'_, S>,
@@ -112,9 +151,7 @@ impl OctetString {
         ensures moves { Moved S.stream cons }
         ensures took { TookNextTree S.stream cons octet_string_tag MeansString result }
     {
-        cons.take_opt_value_if(Tag::OCTET_STRING, |content| {
-            OctetString::from_content(alloc, content)
-        })
+        OctetString::take_opt_if(alloc, cons, Tag::OCTET_STRING)
     }
 
     /// Takes all content of a value as an octet string, whatever the tag of the value.
@@ -134,7 +171,10 @@ impl OctetString {
         ensures read { ReadTree S.stream content MeansString result }
     {
         match content {
-            Content::Primitive(octets) => from_primitive(alloc, octets),
+            Content::Primitive(octets) => match take_piece(alloc, octets) {
+                Ok(octets) => Ok(OctetString::new(octets)),
+                Err(error) => Err(error),
+            },
             Content::Constructed(values) => from_constructed(alloc, values),
         }
     }
