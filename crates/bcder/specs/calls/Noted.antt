@@ -39,12 +39,13 @@ ReadsContents mode M R = ReadsInside M R
 -- ---- what calls ask and answer
 
 -- what is left may be read
-abbrev pub MayRead : (List ℕ → List ℕ → Type 0) → List ℕ → Type 0
-MayRead R left = (after : List ℕ) × Reads R left after
+pub record MayRead (R : List ℕ → List ℕ → Type 0) (left : List ℕ) : Type 0 where
+  pub after : List ℕ
+  pub reads : Reads R left after
 
 -- all was read that R says, or nothing is left
-abbrev pub HasRead : (List ℕ → List ℕ → Type 0) → List ℕ → List ℕ → Type 0
-HasRead R old new = (new ≡ []) ⊎ ((after : List ℕ) → Reads R old after → new ≡ after)
+pub record HasRead (R : List ℕ → List ℕ → Type 0) (old new : List ℕ) : Type 0 where
+  pub ends : (new ≡ []) ⊎ ((after : List ℕ) → Reads R old after → new ≡ after)
 
 -- sizes were noted that may be read; behind them others, while there is room
 pub record Notes (R : List ℕ → List ℕ → Type 0) (old new : Sizes) : Type 0 where

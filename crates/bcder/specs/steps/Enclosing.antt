@@ -5,7 +5,9 @@ use denote.Triple.Both.{Both}
 use Rattle.bcder.specs.declared.encode.error.EncodeError.{EncodeError}
 use Rattle.bcder.specs.declared.encode.error.WriteError.{WriteError}
 use Rattle.bcder.specs.declared.length.Length.{Length}
+use Rattle.bcder.specs.declared.length.Length.TheVariants.{Definite, Indefinite}
 use Rattle.bcder.specs.declared.mode.Mode.{Mode}
+use Rattle.bcder.specs.declared.mode.Mode.TheVariants.{Cer}
 use Rattle.bcder.specs.x690.Identifier.{Tag, IsValueTag}
 use Rattle.bcder.specs.x690.Octets.{constructed_length, enclosed, enclosed_size}
 use Rattle.bcder.specs.calls.Meaning.{Encoded, Meaning, ContentsMeaning, ValueMeans, primitive_meaning, constructed_meaning, fits_enclosed, enclosed_refusal}
@@ -36,3 +38,10 @@ WritesEnclosed contents target t len mode M lacks r =
 abbrev pub Takes : List ℕ → Option ℕ → List ℕ → Type 0
 Takes old None new = (old ≡ []) × (new ≡ [])
 Takes old (Some size) new = old ≡ size ∷ new
+
+-- the length of a constructed value is told: in CER it is indefinite, and else the first of the sizes that are left, if there is one
+abbrev pub TakesLength : Mode → List ℕ → Option Length → List ℕ → Type 0
+TakesLength Cer old (Some len) new = (len ≡ Indefinite) × (new ≡ old)
+TakesLength Cer old None new = ⊥
+TakesLength mode old (Some len) new = (size : ℕ) × (len ≡ Definite size) × (old ≡ size ∷ new)
+TakesLength mode old None new = new ≡ []

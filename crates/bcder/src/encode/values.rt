@@ -62,7 +62,6 @@ pub trait Values {
     /// Those of `encoded_len`.
     #[doc(hidden)]
     #[inline(always)]
-    #[tactic(auto, using(crate::proofs::Noting::closed_noted))]
     fn note_sizes(&self, mode: Mode, sizes: &mut Sizes) -> Result<usize, EncodeError>
         requires { can_encode self.now }
         ensures sized { SizeOfValues (means self.now mode) (may_lack self.now mode) result }

@@ -6,7 +6,8 @@ ghost use Rattle.bcder.specs.calls.Meaning.{ValueMeans, constructed_meaning};
 ghost use Rattle.bcder.specs.calls.Encoders.{HasEncoding, SizeOfValues, WroteOctets, WritesKnown};
 ghost use Rattle.bcder.specs.calls.Encoders.{into_result};
 ghost use Rattle.bcder.specs.calls.Noted.{ReadsContents, Notes, MayRead, HasRead};
-ghost use Rattle.bcder.specs.steps.Enclosing.{EnclosedSize, MeasuredInside, WritesEnclosed};
+ghost use Rattle.bcder.specs.steps.Enclosing.{EnclosedSize, MeasuredInside, TakesLength};
+ghost use Rattle.bcder.specs.steps.Enclosing.{WritesEnclosed};
 ghost use Rattle.bcder.specs.laws.Meanings.{constructed_lawful};
 
 use crate::encode::header::put_header;
@@ -147,6 +148,21 @@ fn constructed_length(mode: Mode, len: usize) -> Length
     }
 }
 
+/// What the length octets say of a value whose size is the next one that is left. In CER none is
+/// told.
+#[inline(always)]
+fn next_length(mode: Mode, sizes: &mut SizesLeft<'_>) -> Option<Length>
+    ensures { TakesLength mode sizes.old.sizes.now result sizes.new.sizes.now }
+{
+    match mode {
+        Mode::Cer => Some(Length::Indefinite),
+        Mode::Ber | Mode::Der => match sizes.next() {
+            Some(size) => Some(Length::Definite(size)),
+            None => None,
+        },
+    }
+}
+
 /// Writes the end-of-contents octets, if the mode has them behind its constructed values.
 #[inline(always)]
 fn put_closing<W: io::Write>(mode: Mode, target: &mut W, why: &mut WriteError) -> Result<(), Failed>
@@ -260,14 +276,10 @@ impl<V: Values> Values for Constructed<V> {
         target: &mut W,
         why: &mut WriteError,
     ) -> Result<(), Failed> {
-        let len = match mode {
-            Mode::Cer => Length::Indefinite,
-            Mode::Ber | Mode::Der => match sizes.next() {
-                Some(len) => Length::Definite(len),
-                None => return put_measured(self.tag, &self.inner, mode, target, why),
-            },
-        };
-        put_enclosed(self.tag, len, &self.inner, mode, sizes, target, why)
+        match next_length(mode, sizes) {
+            Some(len) => put_enclosed(self.tag, len, &self.inner, mode, sizes, target, why),
+            None => put_measured(self.tag, &self.inner, mode, target, why),
+        }
     }
 
     ghost lawful = { λ x mode can. constructed_lawful x.tag (V.lawful x.inner mode can) };

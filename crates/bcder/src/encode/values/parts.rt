@@ -32,7 +32,6 @@ pub(crate) trait Parts {
 
     /// The sum of the sizes, which are noted where they have to be told.
     #[inline(always)]
-    #[tactic(auto, using(crate::proofs::Noting::closed_noted))]
     fn note_parts(&self, mode: Mode, sizes: &mut Sizes) -> Result<Option<usize>, EncodeError>
         requires { can_encode self.now }
         ensures sized { TellsSum (all self.now mode) (may_lack self.now mode) result }
@@ -207,7 +206,6 @@ impl<'a, V: Values, R: Parts> Parts for Chain<'a, V, R> {
         }
     }
 
-    #[tactic(auto, using(crate::proofs::Noting::then_read))]
     fn write_parts<W: io::Write>(
         &self,
         mode: Mode,

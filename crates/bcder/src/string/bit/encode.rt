@@ -8,7 +8,7 @@ ghost use Rattle.bcder.specs.laws.Meanings.{BitsMean_lawful, primitive_lawful};
 
 use super::write::{bits_len, put_meant, write_bits};
 use crate::encode::sizes::{Sizes, SizesLeft};
-use crate::encode::slot::Failed;
+use crate::encode::slot::{Failed, store};
 use crate::encode::{EncodeError, PrimitiveContent, Values, WriteError};
 use crate::mode::Mode;
 use crate::tag::Tag;
@@ -132,16 +132,15 @@ impl<T: AsSlice<u8>> Values for BitSliceEncoder<T> {
             .write_encoded(mode, target)
     }
 
+    #[tactic(auto, using(crate::proofs::Noting::none_read))]
     fn write_known<W: io::Write>(
         &self,
         mode: Mode,
-        sizes: &mut SizesLeft<'_>,
+        _sizes: &mut SizesLeft<'_>,
         target: &mut W,
         why: &mut WriteError,
     ) -> Result<(), Failed> {
-        self.contents()
-            .encode_as(self.tag)
-            .write_known(mode, sizes, target, why)
+        store(self.write_encoded(mode, target), why)
     }
 
     ghost lawful = { λ x mode can. primitive_lawful x.tag mode

@@ -1,4 +1,3 @@
-use Rattle.std.proofs.Common.{inl}
 use Rattle.bcder.specs.calls.Meaning.{encoded_octets}
 use Rattle.bcder.proofs.Writing.{wrote_what, same_answer}
 use Rattle.bcder.proofs.encode.values.Values.write_known.Goals as goal

@@ -1,6 +1,6 @@
 use Rattle.bcder.specs.calls.Slices.{item_means}
 use Rattle.bcder.proofs.Writing.{lacks_more}
-use Rattle.bcder.proofs.Noting.{none_left}
+use Rattle.bcder.proofs.Noting.{nothing_left}
 use Rattle.bcder.proofs.encode.values.mapped.write_item.Goals as goal
 
 pub write_known-requires : goal.write_known-requires
@@ -8,7 +8,7 @@ write_known-requires g c =
     let gives = c.call_on-value.ensures in
     record {
       can = c.requires.may.1 _ gives.shown gives.shows gives.met;
-      sized = none_left _ _ c.none.ensures;
+      sized = nothing_left _ _ c.none.ensures;
       known = (c.requires.known.0, item_means g.F.Fn c.args.f.now c.requires.may gives _ c.requires.known.1);
     }
 

@@ -11,6 +11,6 @@ returns-clause-sized g c =
     let (x, meant, len_is) = c.in_ok-contents.ensures.sized in
     let (whole_is, fits) = c.in_ok-whole.ensures in (
       constructed_encoded mode t x,
-      constructed_given t mode _ x meant (ap (fits_enclosed mode t) (sym len_is) ∙ fits) c.in-Some.ensures,
+      constructed_given t mode _ x meant (ap (fits_enclosed mode t) (sym len_is) ∙ fits) c.in-Some.ensures.some.0,
       whole_is ∙ ap (enclosed_size mode t) len_is ∙ sym (enclosed-length mode t x.octets),
     )

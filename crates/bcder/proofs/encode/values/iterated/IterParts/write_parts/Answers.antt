@@ -6,7 +6,7 @@ use Rattle.bcder.specs.calls.Iterated.{RunsMean, as_listed, none_left, to_second
 use Rattle.bcder.proofs.Writing.{halts, lacks_more, same_result}
 use Rattle.bcder.proofs.Joining.{WrittenSoFar, next_known, written_next, written_failed, written_done}
 use Rattle.bcder.proofs.Iterating.{next_of}
-use Rattle.bcder.proofs.Noting.{none_left}
+use Rattle.bcder.proofs.Noting.{nothing_left}
 use Rattle.bcder.proofs.encode.values.iterated.IterParts.write_parts.Goals as goal
 
 pub loop-item-init : goal.loop-item-init
@@ -29,7 +29,7 @@ write_known-requires g c =
     let next = next_of g.T.IntoIter.Iterator.next_gives g.T.Item.Values.can_encode g.T.Item.Values.means _ _ run.rest x run.gives step in
     let so_far = subst (λ l. WrittenSoFar Means (EachOf M l) (g.W.Write.contents c.args.target.now) (g.W.Write.contents c.loop-item.target)) next.is run.so_far in
     let known = next_known (M next.first) (EachOf M next.others) so_far c.requires.known in
-    record { can = next.may; sized = none_left _ _ c.none.ensures; known = (known.0, to_second g.T.Item.Values.means next.first x next.same c.args.mode (Ok known.0) known.1) }
+    record { can = next.may; sized = nothing_left _ _ c.none.ensures; known = (known.0, to_second g.T.Item.Values.means next.first x next.same c.args.mode (Ok known.0) known.1) }
 
 pub loop-item-preserved : goal.loop-item-preserved
 loop-item-preserved g c =

@@ -2,7 +2,7 @@ use Rattle.std.proofs.Common.{subst, sym, drop, ◌+◌}
 use Rattle.bcder.specs.calls.Joined.{EachOf}
 use Rattle.bcder.proofs.Writing.{halts, lacks_more, same_result}
 use Rattle.bcder.proofs.Joining.{WrittenSoFar, written_start, next_known, written_next, written_failed, written_done, EachOf_at, EachOf_end}
-use Rattle.bcder.proofs.Noting.{none_left}
+use Rattle.bcder.proofs.Noting.{nothing_left}
 use Rattle.bcder.proofs.encode.values.lists.ItemsParts.write_parts.Goals as goal
 
 pub loop-item-init : goal.loop-item-init
@@ -17,7 +17,7 @@ write_known-requires g c =
     let so_far = subst (λ P. WrittenSoFar (EachOf M xs) P (g.W.Write.contents c.args.target.now) (g.W.Write.contents c.loop-item.target)) at c.loop-item.invariant in
     record {
       can = subst g.V.Values.can_encode (sym c.item-item.is) (c.requires.can c.loop-item.item-index x c.loop-item-test.true);
-      sized = none_left _ _ c.none.ensures;
+      sized = nothing_left _ _ c.none.ensures;
       known = next_known (M x) (EachOf M (drop (c.loop-item.item-index + 1) xs)) so_far c.requires.known;
     }
 
