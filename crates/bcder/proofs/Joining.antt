@@ -3,13 +3,13 @@ use Rattle.std.proofs.Common.{◌≡◌, ℕ, ◌+◌, ◌<◌, ◌≤◌, ◌^�
 use Rattle.std.specs.Option.{SomeIff}
 use Rattle.bcder.specs.declared.encode.error.EncodeError.{EncodeError}
 use Rattle.bcder.specs.calls.Meaning.{Encoded, Meaning, encoded_octets}
-use Rattle.std.proofs.Common.{true, ltb-true, IsErr, IsErrAnd, drop_of_length-le, drop, get_or, suc, add-one, drop-cons, append_assoc, append-nil}
+use Rattle.std.proofs.Common.{IsErr, IsErrAnd, drop_of_length-le, drop, get_or, suc, add-one, drop-cons, append_assoc, append-nil}
 use Rattle.std.specs.Io.KnownBytes.{Appends}
 use Rattle.std.proofs.KnownBytes.{Appends-trans, Appends-nil}
 use Rattle.bcder.specs.declared.encode.error.WriteError.{WriteError}
 use Rattle.bcder.specs.x690.Tree.{Trees, no_trees, ◌∷ₜ◌, ◌+++◌}
-use Rattle.bcder.proofs.Writing.{stops, follows_on, same_octets, same_ok}
-use Rattle.bcder.specs.calls.Joined.{nothing, join, Then, NoValues, EachOf, IsSum, Joined}
+use Rattle.bcder.proofs.Writing.{stops, follows_on, same_octets}
+use Rattle.bcder.specs.calls.Joined.{nothing, join, Then, NoValues, EachOf, IsSum}
 use Rattle.bcder.specs.calls.Encoders.{HasEncoding, TellsSize, TellsSum, WroteOf, WritesEncoding, RefusesBy}
 
 -- what is looked at so far, before whatever comes after it

@@ -1,5 +1,5 @@
 -- Sizes that are noted where encoders are measured, and read where they are written.
-use Rattle.std.proofs.Common.{◌≡◌, ℕ, List, [], ◌∷◌, ◌++◌, length, Option, None, Some, Result, Ok, Err, refl, sym, ap, ◌∙◌, subst, ◌⊎◌, inl, inr, append_assoc, append-nil}
+use Rattle.std.proofs.Common.{◌≡◌, ℕ, List, [], ◌∷◌, ◌++◌, length, None, Some, Result, Ok, Err, refl, sym, ap, ◌∙◌, subst, ◌⊎◌, inl, inr, append_assoc, append-nil}
 use Rattle.std.specs.Prelude.{IfOk}
 use Rattle.bcder.specs.declared.encode.slot.Failed.{Failed}
 use Rattle.bcder.specs.declared.length.Length.{Length}
@@ -60,8 +60,8 @@ module _ (R S : List ℕ → List ℕ → Type 0) where
     reads = λ behind more. inr (
       q.sizes ++ behind,
       subst (λ l. Reads R l (q.sizes ++ behind)) (sym (append_assoc p.sizes q.sizes behind)) (p.reads (q.sizes ++ behind) (λ full.
-        let (none, still) = q.full full in
-        ap (λ l. l ++ behind) none ∙ more still)),
+          let (none, still) = q.full full in
+          ap (λ l. l ++ behind) none ∙ more still)),
       q.reads behind more,
     );
     full = λ is.

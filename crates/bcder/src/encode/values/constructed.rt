@@ -120,11 +120,7 @@ fn measure<V: Values>(
 /// How many contents octets a constructed value has. That is noted where it has to be told, in
 /// front of the sizes inside.
 #[inline(always)]
-fn note_contents<V: Values>(
-    inner: &V,
-    mode: Mode,
-    sizes: &mut Sizes,
-) -> Result<usize, EncodeError>
+fn note_contents<V: Values>(inner: &V, mode: Mode, sizes: &mut Sizes) -> Result<usize, EncodeError>
     requires { V.can_encode inner.now }
     ensures sized { SizeOfValues (V.means inner.now mode) (V.may_lack inner.now mode) result }
     ensures noted { IfOk result (λ _. Notes

@@ -6,8 +6,8 @@ ghost use Rattle.bcder.specs.laws.Joined.{EachOf_lawful, Joined_lawful};
 
 use crate::encode::sizes::{Sizes, SizesLeft};
 use crate::encode::slot::Failed;
-use crate::encode::values::parts::{Parts, add_len, joined_len, write_joined, write_known_parts};
 use crate::encode::values::Values;
+use crate::encode::values::parts::{Parts, add_len, joined_len, write_joined, write_known_parts};
 use crate::encode::{EncodeError, WriteError};
 use crate::mode::Mode;
 use std::io;

@@ -7,8 +7,9 @@ ghost use Rattle.bcder.specs.laws.Joined.{Then_lawful, NoValues_lawful, Joined_l
 use crate::encode::sizes::{Sizes, SizesLeft};
 use crate::encode::slot::Failed;
 use crate::encode::values::Values;
-use crate::encode::values::parts::{Chain, End, Four, joined_len, note_joined};
-use crate::encode::values::parts::{write_joined, write_known_parts};
+use crate::encode::values::parts::{
+    Chain, End, Four, joined_len, note_joined, write_joined, write_known_parts,
+};
 use crate::encode::{EncodeError, WriteError};
 use crate::mode::Mode;
 use std::io;

@@ -98,7 +98,12 @@ fn put<W: io::Write>(
     match &string.octets {
         Octets::Whole(octets) => put_octets(tag, octets.as_slice(), mode, target, why),
         Octets::Cut(kept, _) => match mode {
-            Mode::Ber => Constructed::new(tag, kept).write_known(mode, &mut SizesLeft::none(), target, why),
+            Mode::Ber => Constructed::new(tag, kept).write_known(
+                mode,
+                &mut SizesLeft::none(),
+                target,
+                why,
+            ),
             Mode::Cer | Mode::Der => {
                 put_string(tag, mode, string.len(), string.iter(), target, why)
             }

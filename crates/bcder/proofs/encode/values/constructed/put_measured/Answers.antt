@@ -1,6 +1,6 @@
 use Rattle.std.proofs.Common.{ap, sym, ◌∙◌, Err}
 use Rattle.bcder.specs.x690.Octets.{fits_length, constructed_length}
-use Rattle.bcder.specs.calls.Meaning.{encoded_octets, fits_enclosed}
+use Rattle.bcder.specs.calls.Meaning.{encoded_octets}
 use Rattle.bcder.proofs.Enclosing.{inside_of, length_fits}
 use Rattle.bcder.proofs.Noting.{one_size, noted_read}
 use Rattle.bcder.proofs.Writing.{same_octets, same_answer, lacked}
