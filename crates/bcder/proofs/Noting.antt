@@ -2,10 +2,9 @@
 use Rattle.std.proofs.Common.{◌≡◌, ℕ, List, [], ◌∷◌, ◌++◌, length, None, Some, Result, Ok, Err, refl, sym, ap, ◌∙◌, subst, ◌⊎◌, inl, inr, append_assoc, append-nil}
 use Rattle.std.specs.Prelude.{IfOk}
 use Rattle.bcder.specs.declared.encode.slot.Failed.{Failed}
-use Rattle.bcder.specs.declared.length.Length.{Length}
 use Rattle.bcder.specs.declared.length.Length.TheVariants.{Definite}
 use Rattle.bcder.specs.x690.Octets.{constructed_length}
-use Rattle.bcder.specs.steps.Enclosing.{TakesLength}
+use Rattle.bcder.specs.steps.Enclosing.{TakesContents}
 use Rattle.bcder.specs.declared.encode.sizes.Sizes.{Sizes}
 use Rattle.bcder.specs.declared.mode.Mode.{Mode}
 use Rattle.bcder.specs.declared.mode.Mode.TheVariants.{Ber, Cer, Der}
@@ -131,19 +130,19 @@ module _ (M : Meaning → Type 0) (R : List ℕ → List ℕ → Type 0) where
   within_ends l n (inl none) = inl none
   within_ends l n (inr all) = inr (λ after r. all after (within_at l after r))
 
-  -- its length is told
-  pub contents_may : (mode : Mode) (l m : List ℕ) (len : Length) → TakesLength mode l (Some len) m → MayRead (ReadsContents mode M R) l
-      → ((x : Encoded) → M (Ok x) → len ≡ constructed_length mode (length x.octets)) × MayRead R m
-  contents_may Cer l m len (is, same) may = (λ x meant. is, subst (MayRead R) (sym same) (record { after = may.after; reads = within_at l may.after may.reads }))
-  contents_may Ber l m len (size, is, at) may = let (sized, r) = inside_may l m size at may in (λ x meant. is ∙ ap Definite (sized x meant), r)
-  contents_may Der l m len (size, is, at) may = let (sized, r) = inside_may l m size at may in (λ x meant. is ∙ ap Definite (sized x meant), r)
+  -- its size is told
+  pub contents_may : (mode : Mode) (l m : List ℕ) (size : ℕ) → TakesContents mode l (Some size) m → MayRead (ReadsContents mode M R) l
+      → ((x : Encoded) → M (Ok x) → constructed_length mode size ≡ constructed_length mode (length x.octets)) × MayRead R m
+  contents_may Cer l m size same may = (λ x meant. refl, subst (MayRead R) (sym same) (record { after = may.after; reads = within_at l may.after may.reads }))
+  contents_may Ber l m size at may = let (sized, r) = inside_may l m size at may in (λ x meant. ap Definite (sized x meant), r)
+  contents_may Der l m size at may = let (sized, r) = inside_may l m size at may in (λ x meant. ap Definite (sized x meant), r)
 
-  pub contents_read : (mode : Mode) (l m n : List ℕ) (len : Length) → TakesLength mode l (Some len) m → HasRead R m n → HasRead (ReadsContents mode M R) l n
-  contents_read Cer l m n len (is, same) h = let here = subst (λ x. HasRead R x n) same h in record { ends = within_ends l n here.ends }
-  contents_read Ber l m n len (size, is, at) h = inside_read l m n size at h
-  contents_read Der l m n len (size, is, at) h = inside_read l m n size at h
+  pub contents_read : (mode : Mode) (l m n : List ℕ) (size : ℕ) → TakesContents mode l (Some size) m → HasRead R m n → HasRead (ReadsContents mode M R) l n
+  contents_read Cer l m n size same h = let here = subst (λ x. HasRead R x n) same h in record { ends = within_ends l n here.ends }
+  contents_read Ber l m n size at h = inside_read l m n size at h
+  contents_read Der l m n size at h = inside_read l m n size at h
 
-  pub not_noted : (mode : Mode) (l m : List ℕ) → TakesLength mode l None m → HasRead (ReadsContents mode M R) l m
+  pub not_noted : (mode : Mode) (l m : List ℕ) → TakesContents mode l None m → HasRead (ReadsContents mode M R) l m
   not_noted Cer l m h = absurd h
-  not_noted Ber l m h = record { ends = inl h }
-  not_noted Der l m h = record { ends = inl h }
+  not_noted Ber l m h = record { ends = inl h.1 }
+  not_noted Der l m h = record { ends = inl h.1 }

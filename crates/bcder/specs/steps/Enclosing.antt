@@ -4,8 +4,6 @@ use Rattle.std.specs.Borrow.{MutBor}
 use denote.Triple.Both.{Both}
 use Rattle.bcder.specs.declared.encode.error.EncodeError.{EncodeError}
 use Rattle.bcder.specs.declared.encode.error.WriteError.{WriteError}
-use Rattle.bcder.specs.declared.length.Length.{Length}
-use Rattle.bcder.specs.declared.length.Length.TheVariants.{Definite, Indefinite}
 use Rattle.bcder.specs.declared.mode.Mode.{Mode}
 use Rattle.bcder.specs.declared.mode.Mode.TheVariants.{Cer}
 use Rattle.bcder.specs.x690.Identifier.{Tag, IsValueTag}
@@ -28,10 +26,10 @@ abbrev pub MeasuredInside : Tag → Mode → (Meaning → Type 0) → Type 0 →
 MeasuredInside t mode M lacks (Ok n) = (x : Encoded) × M (Ok x) × (n ≡ length x.octets) × (fits_enclosed mode t n ≡ true) × (IsValueTag t)
 MeasuredInside t mode M lacks (Err e) = RefusesBy (ValueMeans t (constructed_meaning t mode) M) lacks e
 
--- how a writing of the value with this length went
-abbrev pub WritesEnclosed : {W : Type 0} → (W → Option (List ℕ)) → Both (MutBor W) (MutBor W) → Tag → Length → Mode → (Meaning → Type 0) → Type 0 → Result (Unit {0}) WriteError → Type 0
-WritesEnclosed contents target t len mode M lacks r =
-    (x : Encoded) → M (Ok x) → len ≡ constructed_length mode (length x.octets)
+-- how a writing of the value that tells this size went
+abbrev pub WritesEnclosed : {W : Type 0} → (W → Option (List ℕ)) → Both (MutBor W) (MutBor W) → Tag → ℕ → Mode → (Meaning → Type 0) → Type 0 → Result (Unit {0}) WriteError → Type 0
+WritesEnclosed contents target t size mode M lacks r =
+    (x : Encoded) → M (Ok x) → constructed_length mode size ≡ constructed_length mode (length x.octets)
     → WroteOf lacks (enclosed mode t x.octets) (contents target.entry.now) (contents target.exit.now) r
 
 -- the first of the sizes that are left is taken, if there is one
@@ -39,9 +37,8 @@ abbrev pub Takes : List ℕ → Option ℕ → List ℕ → Type 0
 Takes old None new = (old ≡ []) × (new ≡ [])
 Takes old (Some size) new = old ≡ size ∷ new
 
--- the length of a constructed value is told: in CER it is indefinite, and else the first of the sizes that are left, if there is one
-abbrev pub TakesLength : Mode → List ℕ → Option Length → List ℕ → Type 0
-TakesLength Cer old (Some len) new = (len ≡ Indefinite) × (new ≡ old)
-TakesLength Cer old None new = ⊥
-TakesLength mode old (Some len) new = (size : ℕ) × (len ≡ Definite size) × (old ≡ size ∷ new)
-TakesLength mode old None new = new ≡ []
+-- the size that a constructed value tells is the first of those that are left, if there is one; in CER none is told
+abbrev pub TakesContents : Mode → List ℕ → Option ℕ → List ℕ → Type 0
+TakesContents Cer old (Some size) new = new ≡ old
+TakesContents Cer old None new = ⊥
+TakesContents mode old size new = Takes old size new

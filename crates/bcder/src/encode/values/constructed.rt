@@ -6,7 +6,7 @@ ghost use Rattle.bcder.specs.calls.Meaning.{ValueMeans, constructed_meaning};
 ghost use Rattle.bcder.specs.calls.Encoders.{HasEncoding, SizeOfValues, WroteOctets, WritesKnown};
 ghost use Rattle.bcder.specs.calls.Encoders.{into_result};
 ghost use Rattle.bcder.specs.calls.Noted.{ReadsContents, Notes, MayRead, HasRead};
-ghost use Rattle.bcder.specs.steps.Enclosing.{EnclosedSize, MeasuredInside, TakesLength};
+ghost use Rattle.bcder.specs.steps.Enclosing.{EnclosedSize, MeasuredInside, TakesContents};
 ghost use Rattle.bcder.specs.steps.Enclosing.{WritesEnclosed};
 ghost use Rattle.bcder.specs.laws.Meanings.{constructed_lawful};
 
@@ -144,18 +144,14 @@ fn constructed_length(mode: Mode, len: usize) -> Length
     }
 }
 
-/// What the length octets say of a value whose size is the next one that is left. In CER none is
-/// told.
+/// The size that a value tells, which is the next one that is left. In CER none is told.
 #[inline(always)]
-fn next_length(mode: Mode, sizes: &mut SizesLeft<'_>) -> Option<Length>
-    ensures { TakesLength mode sizes.old.sizes.now result sizes.new.sizes.now }
+fn next_size(mode: Mode, sizes: &mut SizesLeft<'_>) -> Option<usize>
+    ensures { TakesContents mode sizes.old.sizes.now result sizes.new.sizes.now }
 {
     match mode {
-        Mode::Cer => Some(Length::Indefinite),
-        Mode::Ber | Mode::Der => match sizes.next() {
-            Some(size) => Some(Length::Definite(size)),
-            None => None,
-        },
+        Mode::Cer => Some(0),
+        Mode::Ber | Mode::Der => sizes.next(),
     }
 }
 
@@ -170,52 +166,48 @@ fn put_closing<W: io::Write>(mode: Mode, target: &mut W, why: &mut WriteError) -
     }
 }
 
-/// Writes the value with this length and these values inside.
+/// Writes the value with these values inside, which have `size` octets where that is told.
 fn put_enclosed<V: Values, W: io::Write>(
-    tag: Tag,
-    len: Length,
-    inner: &V,
+    value: &Constructed<V>,
+    size: usize,
     mode: Mode,
     sizes: &mut SizesLeft<'_>,
     target: &mut W,
     why: &mut WriteError,
 ) -> Result<(), Failed>
-    requires fits { fits_length len ≡ true }
-    requires can { V.can_encode inner.now }
-    requires known { HasEncoding (V.means inner.now mode) }
-    requires sized { MayRead (V.reads inner.now mode) sizes.old.sizes.now }
-    ensures written { WritesEnclosed W.contents target tag len mode
-        (V.means inner.now mode) (V.may_lack inner.now mode) (into_result result why.new) }
+    requires fits { fits_length (constructed_length mode size) ≡ true }
+    requires can { V.can_encode value.now.inner }
+    requires known { HasEncoding (V.means value.now.inner mode) }
+    requires sized { MayRead (V.reads value.now.inner mode) sizes.old.sizes.now }
+    ensures written { WritesEnclosed W.contents target value.now.tag size mode
+        (V.means value.now.inner mode) (V.may_lack value.now.inner mode)
+        (into_result result why.new) }
     ensures left { IfOk result (λ _.
-        HasRead (V.reads inner.now mode) sizes.old.sizes.now sizes.new.sizes.now) }
+        HasRead (V.reads value.now.inner mode) sizes.old.sizes.now sizes.new.sizes.now) }
 {
-    put_header(target, tag, true, len, why)?;
-    inner.write_known(mode, sizes, target, why)?;
+    put_header(target, value.tag, true, constructed_length(mode, size), why)?;
+    value.inner.write_known(mode, sizes, target, why)?;
     put_closing(mode, target, why)
 }
 
 /// Writes a value that is known to have an encoding, and whose size isn't noted: it is measured
 /// once more, and the sizes inside are noted anew.
 fn put_measured<V: Values, W: io::Write>(
-    tag: Tag,
-    inner: &V,
+    value: &Constructed<V>,
     mode: Mode,
     target: &mut W,
     why: &mut WriteError,
 ) -> Result<(), Failed>
-    requires can { V.can_encode inner.now }
-    requires known { HasEncoding
-        (ValueMeans tag (constructed_meaning tag mode) (V.means inner.now mode)) }
-    ensures { WritesKnown W.contents target
-        (ValueMeans tag (constructed_meaning tag mode) (V.means inner.now mode))
-        (V.may_lack inner.now mode) (into_result result why.new) }
+    requires can { V.can_encode value.now.inner }
+    requires known { HasEncoding (ValueMeans value.now.tag
+        (constructed_meaning value.now.tag mode) (V.means value.now.inner mode)) }
+    ensures { WritesKnown W.contents target (ValueMeans value.now.tag
+        (constructed_meaning value.now.tag mode) (V.means value.now.inner mode))
+        (V.may_lack value.now.inner mode) (into_result result why.new) }
 {
     let mut sizes = Sizes::new();
-    match inner.note_sizes(mode, &mut sizes) {
-        Ok(contents) => {
-            let len = constructed_length(mode, contents);
-            put_enclosed(tag, len, inner, mode, &mut sizes.left(), target, why)
-        }
+    match value.inner.note_sizes(mode, &mut sizes) {
+        Ok(size) => put_enclosed(value, size, mode, &mut sizes.left(), target, why),
         Err(error) => Err(store_refusal(why, error)),
     }
 }
@@ -250,18 +242,9 @@ impl<V: Values> Values for Constructed<V> {
 
     fn write_encoded<W: io::Write>(&self, mode: Mode, target: &mut W) -> Result<(), WriteError> {
         let mut sizes = Sizes::new();
-        let contents = measure(self.tag, &self.inner, mode, &mut sizes)?;
-        let len = constructed_length(mode, contents);
+        let size = measure(self.tag, &self.inner, mode, &mut sizes)?;
         let mut why = slot();
-        let outcome = put_enclosed(
-            self.tag,
-            len,
-            &self.inner,
-            mode,
-            &mut sizes.left(),
-            target,
-            &mut why,
-        );
+        let outcome = put_enclosed(self, size, mode, &mut sizes.left(), target, &mut why);
         into_result(outcome, why)
     }
 
@@ -272,9 +255,9 @@ impl<V: Values> Values for Constructed<V> {
         target: &mut W,
         why: &mut WriteError,
     ) -> Result<(), Failed> {
-        match next_length(mode, sizes) {
-            Some(len) => put_enclosed(self.tag, len, &self.inner, mode, sizes, target, why),
-            None => put_measured(self.tag, &self.inner, mode, target, why),
+        match next_size(mode, sizes) {
+            Some(size) => put_enclosed(self, size, mode, sizes, target, why),
+            None => put_measured(self, mode, target, why),
         }
     }
 
