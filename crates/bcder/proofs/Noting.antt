@@ -1,7 +1,6 @@
 -- Sizes that are noted where encoders are measured, and read where they are written.
 use Rattle.std.proofs.Common.{◌≡◌, ℕ, List, [], ◌∷◌, ◌++◌, length, None, Some, Result, Ok, Err, refl, sym, ap, ◌∙◌, subst, ◌⊎◌, inl, inr, append_assoc, append-nil}
 use Rattle.std.specs.Prelude.{IfOk}
-use Rattle.bcder.specs.declared.encode.slot.Failed.{Failed}
 use Rattle.bcder.specs.declared.length.Length.TheVariants.{Definite}
 use Rattle.bcder.specs.x690.Octets.{constructed_length}
 use Rattle.bcder.specs.steps.Enclosing.{TakesContents}
@@ -39,13 +38,17 @@ noted_read {R} old new none n l is =
     let all : l ≡ n.sizes ++ [] = is ∙ n.added ∙ ap (λ b. b ++ n.sizes) none ∙ sym (append-nil n.sizes) in
     record { after = []; reads = subst (λ x. Reads R x []) (sym all) (n.reads [] (λ full. refl)) }
 
+-- the same of those that are left of a tape
+pub left_read : {R : List ℕ → List ℕ → Type 0} (l m : List ℕ) → l ≡ m → MayRead R m → MayRead R l
+left_read {R} l m is may = subst (MayRead R) (sym is) may
+
 -- ---- where a step succeeded
 
-pub where_ok : {P Q : Type 0} (r : Result (Unit {0}) Failed) → (P → Q) → IfOk r (λ _. P) → IfOk r (λ _. Q)
+pub where_ok : {A E P Q : Type 0} (r : Result A E) → (P → Q) → IfOk r (λ _. P) → IfOk r (λ _. Q)
 where_ok (Ok u) f h = f h
 where_ok (Err e) f h = tt
 
-pub in_any_case : {Q : Type 0} (r : Result (Unit {0}) Failed) → Q → IfOk r (λ _. Q)
+pub in_any_case : {A E Q : Type 0} (r : Result A E) → Q → IfOk r (λ _. Q)
 in_any_case (Ok u) q = q
 in_any_case (Err e) q = tt
 

@@ -8,6 +8,7 @@ use crate::captured::Captured;
 use crate::decode::Pos;
 use crate::encode::sizes::Sizes;
 use crate::encode::slot::{Failed, slot};
+use crate::encode::values::measure;
 use crate::encode::{EncodeError, Values, WriteError};
 use crate::mode::Mode;
 use bytes::Bytes;
@@ -82,7 +83,7 @@ impl CapturedBuilder {
         ensures unchanged { OnErr result (self.new ≡ self.old) }
     {
         let mut sizes = Sizes::new();
-        let len = values.note_sizes(self.mode, &mut sizes)?;
+        let len = measure(&values, self.mode, &mut sizes)?;
         if self.octets.reserve(len).is_err() {
             return Err(EncodeError::NoMemory);
         }

@@ -1,10 +1,11 @@
 //! What has an encoding as a list of values.
-ghost use Rattle.std.specs.Prelude.{◌≡◌, ⊤, ℕ, List, IfOk};
+ghost use Rattle.std.specs.Prelude.{◌≡◌, ⊤, ℕ, List, [], IfOk};
 ghost use Rattle.bcder.specs.declared.mode.Mode.{Mode};
 ghost use Rattle.bcder.specs.calls.Meaning.{Meaning, IsLawful};
 ghost use Rattle.bcder.specs.calls.Encoders.{HasEncoding, SizeOfValues, WritesValues, WritesKnown};
 ghost use Rattle.bcder.specs.calls.Encoders.{into_result};
 ghost use Rattle.bcder.specs.calls.Noted.{ReadsInside, Notes, MayRead, HasRead};
+ghost use Rattle.bcder.specs.calls.Noted.{noted};
 ghost use Rattle.bcder.specs.calls.Gathered.{GathersValues};
 
 pub(crate) mod choice;
@@ -190,4 +191,23 @@ pub(crate) fn note_inside<V: Values>(
     let len = values.note_sizes(mode, sizes)?;
     sizes.fill(place, len);
     Ok(len)
+}
+
+/// How many octets values have that are written next. The sizes that they tell are noted: in CER
+/// none, where no constructed value tells one.
+#[inline(always)]
+pub(crate) fn measure<V: Values>(
+    values: &V,
+    mode: Mode,
+    sizes: &mut Sizes,
+) -> Result<usize, EncodeError>
+    requires can { V.can_encode values.now }
+    requires none { noted sizes.old ≡ [] }
+    ensures sized { SizeOfValues (V.means values.now mode) (V.may_lack values.now mode) result }
+    ensures noted { IfOk result (λ _. MayRead (V.reads values.now mode) (noted sizes.new)) }
+{
+    match mode {
+        Mode::Cer => values.encoded_len(mode),
+        Mode::Ber | Mode::Der => values.note_sizes(mode, sizes),
+    }
 }

@@ -1,11 +1,11 @@
 //! Encoders of constructed values.
-ghost use Rattle.std.specs.Prelude.{◌≡◌, ◌<◌, length, true, IfOk};
+ghost use Rattle.std.specs.Prelude.{◌≡◌, ◌<◌, [], length, true, IfOk};
 ghost use Rattle.bcder.specs.x690.Identifier.{sequence_tag, set_tag, identifier as identifier_of};
 ghost use Rattle.bcder.specs.x690.Octets.{fits_length, constructed_length, closing};
 ghost use Rattle.bcder.specs.calls.Meaning.{ValueMeans, constructed_meaning};
 ghost use Rattle.bcder.specs.calls.Encoders.{HasEncoding, SizeOfValues, WroteOctets, WritesKnown};
 ghost use Rattle.bcder.specs.calls.Encoders.{into_result};
-ghost use Rattle.bcder.specs.calls.Noted.{ReadsContents, Notes, MayRead, HasRead};
+ghost use Rattle.bcder.specs.calls.Noted.{noted, ReadsContents, Notes, MayRead, HasRead};
 ghost use Rattle.bcder.specs.steps.Enclosing.{EnclosedSize, MeasuredInside, TakesContents};
 ghost use Rattle.bcder.specs.steps.Enclosing.{WritesEnclosed};
 ghost use Rattle.bcder.specs.laws.Meanings.{constructed_lawful};
@@ -14,7 +14,7 @@ use crate::encode::header::put_header;
 use crate::encode::sizes::{Sizes, SizesLeft};
 use crate::encode::slot::{Failed, into_result, slot, store_refusal};
 use crate::encode::target::put_all;
-use crate::encode::values::{Values, note_inside};
+use crate::encode::values::{Values, measure, note_inside};
 use crate::encode::{EncodeError, WriteError};
 use crate::length::Length;
 use crate::mode::Mode;
@@ -96,23 +96,24 @@ fn size_behind(identifier: usize, _tag: Tag, mode: Mode, len: usize) -> Result<u
     }
 }
 
-/// How many contents octets a constructed value has, or why it has no encoding. The sizes inside
-/// are noted.
-fn measure<V: Values>(
+/// How many contents octets a constructed value has that is written next, or why it has no
+/// encoding. The sizes inside are noted where they are told.
+fn measure_contents<V: Values>(
     tag: Tag,
     inner: &V,
     mode: Mode,
     sizes: &mut Sizes,
 ) -> Result<usize, EncodeError>
-    requires { V.can_encode inner.now }
+    requires can { V.can_encode inner.now }
+    requires none { noted sizes.old ≡ [] }
     ensures sized { MeasuredInside tag mode
         (V.means inner.now mode) (V.may_lack inner.now mode) result }
-    ensures noted { IfOk result (λ _. Notes (V.reads inner.now mode) sizes.old sizes.new) }
+    ensures noted { IfOk result (λ _. MayRead (V.reads inner.now mode) (noted sizes.new)) }
 {
     let Some(identifier) = tag.value_len() else {
         return Err(EncodeError::EndOfValueTag);
     };
-    let contents = inner.note_sizes(mode, sizes)?;
+    let contents = measure(inner, mode, sizes)?;
     size_behind(identifier, tag, mode, contents)?;
     Ok(contents)
 }
@@ -242,7 +243,7 @@ impl<V: Values> Values for Constructed<V> {
 
     fn write_encoded<W: io::Write>(&self, mode: Mode, target: &mut W) -> Result<(), WriteError> {
         let mut sizes = Sizes::new();
-        let size = measure(self.tag, &self.inner, mode, &mut sizes)?;
+        let size = measure_contents(self.tag, &self.inner, mode, &mut sizes)?;
         let mut why = slot();
         let outcome = put_enclosed(self, size, mode, &mut sizes.left(), target, &mut why);
         into_result(outcome, why)

@@ -1,11 +1,12 @@
 //! Encoders one after the other.
-ghost use Rattle.std.specs.Prelude.{◌≡◌, ℕ, ◌+◌, ⊤, ◌⊎◌, List, IfOk};
+ghost use Rattle.std.specs.Prelude.{◌≡◌, ℕ, ◌+◌, ⊤, ◌⊎◌, List, [], IfOk};
 ghost use Rattle.bcder.specs.declared.mode.Mode.{Mode};
 ghost use Rattle.bcder.specs.calls.Meaning.{Meaning, IsLawful};
 ghost use Rattle.bcder.specs.calls.Encoders.{HasEncoding, SizeOfValues, WritesValues, WritesParts};
 ghost use Rattle.bcder.specs.calls.Encoders.{TellsSum, WritesKnown, into_result};
 ghost use Rattle.bcder.specs.calls.Joined.{Then, NoValues, Joined, IsSum};
 ghost use Rattle.bcder.specs.calls.Noted.{ReadsNone, ReadsThen, Notes, MayRead, HasRead};
+ghost use Rattle.bcder.specs.calls.Noted.{noted};
 ghost use Rattle.bcder.specs.laws.Joined.{Then_lawful, NoValues_lawful};
 
 use crate::encode::sizes::{Sizes, SizesLeft};
@@ -88,6 +89,22 @@ pub(crate) fn note_joined<P: Parts>(
     }
 }
 
+/// The size of parts that are written next, or why there is no encoding. The sizes that they tell
+/// are noted: in CER none, where no constructed value tells one.
+#[inline(always)]
+fn measure_joined<P: Parts>(parts: &P, mode: Mode, sizes: &mut Sizes) -> Result<usize, EncodeError>
+    requires can { P.can_encode parts.now }
+    requires none { noted sizes.old ≡ [] }
+    ensures sized { SizeOfValues
+        (Joined (P.all parts.now mode)) (P.may_lack parts.now mode) result }
+    ensures noted { IfOk result (λ _. MayRead (P.reads parts.now mode) (noted sizes.new)) }
+{
+    match mode {
+        Mode::Cer => joined_len(parts, mode),
+        Mode::Ber | Mode::Der => note_joined(parts, mode, sizes),
+    }
+}
+
 /// Writes the parts, if none of them is refused and their sizes have a sum.
 pub(crate) fn write_joined<P: Parts, W: io::Write>(
     parts: &P,
@@ -99,7 +116,7 @@ pub(crate) fn write_joined<P: Parts, W: io::Write>(
         (Joined (P.all parts.now mode)) (P.may_lack parts.now mode) result }
 {
     let mut sizes = Sizes::new();
-    note_joined(parts, mode, &mut sizes)?;
+    measure_joined(parts, mode, &mut sizes)?;
     let mut why = slot();
     let outcome = parts.write_parts(mode, &mut sizes.left(), target, &mut why);
     into_result(outcome, why)

@@ -2,13 +2,13 @@ use Rattle.std.proofs.Common.{subst, Some}
 use Rattle.bcder.specs.calls.Captured.{Kept}
 use Rattle.bcder.specs.calls.Encoders.{WritesEncoding, into_result}
 use Rattle.bcder.specs.calls.Gathered.{kept_from_start, GrowsBy}
-use Rattle.bcder.proofs.Noting.{noted_read}
+use Rattle.bcder.proofs.Noting.{left_read}
 use Rattle.bcder.proofs.Writing.{same_result}
 use Rattle.bcder.proofs.Gathering.{written_grows, whole_grown}
 use Rattle.bcder.proofs.captured.builder.CapturedBuilder.extend.Goals as goal
 
 pub write_known-requires-clause-sized : goal.write_known-requires-clause-sized
-write_known-requires-clause-sized g c = noted_read _ _ c.new-sizes.ensures c.in_ok-len.ensures.noted _ c.left.ensures
+write_known-requires-clause-sized g c = left_read _ _ c.left.ensures c.in_ok-len.ensures.noted
 
 pub invariant_of-self-in-Ok : goal.invariant_of-self-in-Ok
 invariant_of-self-in-Ok g c =

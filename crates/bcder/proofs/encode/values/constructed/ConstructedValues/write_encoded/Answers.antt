@@ -2,7 +2,7 @@ use Rattle.std.proofs.Common.{ap, sym, ◌∙◌, inl}
 use Rattle.bcder.specs.x690.Octets.{constructed_length}
 use Rattle.bcder.specs.calls.Meaning.{constructed_encoded, fits_enclosed}
 use Rattle.bcder.proofs.Enclosing.{constructed_given, length_fits}
-use Rattle.bcder.proofs.Noting.{noted_read}
+use Rattle.bcder.proofs.Noting.{left_read}
 use Rattle.bcder.proofs.Writing.{same_answer}
 use Rattle.bcder.proofs.encode.values.constructed.ConstructedValues.write_encoded.Goals as goal
 
@@ -13,7 +13,7 @@ put_enclosed-outcome-requires g c =
       fits = length_fits c.args.mode c.args.self.now.tag _ fits;
       can = c.requires;
       known = (x, meant);
-      sized = noted_read _ _ c.new-sizes.ensures c.in_ok-size.ensures.noted _ c.left.ensures;
+      sized = left_read _ _ c.left.ensures c.in_ok-size.ensures.noted;
     }
 
 pub returns : goal.returns
