@@ -1,6 +1,6 @@
 -- The meaning of a value, from what is inside.
-use Rattle.std.proofs.Common.{◌≡◌, ◌≢◌, ℕ, suc, ◌+◌, ◌-◌, ◌<◌, arith, ◌^◌, List, [], ◌∷◌, ◌++◌, Bool, true, false, length, nat_lt, Ok, Err, refl, ap, ◌∙◌, inl, inr, length-append, if◌then◌else◌}
-use Rattle.std.proofs.lemmas.Bool.{cases_lt, lt-ltb, le-ltb, le-leb, lt-leb, ltb-true}
+use Rattle.std.proofs.Common.{◌≡◌, ◌≢◌, ℕ, ◌+◌, ◌<◌, ◌^◌, List, [], ◌∷◌, ◌++◌, Bool, true, false, length, nat_lt, Ok, Err, refl, ap, ◌∙◌, inl, inr, length-append, if◌then◌else◌}
+use Rattle.std.proofs.lemmas.Bool.{cases_lt, lt-ltb, le-ltb, ltb-true}
 use Rattle.bcder.specs.declared.mode.Mode.{Mode}
 use Rattle.bcder.specs.declared.mode.Mode.TheVariants.{Ber, Cer, Der}
 use Rattle.bcder.specs.declared.encode.error.EncodeError.TheVariants.{LengthTooLarge}
@@ -8,7 +8,6 @@ use Rattle.bcder.specs.declared.length.Length.{Length}
 use Rattle.bcder.specs.declared.length.Length.TheVariants.{Definite}
 use Rattle.bcder.specs.x690.Identifier.{Tag, identifier, IsValueTag}
 use Rattle.bcder.specs.x690.Octets.{definite_length, length_octets, fits_length, header, definite, constructed_length, closing, enclosed, enclosed_size}
-use Rattle.bcder.specs.steps.Enclosing.{length_size}
 use Rattle.bcder.specs.calls.Meaning.{Encoded, Meaning, ContentsMeaning, ValueMeans, primitive_encoded, primitive_meaning, constructed_encoded, constructed_meaning, fits_enclosed, enclosed_refusal}
 use Rattle.bcder.proofs.Writing.{append_not_nil}
 
@@ -94,40 +93,3 @@ unfolding definite_length
 short_definite t i w one few =
     let d : definite_length (length w) ≡ length w ∷ [] = rw (lt-ltb (length w) 128 few) refl in
     ap (λ v. (v ++ definite_length (length w)) ++ w) one ∙ ap (λ v. (i ∷ v) ++ w) d
-
--- ---- the contents octets of a value whose size is told
-
-size_at : (n m : ℕ) → n < 2 ^ 32 → m ≡ length (definite_length n) + n → m - length_size m ≡ n
-unfolding definite_length
-size_at n m h is =
-    elim (cases_lt n 0x80) [
-      | inl a ↦ (
-          let found = rw (lt-ltb n 0x80 a) at is in
-          let rest : m ≡ suc n = omega (arith, found) in
-          rw (rest, le-leb (suc n) 0x80 (omega arith)) (omega arith))
-      | inr a ↦ elim (cases_lt n 0x100) [
-        | inl b ↦ (
-            let found = rw (le-ltb n 0x80 a, lt-ltb n 0x100 b) at is in
-            let rest : m ≡ suc (suc n) = omega (arith, found) in
-            rw (rest, lt-leb (suc (suc n)) 0x80 (omega arith), le-leb (suc (suc n)) 0x101 (omega arith)) (omega arith))
-        | inr b ↦ elim (cases_lt n 0x10000) [
-          | inl c ↦ (
-              let found = rw (le-ltb n 0x80 a, le-ltb n 0x100 b, lt-ltb n 0x10000 c) at is in
-              let rest : m ≡ suc (suc (suc n)) = omega (arith, found) in
-              rw (rest, lt-leb (suc (suc (suc n))) 0x80 (omega arith), lt-leb (suc (suc (suc n))) 0x101 (omega arith), le-leb (suc (suc (suc n))) 0x10002 (omega arith)) (omega arith))
-          | inr c ↦ elim (cases_lt n 0x1000000) [
-            | inl d ↦ (
-                let found = rw (le-ltb n 0x80 a, le-ltb n 0x100 b, le-ltb n 0x10000 c, lt-ltb n 0x1000000 d) at is in
-                let rest : m ≡ suc (suc (suc (suc n))) = omega (arith, found) in
-                rw (rest, lt-leb (suc (suc (suc (suc n)))) 0x80 (omega arith), lt-leb (suc (suc (suc (suc n)))) 0x101 (omega arith), lt-leb (suc (suc (suc (suc n)))) 0x10002 (omega arith), le-leb (suc (suc (suc (suc n)))) 0x1000003 (omega arith)) (omega arith))
-            | inr d ↦ (
-                let found = rw (le-ltb n 0x80 a, le-ltb n 0x100 b, le-ltb n 0x10000 c, le-ltb n 0x1000000 d) at is in
-                let rest : m ≡ suc (suc (suc (suc (suc n)))) = omega (arith, found) in
-                rw (rest, lt-leb (suc (suc (suc (suc (suc n))))) 0x80 (omega arith), lt-leb (suc (suc (suc (suc (suc n))))) 0x101 (omega arith), lt-leb (suc (suc (suc (suc (suc n))))) 0x10002 (omega arith), lt-leb (suc (suc (suc (suc (suc n))))) 0x1000003 (omega arith)) (omega arith))
-          ]
-        ]
-      ]
-    ]
-
-pub contents_size : (t : Tag) (form : Bool) (n size k : ℕ) → n < 2 ^ 32 → size ≡ length (header t form (Definite n)) + n → k ≡ length (identifier t form) → (size - k) - length_size (size - k) ≡ n
-contents_size t form n size k h is tag = size_at n (size - k) h (omega (arith, is, tag, header-length t form (Definite n)))

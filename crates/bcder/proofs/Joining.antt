@@ -1,25 +1,16 @@
 -- What is answered for encoders in a row.
 use Rattle.std.proofs.Common.{◌≡◌, ℕ, ◌+◌, ◌<◌, ◌≤◌, ◌^◌, List, [], ◌∷◌, ◌++◌, length, Option, None, Some, Result, Ok, Err, refl, sym, ap, ◌∙◌, subst, inl, inr, arith, length-append}
-use Rattle.std.specs.Option.{SomeIff, IfSome}
+use Rattle.std.specs.Option.{SomeIff}
 use Rattle.bcder.specs.declared.encode.error.EncodeError.{EncodeError}
-use Rattle.bcder.specs.calls.Meaning.{Encoded, Meaning, IsOne, encoded_octets, ValueMeans, constructed_meaning, fits_enclosed}
-use Rattle.bcder.specs.declared.mode.Mode.{Mode}
-use Rattle.bcder.specs.declared.mode.Mode.TheVariants.{Ber, Cer, Der}
-use Rattle.bcder.specs.declared.length.Length.{Length}
-use Rattle.bcder.specs.declared.length.Length.TheVariants.{Definite}
-use Rattle.bcder.specs.x690.Identifier.{Tag}
-use Rattle.bcder.specs.x690.Octets.{header, constructed_length, enclosed_size}
-use Rattle.bcder.specs.steps.Enclosing.{definite_len}
-use Rattle.bcder.proofs.Enclosing.{inside_of, enclosed-length}
-use Rattle.std.specs.Prelude.{◌⊎◌}
-use Rattle.std.proofs.Common.{true, ltb-true, IsErr, IsErrAnd, drop_of_length-le, drop, get_or, suc, add-one, drop-cons, append_assoc, append-nil}
+use Rattle.bcder.specs.calls.Meaning.{Encoded, Meaning, encoded_octets}
+use Rattle.std.proofs.Common.{IsErr, IsErrAnd, drop_of_length-le, drop, get_or, suc, add-one, drop-cons, append_assoc, append-nil}
 use Rattle.std.specs.Io.KnownBytes.{Appends}
 use Rattle.std.proofs.KnownBytes.{Appends-trans, Appends-nil}
 use Rattle.bcder.specs.declared.encode.error.WriteError.{WriteError}
 use Rattle.bcder.specs.x690.Tree.{Trees, no_trees, ◌∷ₜ◌, ◌+++◌}
-use Rattle.bcder.proofs.Writing.{stops, follows_on, same_octets, same_ok}
-use Rattle.bcder.specs.calls.Joined.{nothing, join, Then, NoValues, EachOf, IsSum, Joined}
-use Rattle.bcder.specs.calls.Encoders.{HasEncoding, HasSize, TellsSize, TellsSum, WroteOf, WritesEncoding, RefusesBy}
+use Rattle.bcder.proofs.Writing.{stops, follows_on, same_octets}
+use Rattle.bcder.specs.calls.Joined.{nothing, join, Then, NoValues, EachOf, IsSum}
+use Rattle.bcder.specs.calls.Encoders.{HasEncoding, TellsSize, TellsSum, WroteOf, WritesEncoding, RefusesBy}
 
 -- what is looked at so far, before whatever comes after it
 abbrev pub after : Encoded → Meaning → Meaning
@@ -137,86 +128,3 @@ EachOf_end M xs i h = ap (EachOf M) (drop_of_length-le xs h)
 pub sum_refused : {M : Meaning → Type 0} {L : Type 0} (e : EncodeError) (r : Result (Option ℕ) EncodeError) → IsErr r × IsErrAnd r (λ d. d ≡ e) → RefusesBy M L e → TellsSum M L r
 sum_refused e (Ok o) is h = absurd is.1
 sum_refused {M} {L} e (Err d) is h = subst (RefusesBy M L) (sym is.1) h
-
--- ---- sizes that are told
-
-pub one_size : {M : Meaning → Type 0} (one : IsOne M) (n : ℕ) (a : Encoded) → M (Ok a) → n ≡ length a.octets → HasSize M (Some n)
-one_size one n a m is = λ e p. is ∙ ap (λ x. length (encoded_octets x)) (same_ok _ one.same a e m p)
-
-size_at : (M : Meaning → Type 0) (o : Option ℕ) (e : Encoded) → HasSize M o → M (Ok e) → IfSome o (λ n. n ≡ length e.octets)
-size_at M (Some n) e h m = h e m
-size_at M None e h m = tt
-
-each_size : (M : Meaning → Type 0) (o : Option ℕ) → ((e : Encoded) → M (Ok e) → IfSome o (λ n. n ≡ length e.octets)) → HasSize M o
-each_size M (Some n) h = h
-each_size M None h = tt
-
--- of the last part
-pub last_size : (M N : Meaning → Type 0) (o : Option ℕ) → HasEncoding (Then M N) → ((m : Meaning) → N m → NoValues m) → HasSize (Then M N) o → HasSize M o
-last_size M N None known none h = tt
-last_size M N (Some n) (z, (x, y, p, q, is)) none h = λ e m.
-    let nil = none (Ok y) q in
-    let empty : y ≡ nothing = cc in
-    h (join e y) (e, y, m, q, refl) ∙ ap (λ (w : Encoded). length (e.octets ++ w.octets)) empty ∙ ap length (append-nil e.octets)
-
-sum_at : (o : Option ℕ) (x y : List ℕ) → IfSome o (λ n. n ≡ length (x ++ y)) → IfSome o (λ n. n ≡ length x + length y)
-sum_at (Some n) x y h = h ∙ length-append x y
-sum_at None x y h = tt
-
--- of those after the first part
-pub rest_size : (M N : Meaning → Type 0) (o f r : Option ℕ) → HasEncoding (Then M N) → HasSize (Then M N) o → HasSize M f
-    → ((k n : ℕ) → IfSome o (λ s. s ≡ k + n) → IfSome f (λ d. d ≡ k) → IfSome r (λ d. d ≡ n)) → HasSize N r
-rest_size M N o f r (z, (x, y, p, q, is)) h g less = each_size N r (λ e m.
-    less (length x.octets) (length e.octets) (sum_at o x.octets e.octets (size_at (Then M N) o (join x e) h (x, e, p, m, refl))) (size_at M f x g p))
-
-sum_back : (o : Option ℕ) (x y : List ℕ) → IfSome o (λ n. n ≡ length (x ++ y)) → IfSome o (λ n. n ≡ length y + length x)
-sum_back (Some n) x y h = let e = length-append x y in omega (arith, h, e)
-sum_back None x y h = tt
-
--- of the first part, by the size of those behind it
-pub front_size : (M N : Meaning → Type 0) (o f r : Option ℕ) → HasEncoding (Then M N) → HasSize (Then M N) o → HasSize N f
-    → ((k n : ℕ) → IfSome o (λ s. s ≡ k + n) → IfSome f (λ d. d ≡ k) → IfSome r (λ d. d ≡ n)) → HasSize M r
-front_size M N o f r (z, (x, y, p, q, is)) h g less = each_size M r (λ e m.
-    less (length y.octets) (length e.octets) (sum_back o e.octets y.octets (size_at (Then M N) o (join e y) h (e, y, m, q, refl))) (size_at N f y g q))
-
--- of parts that were asked for their sum
-pub summed_size : {M : Meaning → Type 0} (one : IsOne M) (lacks : Type 0) (o : Option ℕ) → TellsSum M lacks (Ok o) → HasSize M o
-summed_size one lacks None h = tt
-summed_size one lacks (Some n) (a, m, is) = one_size one n a m is
-
--- of parts whose sizes have a sum
-pub joined_size : (M : Meaning → Type 0) (o : Option ℕ) → IsOne M → HasEncoding (Joined M) → HasSize (Joined M) o → HasSize M o
-joined_size M None one known h = tt
-joined_size M (Some n) one (a, (m, fits)) h = one_size one n a m (h a (m, fits))
-
-constructed_told : {M : Meaning → Type 0} (one : IsOne M) (mode : Mode) (x : Encoded) → M (Ok x) → HasSize M (definite_len (constructed_length mode (length x.octets)))
-constructed_told one Ber x m = one_size one (length x.octets) x m refl
-constructed_told one Cer x m = tt
-constructed_told one Der x m = one_size one (length x.octets) x m refl
-
--- of what is inside a constructed value
-pub length_told : {M : Meaning → Type 0} (one : IsOne M) (mode : Mode) (x : Encoded) → M (Ok x) → (len : Length) → len ≡ constructed_length mode (length x.octets) → HasSize M (definite_len len)
-length_told {M} one mode x m len is = subst (λ l. HasSize M (definite_len l)) (sym is) (constructed_told one mode x m)
-
-contents_at : (t : Tag) (mode : Mode) (M : Meaning → Type 0) (one : IsOne M) (size : ℕ) → HasEncoding (ValueMeans t (constructed_meaning t mode) M)
-    → HasSize (ValueMeans t (constructed_meaning t mode) M) (Some size) → (x : Encoded) → M (Ok x)
-    → (fits_enclosed mode t (length x.octets) ≡ true) × (size ≡ enclosed_size mode t (length x.octets))
-contents_at t mode M one size (e, meant) sized x m =
-    let inside = inside_of t mode M e meant in
-    let same = same_ok _ one.same inside.values x inside.meant m in
-    let size_of = ap (λ (y : Encoded). length y.octets) same in
-    let whole = sized e meant ∙ ap (λ (y : Encoded). length y.octets) inside.is ∙ enclosed-length mode t inside.values.octets ∙ ap (enclosed_size mode t) size_of in
-    (ap (fits_enclosed mode t) (sym size_of) ∙ inside.fits, whole)
-
--- and of a whole that is told
-pub contents_told : (t : Tag) (mode : Mode) (M : Meaning → Type 0) (one : IsOne M) (len size : ℕ) → ((n : ℕ) → n < 2 ^ 32 → size ≡ length (header t true (Definite n)) + n → len ≡ n)
-    → HasEncoding (ValueMeans t (constructed_meaning t mode) M) → HasSize (ValueMeans t (constructed_meaning t mode) M) (Some size)
-    → (mode ≡ Ber) ⊎ (mode ≡ Der) → (x : Encoded) → M (Ok x) → Definite len ≡ constructed_length mode (length x.octets)
-contents_told t Ber M one len size h known sized form x m =
-    let (fits, whole) = contents_at t Ber M one size known sized x m in
-    ap Definite (h (length x.octets) (ltb-true _ _ fits) (omega (arith, whole)))
-contents_told t Der M one len size h known sized form x m =
-    let (fits, whole) = contents_at t Der M one size known sized x m in
-    ap Definite (h (length x.octets) (ltb-true _ _ fits) (omega (arith, whole)))
-contents_told t Cer M one len size h known sized (inl e) x m = cc
-contents_told t Cer M one len size h known sized (inr e) x m = cc

@@ -30,6 +30,7 @@ pub mod Decoding
 pub mod Nested
 pub mod Repeating
 pub mod Keeping
+pub mod Noting
 pub mod Numbers
 pub mod Reading
 pub mod Contents

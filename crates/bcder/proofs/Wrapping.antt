@@ -1,20 +1,14 @@
 -- Encodings inside an octet string.
-use Rattle.std.proofs.Common.{◌≡◌, ℕ, ◌+◌, ◌<◌, ◌^◌, Bool, true, false, List, length, nat_lt, Some, Result, Ok, Err, ◌⊎◌, inl, inr, refl, sym, ap, ◌∙◌, subst, arith, ltb-true, IsErr, IsErrAnd, if◌then◌else◌}
+use Rattle.std.proofs.Common.{◌≡◌, ℕ, true, List, length, Result, Ok, Err, ◌⊎◌, inl, inr, refl, sym, ap, ◌∙◌, subst, IsErr, IsErrAnd}
 use Rattle.bcder.specs.x690.OctetString.{octet_string_tag}
 use Rattle.bcder.specs.steps.Segmenting.{InsideSize}
 use Rattle.bcder.specs.declared.encode.error.EncodeError.{EncodeError}
-use Rattle.bcder.specs.declared.encode.error.EncodeError.TheVariants.{LengthTooLarge}
-use Rattle.bcder.specs.declared.length.Length.TheVariants.{Definite}
 use Rattle.bcder.specs.declared.mode.Mode.{Mode}
-use Rattle.bcder.specs.declared.mode.Mode.TheVariants.{Ber, Cer, Der}
 use Rattle.bcder.specs.x690.Identifier.{AreOctets, Tag}
-use Rattle.bcder.specs.x690.Octets.{header}
-use Rattle.bcder.specs.calls.Meaning.{Encoded, Meaning, IsOne, IsLawful, primitive_encoded, primitive_meaning}
-use Rattle.bcder.specs.calls.Encoders.{HasEncoding, HasSize, RefusesBy, SizeOfValues}
+use Rattle.bcder.specs.calls.Meaning.{Encoded, Meaning, IsOne, IsLawful}
+use Rattle.bcder.specs.calls.Encoders.{HasEncoding, RefusesBy, SizeOfValues}
 use Rattle.bcder.specs.calls.StringMeaning.{string_meaning, contents_of, OctetsMean, WrappedMeans, is_cut, IsGathered}
 use Rattle.bcder.specs.laws.Octets.{AreOctets-encodings}
-use Rattle.bcder.proofs.Enclosing.{header-length, definite-length}
-use Rattle.bcder.proofs.Joining.{one_size}
 
 pub lawful_octets : (mode : Mode) {M : Meaning → Type 0} → IsLawful mode M → (e : Encoded) → M (Ok e) → AreOctets e.octets
 lawful_octets mode lawful e m = AreOctets-encodings mode e.values e.octets (lawful.encodes e m)
@@ -45,29 +39,6 @@ module _ (t : Tag) (mode : Mode) (M : Meaning → Type 0) where
   -- octets that were gathered
   pub gathered_as : IsOne M → (e : Encoded) → M (Ok e) → AreOctets e.octets → (w : List ℕ) → w ≡ e.octets → (x : Encoded) → WrappedMeans t mode M (Ok x) → OctetsMean t w mode (Ok x)
   gathered_as one e meant o w same x h = subst (λ u. OctetsMean t u mode (Ok x)) (sym same) (wrapped_taken one e meant o (Ok x) h)
-
-straight_at : (t : Tag) (w : List ℕ) (x : Encoded) (b : Bool) → nat_lt (length w) (2 ^ 32) ≡ b → ◌≡◌ {A = Meaning} (Ok x) (if b then Ok (primitive_encoded t w) else Err LengthTooLarge)
-    → (length w < 2 ^ 32) × (x ≡ primitive_encoded t w)
-straight_at t w x false is eq = cc
-straight_at t w x true is eq = (ltb-true _ _ is, cc)
-
--- how many octets stand inside a primitive string whose size is told
-told_at : (t : Tag) (w : List ℕ) (len size : ℕ) (x : Encoded) → ((form : Bool) (n : ℕ) → n < 2 ^ 32 → size ≡ length (header t form (Definite n)) + n → len ≡ n)
-    → size ≡ length x.octets → ◌≡◌ {A = Meaning} (Ok x) (primitive_meaning t (Ok w)) → len ≡ length w
-told_at t w len size x h sized eq =
-    let (fits, is) = straight_at t w x _ refl eq in
-    let whole = sized ∙ ap (λ (y : Encoded). length y.octets) is ∙ definite-length t false w in
-    h false (length w) fits (omega (arith, whole, header-length t false (Definite (length w))))
-
-pub wrapped_told : (t : Tag) (mode : Mode) (M : Meaning → Type 0) (one : IsOne M) (len size : ℕ) → ((form : Bool) (n : ℕ) → n < 2 ^ 32 → size ≡ length (header t form (Definite n)) + n → len ≡ n)
-    → HasEncoding (WrappedMeans t mode M) → HasSize (WrappedMeans t mode M) (Some size) → (mode ≡ Ber) ⊎ (mode ≡ Der) → HasSize M (Some len)
-wrapped_told t mode M one len size h (x, inl p) sized form = cc
-wrapped_told t Ber M one len size h (x, inr (v, (Ok e, m, eq))) sized form = one_size one len e m (told_at t e.octets len size x h (sized x (inr (v, (Ok e, m, eq)))) eq)
-wrapped_told t Der M one len size h (x, inr (v, (Ok e, m, eq))) sized form = one_size one len e m (told_at t e.octets len size x h (sized x (inr (v, (Ok e, m, eq)))) eq)
-wrapped_told t Cer M one len size h (x, inr p) sized (inl e) = cc
-wrapped_told t Cer M one len size h (x, inr p) sized (inr e) = cc
-wrapped_told t Ber M one len size h (x, inr (v, (Err d, m, eq))) sized form = cc
-wrapped_told t Der M one len size h (x, inr (v, (Err d, m, eq))) sized form = cc
 
 pub either_way : {P Q : Type 0} → P ⊎ Q → Q ⊎ P
 either_way (inl p) = inr p

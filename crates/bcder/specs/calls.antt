@@ -31,6 +31,7 @@ pub mod Captured
 pub mod Target
 pub mod Meaning
 pub mod Joined
+pub mod Noted
 pub mod Encoders
 pub mod Capturing
 pub mod CapturingValues

@@ -5,6 +5,7 @@ mod gather;
 pub(crate) mod header;
 pub(crate) mod primitive;
 pub(crate) mod short;
+pub(crate) mod sizes;
 pub(crate) mod slot;
 pub(crate) mod target;
 pub(crate) mod values;
@@ -12,6 +13,8 @@ pub(crate) mod values;
 pub use error::{EncodeError, WriteError};
 pub use header::{total_encoded_len, write_header};
 pub use primitive::{Primitive, PrimitiveContent};
+#[doc(hidden)]
+pub use sizes::{Sizes, SizesLeft};
 #[doc(hidden)]
 pub use slot::Failed;
 pub use values::Values;

@@ -1,5 +1,5 @@
 -- What the calls of encoders answer, by what these mean.
-use Rattle.std.specs.Prelude.{◌≡◌, ◌≢◌, ℕ, Bool, true, false, List, length, Result, Ok, Err, Option, None, Some, ◌⊎◌, ◌^◌, ◌<◌, ◌≤◌, ⊤}
+use Rattle.std.specs.Prelude.{◌≡◌, ◌≢◌, ℕ, Bool, true, false, List, length, Result, Ok, Err, Option, None, Some, ◌⊎◌, ◌^◌, ◌<◌, ◌≤◌}
 use Rattle.std.specs.Borrow.{MutBor}
 use Rattle.std.specs.Io.KnownBytes.{Appends, Keeps}
 use denote.Triple.Both.{Both}
@@ -46,11 +46,6 @@ TellsSum M lacks (Err e) = RefusesBy M lacks e
 -- it is no refusal
 abbrev pub HasEncoding : (Meaning → Type 0) → Type 0
 HasEncoding M = (e : Encoded) × M (Ok e)
-
--- n, where it is told, is the size of what is meant
-abbrev pub HasSize : (Meaning → Type 0) → Option ℕ → Type 0
-HasSize M (Some n) = (e : Encoded) → M (Ok e) → n ≡ length e.octets
-HasSize M None = ⊤
 
 -- ---- writing
 

@@ -6,7 +6,9 @@ ghost use Rattle.bcder.specs.calls.Gathered.{none_kept, kept_from_start, Extends
 use crate::NoMemory;
 use crate::captured::Captured;
 use crate::decode::Pos;
+use crate::encode::sizes::Sizes;
 use crate::encode::slot::{Failed, slot};
+use crate::encode::values::measure;
 use crate::encode::{EncodeError, Values, WriteError};
 use crate::mode::Mode;
 use bytes::Bytes;
@@ -80,13 +82,14 @@ impl CapturedBuilder {
             (V.may_lack values self.old.mode) self result }
         ensures unchanged { OnErr result (self.new ≡ self.old) }
     {
-        let len = values.encoded_len(self.mode)?;
+        let mut sizes = Sizes::new();
+        let len = measure(&values, self.mode, &mut sizes)?;
         if self.octets.reserve(len).is_err() {
             return Err(EncodeError::NoMemory);
         }
         let before = self.octets.len();
         let mut why = slot();
-        match values.write_known(Some(len), self.mode, &mut self.octets, &mut why) {
+        match values.write_known(self.mode, &mut sizes.left(), &mut self.octets, &mut why) {
             Ok(()) => Ok(()),
             Err(Failed) => {
                 self.octets.truncate(before);

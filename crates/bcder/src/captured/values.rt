@@ -1,9 +1,11 @@
 //! Captured values as an encoder.
 ghost use Rattle.std.specs.Prelude.{◌≡◌};
 ghost use Rattle.bcder.specs.calls.Gathered.{suits, KeptMeans, MayWrite};
+ghost use Rattle.bcder.specs.calls.Noted.{ReadsNone};
 ghost use Rattle.bcder.specs.laws.Gathered.{kept_lawful};
 
 use crate::captured::Captured;
+use crate::encode::sizes::{Sizes, SizesLeft};
 use crate::encode::slot::Failed;
 use crate::encode::target::{put_all, write_all};
 use crate::encode::{EncodeError, Values, WriteError};
@@ -18,9 +20,17 @@ use std::io;
 impl Values for Captured {
     ghost means = { KeptMeans };
 
+    ghost reads = { λ _ _. ReadsNone };
+
     fn encoded_len(&self, mode: Mode) -> Result<usize, EncodeError> {
         self.check_mode(mode)?;
         Ok(self.octets.len())
+    }
+
+    #[inline(always)]
+    #[tactic(auto, using(crate::proofs::Noting::nothing_noted))]
+    fn note_sizes(&self, mode: Mode, _sizes: &mut Sizes) -> Result<usize, EncodeError> {
+        self.encoded_len(mode)
     }
 
     fn write_encoded<W: io::Write>(&self, mode: Mode, target: &mut W) -> Result<(), WriteError> {
@@ -28,19 +38,15 @@ impl Values for Captured {
         write_all(target, self.octets.as_slice())
     }
 
+    #[tactic(auto, using(crate::proofs::Noting::none_read))]
     fn write_known<W: io::Write>(
         &self,
-        _size: Option<usize>,
         _mode: Mode,
+        _sizes: &mut SizesLeft<'_>,
         target: &mut W,
         why: &mut WriteError,
     ) -> Result<(), Failed> {
         put_all(target, self.octets.as_slice(), why)
-    }
-
-    #[inline(always)]
-    fn weight() -> usize {
-        0
     }
 
     ghost lawful = { λ c mode can. kept_lawful c mode };

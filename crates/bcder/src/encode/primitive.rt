@@ -8,6 +8,7 @@ ghost use Rattle.bcder.specs.steps.Enclosing.{ContentsSize};
 ghost use Rattle.bcder.specs.calls.Encoders.{SizeOfContents, WritesContents, GathersContents};
 ghost use Rattle.bcder.specs.calls.Encoders.{SizeOfValues, WritesValues, HasContents};
 ghost use Rattle.bcder.specs.calls.Encoders.{WritesPrimitive, into_result};
+ghost use Rattle.bcder.specs.calls.Noted.{ReadsNone};
 ghost use Rattle.bcder.specs.laws.Meanings.{primitive_lawful};
 
 mod identifier;
@@ -18,6 +19,7 @@ pub(crate) mod plain;
 use crate::encode::front::Front;
 use crate::encode::gather::gather_contents;
 use crate::encode::header::put_header;
+use crate::encode::sizes::{Sizes, SizesLeft};
 use crate::encode::slot::{Failed, into_result, slot, store, store_refusal};
 use crate::encode::target::put_all;
 use crate::encode::values::Values;
@@ -240,9 +242,17 @@ impl<P: PrimitiveContent> Values for Primitive<P> {
 
     ghost may_lack = { λ x mode. P.may_lack x.prim mode };
 
+    ghost reads = { λ _ _. ReadsNone };
+
     #[inline(always)]
     fn encoded_len(&self, mode: Mode) -> Result<usize, EncodeError> {
         value_len(self.tag, &self.prim, mode)
+    }
+
+    #[inline(always)]
+    #[tactic(auto, using(crate::proofs::Noting::nothing_noted))]
+    fn note_sizes(&self, mode: Mode, _sizes: &mut Sizes) -> Result<usize, EncodeError> {
+        self.encoded_len(mode)
     }
 
     #[inline(always)]
@@ -253,10 +263,11 @@ impl<P: PrimitiveContent> Values for Primitive<P> {
     }
 
     #[inline(always)]
+    #[tactic(auto, using(crate::proofs::Noting::none_read))]
     fn write_known<W: io::Write>(
         &self,
-        _size: Option<usize>,
         mode: Mode,
+        _sizes: &mut SizesLeft<'_>,
         target: &mut W,
         why: &mut WriteError,
     ) -> Result<(), Failed> {
@@ -264,11 +275,6 @@ impl<P: PrimitiveContent> Values for Primitive<P> {
             Ok(len) => self.prim.write_value(self.tag, len, mode, target, why),
             Err(error) => Err(store_refusal(why, error)),
         }
-    }
-
-    #[inline(always)]
-    fn weight() -> usize {
-        0
     }
 
     ghost lawful = { λ x mode can. primitive_lawful x.tag mode (P.lawful x.prim mode) };

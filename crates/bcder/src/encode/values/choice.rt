@@ -1,10 +1,13 @@
 //! Encoders of values that may be there, and of one of several.
 ghost use Rattle.bcder.specs.calls.Joined.{NoValues};
-ghost use Rattle.bcder.specs.calls.Choices.{OptionMeans, OptionLacks, OptionCan, option_lawful};
+ghost use Rattle.bcder.specs.calls.Noted.{ReadsNone};
+ghost use Rattle.bcder.specs.calls.Choices.{OptionMeans, OptionLacks, OptionReads, OptionCan};
+ghost use Rattle.bcder.specs.calls.Choices.{option_lawful, EitherReads, AnyReads};
 ghost use Rattle.bcder.specs.calls.Choices.{EitherMeans, EitherHolds, either_lawful};
 ghost use Rattle.bcder.specs.calls.Choices.{AnyMeans, AnyHolds, any_lawful};
 ghost use Rattle.bcder.specs.laws.Joined.{NoValues_lawful};
 
+use crate::encode::sizes::{Sizes, SizesLeft};
 use crate::encode::slot::Failed;
 use crate::encode::values::Values;
 use crate::encode::{EncodeError, WriteError};
@@ -18,8 +21,16 @@ pub struct Nothing;
 impl Values for Nothing {
     ghost means = { λ x mode. NoValues };
 
+    ghost reads = { λ _ _. ReadsNone };
+
     fn encoded_len(&self, _mode: Mode) -> Result<usize, EncodeError> {
         Ok(0)
+    }
+
+    #[inline(always)]
+    #[tactic(auto, using(crate::proofs::Noting::nothing_noted))]
+    fn note_sizes(&self, mode: Mode, _sizes: &mut Sizes) -> Result<usize, EncodeError> {
+        self.encoded_len(mode)
     }
 
     fn write_encoded<W: io::Write>(&self, _mode: Mode, _target: &mut W) -> Result<(), WriteError> {
@@ -27,8 +38,15 @@ impl Values for Nothing {
     }
 
     #[inline(always)]
-    fn weight() -> usize {
-        0
+    #[tactic(auto, using(crate::proofs::Noting::none_read))]
+    fn write_known<W: io::Write>(
+        &self,
+        _mode: Mode,
+        _sizes: &mut SizesLeft<'_>,
+        _target: &mut W,
+        _why: &mut WriteError,
+    ) -> Result<(), Failed> {
+        Ok(())
     }
 
     ghost lawful = { λ x mode can. NoValues_lawful mode };
@@ -40,12 +58,22 @@ impl<V: Values> Values for Option<V> {
 
     ghost may_lack = { λ x mode. OptionLacks (λ v. V.may_lack v mode) x };
 
+    ghost reads = { λ x mode. OptionReads (λ v. V.reads v mode) x };
+
     ghost can_encode = { λ x. OptionCan V.can_encode x };
 
     fn encoded_len(&self, mode: Mode) -> Result<usize, EncodeError> {
         match self {
             Some(values) => values.encoded_len(mode),
             None => Nothing.encoded_len(mode),
+        }
+    }
+
+    #[tactic(auto, using(crate::proofs::Noting::nothing_noted))]
+    fn note_sizes(&self, mode: Mode, sizes: &mut Sizes) -> Result<usize, EncodeError> {
+        match self {
+            Some(values) => values.note_sizes(mode, sizes),
+            None => Nothing.note_sizes(mode, sizes),
         }
     }
 
@@ -58,20 +86,15 @@ impl<V: Values> Values for Option<V> {
 
     fn write_known<W: io::Write>(
         &self,
-        size: Option<usize>,
         mode: Mode,
+        sizes: &mut SizesLeft<'_>,
         target: &mut W,
         why: &mut WriteError,
     ) -> Result<(), Failed> {
         match self {
-            Some(values) => values.write_known(size, mode, target, why),
-            None => Nothing.write_known(size, mode, target, why),
+            Some(values) => values.write_known(mode, sizes, target, why),
+            None => Nothing.write_known(mode, sizes, target, why),
         }
-    }
-
-    #[inline(always)]
-    fn weight() -> usize {
-        V::weight()
     }
 
     ghost lawful = { λ x mode can. option_lawful mode (λ v. V.lawful v mode) x can };
@@ -92,12 +115,21 @@ impl<L: Values, R: Values> Values for Choice2<L, R> {
 
     ghost may_lack = { λ x mode. EitherHolds (λ v. L.may_lack v mode) (λ v. R.may_lack v mode) x };
 
+    ghost reads = { λ x mode. EitherReads (λ v. L.reads v mode) (λ v. R.reads v mode) x };
+
     ghost can_encode = { λ x. EitherHolds L.can_encode R.can_encode x };
 
     fn encoded_len(&self, mode: Mode) -> Result<usize, EncodeError> {
         match self {
             Choice2::One(values) => values.encoded_len(mode),
             Choice2::Two(values) => values.encoded_len(mode),
+        }
+    }
+
+    fn note_sizes(&self, mode: Mode, sizes: &mut Sizes) -> Result<usize, EncodeError> {
+        match self {
+            Choice2::One(values) => values.note_sizes(mode, sizes),
+            Choice2::Two(values) => values.note_sizes(mode, sizes),
         }
     }
 
@@ -110,20 +142,15 @@ impl<L: Values, R: Values> Values for Choice2<L, R> {
 
     fn write_known<W: io::Write>(
         &self,
-        size: Option<usize>,
         mode: Mode,
+        sizes: &mut SizesLeft<'_>,
         target: &mut W,
         why: &mut WriteError,
     ) -> Result<(), Failed> {
         match self {
-            Choice2::One(values) => values.write_known(size, mode, target, why),
-            Choice2::Two(values) => values.write_known(size, mode, target, why),
+            Choice2::One(values) => values.write_known(mode, sizes, target, why),
+            Choice2::Two(values) => values.write_known(mode, sizes, target, why),
         }
-    }
-
-    #[inline(always)]
-    fn weight() -> usize {
-        L::weight().max(R::weight())
     }
 
     ghost lawful = { λ x mode can.
@@ -150,6 +177,9 @@ impl<L: Values, C: Values, R: Values> Values for Choice3<L, C, R> {
     ghost may_lack = { λ x mode.
         AnyHolds (λ v. L.may_lack v mode) (λ v. C.may_lack v mode) (λ v. R.may_lack v mode) x };
 
+    ghost reads = { λ x mode.
+        AnyReads (λ v. L.reads v mode) (λ v. C.reads v mode) (λ v. R.reads v mode) x };
+
     ghost can_encode = { λ x. AnyHolds L.can_encode C.can_encode R.can_encode x };
 
     fn encoded_len(&self, mode: Mode) -> Result<usize, EncodeError> {
@@ -157,6 +187,14 @@ impl<L: Values, C: Values, R: Values> Values for Choice3<L, C, R> {
             Choice3::One(values) => values.encoded_len(mode),
             Choice3::Two(values) => values.encoded_len(mode),
             Choice3::Three(values) => values.encoded_len(mode),
+        }
+    }
+
+    fn note_sizes(&self, mode: Mode, sizes: &mut Sizes) -> Result<usize, EncodeError> {
+        match self {
+            Choice3::One(values) => values.note_sizes(mode, sizes),
+            Choice3::Two(values) => values.note_sizes(mode, sizes),
+            Choice3::Three(values) => values.note_sizes(mode, sizes),
         }
     }
 
@@ -170,21 +208,16 @@ impl<L: Values, C: Values, R: Values> Values for Choice3<L, C, R> {
 
     fn write_known<W: io::Write>(
         &self,
-        size: Option<usize>,
         mode: Mode,
+        sizes: &mut SizesLeft<'_>,
         target: &mut W,
         why: &mut WriteError,
     ) -> Result<(), Failed> {
         match self {
-            Choice3::One(values) => values.write_known(size, mode, target, why),
-            Choice3::Two(values) => values.write_known(size, mode, target, why),
-            Choice3::Three(values) => values.write_known(size, mode, target, why),
+            Choice3::One(values) => values.write_known(mode, sizes, target, why),
+            Choice3::Two(values) => values.write_known(mode, sizes, target, why),
+            Choice3::Three(values) => values.write_known(mode, sizes, target, why),
         }
-    }
-
-    #[inline(always)]
-    fn weight() -> usize {
-        L::weight().max(C::weight()).max(R::weight())
     }
 
     ghost lawful = { λ x mode can. any_lawful mode

@@ -1,19 +1,20 @@
 //! Encoders of constructed values.
-ghost use Rattle.std.specs.Prelude.{◌≡◌, ◌<◌, ◌+◌, ◌^◌, ℕ, Bool, length, true};
-ghost use Rattle.bcder.specs.declared.length.Length.TheVariants.{Definite};
+ghost use Rattle.std.specs.Prelude.{◌≡◌, ◌<◌, [], length, true, IfOk};
 ghost use Rattle.bcder.specs.x690.Identifier.{sequence_tag, set_tag, identifier as identifier_of};
-ghost use Rattle.bcder.specs.x690.Octets.{header, fits_length, constructed_length, closing};
+ghost use Rattle.bcder.specs.x690.Octets.{fits_length, constructed_length, closing};
 ghost use Rattle.bcder.specs.calls.Meaning.{ValueMeans, constructed_meaning};
-ghost use Rattle.bcder.specs.calls.Encoders.{HasEncoding, HasSize, WroteOctets, into_result};
-ghost use Rattle.bcder.specs.steps.Enclosing.{EnclosedSize, InsideSizes, KnownLength};
+ghost use Rattle.bcder.specs.calls.Encoders.{HasEncoding, SizeOfValues, WroteOctets, WritesKnown};
+ghost use Rattle.bcder.specs.calls.Encoders.{into_result};
+ghost use Rattle.bcder.specs.calls.Noted.{noted, ReadsContents, Notes, MayRead, HasRead};
+ghost use Rattle.bcder.specs.steps.Enclosing.{EnclosedSize, MeasuredInside, TakesContents};
 ghost use Rattle.bcder.specs.steps.Enclosing.{WritesEnclosed};
-ghost use Rattle.bcder.specs.steps.Enclosing.{definite_len, length_size};
 ghost use Rattle.bcder.specs.laws.Meanings.{constructed_lawful};
 
 use crate::encode::header::put_header;
+use crate::encode::sizes::{Sizes, SizesLeft};
 use crate::encode::slot::{Failed, into_result, slot, store_refusal};
 use crate::encode::target::put_all;
-use crate::encode::values::Values;
+use crate::encode::values::{Values, measure, note_inside};
 use crate::encode::{EncodeError, WriteError};
 use crate::length::Length;
 use crate::mode::Mode;
@@ -64,13 +65,6 @@ pub fn set_as<V>(tag: Tag, inner: V) -> Constructed<V>
     Constructed::new(tag, inner)
 }
 
-/// How many octets a constructed value has.
-#[derive(Clone, Copy)]
-struct Sizes {
-    contents: usize,
-    whole: usize,
-}
-
 /// The size of a constructed value with `len` contents octets.
 #[inline(always)]
 pub(crate) fn enclosed_size(tag: Tag, mode: Mode, len: usize) -> Result<usize, EncodeError>
@@ -102,17 +96,42 @@ fn size_behind(identifier: usize, _tag: Tag, mode: Mode, len: usize) -> Result<u
     }
 }
 
-/// The sizes of a constructed value, or why it has no encoding.
-fn find_sizes<V: Values>(tag: Tag, inner: &V, mode: Mode) -> Result<Sizes, EncodeError>
-    requires { V.can_encode inner.now }
-    ensures { InsideSizes tag mode (V.means inner.now mode) (V.may_lack inner.now mode) result }
+/// How many contents octets a constructed value has that is written next, or why it has no
+/// encoding. The sizes inside are noted where they are told.
+fn measure_contents<V: Values>(
+    tag: Tag,
+    inner: &V,
+    mode: Mode,
+    sizes: &mut Sizes,
+) -> Result<usize, EncodeError>
+    requires can { V.can_encode inner.now }
+    requires none { noted sizes.old ≡ [] }
+    ensures sized { MeasuredInside tag mode
+        (V.means inner.now mode) (V.may_lack inner.now mode) result }
+    ensures noted { IfOk result (λ _. MayRead (V.reads inner.now mode) (noted sizes.new)) }
 {
     let Some(identifier) = tag.value_len() else {
         return Err(EncodeError::EndOfValueTag);
     };
-    let contents = inner.encoded_len(mode)?;
-    let whole = size_behind(identifier, tag, mode, contents)?;
-    Ok(Sizes { contents, whole })
+    let contents = measure(inner, mode, sizes)?;
+    size_behind(identifier, tag, mode, contents)?;
+    Ok(contents)
+}
+
+/// How many contents octets a constructed value has. That is noted where it has to be told, in
+/// front of the sizes inside.
+#[inline(always)]
+fn note_contents<V: Values>(inner: &V, mode: Mode, sizes: &mut Sizes) -> Result<usize, EncodeError>
+    requires { V.can_encode inner.now }
+    ensures sized { SizeOfValues (V.means inner.now mode) (V.may_lack inner.now mode) result }
+    ensures noted { IfOk result (λ _. Notes
+        (ReadsContents mode (V.means inner.now mode) (V.reads inner.now mode))
+        sizes.old sizes.new) }
+{
+    match mode {
+        Mode::Cer => inner.note_sizes(mode, sizes),
+        Mode::Ber | Mode::Der => note_inside(inner, mode, sizes),
+    }
 }
 
 /// What the length octets of a constructed value say (X.690, 9.1, 10.1).
@@ -126,57 +145,14 @@ fn constructed_length(mode: Mode, len: usize) -> Length
     }
 }
 
-/// How many contents octets a value of that many octets has, behind a definite length in the
-/// fewest octets (X.690, 10.1).
-#[tactic(auto, using(crate::proofs::nat_tests))]
-pub(crate) fn contents_size(tag: Tag, size: usize) -> usize
-    ensures { (form : Bool) (n : ℕ) → n < 2 ^ 32
-        → size ≡ length (header tag form (Definite n)) + n → result ≡ n }
-{
-    let rest = size.saturating_sub(tag.encoded_len());
-    rest.saturating_sub(length_size(rest))
-}
-
-/// How many octets the length takes of those behind the identifier octets.
-#[tactic(auto, using(crate::proofs::nat_tests))]
-fn length_size(rest: usize) -> usize
-    ensures { result ≡ length_size rest }
-{
-    if rest <= 0x80 {
-        1
-    } else if rest <= 0x101 {
-        2
-    } else if rest <= 0x1_0002 {
-        3
-    } else if rest <= 0x100_0003 {
-        4
-    } else {
-        5
-    }
-}
-
-/// What the length octets say of values that are known to have an encoding. `size` is how many
-/// octets the whole has, where that is known. In CER no size is asked for.
+/// The size that a value tells, which is the next one that is left. In CER none is told.
 #[inline(always)]
-fn known_length<V: Values>(
-    tag: Tag,
-    size: Option<usize>,
-    inner: &V,
-    mode: Mode,
-) -> Result<Length, EncodeError>
-    requires can { V.can_encode inner.now }
-    requires known { HasEncoding
-        (ValueMeans tag (constructed_meaning tag mode) (V.means inner.now mode)) }
-    requires sized { HasSize
-        (ValueMeans tag (constructed_meaning tag mode) (V.means inner.now mode)) size }
-    ensures { KnownLength mode (V.means inner.now mode) (V.may_lack inner.now mode) result }
+fn next_size(mode: Mode, sizes: &mut SizesLeft<'_>) -> Option<usize>
+    ensures { TakesContents mode sizes.old.sizes.now result sizes.new.sizes.now }
 {
     match mode {
-        Mode::Cer => Ok(Length::Indefinite),
-        Mode::Ber | Mode::Der => match size {
-            Some(size) => Ok(Length::Definite(contents_size(tag, size))),
-            None => Ok(Length::Definite(inner.encoded_len(mode)?)),
-        },
+        Mode::Cer => Some(0),
+        Mode::Ber | Mode::Der => sizes.next(),
     }
 }
 
@@ -191,36 +167,50 @@ fn put_closing<W: io::Write>(mode: Mode, target: &mut W, why: &mut WriteError) -
     }
 }
 
-/// How many contents octets a length tells.
-#[inline(always)]
-fn definite_len(len: Length) -> Option<usize>
-    ensures { result ≡ definite_len len }
+/// Writes the value with these values inside, which have `size` octets where that is told.
+fn put_enclosed<V: Values, W: io::Write>(
+    value: &Constructed<V>,
+    size: usize,
+    mode: Mode,
+    sizes: &mut SizesLeft<'_>,
+    target: &mut W,
+    why: &mut WriteError,
+) -> Result<(), Failed>
+    requires fits { fits_length (constructed_length mode size) ≡ true }
+    requires can { V.can_encode value.now.inner }
+    requires known { HasEncoding (V.means value.now.inner mode) }
+    requires sized { MayRead (V.reads value.now.inner mode) sizes.old.sizes.now }
+    ensures written { WritesEnclosed W.contents target value.now.tag size mode
+        (V.means value.now.inner mode) (V.may_lack value.now.inner mode)
+        (into_result result why.new) }
+    ensures left { IfOk result (λ _.
+        HasRead (V.reads value.now.inner mode) sizes.old.sizes.now sizes.new.sizes.now) }
 {
-    match len {
-        Length::Definite(len) => Some(len),
-        Length::Indefinite => None,
-    }
+    put_header(target, value.tag, true, constructed_length(mode, size), why)?;
+    value.inner.write_known(mode, sizes, target, why)?;
+    put_closing(mode, target, why)
 }
 
-/// Writes the value with this length and these values inside.
-fn put_enclosed<V: Values, W: io::Write>(
-    tag: Tag,
-    len: Length,
-    inner: &V,
+/// Writes a value that is known to have an encoding, and whose size isn't noted: it is measured
+/// once more, and the sizes inside are noted anew.
+fn put_measured<V: Values, W: io::Write>(
+    value: &Constructed<V>,
     mode: Mode,
     target: &mut W,
     why: &mut WriteError,
 ) -> Result<(), Failed>
-    requires fits { fits_length len ≡ true }
-    requires can { V.can_encode inner.now }
-    requires known { HasEncoding (V.means inner.now mode) }
-    requires sized { HasSize (V.means inner.now mode) (definite_len len) }
-    ensures { WritesEnclosed W.contents target tag len mode
-        (V.means inner.now mode) (V.may_lack inner.now mode) (into_result result why.new) }
+    requires can { V.can_encode value.now.inner }
+    requires known { HasEncoding (ValueMeans value.now.tag
+        (constructed_meaning value.now.tag mode) (V.means value.now.inner mode)) }
+    ensures { WritesKnown W.contents target (ValueMeans value.now.tag
+        (constructed_meaning value.now.tag mode) (V.means value.now.inner mode))
+        (V.may_lack value.now.inner mode) (into_result result why.new) }
 {
-    put_header(target, tag, true, len, why)?;
-    inner.write_known(definite_len(len), mode, target, why)?;
-    put_closing(mode, target, why)
+    let mut sizes = Sizes::new();
+    match value.inner.note_sizes(mode, &mut sizes) {
+        Ok(size) => put_enclosed(value, size, mode, &mut sizes.left(), target, why),
+        Err(error) => Err(store_refusal(why, error)),
+    }
 }
 
 impl<V: Values> Values for Constructed<V> {
@@ -229,36 +219,47 @@ impl<V: Values> Values for Constructed<V> {
 
     ghost may_lack = { λ x mode. V.may_lack x.inner mode };
 
+    ghost reads = { λ x mode. ReadsContents mode (V.means x.inner mode) (V.reads x.inner mode) };
+
     ghost can_encode = { λ x. V.can_encode x.inner };
 
     fn encoded_len(&self, mode: Mode) -> Result<usize, EncodeError> {
-        Ok(find_sizes(self.tag, &self.inner, mode)?.whole)
+        let Some(identifier) = self.tag.value_len() else {
+            return Err(EncodeError::EndOfValueTag);
+        };
+        let contents = self.inner.encoded_len(mode)?;
+        let whole = size_behind(identifier, self.tag, mode, contents)?;
+        Ok(whole)
+    }
+
+    fn note_sizes(&self, mode: Mode, sizes: &mut Sizes) -> Result<usize, EncodeError> {
+        let Some(identifier) = self.tag.value_len() else {
+            return Err(EncodeError::EndOfValueTag);
+        };
+        let contents = note_contents(&self.inner, mode, sizes)?;
+        let whole = size_behind(identifier, self.tag, mode, contents)?;
+        Ok(whole)
     }
 
     fn write_encoded<W: io::Write>(&self, mode: Mode, target: &mut W) -> Result<(), WriteError> {
-        let sizes = find_sizes(self.tag, &self.inner, mode)?;
-        let len = constructed_length(mode, sizes.contents);
+        let mut sizes = Sizes::new();
+        let size = measure_contents(self.tag, &self.inner, mode, &mut sizes)?;
         let mut why = slot();
-        let outcome = put_enclosed(self.tag, len, &self.inner, mode, target, &mut why);
+        let outcome = put_enclosed(self, size, mode, &mut sizes.left(), target, &mut why);
         into_result(outcome, why)
     }
 
     fn write_known<W: io::Write>(
         &self,
-        size: Option<usize>,
         mode: Mode,
+        sizes: &mut SizesLeft<'_>,
         target: &mut W,
         why: &mut WriteError,
     ) -> Result<(), Failed> {
-        match known_length(self.tag, size, &self.inner, mode) {
-            Ok(len) => put_enclosed(self.tag, len, &self.inner, mode, target, why),
-            Err(error) => Err(store_refusal(why, error)),
+        match next_size(mode, sizes) {
+            Some(size) => put_enclosed(self, size, mode, sizes, target, why),
+            None => put_measured(self, mode, target, why),
         }
-    }
-
-    #[inline(always)]
-    fn weight() -> usize {
-        V::weight().saturating_add(1)
     }
 
     ghost lawful = { λ x mode can. constructed_lawful x.tag (V.lawful x.inner mode can) };

@@ -2,12 +2,14 @@
 ghost use Rattle.std.specs.Prelude.{◌≡◌, IfOk, OnErr};
 ghost use Rattle.bcder.specs.calls.Iterated.{RunsMean, RunsLack, GivesOneList, runs_lawful};
 ghost use Rattle.bcder.specs.calls.Joined.{Joined};
+ghost use Rattle.bcder.specs.calls.Noted.{ReadsNone};
 ghost use Rattle.bcder.specs.laws.Joined.{Joined_lawful};
 
 use crate::NoMemory;
+use crate::encode::sizes::{Sizes, SizesLeft};
 use crate::encode::slot::{Failed, store_refusal};
+use crate::encode::values::Values;
 use crate::encode::values::parts::{Parts, add_len, joined_len, write_joined, write_known_parts};
-use crate::encode::values::{UNKNOWN_WEIGHT, Values};
 use crate::encode::{EncodeError, WriteError};
 use crate::mode::Mode;
 use std::io;
@@ -67,6 +69,8 @@ where
     ghost may_lack = { λ x mode. RunsLack T.is_clone T.is_infallible T.into_iter_gives
         T.IntoIter.next_gives (λ v. T.Item.may_lack v mode) x.value };
 
+    ghost reads = { λ _ _. ReadsNone };
+
     ghost can_encode = { λ x. GivesOneList T.is_clone T.into_iter_gives T.IntoIter.next_gives
         T.IntoIter.can_next T.IntoIter.remaining T.Item.can_encode T.Item.means x.value };
 
@@ -83,10 +87,11 @@ where
         Ok(sum)
     }
 
+    #[tactic(auto, using(crate::proofs::Noting::none_read))]
     fn write_parts<W: io::Write>(
         &self,
-        _size: Option<usize>,
         mode: Mode,
+        _sizes: &mut SizesLeft<'_>,
         target: &mut W,
         why: &mut WriteError,
     ) -> Result<(), Failed> {
@@ -95,7 +100,7 @@ where
             Err(_) => return Err(store_refusal(why, EncodeError::NoMemory)),
         };
         for item in items {
-            item.write_known(None, mode, target, why)?;
+            item.write_known(mode, &mut SizesLeft::none(), target, why)?;
         }
         Ok(())
     }
@@ -113,11 +118,18 @@ where
     ghost may_lack = { λ x mode. RunsLack T.is_clone T.is_infallible T.into_iter_gives
         T.IntoIter.next_gives (λ v. T.Item.may_lack v mode) x.value };
 
+    ghost reads = { λ _ _. ReadsNone };
+
     ghost can_encode = { λ x. GivesOneList T.is_clone T.into_iter_gives T.IntoIter.next_gives
         T.IntoIter.can_next T.IntoIter.remaining T.Item.can_encode T.Item.means x.value };
 
     fn encoded_len(&self, mode: Mode) -> Result<usize, EncodeError> {
         joined_len(self, mode)
+    }
+
+    #[tactic(auto, using(crate::proofs::Noting::nothing_noted))]
+    fn note_sizes(&self, mode: Mode, _sizes: &mut Sizes) -> Result<usize, EncodeError> {
+        self.encoded_len(mode)
     }
 
     fn write_encoded<W: io::Write>(&self, mode: Mode, target: &mut W) -> Result<(), WriteError> {
@@ -126,17 +138,12 @@ where
 
     fn write_known<W: io::Write>(
         &self,
-        size: Option<usize>,
         mode: Mode,
+        sizes: &mut SizesLeft<'_>,
         target: &mut W,
         why: &mut WriteError,
     ) -> Result<(), Failed> {
-        write_known_parts(self, size, mode, target, why)
-    }
-
-    #[inline(always)]
-    fn weight() -> usize {
-        UNKNOWN_WEIGHT.saturating_add(T::Item::weight())
+        write_known_parts(self, mode, sizes, target, why)
     }
 
     ghost lawful = { λ x mode can.

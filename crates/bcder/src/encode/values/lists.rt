@@ -1,11 +1,13 @@
 //! Lists of encoders: their values one after the other.
 ghost use Rattle.std.specs.Prelude.{Any, All};
 ghost use Rattle.bcder.specs.calls.Joined.{EachOf, Joined};
+ghost use Rattle.bcder.specs.calls.Noted.{ReadsNone};
 ghost use Rattle.bcder.specs.laws.Joined.{EachOf_lawful, Joined_lawful};
 
+use crate::encode::sizes::{Sizes, SizesLeft};
 use crate::encode::slot::Failed;
+use crate::encode::values::Values;
 use crate::encode::values::parts::{Parts, add_len, joined_len, write_joined, write_known_parts};
-use crate::encode::values::{UNKNOWN_WEIGHT, Values};
 use crate::encode::{EncodeError, WriteError};
 use crate::mode::Mode;
 use std::io;
@@ -21,6 +23,8 @@ impl<'a, V: Values> Parts for Items<'a, V> {
 
     ghost may_lack = { λ x mode. Any (λ v. V.may_lack v mode) x.items.now };
 
+    ghost reads = { λ _ _. ReadsNone };
+
     ghost can_encode = { λ x. All V.can_encode x.items.now };
 
     fn parts_len(&self, mode: Mode) -> Result<Option<usize>, EncodeError> {
@@ -32,15 +36,16 @@ impl<'a, V: Values> Parts for Items<'a, V> {
         Ok(sum)
     }
 
+    #[tactic(auto, using(crate::proofs::Noting::none_read))]
     fn write_parts<W: io::Write>(
         &self,
-        _size: Option<usize>,
         mode: Mode,
+        _sizes: &mut SizesLeft<'_>,
         target: &mut W,
         why: &mut WriteError,
     ) -> Result<(), Failed> {
         for item in self.items {
-            item.write_known(None, mode, target, why)?;
+            item.write_known(mode, &mut SizesLeft::none(), target, why)?;
         }
         Ok(())
     }
@@ -54,10 +59,17 @@ impl<V: Values> Values for &'_ [V] {
 
     ghost may_lack = { λ x mode. Any (λ v. V.may_lack v mode) x.now };
 
+    ghost reads = { λ _ _. ReadsNone };
+
     ghost can_encode = { λ x. All V.can_encode x.now };
 
     fn encoded_len(&self, mode: Mode) -> Result<usize, EncodeError> {
         joined_len(&Items { items: *self }, mode)
+    }
+
+    #[tactic(auto, using(crate::proofs::Noting::nothing_noted))]
+    fn note_sizes(&self, mode: Mode, _sizes: &mut Sizes) -> Result<usize, EncodeError> {
+        self.encoded_len(mode)
     }
 
     fn write_encoded<W: io::Write>(&self, mode: Mode, target: &mut W) -> Result<(), WriteError> {
@@ -66,17 +78,12 @@ impl<V: Values> Values for &'_ [V] {
 
     fn write_known<W: io::Write>(
         &self,
-        size: Option<usize>,
         mode: Mode,
+        sizes: &mut SizesLeft<'_>,
         target: &mut W,
         why: &mut WriteError,
     ) -> Result<(), Failed> {
-        write_known_parts(&Items { items: *self }, size, mode, target, why)
-    }
-
-    #[inline(always)]
-    fn weight() -> usize {
-        UNKNOWN_WEIGHT.saturating_add(V::weight())
+        write_known_parts(&Items { items: *self }, mode, sizes, target, why)
     }
 
     ghost lawful = { λ x mode can.
@@ -88,10 +95,17 @@ impl<V: Values> Values for Vec<V> {
 
     ghost may_lack = { λ x mode. Any (λ v. V.may_lack v mode) x.items };
 
+    ghost reads = { λ _ _. ReadsNone };
+
     ghost can_encode = { λ x. All V.can_encode x.items };
 
     fn encoded_len(&self, mode: Mode) -> Result<usize, EncodeError> {
         self.as_slice().encoded_len(mode)
+    }
+
+    #[tactic(auto, using(crate::proofs::Noting::nothing_noted))]
+    fn note_sizes(&self, mode: Mode, _sizes: &mut Sizes) -> Result<usize, EncodeError> {
+        self.encoded_len(mode)
     }
 
     fn write_encoded<W: io::Write>(&self, mode: Mode, target: &mut W) -> Result<(), WriteError> {
@@ -100,17 +114,12 @@ impl<V: Values> Values for Vec<V> {
 
     fn write_known<W: io::Write>(
         &self,
-        size: Option<usize>,
         mode: Mode,
+        sizes: &mut SizesLeft<'_>,
         target: &mut W,
         why: &mut WriteError,
     ) -> Result<(), Failed> {
-        self.as_slice().write_known(size, mode, target, why)
-    }
-
-    #[inline(always)]
-    fn weight() -> usize {
-        UNKNOWN_WEIGHT.saturating_add(V::weight())
+        self.as_slice().write_known(mode, sizes, target, why)
     }
 
     ghost lawful = { λ x mode can.

@@ -4,11 +4,13 @@ ghost use Rattle.bcder.specs.calls.Encoders.{HasEncoding, SizeOfValues, WritesPa
 ghost use Rattle.bcder.specs.calls.Joined.{EachOf, Joined};
 ghost use Rattle.bcder.specs.calls.Slices.{TakesItem, Gives, ItemMeans, ItemLacks, MayMap};
 ghost use Rattle.bcder.specs.calls.Slices.{item_lawful};
+ghost use Rattle.bcder.specs.calls.Noted.{ReadsNone};
 ghost use Rattle.bcder.specs.laws.Joined.{EachOf_lawful, Joined_lawful};
 
+use crate::encode::sizes::{Sizes, SizesLeft};
 use crate::encode::slot::Failed;
+use crate::encode::values::Values;
 use crate::encode::values::parts::{Parts, add_len, joined_len, write_joined, write_known_parts};
-use crate::encode::values::{UNKNOWN_WEIGHT, Values};
 use crate::encode::{EncodeError, WriteError};
 use crate::mode::Mode;
 use std::convert::AsSlice;
@@ -76,7 +78,7 @@ fn write_item<U, V: Values + Drop, F: Fn(&U) -> V, W: io::Write>(
         (ItemLacks F.Fn f.now V.may_lack mode item.now) (into_result result why.new) }
 {
     let value = call_on(f, item);
-    value.write_known(None, mode, target, why)
+    value.write_known(mode, &mut SizesLeft::none(), target, why)
 }
 
 /// The items and the closure.
@@ -92,6 +94,8 @@ impl<'a, F: Fn(&U) -> V, U, V: Values + Drop> Parts for Mapped<'a, F, U, V> {
 
     ghost may_lack = { λ x mode. Any (ItemLacks F.Fn x.f.now V.may_lack mode) x.items.now };
 
+    ghost reads = { λ _ _. ReadsNone };
+
     ghost can_encode = { λ x. All (MayMap F.Fn x.f.now V.can_encode V.means) x.items.now };
 
     fn parts_len(&self, mode: Mode) -> Result<Option<usize>, EncodeError> {
@@ -103,10 +107,11 @@ impl<'a, F: Fn(&U) -> V, U, V: Values + Drop> Parts for Mapped<'a, F, U, V> {
         Ok(sum)
     }
 
+    #[tactic(auto, using(crate::proofs::Noting::none_read))]
     fn write_parts<W: io::Write>(
         &self,
-        _size: Option<usize>,
         mode: Mode,
+        _sizes: &mut SizesLeft<'_>,
         target: &mut W,
         why: &mut WriteError,
     ) -> Result<(), Failed> {
@@ -126,6 +131,8 @@ impl<T: AsSlice<U>, F: Fn(&U) -> V, U, V: Values + Drop> Values for Slice<T, F, 
 
     ghost may_lack = { λ x mode. Any (ItemLacks F.Fn x.f V.may_lack mode) (T.items x.value) };
 
+    ghost reads = { λ _ _. ReadsNone };
+
     ghost can_encode = { λ x. All (MayMap F.Fn x.f V.can_encode V.means) (T.items x.value) };
 
     fn encoded_len(&self, mode: Mode) -> Result<usize, EncodeError> {
@@ -136,6 +143,11 @@ impl<T: AsSlice<U>, F: Fn(&U) -> V, U, V: Values + Drop> Values for Slice<T, F, 
             marker: PhantomData,
         };
         joined_len(&parts, mode)
+    }
+
+    #[tactic(auto, using(crate::proofs::Noting::nothing_noted))]
+    fn note_sizes(&self, mode: Mode, _sizes: &mut Sizes) -> Result<usize, EncodeError> {
+        self.encoded_len(mode)
     }
 
     fn write_encoded<W: io::Write>(&self, mode: Mode, target: &mut W) -> Result<(), WriteError> {
@@ -150,8 +162,8 @@ impl<T: AsSlice<U>, F: Fn(&U) -> V, U, V: Values + Drop> Values for Slice<T, F, 
 
     fn write_known<W: io::Write>(
         &self,
-        size: Option<usize>,
         mode: Mode,
+        sizes: &mut SizesLeft<'_>,
         target: &mut W,
         why: &mut WriteError,
     ) -> Result<(), Failed> {
@@ -161,12 +173,7 @@ impl<T: AsSlice<U>, F: Fn(&U) -> V, U, V: Values + Drop> Values for Slice<T, F, 
             f: &self.f,
             marker: PhantomData,
         };
-        write_known_parts(&parts, size, mode, target, why)
-    }
-
-    #[inline(always)]
-    fn weight() -> usize {
-        UNKNOWN_WEIGHT.saturating_add(V::weight())
+        write_known_parts(&parts, mode, sizes, target, why)
     }
 
     ghost lawful = { λ x mode can. Joined_lawful (EachOf_lawful mode

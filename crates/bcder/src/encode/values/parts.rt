@@ -1,14 +1,17 @@
 //! Encoders one after the other.
-ghost use Rattle.std.specs.Prelude.{◌≡◌, ℕ, ◌+◌, ⊤, ◌⊎◌, IsTrue, IfSome};
+ghost use Rattle.std.specs.Prelude.{◌≡◌, ℕ, ◌+◌, ⊤, ◌⊎◌, List, [], IfOk};
 ghost use Rattle.bcder.specs.declared.mode.Mode.{Mode};
 ghost use Rattle.bcder.specs.calls.Meaning.{Meaning, IsLawful};
 ghost use Rattle.bcder.specs.calls.Encoders.{HasEncoding, SizeOfValues, WritesValues, WritesParts};
-ghost use Rattle.bcder.specs.calls.Encoders.{TellsSum, WritesKnown, HasSize, into_result};
+ghost use Rattle.bcder.specs.calls.Encoders.{TellsSum, WritesKnown, into_result};
 ghost use Rattle.bcder.specs.calls.Joined.{Then, NoValues, Joined, IsSum};
+ghost use Rattle.bcder.specs.calls.Noted.{ReadsNone, ReadsThen, Notes, MayRead, HasRead};
+ghost use Rattle.bcder.specs.calls.Noted.{noted};
 ghost use Rattle.bcder.specs.laws.Joined.{Then_lawful, NoValues_lawful};
 
+use crate::encode::sizes::{Sizes, SizesLeft};
 use crate::encode::slot::{Failed, into_result, slot};
-use crate::encode::values::{UNKNOWN_WEIGHT, Values};
+use crate::encode::values::Values;
 use crate::encode::{EncodeError, WriteError};
 use crate::mode::Mode;
 use std::io;
@@ -19,6 +22,8 @@ pub(crate) trait Parts {
 
     ghost may_lack: { Self → Mode → Type 0 };
 
+    ghost reads: { Self → Mode → List ℕ → List ℕ → Type 0 };
+
     ghost can_encode: { Self → Type 0 };
 
     /// The sum of the sizes, or `None` where it passes `usize`.
@@ -26,34 +31,32 @@ pub(crate) trait Parts {
         requires { can_encode self.now }
         ensures { TellsSum (all self.now mode) (may_lack self.now mode) result };
 
-    /// Writes the parts where it is known that none is refused. `size` is how many octets they
-    /// have, where the caller knows that.
+    /// The sum of the sizes, which are noted where they have to be told.
+    #[inline(always)]
+    fn note_parts(&self, mode: Mode, sizes: &mut Sizes) -> Result<Option<usize>, EncodeError>
+        requires { can_encode self.now }
+        ensures sized { TellsSum (all self.now mode) (may_lack self.now mode) result }
+        ensures noted { IfOk result (λ _. Notes (reads self.now mode) sizes.old sizes.new) }
+    {
+        sizes.close();
+        self.parts_len(mode)
+    }
+
+    /// Writes the parts where it is known that none is refused.
     fn write_parts<W: io::Write>(
         &self,
-        size: Option<usize>,
         mode: Mode,
+        sizes: &mut SizesLeft<'_>,
         target: &mut W,
         why: &mut WriteError,
     ) -> Result<(), Failed>
         requires can { can_encode self.now }
         requires known { HasEncoding (all self.now mode) }
-        requires sized { HasSize (all self.now mode) size }
-        ensures { WritesParts W.contents target
-            (all self.now mode) (may_lack self.now mode) (into_result result why.new) };
-
-    /// What they weigh together, as encoders.
-    #[inline(always)]
-    fn weight() -> usize {
-        UNKNOWN_WEIGHT
-    }
-
-    /// Whether there is no part.
-    #[inline(always)]
-    fn is_none(&self) -> bool
-        ensures { IsTrue result → (mode : Mode) (m : Meaning) → all self.now mode m → NoValues m }
-    {
-        false
-    }
+        requires sized { MayRead (reads self.now mode) sizes.old.sizes.now }
+        ensures written { WritesParts W.contents target
+            (all self.now mode) (may_lack self.now mode) (into_result result why.new) }
+        ensures left { IfOk result (λ _.
+            HasRead (reads self.now mode) sizes.old.sizes.now sizes.new.sizes.now) };
 
     ghost all_lawful: { (x : Self) (mode : Mode) → can_encode x → IsLawful mode (all x mode) };
 }
@@ -69,6 +72,39 @@ pub(crate) fn joined_len<P: Parts>(parts: &P, mode: Mode) -> Result<usize, Encod
     }
 }
 
+/// The same. The sizes that have to be told are noted.
+pub(crate) fn note_joined<P: Parts>(
+    parts: &P,
+    mode: Mode,
+    sizes: &mut Sizes,
+) -> Result<usize, EncodeError>
+    requires { P.can_encode parts.now }
+    ensures sized { SizeOfValues
+        (Joined (P.all parts.now mode)) (P.may_lack parts.now mode) result }
+    ensures noted { IfOk result (λ _. Notes (P.reads parts.now mode) sizes.old sizes.new) }
+{
+    match parts.note_parts(mode, sizes)? {
+        Some(len) => Ok(len),
+        None => Err(EncodeError::SizeOverflow),
+    }
+}
+
+/// The size of parts that are written next, or why there is no encoding. The sizes that they tell
+/// are noted: in CER none, where no constructed value tells one.
+#[inline(always)]
+fn measure_joined<P: Parts>(parts: &P, mode: Mode, sizes: &mut Sizes) -> Result<usize, EncodeError>
+    requires can { P.can_encode parts.now }
+    requires none { noted sizes.old ≡ [] }
+    ensures sized { SizeOfValues
+        (Joined (P.all parts.now mode)) (P.may_lack parts.now mode) result }
+    ensures noted { IfOk result (λ _. MayRead (P.reads parts.now mode) (noted sizes.new)) }
+{
+    match mode {
+        Mode::Cer => joined_len(parts, mode),
+        Mode::Ber | Mode::Der => note_joined(parts, mode, sizes),
+    }
+}
+
 /// Writes the parts, if none of them is refused and their sizes have a sum.
 pub(crate) fn write_joined<P: Parts, W: io::Write>(
     parts: &P,
@@ -79,27 +115,30 @@ pub(crate) fn write_joined<P: Parts, W: io::Write>(
     ensures { WritesValues W.contents target
         (Joined (P.all parts.now mode)) (P.may_lack parts.now mode) result }
 {
-    let size = joined_len(parts, mode)?;
+    let mut sizes = Sizes::new();
+    measure_joined(parts, mode, &mut sizes)?;
     let mut why = slot();
-    let outcome = parts.write_parts(Some(size), mode, target, &mut why);
+    let outcome = parts.write_parts(mode, &mut sizes.left(), target, &mut why);
     into_result(outcome, why)
 }
 
 /// Writes the parts where it is known that there is an encoding.
 pub(crate) fn write_known_parts<P: Parts, W: io::Write>(
     parts: &P,
-    size: Option<usize>,
     mode: Mode,
+    sizes: &mut SizesLeft<'_>,
     target: &mut W,
     why: &mut WriteError,
 ) -> Result<(), Failed>
     requires can { P.can_encode parts.now }
     requires known { HasEncoding (Joined (P.all parts.now mode)) }
-    requires sized { HasSize (Joined (P.all parts.now mode)) size }
-    ensures { WritesKnown W.contents target
+    requires sized { MayRead (P.reads parts.now mode) sizes.old.sizes.now }
+    ensures written { WritesKnown W.contents target
         (Joined (P.all parts.now mode)) (P.may_lack parts.now mode) (into_result result why.new) }
+    ensures left { IfOk result (λ _.
+        HasRead (P.reads parts.now mode) sizes.old.sizes.now sizes.new.sizes.now) }
 {
-    parts.write_parts(size, mode, target, why)
+    parts.write_parts(mode, sizes, target, why)
 }
 
 /// A sum of sizes with one more.
@@ -122,48 +161,32 @@ impl Parts for End {
 
     ghost may_lack = { λ _ _. ⊥ };
 
+    ghost reads = { λ _ _. ReadsNone };
+
     ghost can_encode = { λ _. ⊤ };
 
     fn parts_len(&self, _mode: Mode) -> Result<Option<usize>, EncodeError> {
         Ok(Some(0))
     }
 
+    #[inline(always)]
+    #[tactic(auto, using(crate::proofs::Noting::nothing_noted))]
+    fn note_parts(&self, mode: Mode, _sizes: &mut Sizes) -> Result<Option<usize>, EncodeError> {
+        self.parts_len(mode)
+    }
+
+    #[tactic(auto, using(crate::proofs::Noting::none_read))]
     fn write_parts<W: io::Write>(
         &self,
-        _size: Option<usize>,
         _mode: Mode,
+        _sizes: &mut SizesLeft<'_>,
         _target: &mut W,
         _why: &mut WriteError,
     ) -> Result<(), Failed> {
         Ok(())
     }
 
-    #[inline(always)]
-    fn is_none(&self) -> bool {
-        true
-    }
-
-    #[inline(always)]
-    fn weight() -> usize {
-        0
-    }
-
     ghost all_lawful = { λ _ mode _. NoValues_lawful mode };
-}
-
-/// A size less that of the first part.
-#[inline(always)]
-fn less(size: Option<usize>, first: Option<usize>) -> Option<usize>
-    ensures { (k n : ℕ) → IfSome size (λ s. s ≡ k + n) → IfSome first (λ f. f ≡ k)
-        → IfSome result (λ r. r ≡ n) }
-{
-    match size {
-        Some(size) => match first {
-            Some(first) => size.checked_sub(first),
-            None => None,
-        },
-        None => None,
-    }
 }
 
 /// A part and those after it.
@@ -173,64 +196,12 @@ pub(crate) struct Chain<'a, V, R> {
     pub(super) rest: R,
 }
 
-impl<'a, V: Values, R: Parts> Chain<'a, V, R> {
-    /// How many octets the parts behind the first have, unless memory lacks.
-    #[inline(always)]
-    fn rest_size(&self, mode: Mode) -> Option<usize>
-        requires { R.can_encode self.now.rest }
-        ensures { HasSize (R.all self.now.rest mode) result }
-    {
-        match self.rest.parts_len(mode) {
-            Ok(len) => len,
-            Err(_) => None,
-        }
-    }
-
-    /// How many octets the first part has, where it is known how many all have, by those behind it.
-    #[inline(always)]
-    fn size_beside(&self, size: Option<usize>, mode: Mode) -> Option<usize>
-        requires can { R.can_encode self.now.rest }
-        requires known { HasEncoding
-            (Then (V.means self.now.first.now mode) (R.all self.now.rest mode)) }
-        requires sized { HasSize
-            (Then (V.means self.now.first.now mode) (R.all self.now.rest mode)) size }
-        ensures { HasSize (V.means self.now.first.now mode) result }
-    {
-        less(size, self.rest_size(mode))
-    }
-
-    /// How many octets the first part has, where it is known how many all have. The last part
-    /// isn't asked, and of a part and those behind it only the lighter: what holds many values
-    /// is gone over once, wherever it stands.
-    #[inline(always)]
-    fn first_size(&self, size: Option<usize>, mode: Mode) -> Option<usize>
-        requires can { V.can_encode self.now.first.now × R.can_encode self.now.rest }
-        requires known { HasEncoding
-            (Then (V.means self.now.first.now mode) (R.all self.now.rest mode)) }
-        requires sized { HasSize
-            (Then (V.means self.now.first.now mode) (R.all self.now.rest mode)) size }
-        ensures { HasSize (V.means self.now.first.now mode) result }
-    {
-        if self.rest.is_none() {
-            return size;
-        }
-        if size.is_none() || R::weight().saturating_add(V::weight()) == 0 {
-            return None;
-        }
-        if R::weight() < V::weight() {
-            return self.size_beside(size, mode);
-        }
-        match self.first.encoded_len(mode) {
-            Ok(len) => Some(len),
-            Err(_) => None,
-        }
-    }
-}
-
 impl<'a, V: Values, R: Parts> Parts for Chain<'a, V, R> {
     ghost all = { λ x mode. Then (V.means x.first.now mode) (R.all x.rest mode) };
 
     ghost may_lack = { λ x mode. V.may_lack x.first.now mode ⊎ R.may_lack x.rest mode };
+
+    ghost reads = { λ x mode. ReadsThen (V.reads x.first.now mode) (R.reads x.rest mode) };
 
     ghost can_encode = { λ x. V.can_encode x.first.now × R.can_encode x.rest };
 
@@ -243,21 +214,24 @@ impl<'a, V: Values, R: Parts> Parts for Chain<'a, V, R> {
         }
     }
 
+    fn note_parts(&self, mode: Mode, sizes: &mut Sizes) -> Result<Option<usize>, EncodeError> {
+        let first = self.first.note_sizes(mode, sizes)?;
+        let rest = self.rest.note_parts(mode, sizes)?;
+        match rest {
+            Some(len) => Ok(first.checked_add(len)),
+            None => Ok(None),
+        }
+    }
+
     fn write_parts<W: io::Write>(
         &self,
-        size: Option<usize>,
         mode: Mode,
+        sizes: &mut SizesLeft<'_>,
         target: &mut W,
         why: &mut WriteError,
     ) -> Result<(), Failed> {
-        let first = self.first_size(size, mode);
-        self.first.write_known(first, mode, target, why)?;
-        self.rest.write_parts(less(size, first), mode, target, why)
-    }
-
-    #[inline(always)]
-    fn weight() -> usize {
-        V::weight().saturating_add(R::weight())
+        self.first.write_known(mode, sizes, target, why)?;
+        self.rest.write_parts(mode, sizes, target, why)
     }
 
     ghost all_lawful = { λ x mode can.
@@ -269,30 +243,26 @@ impl<R: Parts> Parts for &'_ R {
 
     ghost may_lack = { λ x mode. R.may_lack x.now mode };
 
+    ghost reads = { λ x mode. R.reads x.now mode };
+
     ghost can_encode = { λ x. R.can_encode x.now };
 
     fn parts_len(&self, mode: Mode) -> Result<Option<usize>, EncodeError> {
         (**self).parts_len(mode)
     }
 
+    fn note_parts(&self, mode: Mode, sizes: &mut Sizes) -> Result<Option<usize>, EncodeError> {
+        (**self).note_parts(mode, sizes)
+    }
+
     fn write_parts<W: io::Write>(
         &self,
-        size: Option<usize>,
         mode: Mode,
+        sizes: &mut SizesLeft<'_>,
         target: &mut W,
         why: &mut WriteError,
     ) -> Result<(), Failed> {
-        (**self).write_parts(size, mode, target, why)
-    }
-
-    #[inline(always)]
-    fn is_none(&self) -> bool {
-        (**self).is_none()
-    }
-
-    #[inline(always)]
-    fn weight() -> usize {
-        R::weight()
+        (**self).write_parts(mode, sizes, target, why)
     }
 
     ghost all_lawful = { λ x mode can. R.all_lawful x.now mode can };
@@ -314,6 +284,10 @@ impl<'a, A: Values, B: Values, C: Values, D: Values, R: Parts> Parts for Four<'a
 
     ghost may_lack = { λ x mode. A.may_lack x.a.now mode ⊎ (B.may_lack x.b.now mode
         ⊎ (C.may_lack x.c.now mode ⊎ (D.may_lack x.d.now mode ⊎ R.may_lack x.rest mode))) };
+
+    ghost reads = { λ x mode. ReadsThen (A.reads x.a.now mode) (ReadsThen (B.reads x.b.now mode)
+        (ReadsThen (C.reads x.c.now mode) (ReadsThen (D.reads x.d.now mode)
+        (R.reads x.rest mode)))) };
 
     ghost can_encode = { λ x. A.can_encode x.a.now × (B.can_encode x.b.now
         × (C.can_encode x.c.now × (D.can_encode x.d.now × R.can_encode x.rest))) };
@@ -339,10 +313,31 @@ impl<'a, A: Values, B: Values, C: Values, D: Values, R: Parts> Parts for Four<'a
         all.parts_len(mode)
     }
 
+    fn note_parts(&self, mode: Mode, sizes: &mut Sizes) -> Result<Option<usize>, EncodeError> {
+        let rest = &self.rest;
+        let rest = Chain {
+            first: self.d,
+            rest,
+        };
+        let rest = Chain {
+            first: self.c,
+            rest,
+        };
+        let rest = Chain {
+            first: self.b,
+            rest,
+        };
+        let all = Chain {
+            first: self.a,
+            rest,
+        };
+        all.note_parts(mode, sizes)
+    }
+
     fn write_parts<W: io::Write>(
         &self,
-        size: Option<usize>,
         mode: Mode,
+        sizes: &mut SizesLeft<'_>,
         target: &mut W,
         why: &mut WriteError,
     ) -> Result<(), Failed> {
@@ -363,17 +358,7 @@ impl<'a, A: Values, B: Values, C: Values, D: Values, R: Parts> Parts for Four<'a
             first: self.a,
             rest,
         };
-        all.write_parts(size, mode, target, why)
-    }
-
-    #[inline(always)]
-    fn weight() -> usize {
-        let others = B::weight()
-            .saturating_add(C::weight())
-            .saturating_add(D::weight());
-        A::weight()
-            .saturating_add(others)
-            .saturating_add(R::weight())
+        all.write_parts(mode, sizes, target, why)
     }
 
     ghost all_lawful = { λ x mode can. Then_lawful (A.lawful x.a.now mode can.0)

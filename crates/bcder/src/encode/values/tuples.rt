@@ -1,11 +1,15 @@
 //! Tuples of encoders: their values one after the other.
 ghost use Rattle.std.specs.Prelude.{◌⊎◌, ⊤};
 ghost use Rattle.bcder.specs.calls.Joined.{Then, NoValues, Joined};
+ghost use Rattle.bcder.specs.calls.Noted.{ReadsNone, ReadsThen};
 ghost use Rattle.bcder.specs.laws.Joined.{Then_lawful, NoValues_lawful, Joined_lawful};
 
+use crate::encode::sizes::{Sizes, SizesLeft};
 use crate::encode::slot::Failed;
 use crate::encode::values::Values;
-use crate::encode::values::parts::{Chain, End, Four, joined_len, write_joined, write_known_parts};
+use crate::encode::values::parts::{
+    Chain, End, Four, joined_len, note_joined, write_joined, write_known_parts,
+};
 use crate::encode::{EncodeError, WriteError};
 use crate::mode::Mode;
 use std::io;
@@ -30,24 +34,23 @@ macro_rules! parts {
     () => { End };
 }
 
-/// What parts weigh together.
-macro_rules! weight {
-    ($first:ident $(, $rest:ident)*) => {
-        $first::weight().saturating_add(weight!($($rest),*))
-    };
-    () => { 0usize };
-}
-
 impl<A: Values> Values for (A,) {
     ghost means = { λ x mode. Joined (Then (A.means x.0 mode) NoValues) };
 
     ghost may_lack = { λ x mode. A.may_lack x.0 mode ⊎ ⊥ };
+
+    ghost reads = { λ x mode. ReadsThen (A.reads x.0 mode) ReadsNone };
 
     ghost can_encode = { λ x. A.can_encode x.0 × ⊤ };
 
     fn encoded_len(&self, mode: Mode) -> Result<usize, EncodeError> {
         let (a,) = self;
         joined_len(&parts!(a), mode)
+    }
+
+    fn note_sizes(&self, mode: Mode, sizes: &mut Sizes) -> Result<usize, EncodeError> {
+        let (a,) = self;
+        note_joined(&parts!(a), mode, sizes)
     }
 
     fn write_encoded<W: io::Write>(&self, mode: Mode, target: &mut W) -> Result<(), WriteError> {
@@ -57,18 +60,13 @@ impl<A: Values> Values for (A,) {
 
     fn write_known<W: io::Write>(
         &self,
-        size: Option<usize>,
         mode: Mode,
+        sizes: &mut SizesLeft<'_>,
         target: &mut W,
         why: &mut WriteError,
     ) -> Result<(), Failed> {
         let (a,) = self;
-        write_known_parts(&parts!(a), size, mode, target, why)
-    }
-
-    #[inline(always)]
-    fn weight() -> usize {
-        weight!(A)
+        write_known_parts(&parts!(a), mode, sizes, target, why)
     }
 
     ghost lawful = { λ x mode can. Joined_lawful (Then_lawful (A.lawful x.0 mode can.0)
@@ -80,11 +78,19 @@ impl<A: Values, B: Values> Values for (A, B) {
 
     ghost may_lack = { λ x mode. A.may_lack x.0 mode ⊎ (B.may_lack x.1 mode ⊎ ⊥) };
 
+    ghost reads = { λ x mode. ReadsThen (A.reads x.0 mode) (ReadsThen (B.reads x.1 mode)
+        ReadsNone) };
+
     ghost can_encode = { λ x. A.can_encode x.0 × (B.can_encode x.1 × ⊤) };
 
     fn encoded_len(&self, mode: Mode) -> Result<usize, EncodeError> {
         let (a, b) = self;
         joined_len(&parts!(a, b), mode)
+    }
+
+    fn note_sizes(&self, mode: Mode, sizes: &mut Sizes) -> Result<usize, EncodeError> {
+        let (a, b) = self;
+        note_joined(&parts!(a, b), mode, sizes)
     }
 
     fn write_encoded<W: io::Write>(&self, mode: Mode, target: &mut W) -> Result<(), WriteError> {
@@ -94,18 +100,13 @@ impl<A: Values, B: Values> Values for (A, B) {
 
     fn write_known<W: io::Write>(
         &self,
-        size: Option<usize>,
         mode: Mode,
+        sizes: &mut SizesLeft<'_>,
         target: &mut W,
         why: &mut WriteError,
     ) -> Result<(), Failed> {
         let (a, b) = self;
-        write_known_parts(&parts!(a, b), size, mode, target, why)
-    }
-
-    #[inline(always)]
-    fn weight() -> usize {
-        weight!(A, B)
+        write_known_parts(&parts!(a, b), mode, sizes, target, why)
     }
 
     ghost lawful = { λ x mode can. Joined_lawful (Then_lawful (A.lawful x.0 mode can.0)
@@ -119,11 +120,19 @@ impl<A: Values, B: Values, C: Values> Values for (A, B, C) {
     ghost may_lack = { λ x mode. A.may_lack x.0 mode ⊎ (B.may_lack x.1 mode ⊎
         (C.may_lack x.2 mode ⊎ ⊥)) };
 
+    ghost reads = { λ x mode. ReadsThen (A.reads x.0 mode) (ReadsThen (B.reads x.1 mode)
+        (ReadsThen (C.reads x.2 mode) ReadsNone)) };
+
     ghost can_encode = { λ x. A.can_encode x.0 × (B.can_encode x.1 × (C.can_encode x.2 × ⊤)) };
 
     fn encoded_len(&self, mode: Mode) -> Result<usize, EncodeError> {
         let (a, b, c) = self;
         joined_len(&parts!(a, b, c), mode)
+    }
+
+    fn note_sizes(&self, mode: Mode, sizes: &mut Sizes) -> Result<usize, EncodeError> {
+        let (a, b, c) = self;
+        note_joined(&parts!(a, b, c), mode, sizes)
     }
 
     fn write_encoded<W: io::Write>(&self, mode: Mode, target: &mut W) -> Result<(), WriteError> {
@@ -133,18 +142,13 @@ impl<A: Values, B: Values, C: Values> Values for (A, B, C) {
 
     fn write_known<W: io::Write>(
         &self,
-        size: Option<usize>,
         mode: Mode,
+        sizes: &mut SizesLeft<'_>,
         target: &mut W,
         why: &mut WriteError,
     ) -> Result<(), Failed> {
         let (a, b, c) = self;
-        write_known_parts(&parts!(a, b, c), size, mode, target, why)
-    }
-
-    #[inline(always)]
-    fn weight() -> usize {
-        weight!(A, B, C)
+        write_known_parts(&parts!(a, b, c), mode, sizes, target, why)
     }
 
     ghost lawful = { λ x mode can. Joined_lawful (Then_lawful (A.lawful x.0 mode can.0)
@@ -159,12 +163,20 @@ impl<A: Values, B: Values, C: Values, D: Values> Values for (A, B, C, D) {
     ghost may_lack = { λ x mode. A.may_lack x.0 mode ⊎ (B.may_lack x.1 mode ⊎
         (C.may_lack x.2 mode ⊎ (D.may_lack x.3 mode ⊎ ⊥))) };
 
+    ghost reads = { λ x mode. ReadsThen (A.reads x.0 mode) (ReadsThen (B.reads x.1 mode)
+        (ReadsThen (C.reads x.2 mode) (ReadsThen (D.reads x.3 mode) ReadsNone))) };
+
     ghost can_encode = { λ x. A.can_encode x.0 × (B.can_encode x.1 × (C.can_encode x.2 ×
         (D.can_encode x.3 × ⊤))) };
 
     fn encoded_len(&self, mode: Mode) -> Result<usize, EncodeError> {
         let (a, b, c, d) = self;
         joined_len(&parts!(a, b, c, d), mode)
+    }
+
+    fn note_sizes(&self, mode: Mode, sizes: &mut Sizes) -> Result<usize, EncodeError> {
+        let (a, b, c, d) = self;
+        note_joined(&parts!(a, b, c, d), mode, sizes)
     }
 
     fn write_encoded<W: io::Write>(&self, mode: Mode, target: &mut W) -> Result<(), WriteError> {
@@ -174,18 +186,13 @@ impl<A: Values, B: Values, C: Values, D: Values> Values for (A, B, C, D) {
 
     fn write_known<W: io::Write>(
         &self,
-        size: Option<usize>,
         mode: Mode,
+        sizes: &mut SizesLeft<'_>,
         target: &mut W,
         why: &mut WriteError,
     ) -> Result<(), Failed> {
         let (a, b, c, d) = self;
-        write_known_parts(&parts!(a, b, c, d), size, mode, target, why)
-    }
-
-    #[inline(always)]
-    fn weight() -> usize {
-        weight!(A, B, C, D)
+        write_known_parts(&parts!(a, b, c, d), mode, sizes, target, why)
     }
 
     ghost lawful = { λ x mode can. Joined_lawful (Then_lawful (A.lawful x.0 mode can.0)
@@ -200,12 +207,21 @@ impl<A: Values, B: Values, C: Values, D: Values, E: Values> Values for (A, B, C,
     ghost may_lack = { λ x mode. A.may_lack x.0 mode ⊎ (B.may_lack x.1 mode ⊎
         (C.may_lack x.2 mode ⊎ (D.may_lack x.3 mode ⊎ (E.may_lack x.4 mode ⊎ ⊥)))) };
 
+    ghost reads = { λ x mode. ReadsThen (A.reads x.0 mode) (ReadsThen (B.reads x.1 mode)
+        (ReadsThen (C.reads x.2 mode) (ReadsThen (D.reads x.3 mode)
+        (ReadsThen (E.reads x.4 mode) ReadsNone)))) };
+
     ghost can_encode = { λ x. A.can_encode x.0 × (B.can_encode x.1 × (C.can_encode x.2 ×
         (D.can_encode x.3 × (E.can_encode x.4 × ⊤)))) };
 
     fn encoded_len(&self, mode: Mode) -> Result<usize, EncodeError> {
         let (a, b, c, d, e) = self;
         joined_len(&parts!(a, b, c, d, e), mode)
+    }
+
+    fn note_sizes(&self, mode: Mode, sizes: &mut Sizes) -> Result<usize, EncodeError> {
+        let (a, b, c, d, e) = self;
+        note_joined(&parts!(a, b, c, d, e), mode, sizes)
     }
 
     fn write_encoded<W: io::Write>(&self, mode: Mode, target: &mut W) -> Result<(), WriteError> {
@@ -215,18 +231,13 @@ impl<A: Values, B: Values, C: Values, D: Values, E: Values> Values for (A, B, C,
 
     fn write_known<W: io::Write>(
         &self,
-        size: Option<usize>,
         mode: Mode,
+        sizes: &mut SizesLeft<'_>,
         target: &mut W,
         why: &mut WriteError,
     ) -> Result<(), Failed> {
         let (a, b, c, d, e) = self;
-        write_known_parts(&parts!(a, b, c, d, e), size, mode, target, why)
-    }
-
-    #[inline(always)]
-    fn weight() -> usize {
-        weight!(A, B, C, D, E)
+        write_known_parts(&parts!(a, b, c, d, e), mode, sizes, target, why)
     }
 
     ghost lawful = { λ x mode can. Joined_lawful (Then_lawful (A.lawful x.0 mode can.0)
@@ -245,12 +256,21 @@ impl<A: Values, B: Values, C: Values, D: Values, E: Values, F: Values> Values
         (C.may_lack x.2 mode ⊎ (D.may_lack x.3 mode ⊎ (E.may_lack x.4 mode ⊎
         (F.may_lack x.5 mode ⊎ ⊥))))) };
 
+    ghost reads = { λ x mode. ReadsThen (A.reads x.0 mode) (ReadsThen (B.reads x.1 mode)
+        (ReadsThen (C.reads x.2 mode) (ReadsThen (D.reads x.3 mode)
+        (ReadsThen (E.reads x.4 mode) (ReadsThen (F.reads x.5 mode) ReadsNone))))) };
+
     ghost can_encode = { λ x. A.can_encode x.0 × (B.can_encode x.1 × (C.can_encode x.2 ×
         (D.can_encode x.3 × (E.can_encode x.4 × (F.can_encode x.5 × ⊤))))) };
 
     fn encoded_len(&self, mode: Mode) -> Result<usize, EncodeError> {
         let (a, b, c, d, e, f) = self;
         joined_len(&parts!(a, b, c, d, e, f), mode)
+    }
+
+    fn note_sizes(&self, mode: Mode, sizes: &mut Sizes) -> Result<usize, EncodeError> {
+        let (a, b, c, d, e, f) = self;
+        note_joined(&parts!(a, b, c, d, e, f), mode, sizes)
     }
 
     fn write_encoded<W: io::Write>(&self, mode: Mode, target: &mut W) -> Result<(), WriteError> {
@@ -260,18 +280,13 @@ impl<A: Values, B: Values, C: Values, D: Values, E: Values, F: Values> Values
 
     fn write_known<W: io::Write>(
         &self,
-        size: Option<usize>,
         mode: Mode,
+        sizes: &mut SizesLeft<'_>,
         target: &mut W,
         why: &mut WriteError,
     ) -> Result<(), Failed> {
         let (a, b, c, d, e, f) = self;
-        write_known_parts(&parts!(a, b, c, d, e, f), size, mode, target, why)
-    }
-
-    #[inline(always)]
-    fn weight() -> usize {
-        weight!(A, B, C, D, E, F)
+        write_known_parts(&parts!(a, b, c, d, e, f), mode, sizes, target, why)
     }
 
     ghost lawful = { λ x mode can. Joined_lawful (Then_lawful (A.lawful x.0 mode can.0)
@@ -291,12 +306,22 @@ impl<A: Values, B: Values, C: Values, D: Values, E: Values, F: Values, G: Values
         (C.may_lack x.2 mode ⊎ (D.may_lack x.3 mode ⊎ (E.may_lack x.4 mode ⊎
         (F.may_lack x.5 mode ⊎ (G.may_lack x.6 mode ⊎ ⊥)))))) };
 
+    ghost reads = { λ x mode. ReadsThen (A.reads x.0 mode) (ReadsThen (B.reads x.1 mode)
+        (ReadsThen (C.reads x.2 mode) (ReadsThen (D.reads x.3 mode)
+        (ReadsThen (E.reads x.4 mode) (ReadsThen (F.reads x.5 mode)
+        (ReadsThen (G.reads x.6 mode) ReadsNone)))))) };
+
     ghost can_encode = { λ x. A.can_encode x.0 × (B.can_encode x.1 × (C.can_encode x.2 ×
         (D.can_encode x.3 × (E.can_encode x.4 × (F.can_encode x.5 × (G.can_encode x.6 × ⊤)))))) };
 
     fn encoded_len(&self, mode: Mode) -> Result<usize, EncodeError> {
         let (a, b, c, d, e, f, g) = self;
         joined_len(&parts!(a, b, c, d, e, f, g), mode)
+    }
+
+    fn note_sizes(&self, mode: Mode, sizes: &mut Sizes) -> Result<usize, EncodeError> {
+        let (a, b, c, d, e, f, g) = self;
+        note_joined(&parts!(a, b, c, d, e, f, g), mode, sizes)
     }
 
     fn write_encoded<W: io::Write>(&self, mode: Mode, target: &mut W) -> Result<(), WriteError> {
@@ -306,18 +331,13 @@ impl<A: Values, B: Values, C: Values, D: Values, E: Values, F: Values, G: Values
 
     fn write_known<W: io::Write>(
         &self,
-        size: Option<usize>,
         mode: Mode,
+        sizes: &mut SizesLeft<'_>,
         target: &mut W,
         why: &mut WriteError,
     ) -> Result<(), Failed> {
         let (a, b, c, d, e, f, g) = self;
-        write_known_parts(&parts!(a, b, c, d, e, f, g), size, mode, target, why)
-    }
-
-    #[inline(always)]
-    fn weight() -> usize {
-        weight!(A, B, C, D, E, F, G)
+        write_known_parts(&parts!(a, b, c, d, e, f, g), mode, sizes, target, why)
     }
 
     ghost lawful = { λ x mode can. Joined_lawful (Then_lawful (A.lawful x.0 mode can.0)
@@ -339,6 +359,11 @@ impl<A: Values, B: Values, C: Values, D: Values, E: Values, F: Values, G: Values
         (C.may_lack x.2 mode ⊎ (D.may_lack x.3 mode ⊎ (E.may_lack x.4 mode ⊎
         (F.may_lack x.5 mode ⊎ (G.may_lack x.6 mode ⊎ (H.may_lack x.7 mode ⊎ ⊥))))))) };
 
+    ghost reads = { λ x mode. ReadsThen (A.reads x.0 mode) (ReadsThen (B.reads x.1 mode)
+        (ReadsThen (C.reads x.2 mode) (ReadsThen (D.reads x.3 mode)
+        (ReadsThen (E.reads x.4 mode) (ReadsThen (F.reads x.5 mode)
+        (ReadsThen (G.reads x.6 mode) (ReadsThen (H.reads x.7 mode) ReadsNone))))))) };
+
     ghost can_encode = { λ x. A.can_encode x.0 × (B.can_encode x.1 × (C.can_encode x.2 ×
         (D.can_encode x.3 × (E.can_encode x.4 × (F.can_encode x.5 × (G.can_encode x.6 ×
         (H.can_encode x.7 × ⊤))))))) };
@@ -348,6 +373,11 @@ impl<A: Values, B: Values, C: Values, D: Values, E: Values, F: Values, G: Values
         joined_len(&parts!(a, b, c, d, e, f, g, h), mode)
     }
 
+    fn note_sizes(&self, mode: Mode, sizes: &mut Sizes) -> Result<usize, EncodeError> {
+        let (a, b, c, d, e, f, g, h) = self;
+        note_joined(&parts!(a, b, c, d, e, f, g, h), mode, sizes)
+    }
+
     fn write_encoded<W: io::Write>(&self, mode: Mode, target: &mut W) -> Result<(), WriteError> {
         let (a, b, c, d, e, f, g, h) = self;
         write_joined(&parts!(a, b, c, d, e, f, g, h), mode, target)
@@ -355,18 +385,13 @@ impl<A: Values, B: Values, C: Values, D: Values, E: Values, F: Values, G: Values
 
     fn write_known<W: io::Write>(
         &self,
-        size: Option<usize>,
         mode: Mode,
+        sizes: &mut SizesLeft<'_>,
         target: &mut W,
         why: &mut WriteError,
     ) -> Result<(), Failed> {
         let (a, b, c, d, e, f, g, h) = self;
-        write_known_parts(&parts!(a, b, c, d, e, f, g, h), size, mode, target, why)
-    }
-
-    #[inline(always)]
-    fn weight() -> usize {
-        weight!(A, B, C, D, E, F, G, H)
+        write_known_parts(&parts!(a, b, c, d, e, f, g, h), mode, sizes, target, why)
     }
 
     ghost lawful = { λ x mode can. Joined_lawful (Then_lawful (A.lawful x.0 mode can.0)
@@ -399,6 +424,12 @@ impl<
         (F.may_lack x.5 mode ⊎ (G.may_lack x.6 mode ⊎ (H.may_lack x.7 mode ⊎
         (I.may_lack x.8 mode ⊎ ⊥)))))))) };
 
+    ghost reads = { λ x mode. ReadsThen (A.reads x.0 mode) (ReadsThen (B.reads x.1 mode)
+        (ReadsThen (C.reads x.2 mode) (ReadsThen (D.reads x.3 mode)
+        (ReadsThen (E.reads x.4 mode) (ReadsThen (F.reads x.5 mode)
+        (ReadsThen (G.reads x.6 mode) (ReadsThen (H.reads x.7 mode)
+        (ReadsThen (I.reads x.8 mode) ReadsNone)))))))) };
+
     ghost can_encode = { λ x. A.can_encode x.0 × (B.can_encode x.1 × (C.can_encode x.2 ×
         (D.can_encode x.3 × (E.can_encode x.4 × (F.can_encode x.5 × (G.can_encode x.6 ×
         (H.can_encode x.7 × (I.can_encode x.8 × ⊤)))))))) };
@@ -408,6 +439,11 @@ impl<
         joined_len(&parts!(a, b, c, d, e, f, g, h, i), mode)
     }
 
+    fn note_sizes(&self, mode: Mode, sizes: &mut Sizes) -> Result<usize, EncodeError> {
+        let (a, b, c, d, e, f, g, h, i) = self;
+        note_joined(&parts!(a, b, c, d, e, f, g, h, i), mode, sizes)
+    }
+
     fn write_encoded<W: io::Write>(&self, mode: Mode, target: &mut W) -> Result<(), WriteError> {
         let (a, b, c, d, e, f, g, h, i) = self;
         write_joined(&parts!(a, b, c, d, e, f, g, h, i), mode, target)
@@ -415,18 +451,13 @@ impl<
 
     fn write_known<W: io::Write>(
         &self,
-        size: Option<usize>,
         mode: Mode,
+        sizes: &mut SizesLeft<'_>,
         target: &mut W,
         why: &mut WriteError,
     ) -> Result<(), Failed> {
         let (a, b, c, d, e, f, g, h, i) = self;
-        write_known_parts(&parts!(a, b, c, d, e, f, g, h, i), size, mode, target, why)
-    }
-
-    #[inline(always)]
-    fn weight() -> usize {
-        weight!(A, B, C, D, E, F, G, H, I)
+        write_known_parts(&parts!(a, b, c, d, e, f, g, h, i), mode, sizes, target, why)
     }
 
     ghost lawful = { λ x mode can. Joined_lawful (Then_lawful (A.lawful x.0 mode can.0)
@@ -461,6 +492,12 @@ impl<
         (F.may_lack x.5 mode ⊎ (G.may_lack x.6 mode ⊎ (H.may_lack x.7 mode ⊎
         (I.may_lack x.8 mode ⊎ (J.may_lack x.9 mode ⊎ ⊥))))))))) };
 
+    ghost reads = { λ x mode. ReadsThen (A.reads x.0 mode) (ReadsThen (B.reads x.1 mode)
+        (ReadsThen (C.reads x.2 mode) (ReadsThen (D.reads x.3 mode)
+        (ReadsThen (E.reads x.4 mode) (ReadsThen (F.reads x.5 mode)
+        (ReadsThen (G.reads x.6 mode) (ReadsThen (H.reads x.7 mode)
+        (ReadsThen (I.reads x.8 mode) (ReadsThen (J.reads x.9 mode) ReadsNone))))))))) };
+
     ghost can_encode = { λ x. A.can_encode x.0 × (B.can_encode x.1 × (C.can_encode x.2 ×
         (D.can_encode x.3 × (E.can_encode x.4 × (F.can_encode x.5 × (G.can_encode x.6 ×
         (H.can_encode x.7 × (I.can_encode x.8 × (J.can_encode x.9 × ⊤))))))))) };
@@ -470,6 +507,11 @@ impl<
         joined_len(&parts!(a, b, c, d, e, f, g, h, i, j), mode)
     }
 
+    fn note_sizes(&self, mode: Mode, sizes: &mut Sizes) -> Result<usize, EncodeError> {
+        let (a, b, c, d, e, f, g, h, i, j) = self;
+        note_joined(&parts!(a, b, c, d, e, f, g, h, i, j), mode, sizes)
+    }
+
     fn write_encoded<W: io::Write>(&self, mode: Mode, target: &mut W) -> Result<(), WriteError> {
         let (a, b, c, d, e, f, g, h, i, j) = self;
         write_joined(&parts!(a, b, c, d, e, f, g, h, i, j), mode, target)
@@ -477,24 +519,19 @@ impl<
 
     fn write_known<W: io::Write>(
         &self,
-        size: Option<usize>,
         mode: Mode,
+        sizes: &mut SizesLeft<'_>,
         target: &mut W,
         why: &mut WriteError,
     ) -> Result<(), Failed> {
         let (a, b, c, d, e, f, g, h, i, j) = self;
         write_known_parts(
             &parts!(a, b, c, d, e, f, g, h, i, j),
-            size,
             mode,
+            sizes,
             target,
             why,
         )
-    }
-
-    #[inline(always)]
-    fn weight() -> usize {
-        weight!(A, B, C, D, E, F, G, H, I, J)
     }
 
     ghost lawful = { λ x mode can. Joined_lawful (Then_lawful (A.lawful x.0 mode can.0)
@@ -532,6 +569,13 @@ impl<
         (F.may_lack x.5 mode ⊎ (G.may_lack x.6 mode ⊎ (H.may_lack x.7 mode ⊎
         (I.may_lack x.8 mode ⊎ (J.may_lack x.9 mode ⊎ (K.may_lack x.10 mode ⊎ ⊥)))))))))) };
 
+    ghost reads = { λ x mode. ReadsThen (A.reads x.0 mode) (ReadsThen (B.reads x.1 mode)
+        (ReadsThen (C.reads x.2 mode) (ReadsThen (D.reads x.3 mode)
+        (ReadsThen (E.reads x.4 mode) (ReadsThen (F.reads x.5 mode)
+        (ReadsThen (G.reads x.6 mode) (ReadsThen (H.reads x.7 mode)
+        (ReadsThen (I.reads x.8 mode) (ReadsThen (J.reads x.9 mode)
+        (ReadsThen (K.reads x.10 mode) ReadsNone)))))))))) };
+
     ghost can_encode = { λ x. A.can_encode x.0 × (B.can_encode x.1 × (C.can_encode x.2 ×
         (D.can_encode x.3 × (E.can_encode x.4 × (F.can_encode x.5 × (G.can_encode x.6 ×
         (H.can_encode x.7 × (I.can_encode x.8 × (J.can_encode x.9 × (K.can_encode x.10 ×
@@ -542,6 +586,11 @@ impl<
         joined_len(&parts!(a, b, c, d, e, f, g, h, i, j, k), mode)
     }
 
+    fn note_sizes(&self, mode: Mode, sizes: &mut Sizes) -> Result<usize, EncodeError> {
+        let (a, b, c, d, e, f, g, h, i, j, k) = self;
+        note_joined(&parts!(a, b, c, d, e, f, g, h, i, j, k), mode, sizes)
+    }
+
     fn write_encoded<W: io::Write>(&self, mode: Mode, target: &mut W) -> Result<(), WriteError> {
         let (a, b, c, d, e, f, g, h, i, j, k) = self;
         write_joined(&parts!(a, b, c, d, e, f, g, h, i, j, k), mode, target)
@@ -549,24 +598,19 @@ impl<
 
     fn write_known<W: io::Write>(
         &self,
-        size: Option<usize>,
         mode: Mode,
+        sizes: &mut SizesLeft<'_>,
         target: &mut W,
         why: &mut WriteError,
     ) -> Result<(), Failed> {
         let (a, b, c, d, e, f, g, h, i, j, k) = self;
         write_known_parts(
             &parts!(a, b, c, d, e, f, g, h, i, j, k),
-            size,
             mode,
+            sizes,
             target,
             why,
         )
-    }
-
-    #[inline(always)]
-    fn weight() -> usize {
-        weight!(A, B, C, D, E, F, G, H, I, J, K)
     }
 
     ghost lawful = { λ x mode can. Joined_lawful (Then_lawful (A.lawful x.0 mode can.0)
@@ -608,6 +652,13 @@ impl<
         (I.may_lack x.8 mode ⊎ (J.may_lack x.9 mode ⊎ (K.may_lack x.10 mode ⊎
         (L.may_lack x.11 mode ⊎ ⊥))))))))))) };
 
+    ghost reads = { λ x mode. ReadsThen (A.reads x.0 mode) (ReadsThen (B.reads x.1 mode)
+        (ReadsThen (C.reads x.2 mode) (ReadsThen (D.reads x.3 mode)
+        (ReadsThen (E.reads x.4 mode) (ReadsThen (F.reads x.5 mode)
+        (ReadsThen (G.reads x.6 mode) (ReadsThen (H.reads x.7 mode)
+        (ReadsThen (I.reads x.8 mode) (ReadsThen (J.reads x.9 mode)
+        (ReadsThen (K.reads x.10 mode) (ReadsThen (L.reads x.11 mode) ReadsNone))))))))))) };
+
     ghost can_encode = { λ x. A.can_encode x.0 × (B.can_encode x.1 × (C.can_encode x.2 ×
         (D.can_encode x.3 × (E.can_encode x.4 × (F.can_encode x.5 × (G.can_encode x.6 ×
         (H.can_encode x.7 × (I.can_encode x.8 × (J.can_encode x.9 × (K.can_encode x.10 ×
@@ -618,6 +669,11 @@ impl<
         joined_len(&parts!(a, b, c, d, e, f, g, h, i, j, k, l), mode)
     }
 
+    fn note_sizes(&self, mode: Mode, sizes: &mut Sizes) -> Result<usize, EncodeError> {
+        let (a, b, c, d, e, f, g, h, i, j, k, l) = self;
+        note_joined(&parts!(a, b, c, d, e, f, g, h, i, j, k, l), mode, sizes)
+    }
+
     fn write_encoded<W: io::Write>(&self, mode: Mode, target: &mut W) -> Result<(), WriteError> {
         let (a, b, c, d, e, f, g, h, i, j, k, l) = self;
         write_joined(&parts!(a, b, c, d, e, f, g, h, i, j, k, l), mode, target)
@@ -625,24 +681,19 @@ impl<
 
     fn write_known<W: io::Write>(
         &self,
-        size: Option<usize>,
         mode: Mode,
+        sizes: &mut SizesLeft<'_>,
         target: &mut W,
         why: &mut WriteError,
     ) -> Result<(), Failed> {
         let (a, b, c, d, e, f, g, h, i, j, k, l) = self;
         write_known_parts(
             &parts!(a, b, c, d, e, f, g, h, i, j, k, l),
-            size,
             mode,
+            sizes,
             target,
             why,
         )
-    }
-
-    #[inline(always)]
-    fn weight() -> usize {
-        weight!(A, B, C, D, E, F, G, H, I, J, K, L)
     }
 
     ghost lawful = { λ x mode can. Joined_lawful (Then_lawful (A.lawful x.0 mode can.0)

@@ -3,10 +3,12 @@ ghost use Rattle.std.specs.Prelude.{◌≡◌};
 ghost use Rattle.bcder.specs.declared.encode.error.EncodeError.TheVariants.{LongCerBitString};
 ghost use Rattle.bcder.specs.x690.BitString.{bit_string_tag};
 ghost use Rattle.bcder.specs.calls.Meaning.{BitsMean, ValueMeans, primitive_meaning};
+ghost use Rattle.bcder.specs.calls.Noted.{ReadsNone};
 ghost use Rattle.bcder.specs.laws.Meanings.{BitsMean_lawful, primitive_lawful};
 
 use super::write::{bits_len, put_meant, write_bits};
-use crate::encode::slot::Failed;
+use crate::encode::sizes::{Sizes, SizesLeft};
+use crate::encode::slot::{Failed, store};
 use crate::encode::{EncodeError, PrimitiveContent, Values, WriteError};
 use crate::mode::Mode;
 use crate::tag::Tag;
@@ -112,14 +114,33 @@ impl<T: AsSlice<u8>> Values for BitSliceEncoder<T> {
         (BitsMean LongCerBitString mode
         (record { unused = x.unused; octets = T.items x.slice })) };
 
+    ghost reads = { λ _ _. ReadsNone };
+
     fn encoded_len(&self, mode: Mode) -> Result<usize, EncodeError> {
         self.contents().encode_as(self.tag).encoded_len(mode)
+    }
+
+    #[inline(always)]
+    #[tactic(auto, using(crate::proofs::Noting::nothing_noted))]
+    fn note_sizes(&self, mode: Mode, _sizes: &mut Sizes) -> Result<usize, EncodeError> {
+        self.encoded_len(mode)
     }
 
     fn write_encoded<W: io::Write>(&self, mode: Mode, target: &mut W) -> Result<(), WriteError> {
         self.contents()
             .encode_as(self.tag)
             .write_encoded(mode, target)
+    }
+
+    #[tactic(auto, using(crate::proofs::Noting::none_read))]
+    fn write_known<W: io::Write>(
+        &self,
+        mode: Mode,
+        _sizes: &mut SizesLeft<'_>,
+        target: &mut W,
+        why: &mut WriteError,
+    ) -> Result<(), Failed> {
+        store(self.write_encoded(mode, target), why)
     }
 
     ghost lawful = { λ x mode can. primitive_lawful x.tag mode

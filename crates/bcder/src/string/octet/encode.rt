@@ -3,6 +3,7 @@ ghost use Rattle.std.specs.Prelude.{◌≡◌};
 ghost use Rattle.bcder.specs.x690.OctetString.{octet_string_tag};
 ghost use Rattle.bcder.specs.calls.Encoders.{HasEncoding, SizeOfValues, WritesValues, WritesParts};
 ghost use Rattle.bcder.specs.calls.Encoders.{into_result};
+ghost use Rattle.bcder.specs.calls.Noted.{ReadsNone};
 ghost use Rattle.bcder.specs.calls.StringMeaning.{StringMeans};
 ghost use Rattle.bcder.specs.calls.WrittenStrings.{IsMadeUp};
 ghost use Rattle.bcder.specs.laws.StringMeanings.{StringMeans_lawful};
@@ -10,6 +11,7 @@ ghost use Rattle.bcder.specs.laws.StringMeanings.{StringMeans_lawful};
 use super::write::{octets_len, put_octets, put_string, string_len};
 use super::{OctetString, Octets};
 use crate::decode::source::see_octets;
+use crate::encode::sizes::{Sizes, SizesLeft};
 use crate::encode::slot::{into_result, slot};
 use crate::encode::{Constructed, EncodeError, Failed, Values, WriteError};
 use crate::mode::Mode;
@@ -96,7 +98,12 @@ fn put<W: io::Write>(
     match &string.octets {
         Octets::Whole(octets) => put_octets(tag, octets.as_slice(), mode, target, why),
         Octets::Cut(kept, _) => match mode {
-            Mode::Ber => Constructed::new(tag, kept).write_known(None, mode, target, why),
+            Mode::Ber => Constructed::new(tag, kept).write_known(
+                mode,
+                &mut SizesLeft::none(),
+                target,
+                why,
+            ),
             Mode::Cer | Mode::Der => {
                 put_string(tag, mode, string.len(), string.iter(), target, why)
             }
@@ -122,18 +129,27 @@ fn write<W: io::Write>(
 impl Values for OctetStringEncoder<OctetString> {
     ghost means = { λ x mode. StringMeans x.tag x.value mode };
 
+    ghost reads = { λ _ _. ReadsNone };
+
     fn encoded_len(&self, mode: Mode) -> Result<usize, EncodeError> {
         size_of(&self.value, self.tag, mode)
+    }
+
+    #[inline(always)]
+    #[tactic(auto, using(crate::proofs::Noting::nothing_noted))]
+    fn note_sizes(&self, mode: Mode, _sizes: &mut Sizes) -> Result<usize, EncodeError> {
+        self.encoded_len(mode)
     }
 
     fn write_encoded<W: io::Write>(&self, mode: Mode, target: &mut W) -> Result<(), WriteError> {
         write(&self.value, self.tag, mode, target)
     }
 
+    #[tactic(auto, using(crate::proofs::Noting::none_read))]
     fn write_known<W: io::Write>(
         &self,
-        _size: Option<usize>,
         mode: Mode,
+        _sizes: &mut SizesLeft<'_>,
         target: &mut W,
         why: &mut WriteError,
     ) -> Result<(), Failed> {
@@ -146,18 +162,27 @@ impl Values for OctetStringEncoder<OctetString> {
 impl Values for OctetStringEncoder<&'_ OctetString> {
     ghost means = { λ x mode. StringMeans x.tag x.value.now mode };
 
+    ghost reads = { λ _ _. ReadsNone };
+
     fn encoded_len(&self, mode: Mode) -> Result<usize, EncodeError> {
         size_of(self.value, self.tag, mode)
+    }
+
+    #[inline(always)]
+    #[tactic(auto, using(crate::proofs::Noting::nothing_noted))]
+    fn note_sizes(&self, mode: Mode, _sizes: &mut Sizes) -> Result<usize, EncodeError> {
+        self.encoded_len(mode)
     }
 
     fn write_encoded<W: io::Write>(&self, mode: Mode, target: &mut W) -> Result<(), WriteError> {
         write(self.value, self.tag, mode, target)
     }
 
+    #[tactic(auto, using(crate::proofs::Noting::none_read))]
     fn write_known<W: io::Write>(
         &self,
-        _size: Option<usize>,
         mode: Mode,
+        _sizes: &mut SizesLeft<'_>,
         target: &mut W,
         why: &mut WriteError,
     ) -> Result<(), Failed> {

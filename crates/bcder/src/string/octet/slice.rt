@@ -1,11 +1,13 @@
 //! Octets of a slice as an octet string (X.690, 8.7, 9.2, 10.2).
 ghost use Rattle.std.specs.Prelude.{◌≡◌};
 ghost use Rattle.bcder.specs.x690.OctetString.{octet_string_tag};
+ghost use Rattle.bcder.specs.calls.Noted.{ReadsNone};
 ghost use Rattle.bcder.specs.calls.StringMeaning.{OctetsMean};
 ghost use Rattle.bcder.specs.laws.StringMeanings.{OctetsMean_lawful};
 
 use super::OctetString;
 use super::write::{octets_len, put_octets, write_octets};
+use crate::encode::sizes::{Sizes, SizesLeft};
 use crate::encode::{EncodeError, Failed, Values, WriteError};
 use crate::mode::Mode;
 use crate::tag::Tag;
@@ -41,18 +43,27 @@ impl OctetString {
 impl<T: AsSlice<u8>> Values for OctetSliceEncoder<T> {
     ghost means = { λ x mode. OctetsMean x.tag (T.items x.slice) mode };
 
+    ghost reads = { λ _ _. ReadsNone };
+
     fn encoded_len(&self, mode: Mode) -> Result<usize, EncodeError> {
         octets_len(self.tag, self.slice.as_slice(), mode)
+    }
+
+    #[inline(always)]
+    #[tactic(auto, using(crate::proofs::Noting::nothing_noted))]
+    fn note_sizes(&self, mode: Mode, _sizes: &mut Sizes) -> Result<usize, EncodeError> {
+        self.encoded_len(mode)
     }
 
     fn write_encoded<W: io::Write>(&self, mode: Mode, target: &mut W) -> Result<(), WriteError> {
         write_octets(self.tag, self.slice.as_slice(), mode, target)
     }
 
+    #[tactic(auto, using(crate::proofs::Noting::none_read))]
     fn write_known<W: io::Write>(
         &self,
-        _size: Option<usize>,
         mode: Mode,
+        _sizes: &mut SizesLeft<'_>,
         target: &mut W,
         why: &mut WriteError,
     ) -> Result<(), Failed> {

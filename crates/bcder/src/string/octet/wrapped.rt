@@ -1,8 +1,9 @@
 //! Encodings inside an octet string (X.690, 8.7, 9.2, 10.2).
 ghost use Rattle.std.specs.Prelude.{◌≡◌, ◌<◌, ◌^◌, ◌⊎◌, Some, IfOk, IfErr};
 ghost use Rattle.bcder.specs.x690.OctetString.{octet_string_tag};
-ghost use Rattle.bcder.specs.calls.Encoders.{HasEncoding, HasSize, SizeOfValues, WritesParts};
-ghost use Rattle.bcder.specs.calls.Encoders.{WritesValues, RefusesBy, into_result};
+ghost use Rattle.bcder.specs.calls.Encoders.{HasEncoding, SizeOfValues, WritesParts};
+ghost use Rattle.bcder.specs.calls.Encoders.{WritesValues, into_result};
+ghost use Rattle.bcder.specs.calls.Noted.{HasSize, ReadsInside, Notes, MayRead, HasRead};
 ghost use Rattle.bcder.specs.steps.Segmenting.{InsideSize, WritesInside};
 ghost use Rattle.bcder.specs.calls.StringMeaning.{WrappedMeans, IsGathered};
 ghost use Rattle.bcder.specs.laws.StringMeanings.{WrappedMeans_lawful};
@@ -11,9 +12,10 @@ use super::OctetString;
 use super::write::{is_cut, put_octets, string_len};
 use crate::encode::front::Front;
 use crate::encode::header::put_header;
+use crate::encode::sizes::{Sizes, SizesLeft};
 use crate::encode::slot::{Failed, into_result, slot, store_refusal};
 use crate::encode::target::put_all;
-use crate::encode::values::constructed::contents_size;
+use crate::encode::values::note_inside;
 use crate::encode::{EncodeError, Values, WriteError};
 use crate::length::Length;
 use crate::mode::Mode;
@@ -62,39 +64,20 @@ fn wrapped_len<V: Values>(values: &V, inner: Mode, mode: Mode) -> Result<usize, 
     string_len(Tag::OCTET_STRING, mode, len)
 }
 
-/// How many octets stand inside the string, or why it has no encoding.
-fn inside_len<V: Values>(values: &V, inner: Mode, mode: Mode) -> Result<usize, EncodeError>
-    requires { V.can_encode values.now }
-    ensures { InsideSize mode (V.means values.now inner) (V.may_lack values.now inner) result }
-{
-    let len = values.encoded_len(inner)?;
-    string_len(Tag::OCTET_STRING, mode, len)?;
-    Ok(len)
-}
-
-/// How many octets stand inside a string that is known to have an encoding. `size` is how many the
-/// whole has, where that is known: of a primitive value it tells the rest.
-fn known_len<V: Values>(
+/// How many octets stand inside the string, or why it has no encoding. The sizes inside are noted.
+fn inside_len<V: Values>(
     values: &V,
-    size: Option<usize>,
     inner: Mode,
     mode: Mode,
+    sizes: &mut Sizes,
 ) -> Result<usize, EncodeError>
-    requires can { V.can_encode values.now }
-    requires known { HasEncoding
-        (WrappedMeans octet_string_tag mode (V.means values.now inner)) }
-    requires sized { HasSize (WrappedMeans octet_string_tag mode (V.means values.now inner)) size }
-    ensures sized { IfOk result (λ n. HasSize (V.means values.now inner) (Some n)) }
-    ensures refused { IfErr result
-        (RefusesBy (V.means values.now inner) (V.may_lack values.now inner)) }
+    requires { V.can_encode values.now }
+    ensures sized { InsideSize mode (V.means values.now inner) (V.may_lack values.now inner) result }
+    ensures noted { IfOk result (λ _. Notes (V.reads values.now inner) sizes.old sizes.new) }
 {
-    match mode {
-        Mode::Cer => values.encoded_len(inner),
-        Mode::Ber | Mode::Der => match size {
-            Some(size) => Ok(contents_size(Tag::OCTET_STRING, size)),
-            None => values.encoded_len(inner),
-        },
-    }
+    let len = values.note_sizes(inner, sizes)?;
+    string_len(Tag::OCTET_STRING, mode, len)?;
+    Ok(len)
 }
 
 /// Writes a primitive value with the encoding inside, which has `len` octets: up to 64 by one call
@@ -103,24 +86,28 @@ fn put_straight<V: Values, W: io::Write>(
     values: &V,
     inner: Mode,
     len: usize,
+    sizes: &mut SizesLeft<'_>,
     target: &mut W,
     why: &mut WriteError,
 ) -> Result<(), Failed>
     requires can { V.can_encode values.now }
     requires known { HasEncoding (V.means values.now inner) }
-    requires sized { HasSize (V.means values.now inner) (Some len) }
+    requires size { HasSize (V.means values.now inner) len }
+    requires sized { MayRead (V.reads values.now inner) sizes.old.sizes.now }
     requires fits { len < 2 ^ 32 }
-    ensures { WritesInside W.contents target
+    ensures written { WritesInside W.contents target
         (V.means values.now inner) (V.may_lack values.now inner) (into_result result why.new) }
+    ensures left { IfOk result (λ _.
+        HasRead (V.reads values.now inner) sizes.old.sizes.now sizes.new.sizes.now) }
 {
     if len > 64 {
         put_header(target, Tag::OCTET_STRING, false, Length::Definite(len), why)?;
-        return values.write_known(Some(len), inner, target, why);
+        return values.write_known(inner, sizes, target, why);
     }
     let mut front = Front::new();
     Tag::OCTET_STRING.spell(false, &mut front);
     Length::Definite(len).spell(&mut front);
-    values.write_known(Some(len), inner, &mut front, why)?;
+    values.write_known(inner, sizes, &mut front, why)?;
     put_all(target, front.as_slice(), why)
 }
 
@@ -153,20 +140,25 @@ fn put_wrapped<V: Values, W: io::Write>(
     wrapped: &WrappingOctetStringEncoder<V>,
     len: usize,
     mode: Mode,
+    sizes: &mut SizesLeft<'_>,
     target: &mut W,
     why: &mut WriteError,
 ) -> Result<(), Failed>
     requires can { V.can_encode wrapped.now.values }
     requires known { HasEncoding
         (WrappedMeans octet_string_tag mode (V.means wrapped.now.values wrapped.now.mode)) }
-    requires sized { HasSize (V.means wrapped.now.values wrapped.now.mode) (Some len) }
-    ensures { WritesParts W.contents target
+    requires size { HasSize (V.means wrapped.now.values wrapped.now.mode) len }
+    requires sized { MayRead (V.reads wrapped.now.values wrapped.now.mode) sizes.old.sizes.now }
+    ensures written { WritesParts W.contents target
         (WrappedMeans octet_string_tag mode (V.means wrapped.now.values wrapped.now.mode))
         (V.may_lack wrapped.now.values wrapped.now.mode
         ⊎ IsGathered mode (V.means wrapped.now.values wrapped.now.mode))
         (into_result result why.new) }
+    ensures left { IfOk result (λ _. HasRead
+        (V.reads wrapped.now.values wrapped.now.mode) sizes.old.sizes.now sizes.new.sizes.now) }
 {
     if is_cut(mode, len) {
+        sizes.clear();
         put_gathered(
             &wrapped.values,
             wrapped.mode,
@@ -176,7 +168,31 @@ fn put_wrapped<V: Values, W: io::Write>(
             why,
         )
     } else {
-        put_straight(&wrapped.values, wrapped.mode, len, target, why)
+        put_straight(&wrapped.values, wrapped.mode, len, sizes, target, why)
+    }
+}
+
+/// Writes a string that is known to have an encoding, and whose size isn't noted: it is measured
+/// once more, and the sizes inside are noted anew.
+fn put_measured<V: Values, W: io::Write>(
+    wrapped: &WrappingOctetStringEncoder<V>,
+    mode: Mode,
+    target: &mut W,
+    why: &mut WriteError,
+) -> Result<(), Failed>
+    requires can { V.can_encode wrapped.now.values }
+    requires known { HasEncoding
+        (WrappedMeans octet_string_tag mode (V.means wrapped.now.values wrapped.now.mode)) }
+    ensures { WritesParts W.contents target
+        (WrappedMeans octet_string_tag mode (V.means wrapped.now.values wrapped.now.mode))
+        (V.may_lack wrapped.now.values wrapped.now.mode
+        ⊎ IsGathered mode (V.means wrapped.now.values wrapped.now.mode))
+        (into_result result why.new) }
+{
+    let mut sizes = Sizes::new();
+    match wrapped.values.note_sizes(wrapped.mode, &mut sizes) {
+        Ok(len) => put_wrapped(wrapped, len, mode, &mut sizes.left(), target, why),
+        Err(error) => Err(store_refusal(why, error)),
     }
 }
 
@@ -186,6 +202,9 @@ impl<V: Values> Values for WrappingOctetStringEncoder<V> {
 
     ghost may_lack = { λ x mode.
         V.may_lack x.values x.mode ⊎ IsGathered mode (V.means x.values x.mode) };
+
+    ghost reads = { λ x mode.
+        ReadsInside (V.means x.values x.mode) (V.reads x.values x.mode) };
 
     ghost can_encode = { λ x. V.can_encode x.values };
 
@@ -203,29 +222,30 @@ impl<V: Values> Values for WrappingOctetStringEncoder<V> {
         wrapped_len(&self.values, self.mode, mode)
     }
 
+    fn note_sizes(&self, mode: Mode, sizes: &mut Sizes) -> Result<usize, EncodeError> {
+        let len = note_inside(&self.values, self.mode, sizes)?;
+        string_len(Tag::OCTET_STRING, mode, len)
+    }
+
     fn write_encoded<W: io::Write>(&self, mode: Mode, target: &mut W) -> Result<(), WriteError> {
-        let len = inside_len(&self.values, self.mode, mode)?;
+        let mut sizes = Sizes::new();
+        let len = inside_len(&self.values, self.mode, mode, &mut sizes)?;
         let mut why = slot();
-        let outcome = put_wrapped(self, len, mode, target, &mut why);
+        let outcome = put_wrapped(self, len, mode, &mut sizes.left(), target, &mut why);
         into_result(outcome, why)
     }
 
     fn write_known<W: io::Write>(
         &self,
-        size: Option<usize>,
         mode: Mode,
+        sizes: &mut SizesLeft<'_>,
         target: &mut W,
         why: &mut WriteError,
     ) -> Result<(), Failed> {
-        match known_len(&self.values, size, self.mode, mode) {
-            Ok(len) => put_wrapped(self, len, mode, target, why),
-            Err(error) => Err(store_refusal(why, error)),
+        match sizes.next() {
+            Some(len) => put_wrapped(self, len, mode, sizes, target, why),
+            None => put_measured(self, mode, target, why),
         }
-    }
-
-    #[inline(always)]
-    fn weight() -> usize {
-        V::weight().saturating_add(1)
     }
 
     ghost lawful = { λ x mode can.

@@ -18,7 +18,7 @@ returns-in-Ber g c =
     let value = c.new.result in
     let same = ap (λ x. ValueMeans x.tag (constructed_meaning x.tag mode) (KeptMeans x.inner.now mode)) c.new.ensures in
     let one = (constructed_lawful value.tag (kept_lawful value.inner.now mode)).one in
-    written_as (cut_is c.args.tag c.args.string.now mode _ _ view c.in-Ber.is ∙ sym same) (c.write_known.ensures one)
+    written_as (cut_is c.args.tag c.args.string.now mode _ _ view c.in-Ber.is ∙ sym same) (c.write_known.ensures.written one)
 
 pub returns-in-Cer : goal.returns-in-Cer
 returns-in-Cer g c = written_as (parts_are c.args.tag c.args.string.now c.args.mode _ c.in-Cer.is c.iter.ensures) c.put_string.ensures

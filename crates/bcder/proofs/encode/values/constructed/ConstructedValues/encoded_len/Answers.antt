@@ -8,8 +8,9 @@ pub returns : goal.returns
 returns g c =
     let mode = c.args.mode in
     let t = c.args.self.now.tag in
-    let (x, meant, len_is, whole_is, fits, value) = c.in_ok-find_sizes.ensures in (
+    let (x, meant, len_is) = c.in_ok-contents.ensures in
+    let (whole_is, fits) = c.in_ok-whole.ensures in (
       constructed_encoded mode t x,
-      constructed_given t mode _ x meant (ap (fits_enclosed mode t) (sym len_is) ∙ fits) value,
+      constructed_given t mode _ x meant (ap (fits_enclosed mode t) (sym len_is) ∙ fits) c.in-Some.ensures.some.0,
       whole_is ∙ ap (enclosed_size mode t) len_is ∙ sym (enclosed-length mode t x.octets),
     )

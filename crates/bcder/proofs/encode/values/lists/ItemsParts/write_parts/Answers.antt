@@ -2,6 +2,7 @@ use Rattle.std.proofs.Common.{subst, sym, drop, ◌+◌}
 use Rattle.bcder.specs.calls.Joined.{EachOf}
 use Rattle.bcder.proofs.Writing.{halts, lacks_more, same_result}
 use Rattle.bcder.proofs.Joining.{WrittenSoFar, written_start, next_known, written_next, written_failed, written_done, EachOf_at, EachOf_end}
+use Rattle.bcder.proofs.Noting.{nothing_left}
 use Rattle.bcder.proofs.encode.values.lists.ItemsParts.write_parts.Goals as goal
 
 pub loop-item-init : goal.loop-item-init
@@ -16,7 +17,7 @@ write_known-requires g c =
     let so_far = subst (λ P. WrittenSoFar (EachOf M xs) P (g.W.Write.contents c.args.target.now) (g.W.Write.contents c.loop-item.target)) at c.loop-item.invariant in
     record {
       can = subst g.V.Values.can_encode (sym c.item-item.is) (c.requires.can c.loop-item.item-index x c.loop-item-test.true);
-      sized = tt;
+      sized = nothing_left _ _ c.none.ensures;
       known = next_known (M x) (EachOf M (drop (c.loop-item.item-index + 1) xs)) so_far c.requires.known;
     }
 
@@ -29,10 +30,10 @@ loop-item-preserved g c =
     let so_far = subst (λ P. WrittenSoFar (EachOf M xs) P (g.W.Write.contents c.args.target.now) (g.W.Write.contents c.loop-item.target)) at c.loop-item.invariant in
     let can = subst g.V.Values.can_encode (sym c.item-item.is) (c.requires.can c.loop-item.item-index x c.loop-item-test.true) in
     let one = (g.met.V.Values.lawful x c.args.mode can).one in
-    written_next (M x) (EachOf M (drop (c.loop-item.item-index + 1) xs)) (g.V.Values.may_lack x c.args.mode) so_far (c.write_known.ensures one) (same_result _ c.in_ok-write_known.was)
+    written_next (M x) (EachOf M (drop (c.loop-item.item-index + 1) xs)) (g.V.Values.may_lack x c.args.mode) so_far (c.write_known.ensures.written one) (same_result _ c.in_ok-write_known.was)
 
-pub returns-in_err-write_known : goal.returns-in_err-write_known
-returns-in_err-write_known g c = λ e meant.
+pub returns-in_err-write_known-clause-written : goal.returns-in_err-write_known-clause-written
+returns-in_err-write_known-clause-written g c = λ e meant.
     let xs = c.args.self.now.items.now in
     let x = c.item-item.result in
     let M = λ (v : g.row.V.Denot). g.V.Values.means v c.args.mode in
@@ -41,10 +42,10 @@ returns-in_err-write_known g c = λ e meant.
     let can = subst g.V.Values.can_encode (sym c.item-item.is) (c.requires.can c.loop-item.item-index x c.loop-item-test.true) in
     let one = (g.met.V.Values.lawful x c.args.mode can).one in
     halts _ c.from_residual.ensures (lacks_more _ (λ h. (c.loop-item.item-index, x, c.loop-item-test.true, sym c.item-item.is, h))
-    (written_failed (M x) (EachOf M (drop (c.loop-item.item-index + 1) xs)) (g.V.Values.may_lack x c.args.mode) so_far (c.write_known.ensures one) (same_result _ c.in_err-write_known.was) e meant))
+    (written_failed (M x) (EachOf M (drop (c.loop-item.item-index + 1) xs)) (g.V.Values.may_lack x c.args.mode) so_far (c.write_known.ensures.written one) (same_result _ c.in_err-write_known.was) e meant))
 
-pub returns : goal.returns
-returns g c = λ e meant.
+pub returns-clause-written : goal.returns-clause-written
+returns-clause-written g c = λ e meant.
     let xs = c.args.self.now.items.now in
     let M = λ (v : g.row.V.Denot). g.V.Values.means v c.args.mode in
     let at = EachOf_end M xs c.loop-item.item-index c.loop-item-test.false in

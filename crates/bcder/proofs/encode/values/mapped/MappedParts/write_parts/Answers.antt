@@ -30,8 +30,8 @@ loop-item-preserved g c =
     let L = ItemLacks g.F.Fn c.args.self.now.f.now g.V.Values.may_lack c.args.mode u in
     written_next (M u) (EachOf M (drop (c.loop-item.item-index + 1) xs)) L so_far c.write_item.ensures (same_result _ c.in_ok-write_item.was)
 
-pub returns-in_err-write_item : goal.returns-in_err-write_item
-returns-in_err-write_item g c = λ e meant.
+pub returns-in_err-write_item-clause-written : goal.returns-in_err-write_item-clause-written
+returns-in_err-write_item-clause-written g c = λ e meant.
     let xs = c.args.self.now.items.now in
     let u = c.item-item.result in
     let M = ItemMeans g.F.Fn c.args.self.now.f.now g.V.Values.means c.args.mode in
@@ -41,8 +41,8 @@ returns-in_err-write_item g c = λ e meant.
     halts _ c.from_residual.ensures (lacks_more _ (λ h. (c.loop-item.item-index, u, c.loop-item-test.true, sym c.item-item.is, h))
     (written_failed (M u) (EachOf M (drop (c.loop-item.item-index + 1) xs)) L so_far c.write_item.ensures (same_result _ c.in_err-write_item.was) e meant))
 
-pub returns : goal.returns
-returns g c = λ e meant.
+pub returns-clause-written : goal.returns-clause-written
+returns-clause-written g c = λ e meant.
     let xs = c.args.self.now.items.now in
     let M = ItemMeans g.F.Fn c.args.self.now.f.now g.V.Values.means c.args.mode in
     let at = EachOf_end M xs c.loop-item.item-index c.loop-item-test.false in

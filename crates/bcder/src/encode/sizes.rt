@@ -1,0 +1,122 @@
+//! Sizes that are noted where encoders are measured, and read where they are written.
+//!
+//! An encoder of many values is measured before it is written, so that nothing is written of what
+//! is refused. The size of what stands inside a value is noted then, in the order in which it has
+//! to be told, so that none is worked out again. There is room for some on the stack; a value whose
+//! size isn't noted measures its inside once more, and notes what stands there anew.
+ghost use Rattle.std.specs.Prelude.{◌≡◌, ◌≢◌, ◌≤◌, ◌+◌, ℕ, List, [], ◌∷◌, ◌++◌, length};
+
+/// The sizes of what stands inside values, in the order in which they are told.
+#[doc(hidden)]
+#[derive(Clone, Copy, Debug)]
+pub struct Sizes {
+    places: [usize; 16],
+    count: usize,
+    room: usize,
+    ghost within: { count + room ≤ 16 },
+}
+
+impl Sizes {
+    ghost use Rattle.bcder.specs.calls.Noted.{noted};
+
+    /// None yet.
+    #[inline(always)]
+    pub(crate) fn new() -> Sizes
+        ensures { noted result ≡ [] }
+    {
+        Sizes {
+            places: [0; 16],
+            count: 0,
+            room: 16,
+        }
+    }
+
+    /// From here on none is noted.
+    #[inline(always)]
+    pub(crate) fn close(&mut self)
+        ensures same { noted self.new ≡ noted self.old }
+        ensures full { self.new.room ≡ 0 }
+    {
+        self.room = 0;
+    }
+
+    /// Keeps a place for a size that isn't known yet, if there is one, and tells which.
+    #[inline(always)]
+    pub(crate) fn reserve(&mut self) -> usize
+        ensures place { result ≡ length (noted self.old) }
+        ensures full { self.old.room ≡ 0 → (noted self.new ≡ noted self.old) × (self.new.room ≡ 0) }
+        ensures room { self.old.room ≢ 0 → noted self.new ≡ noted self.old ++ 0 ∷ [] }
+    {
+        let place = self.count;
+        if self.room > 0 {
+            self.places[place] = 0;
+            self.count = place + 1;
+            self.room -= 1;
+        }
+        place
+    }
+
+    /// Puts a size into the place that was kept for it.
+    #[inline(always)]
+    pub(crate) fn fill(&mut self, place: usize, size: usize)
+        ensures there { (before behind : List ℕ) (k : ℕ) → noted self.old ≡ before ++ k ∷ behind
+            → place ≡ length before → noted self.new ≡ before ++ size ∷ behind }
+        ensures beyond { length (noted self.old) ≤ place → noted self.new ≡ noted self.old }
+        ensures room { self.new.room ≡ self.old.room }
+    {
+        if place < self.count {
+            self.places[place] = size;
+        }
+    }
+
+    /// All of them, to be read.
+    #[inline(always)]
+    pub(crate) fn left(&self) -> SizesLeft<'_>
+        ensures { result.sizes.now ≡ noted self.now }
+    {
+        SizesLeft {
+            sizes: &self.places[..self.count],
+        }
+    }
+}
+
+/// The sizes that are to be told yet.
+#[doc(hidden)]
+#[derive(Clone, Copy, Debug)]
+pub struct SizesLeft<'a> {
+    sizes: &'a [usize],
+}
+
+impl SizesLeft<'_> {
+    ghost use Rattle.bcder.specs.steps.Enclosing.{Takes};
+
+    /// None.
+    #[inline(always)]
+    pub(crate) fn none() -> Self
+        ensures { result.sizes.now ≡ [] }
+    {
+        SizesLeft { sizes: &[] }
+    }
+
+    /// From here on none is left.
+    #[inline(always)]
+    pub(crate) fn clear(&mut self)
+        ensures { self.new.sizes.now ≡ [] }
+    {
+        self.sizes = &[];
+    }
+
+    /// The next one.
+    #[inline(always)]
+    pub(crate) fn next(&mut self) -> Option<usize>
+        ensures { Takes self.old.sizes.now result self.new.sizes.now }
+    {
+        match self.sizes {
+            [size, rest @ ..] => {
+                self.sizes = rest;
+                Some(*size)
+            }
+            [] => None,
+        }
+    }
+}
