@@ -5,7 +5,7 @@ use Rattle.std.proofs.lemmas.Bool.{cases_lt, lt-ltb, le-ltb}
 use Rattle.std.proofs.lemmas.Fmt.{decimal_is_IsNumeral}
 use Rattle.std.proofs.lemmas.Str.Parse.{digit_at, without_leading_plus_none}
 use Rattle.bcder.specs.x690.Identifier.{AreOctets}
-use Rattle.bcder.specs.x690.ObjectIdentifier.{number, cut_after, subidentifiers, IsWhole, AreSubidentifiers, IsComplete, components_of, components}
+use Rattle.bcder.specs.x690.ObjectIdentifier.{subidentifier_number, cut_after, subidentifiers, IsWhole, AreSubidentifiers, IsComplete, components_of, components}
 use Rattle.bcder.specs.calls.IdentifierText.{shown, dotted, text_of, between_dots, IsComponentText, AreComponentTexts, MayBegin, IsTextOf, ReadsParts}
 use Rattle.bcder.specs.steps.Pushed.{AreMarked}
 use Rattle.bcder.proofs.Texts.{HasNoDot, split_dot, split_none}
@@ -30,7 +30,7 @@ cut_complete front (b ∷ c ∷ w) m o h =
       | inr le ↦ rw (le-ltb b 0x80 le) (subst (λ l. AreCut (cut_after (front ++ b ∷ []) (c ∷ w)) l) (append_assoc front (b ∷ []) (c ∷ w)) (cut_complete (front ++ b ∷ []) (c ∷ w) (marked-push front b m le (o 0)) (rest_octets b (c ∷ w) o) h))
     ]
 
-cut_subidentifiers : (vs : List (List ℕ)) (w : List ℕ) → AreCut vs w → All (λ v. get_or v 0 0 ≢ 0x80) vs → AreSubidentifiers (map number vs) w
+cut_subidentifiers : (vs : List (List ℕ)) (w : List ℕ) → AreCut vs w → All (λ v. get_or v 0 0 ≢ 0x80) vs → AreSubidentifiers (map subidentifier_number vs) w
 unfolding AreCut
 cut_subidentifiers [] w e f = e
 cut_subidentifiers (v ∷ vs) w (x, p, h, e) f = (v, x, record { whole = p; value = refl; fewest = f 0 [] (omega arith) }, cut_subidentifiers vs x h (λ k d l. f (suc k) d (omega arith)), e)
@@ -99,4 +99,4 @@ read_subidentifiers (s ∷ ss) w c e f =
 
 pub read_back : (w : List ℕ) → AreOctets w → IsComplete w → All (λ v. get_or v 0 0 ≢ 0x80) (subidentifiers w) → All (λ n. n < 2 ^ 32) (components w) → IsTextOf (text_of w) w
 read_back w o c f g =
-    read_subidentifiers (map number (subidentifiers w)) w c (cut_subidentifiers (subidentifiers w) w (cut_complete [] w tt o c) f) g
+    read_subidentifiers (map subidentifier_number (subidentifiers w)) w c (cut_subidentifiers (subidentifiers w) w (cut_complete [] w tt o c) f) g

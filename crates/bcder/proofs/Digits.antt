@@ -1,6 +1,6 @@
 -- Digits in base 128, put one behind the other.
 use Rattle.std.proofs.Common.{◌≡◌, ℕ, ◌+◌, ◌*◌, ◌/◌, ◌%◌, ◌<◌, ◌≤◌, List, [], ◌∷◌, ◌++◌, length, get_or, refl, ap, sym, ◌∙◌, append_assoc, length-append, arith}
-use Rattle.bcder.specs.x690.ObjectIdentifier.{number_after, number, IsWhole}
+use Rattle.bcder.specs.x690.ObjectIdentifier.{number_after, subidentifier_number, IsWhole}
 use Rattle.bcder.specs.steps.Pushed.{AreMarked, AppendsDigits, AppendsSubidentifier}
 
 pub number-append : (high : ℕ) (v w : List ℕ) → number_after high (v ++ w) ≡ number_after (number_after high v) w
@@ -20,7 +20,7 @@ first-append : (w x : List ℕ) → 0 < length w → get_or (w ++ x) 0 0 ≡ get
 first-append [] x h = absurd (omega arith)
 first-append (c ∷ w) x h = refl
 
-last_digit : (n : ℕ) (w : List ℕ) (b : ℕ) → number w ≡ n / 128 → b % 128 ≡ n % 128 → number (w ++ b ∷ []) ≡ n
+last_digit : (n : ℕ) (w : List ℕ) (b : ℕ) → subidentifier_number w ≡ n / 128 → b % 128 ≡ n % 128 → subidentifier_number (w ++ b ∷ []) ≡ n
 last_digit n w b e d = number-append 0 w (b ∷ []) ∙ omega arith
 
 -- the digits of a number, from those before its last one

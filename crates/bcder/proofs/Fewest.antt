@@ -3,7 +3,7 @@ use Rattle.std.proofs.Common.{◌≡◌, ◌≢◌, ℕ, suc, ◌+◌, ◌*◌, 
 use Rattle.std.proofs.Math.Nat.{mul-le-mul_right, pow-le-pow_right}
 use Rattle.std.proofs.lemmas.Bool.{cases_order, cases_lt}
 use Rattle.std.proofs.lemmas.Grind.{pow_more}
-use Rattle.bcder.specs.x690.ObjectIdentifier.{number_after, number, IsWhole}
+use Rattle.bcder.specs.x690.ObjectIdentifier.{number_after, subidentifier_number, IsWhole}
 
 -- 128 to the number of octets
 abbrev weight : List ℕ → ℕ
@@ -16,11 +16,11 @@ more b w =
     omega arith
 
 -- the first digit
-first : (b : ℕ) (w : List ℕ) → number (b ∷ w) ≡ number_after (b % 128) w
+first : (b : ℕ) (w : List ℕ) → subidentifier_number (b ∷ w) ≡ number_after (b % 128) w
 first b w = ap (λ n. number_after n w) (omega arith)
 
 -- digits weigh by their places
-pub weighed : (high : ℕ) (w : List ℕ) → number_after high w ≡ high * weight w + number w
+pub weighed : (high : ℕ) (w : List ℕ) → number_after high w ≡ high * weight w + subidentifier_number w
 weighed high [] = omega arith
 weighed high (b ∷ w) =
     let s : number_after high (b ∷ w) ≡ number_after (128 * high + b % 128) w = refl in
@@ -32,7 +32,7 @@ weighed high (b ∷ w) =
     let k : high * weight (b ∷ w) ≡ high * (128 * weight w) = ap (λ n. high * n) m in
     omega arith
 
-pub below : (w : List ℕ) → number w < weight w
+pub below : (w : List ℕ) → subidentifier_number w < weight w
 below [] = omega arith
 below (b ∷ w) =
     let f = first b w in
@@ -43,7 +43,7 @@ below (b ∷ w) =
     omega arith
 
 -- octets of one digit that isn't 0, or of more of which the first isn't, weigh as much as their places
-pub above : (b : ℕ) (w : List ℕ) → 1 ≤ b % 128 → weight w ≤ number (b ∷ w)
+pub above : (b : ℕ) (w : List ℕ) → 1 ≤ b % 128 → weight w ≤ subidentifier_number (b ∷ w)
 above b w h =
     let f = first b w in
     let q = weighed (b % 128) w in
@@ -69,7 +69,7 @@ same_octet b c (d ∷ v) [] p q l e = absurd (omega arith)
 same_octet b c (d ∷ v) (f ∷ w) (x, y, p) (z, u, q) l e = omega arith
 
 -- octets of one length and number are the same
-pub one_of_length : (v w : List ℕ) → IsWhole v → IsWhole w → number v ≡ number w → length v ≡ length w → v ≡ w
+pub one_of_length : (v w : List ℕ) → IsWhole v → IsWhole w → subidentifier_number v ≡ subidentifier_number w → length v ≡ length w → v ≡ w
 one_of_length [] w p q e l = absurd p
 one_of_length (b ∷ v) [] p q e l = absurd q
 one_of_length (b ∷ []) (c ∷ []) p q e l = ap (λ d. d ∷ []) (omega arith)
@@ -78,36 +78,36 @@ one_of_length (b ∷ d ∷ v) (c ∷ []) p q e l = absurd (omega arith)
 one_of_length (b ∷ d ∷ v) (c ∷ f ∷ w) p q e l =
     let same : length (d ∷ v) ≡ length (f ∷ w) = omega arith in
     let weights : weight (d ∷ v) ≡ weight (f ∷ w) = ap (λ n. 128 ^ n) same in
-    let x : number (b ∷ d ∷ v) ≡ b % 128 * weight (d ∷ v) + number (d ∷ v) = first b (d ∷ v) ∙ weighed (b % 128) (d ∷ v) in
-    let y : number (c ∷ f ∷ w) ≡ c % 128 * weight (f ∷ w) + number (f ∷ w) = first c (f ∷ w) ∙ weighed (c % 128) (f ∷ w) in
-    let k : number (d ∷ v) < weight (f ∷ w) = rw (← weights) (below (d ∷ v)) in
+    let x : subidentifier_number (b ∷ d ∷ v) ≡ b % 128 * weight (d ∷ v) + subidentifier_number (d ∷ v) = first b (d ∷ v) ∙ weighed (b % 128) (d ∷ v) in
+    let y : subidentifier_number (c ∷ f ∷ w) ≡ c % 128 * weight (f ∷ w) + subidentifier_number (f ∷ w) = first c (f ∷ w) ∙ weighed (c % 128) (f ∷ w) in
+    let k : subidentifier_number (d ∷ v) < weight (f ∷ w) = rw (← weights) (below (d ∷ v)) in
     let m = below (f ∷ w) in
-    let s : b % 128 * weight (f ∷ w) + number (d ∷ v) ≡ c % 128 * weight (f ∷ w) + number (f ∷ w) = rw weights at (sym x ∙ e ∙ y) in
-    let digit = same_leading (b % 128) (c % 128) (number (d ∷ v)) (number (f ∷ w)) (weight (f ∷ w)) s k m in
-    let t : c % 128 * weight (f ∷ w) + number (d ∷ v) ≡ c % 128 * weight (f ∷ w) + number (f ∷ w) = rw digit at s in
+    let s : b % 128 * weight (f ∷ w) + subidentifier_number (d ∷ v) ≡ c % 128 * weight (f ∷ w) + subidentifier_number (f ∷ w) = rw weights at (sym x ∙ e ∙ y) in
+    let digit = same_leading (b % 128) (c % 128) (subidentifier_number (d ∷ v)) (subidentifier_number (f ∷ w)) (weight (f ∷ w)) s k m in
+    let t : c % 128 * weight (f ∷ w) + subidentifier_number (d ∷ v) ≡ c % 128 * weight (f ∷ w) + subidentifier_number (f ∷ w) = rw digit at s in
     let octet = same_octet b c (d ∷ v) (f ∷ w) p q same digit in
     let rest = one_of_length (d ∷ v) (f ∷ w) p.2 q.2 (omega arith) same in
     ap (λ a. a ∷ d ∷ v) octet ∙ ap (λ l. c ∷ l) rest
 
 -- octets that don't begin with 80 are no more than others of their number
-fewer : (v w : List ℕ) → IsWhole v → IsWhole w → number v ≡ number w → get_or v 0 0 ≢ 0x80 → length w < length v → ⊥
+fewer : (v w : List ℕ) → IsWhole v → IsWhole w → subidentifier_number v ≡ subidentifier_number w → get_or v 0 0 ≢ 0x80 → length w < length v → ⊥
 fewer [] w p q e n l = omega arith
 fewer (b ∷ []) [] p q e n l = q
 fewer (b ∷ []) (c ∷ w) p q e n l = omega arith
 fewer (b ∷ d ∷ v) w p q e n l =
-    let h : weight (d ∷ v) ≤ number (b ∷ d ∷ v) = above b (d ∷ v) (let lo : 0x80 ≤ b = p.0 in let hi : b < 0x100 = p.1 in omega arith) in
+    let h : weight (d ∷ v) ≤ subidentifier_number (b ∷ d ∷ v) = above b (d ∷ v) (let lo : 0x80 ≤ b = p.0 in let hi : b < 0x100 = p.1 in omega arith) in
     let k = below w in
     let g : weight w ≤ weight (d ∷ v) = pow-le-pow_right (omega arith) (omega arith) in
     omega arith
 
-pub no_fewer : (v w : List ℕ) → IsWhole v → IsWhole w → number v ≡ number w → get_or v 0 0 ≢ 0x80 → length v ≤ length w
+pub no_fewer : (v w : List ℕ) → IsWhole v → IsWhole w → subidentifier_number v ≡ subidentifier_number w → get_or v 0 0 ≢ 0x80 → length v ≤ length w
 no_fewer v w p q e n =
     elim (cases_lt (length w) (length v)) [
       | inl less ↦ absurd (fewer v w p q e n less)
       | inr le ↦ le
     ]
 
-pub one_fewest : (v w : List ℕ) → IsWhole v → IsWhole w → number v ≡ number w → get_or v 0 0 ≢ 0x80 → get_or w 0 0 ≢ 0x80 → v ≡ w
+pub one_fewest : (v w : List ℕ) → IsWhole v → IsWhole w → subidentifier_number v ≡ subidentifier_number w → get_or v 0 0 ≢ 0x80 → get_or w 0 0 ≢ 0x80 → v ≡ w
 one_fewest v w p q e m n =
     let l = no_fewer v w p q e m in
     let k = no_fewer w v q p (sym e) n in

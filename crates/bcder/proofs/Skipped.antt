@@ -25,7 +25,7 @@ use Rattle.bcder.specs.x690.Grammar.{IsOnly}
 use Rattle.bcder.specs.calls.Walking.{HasValue, NoValue, PassesValue, RefusesWalk, PassedBy, AnswersNext, HasValues, AllBy, Walks}
 use Rattle.bcder.specs.calls.Walking as walking
 use Rattle.bcder.specs.steps.SkipSteps.{IsPast}
-use Rattle.bcder.specs.calls.Skipping.{Steps, Called, WereCalls, SkipsValue, RefusesSkip, SkippedBy, AnswersAll, IsShallow, AnswersSkip, AnswersValue, SkippedValueBy, RefusesOne, RefusesAll, FoundMemory}
+use Rattle.bcder.specs.calls.Skipping.{Steps, Called, WereCalls, SkipsValue, RefusesSkip, SkippedBy, AnswersAll, IsShallow, AnswersSkip, AnswersValue, SkippedValueBy, RefusesOne, RefusesSkipAll, FoundMemory}
 use Rattle.bcder.specs.calls.Skipping as skipping
 use Rattle.bcder.specs.steps.Stacked.{heading, halt_cause, PassesCalls, IsUnderWay, IsBroken, RanBy, Breaks, by_source, by_content, by_closure, by_memory}
 use Rattle.bcder.specs.laws.Complete.{header_complete, header_size, tree_complete, only_at_front}
@@ -377,20 +377,20 @@ one_exact c d (Err e) w s m n = answers_next cause_of c d (Err e) w tt tt (walk_
 
 -- ---- all values
 
-pub loop_refused : {X : Type 0} (why : X → Cause ContentError) (e : X) (i j k : Reading) → i.kind ≢ Octets → Walks i j → RefusesOne why j e k → RefusesAll why i e k
-loop_refused why e i j k o w (skipping.RefusesOne.by_walk r) = skipping.RefusesAll.by_values (walks_refused why e i j k o w r)
-loop_refused why e i j k o w (skipping.RefusesOne.by_depth g h) = skipping.RefusesAll.by_depth j w g h
+pub loop_refused : {X : Type 0} (why : X → Cause ContentError) (e : X) (i j k : Reading) → i.kind ≢ Octets → Walks i j → RefusesOne why j e k → RefusesSkipAll why i e k
+loop_refused why e i j k o w (skipping.RefusesOne.by_walk r) = skipping.RefusesSkipAll.by_values (walks_refused why e i j k o w r)
+loop_refused why e i j k o w (skipping.RefusesOne.by_depth g h) = skipping.RefusesSkipAll.by_depth j w g h
 
 octets_no_values : (c : Reading) → c.kind ≡ Octets → HasValues c → ⊥
 octets_no_values c k h = (let x : ⊥ = subst (λ z. walking.ClosesBefore z c.mode c.owed h.all h.after) k h.closes in x)
 
-pub all_exact : {S T : Type 0} (c d : Reading) (r : Result T (DecodeError S)) → AllBy (RefusesAll cause_of) c r d → (Grew c.stream.faults d.stream.faults → ⊥) → FoundMemory r → c.state ≡ Open → HasValues c → IsOk r
+pub all_exact : {S T : Type 0} (c d : Reading) (r : Result T (DecodeError S)) → AllBy (RefusesSkipAll cause_of) c r d → (Grew c.stream.faults d.stream.faults → ⊥) → FoundMemory r → c.state ≡ Open → HasValues c → IsOk r
 all_exact c d (Ok x) s n m o h = refl
 all_exact c d (Err e) s n m o h = absurd (go s.refused)
   where
-    go : RefusesAll cause_of c e d → ⊥
-    go (skipping.RefusesAll.by_values (walking.RefusesValues.failed a b)) = open_not_failed c.state o a
-    go (skipping.RefusesAll.by_values (walking.RefusesValues.source a b)) = n b
-    go (skipping.RefusesAll.by_values (walking.RefusesValues.broken a b z)) = b h
-    go (skipping.RefusesAll.by_values (walking.RefusesValues.short a b z)) = octets_no_values c a h
-    go (skipping.RefusesAll.by_depth j w g z) = m z
+    go : RefusesSkipAll cause_of c e d → ⊥
+    go (skipping.RefusesSkipAll.by_values (walking.RefusesValues.failed a b)) = open_not_failed c.state o a
+    go (skipping.RefusesSkipAll.by_values (walking.RefusesValues.source a b)) = n b
+    go (skipping.RefusesSkipAll.by_values (walking.RefusesValues.broken a b z)) = b h
+    go (skipping.RefusesSkipAll.by_values (walking.RefusesValues.short a b z)) = octets_no_values c a h
+    go (skipping.RefusesSkipAll.by_depth j w g z) = m z

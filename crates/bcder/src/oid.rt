@@ -6,7 +6,7 @@ ghost use Rattle.std.specs.Cmp.{partial_equiv_from_equiv, on_per, on_equiv};
 ghost use Rattle.std.specs.Cmp.Rules.{hashing};
 ghost use Rattle.std.proofs.Common.{rules};
 ghost use Rattle.bcder.specs.x690.ObjectIdentifier.{identifier_tag, IsComplete};
-ghost use Rattle.bcder.specs.calls.Components.{parts};
+ghost use Rattle.bcder.specs.calls.Components.{component_parts};
 ghost use Rattle.bcder.specs.calls.Components.{parts_left};
 ghost use Rattle.bcder.specs.calls.IdentifierText.{text_of, IsTextOf, RefusesText};
 ghost use Rattle.bcder.specs.calls.ReadIdentifiers.{HoldIdentifier, IsSame, NoIdentifier};
@@ -61,7 +61,7 @@ impl<T: AsSlice<u8>> Oid<T> {
 
     /// The components, in their order.
     pub fn iter(&self) -> Iter<'_>
-        ensures { parts_left result ≡ parts (T.items self.now.0) }
+        ensures { parts_left result ≡ component_parts (T.items self.now.0) }
     {
         Iter::new(self.0.as_slice())
     }

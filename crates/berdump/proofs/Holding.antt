@@ -14,7 +14,7 @@ use Rattle.bcder.specs.x690.Encoding.{AreEncodings}
 use Rattle.bcder.specs.calls.Stream.{Stream, Grew}
 use Rattle.bcder.specs.calls.Content.{Reading, UnboundedValues, IsDone}
 use Rattle.bcder.specs.calls.Walking.{ClosesBefore, HasValues, RefusesValues, AllBy}
-use Rattle.bcder.specs.calls.Skipping.{RefusesAll}
+use Rattle.bcder.specs.calls.Skipping.{RefusesSkipAll}
 use Rattle.bcder.specs.calls.Skipping as skipping
 use Rattle.bcder.specs.calls.Decoding.{IsAllOf, Decodes, RefusesOn, RefusesDecode}
 use Rattle.bcder.specs.calls.Decoding as decoding
@@ -96,7 +96,7 @@ values_list i mode w k m r h =
     let e : h.all ≡ w = sym (append-nil h.all) ∙ ap (λ z. h.all ++ z) (sym n) ∙ sym h.rest ∙ r in
     (h.trees, subst (AreEncodings mode h.trees) e (subst (λ z. AreEncodings z h.trees h.all) m h.encode))
 
-module _ {C T S : Type 0} (view : C → Reading) (post : MutBor C → Result T (DecodeError S) → MutBor C → Type 0) (faultless : (c : C) → (view c).stream.faults ≡ 0) (k : (p : MutBor C) (r : Result T (DecodeError S)) (q : MutBor C) → post p r q → AllBy (RefusesAll cause_of) (view p.now) r (view q.now)) (s : Stream) (mode : Mode) where
+module _ {C T S : Type 0} (view : C → Reading) (post : MutBor C → Result T (DecodeError S) → MutBor C → Type 0) (faultless : (c : C) → (view c).stream.faults ≡ 0) (k : (p : MutBor C) (r : Result T (DecodeError S)) (q : MutBor C) → post p r q → AllBy (RefusesSkipAll cause_of) (view p.now) r (view q.now)) (s : Stream) (mode : Mode) where
   all_of : (i : Reading) → IsAllOf s mode i → (i.state ≡ Open → HasValues i) → IsList mode s.rest
   all_of i o h = values_list i mode s.rest o.kind o.mode (ap (λ (z : Stream). z.rest) o.stream) (h o.state)
 
@@ -111,15 +111,15 @@ module _ {C T S : Type 0} (view : C → Reading) (post : MutBor C → Result T (
   no_values e i j n o f (RefusesValues.broken x h y) ts a = h (values_there i mode s.rest ts o.kind o.mode (ap (λ (z : Stream). z.rest) o.stream) a)
   no_values e i j n o f (RefusesValues.short x h y) ts a = let z = o.kind in cc
 
-  none_skipped : (e : DecodeError S) (i j : Reading) → (cause_of e ≡ of_memory → ⊥) → IsAllOf s mode i → j.stream.faults ≡ 0 → skipping.RefusesAll cause_of i e j → IsNoList mode s.rest
-  none_skipped e i j n o f (skipping.RefusesAll.by_values h) = no_values e i j n o f h
-  none_skipped e i j n o f (skipping.RefusesAll.by_depth b w d m) = absurd (n m)
+  none_skipped : (e : DecodeError S) (i j : Reading) → (cause_of e ≡ of_memory → ⊥) → IsAllOf s mode i → j.stream.faults ≡ 0 → skipping.RefusesSkipAll cause_of i e j → IsNoList mode s.rest
+  none_skipped e i j n o f (skipping.RefusesSkipAll.by_values h) = no_values e i j n o f h
+  none_skipped e i j n o f (skipping.RefusesSkipAll.by_depth b w d m) = absurd (n m)
 
   none_on : (e : DecodeError S) (i j : Reading) → (cause_of e ≡ of_memory → ⊥) → IsAllOf s mode i → RefusesOn cause_of view post i e j → IsNoList mode s.rest
   none_on e i j n o (decoding.by_closure a) =
       let g = k a.handed (Err e) a.left a.called in
       let f = ap (λ (z : Reading). z.stream.faults) (sym a.left_is) ∙ faultless a.left.now in
-      none_skipped e i j n o f (subst (λ z. skipping.RefusesAll cause_of i e z) a.left_is (subst (λ z. skipping.RefusesAll cause_of z e (view a.left.now)) a.handed_is g.refused))
+      none_skipped e i j n o f (subst (λ z. skipping.RefusesSkipAll cause_of i e z) a.left_is (subst (λ z. skipping.RefusesSkipAll cause_of z e (view a.left.now)) a.handed_is g.refused))
   none_on e i j n o (decoding.left_failed x a z y) = absurd (done_not_failed j (subst IsDone a.left_is (k a.handed (Ok x) a.left a.called).done) z)
 
   pub refused_list : (e : DecodeError S) (s' : Stream) → (cause_of e ≡ of_memory → ⊥) → RefusesDecode cause_of view post s mode e s' → IsNoList mode s.rest

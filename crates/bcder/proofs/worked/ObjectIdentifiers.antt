@@ -2,7 +2,7 @@
 use Rattle.std.proofs.Common.{◌≡◌, [], ◌∷◌, refl}
 use Rattle.std.specs.Prelude.{codes}
 use Rattle.bcder.specs.declared.oid.components.Position.TheVariants.{First, Second, Other}
-use Rattle.bcder.specs.calls.Components.{parts}
+use Rattle.bcder.specs.calls.Components.{component_parts}
 use Rattle.bcder.specs.x690.ObjectIdentifier.{components}
 use Rattle.bcder.specs.calls.IdentifierText.{between_dots}
 
@@ -18,7 +18,7 @@ first_components : (components (0x27 ∷ []) ≡ 0 ∷ 39 ∷ []) × (components
 first_components = (refl, refl, refl, refl)
 
 -- the first two components stand in the first subidentifier
-two_in_one : parts (0x2B ∷ 0x06 ∷ []) ≡ record { position = First; octets = 0x2B ∷ [] } ∷ record { position = Second; octets = 0x2B ∷ [] } ∷ record { position = Other; octets = 0x06 ∷ [] } ∷ []
+two_in_one : component_parts (0x2B ∷ 0x06 ∷ []) ≡ record { position = First; octets = 0x2B ∷ [] } ∷ record { position = Second; octets = 0x2B ∷ [] } ∷ record { position = Other; octets = 0x06 ∷ [] } ∷ []
 two_in_one = refl
 
 -- what doesn't end is part of no component

@@ -76,8 +76,8 @@ module _ {C : Type 0} (view : C → Reading) (Handed : Reading → Type 0) where
 
 module _ {C R : Type 0} (view : C → Reading) (Handed : Tag → Reading → Type 0) where
   -- and what it leaves is where it moved that content to
-  abbrev pub IsLawful : (Tag → MutBor C → R → MutBor C → Type 0) → Type 0
-  IsLawful post = (t : Tag) (p : MutBor C) (r : R) (q : MutBor C) → Handed t (view p.now) → post t p r q → Moves (view p.now) (view q.now)
+  abbrev pub IsLawfulAtAny : (Tag → MutBor C → R → MutBor C → Type 0) → Type 0
+  IsLawfulAtAny post = (t : Tag) (p : MutBor C) (r : R) (q : MutBor C) → Handed t (view p.now) → post t p r q → Moves (view p.now) (view q.now)
 
 module _ {C R : Type 0} (view : C → Reading) (Handed : Reading → Type 0) where
   abbrev pub IsLawfulAt : Tag → (Tag → MutBor C → R → MutBor C → Type 0) → Type 0

@@ -2,7 +2,7 @@
 use Rattle.std.specs.Prelude.{ℕ, ◌^◌, List, Option, Some, None, nat_lt, if◌then◌else◌, ◌-◌, [], ◌∷◌, map}
 use Rattle.bcder.specs.declared.oid.components.Component.{Component}
 use Rattle.bcder.specs.declared.oid.components.Iter.{Iter}
-use Rattle.bcder.specs.x690.ObjectIdentifier.{subidentifiers, number}
+use Rattle.bcder.specs.x690.ObjectIdentifier.{subidentifiers, subidentifier_number}
 use Rattle.bcder.specs.declared.oid.components.Position.{Position}
 use Rattle.bcder.specs.declared.oid.components.Position.TheVariants.{First, Second, Other}
 
@@ -18,7 +18,7 @@ value_at Second s = if nat_lt s 40 then s else if nat_lt s 80 then s - 40 else s
 value_at Other s = s
 
 abbrev pub part_value : Part → ℕ
-part_value p = value_at p.position (number p.octets)
+part_value p = value_at p.position (subidentifier_number p.octets)
 
 abbrev pub other : List ℕ → Part
 other w = record { position = Other; octets = w }
@@ -32,8 +32,8 @@ parts_from Second (w ∷ ws) = record { position = Second; octets = w } ∷ map 
 parts_from Other ws = map other ws
 
 -- the components that the octets hold, the first two in the first subidentifier
-abbrev pub parts : List ℕ → List Part
-parts w = parts_from First (subidentifiers w)
+abbrev pub component_parts : List ℕ → List Part
+component_parts w = parts_from First (subidentifiers w)
 
 -- a component, with the octets that it borrows
 abbrev pub part_of : Component → Part

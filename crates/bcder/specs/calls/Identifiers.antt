@@ -3,24 +3,24 @@ use Rattle.std.specs.Prelude.{◌≡◌, ◌≢◌, ◌≤◌, ◌<◌, ◌^◌,
 use Rattle.bcder.specs.declared.oid.text.OidError.{OidError}
 use Rattle.bcder.specs.declared.oid.text.OidError.TheVariants.{NoMemory}
 use Rattle.bcder.specs.x690.Identifier.{AreOctets}
-use Rattle.bcder.specs.x690.ObjectIdentifier.{number, subidentifiers, IsWhole, IsComplete, components}
-use Rattle.bcder.specs.calls.Components.{part_value, parts}
+use Rattle.bcder.specs.x690.ObjectIdentifier.{subidentifier_number, subidentifiers, IsWhole, IsComplete, components}
+use Rattle.bcder.specs.calls.Components.{part_value, component_parts}
 use Rattle.bcder.specs.calls.IdentifierText.{between_dots, AreComponentTexts, IsTextOf, RefusesText, text_of}
 
 -- octets of a subidentifier that don't begin with 80 are the fewest of its number
 abbrev pub NoFewer : Type 0
-NoFewer = (v w : List ℕ) → IsWhole v → IsWhole w → number v ≡ number w → slice_index v 0 ≢ 0x80 → length v ≤ length w
+NoFewer = (v w : List ℕ) → IsWhole v → IsWhole w → subidentifier_number v ≡ subidentifier_number w → slice_index v 0 ≢ 0x80 → length v ≤ length w
 
 -- and the only ones that don't begin so, or that are so few
 abbrev pub OneFewest : Type 0
-OneFewest = (v w : List ℕ) → IsWhole v → IsWhole w → number v ≡ number w → slice_index v 0 ≢ 0x80 → slice_index w 0 ≢ 0x80 → v ≡ w
+OneFewest = (v w : List ℕ) → IsWhole v → IsWhole w → subidentifier_number v ≡ subidentifier_number w → slice_index v 0 ≢ 0x80 → slice_index w 0 ≢ 0x80 → v ≡ w
 
 abbrev pub OneOfLength : Type 0
-OneOfLength = (v w : List ℕ) → IsWhole v → IsWhole w → number v ≡ number w → length v ≡ length w → v ≡ w
+OneOfLength = (v w : List ℕ) → IsWhole v → IsWhole w → subidentifier_number v ≡ subidentifier_number w → length v ≡ length w → v ≡ w
 
 -- the components as they stand in the octets have the values that X.690 gives them
 abbrev pub PartsAreComponents : Type 0
-PartsAreComponents = (w : List ℕ) → map part_value (parts w) ≡ components w
+PartsAreComponents = (w : List ℕ) → map part_value (component_parts w) ≡ components w
 
 -- a text is read as the octets of one identifier at most
 abbrev pub OneIdentifierRead : Type 0

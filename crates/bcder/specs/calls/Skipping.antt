@@ -149,10 +149,10 @@ pub data RefusesOne {X : Type 0} (why : X → Cause ContentError) (c : Reading) 
   by_depth : GoesDeep c d → why e ≡ of_memory → RefusesOne why c e d
 
 -- why values weren't passed up to the end of c, and e was answered; `why` tells its cause
-pub data RefusesAll {X : Type 0} (why : X → Cause ContentError) (c : Reading) (e : X) (d : Reading) : Type 0 where
-  by_values : RefusesValues why c e d → RefusesAll why c e d
+pub data RefusesSkipAll {X : Type 0} (why : X → Cause ContentError) (c : Reading) (e : X) (d : Reading) : Type 0 where
+  by_values : RefusesValues why c e d → RefusesSkipAll why c e d
   -- some values were passed, and then a deep one met
-  by_depth : (j : Reading) → Walks c j → GoesDeep j d → why e ≡ of_memory → RefusesAll why c e d
+  by_depth : (j : Reading) → Walks c j → GoesDeep j d → why e ≡ of_memory → RefusesSkipAll why c e d
 
 -- want of memory was not answered
 abbrev pub FoundMemory : {T X : Type 0} → Result T (DecodeError X) → Type 0
@@ -182,7 +182,7 @@ module _ {S : Type 0} (stream : S → Stream) (c : Both (MutBor (Constructed S))
   SkippedOne r = PassedBy (RefusesOne cause_of) (of_constructed stream c.entry.now) r (of_constructed stream c.exit.now)
 
   abbrev pub SkippedAll : {T X : Type 0} → Result T (DecodeError X) → Type 0
-  SkippedAll r = AllBy (RefusesAll cause_of) (of_constructed stream c.entry.now) r (of_constructed stream c.exit.now)
+  SkippedAll r = AllBy (RefusesSkipAll cause_of) (of_constructed stream c.entry.now) r (of_constructed stream c.exit.now)
 
   -- unless the source failed or memory was wanted, Ok is answered exactly where values go on up to the end
   abbrev pub ExactlyAll : {T X : Type 0} → Result T (DecodeError X) → Type 0

@@ -11,7 +11,7 @@ use Rattle.bcder.specs.calls.Cause.{cause_of, IsRefusal, NamesTag}
 use Rattle.bcder.specs.x690.Identifier.{Tag}
 use Rattle.bcder.specs.calls.Stream.{Stream}
 use Rattle.bcder.specs.calls.Content.{Reading, Asked, any, tagged, IsMissing, RefusesHeader}
-use Rattle.bcder.specs.calls.Calls.{IsInside, MayBeCalled, IsLawful, TakesValue, RefusesFront, HasForm}
+use Rattle.bcder.specs.calls.Calls.{IsInside, MayBeCalled, IsLawfulAtAny, TakesValue, RefusesFront, HasForm}
 use Rattle.bcder.specs.calls.Views.{of_constructed, of_primitive, of_content, before, after}
 
 -- no value that is asked for is there, as the content tells without a fault of the source
@@ -61,21 +61,21 @@ module _ {S : Type 0} (stream : S → Stream) where
   CallableOnOctets c asked pre = MayBeCalled (of_primitive stream) (IsInside asked (of_constructed stream c.now)) pre
 
   abbrev pub LawfulOnOctets : {R : Type 0} → MutBor (Constructed S) → Asked → (Tag → MutBor (Primitive S) → R → MutBor (Primitive S) → Type 0) → Type 0
-  LawfulOnOctets c asked post = IsLawful (of_primitive stream) (IsInside asked (of_constructed stream c.now)) post
+  LawfulOnOctets c asked post = IsLawfulAtAny (of_primitive stream) (IsInside asked (of_constructed stream c.now)) post
 
   -- the same on the values of a constructed value
   abbrev pub CallableOnValues : MutBor (Constructed S) → Asked → (Tag → MutBor (Constructed S) → Type 0) → Type 0
   CallableOnValues c asked pre = MayBeCalled (of_constructed stream) (IsInside asked (of_constructed stream c.now)) pre
 
   abbrev pub LawfulOnValues : {R : Type 0} → MutBor (Constructed S) → Asked → (Tag → MutBor (Constructed S) → R → MutBor (Constructed S) → Type 0) → Type 0
-  LawfulOnValues c asked post = IsLawful (of_constructed stream) (IsInside asked (of_constructed stream c.now)) post
+  LawfulOnValues c asked post = IsLawfulAtAny (of_constructed stream) (IsInside asked (of_constructed stream c.now)) post
 
   -- the same on either
   abbrev pub CallableOnContent : MutBor (Constructed S) → Asked → (Tag → MutBor (Content S) → Type 0) → Type 0
   CallableOnContent c asked pre = MayBeCalled (of_content stream) (IsInside asked (of_constructed stream c.now)) pre
 
   abbrev pub LawfulOnContent : {R : Type 0} → MutBor (Constructed S) → Asked → (Tag → MutBor (Content S) → R → MutBor (Content S) → Type 0) → Type 0
-  LawfulOnContent c asked post = IsLawful (of_content stream) (IsInside asked (of_constructed stream c.now)) post
+  LawfulOnContent c asked post = IsLawfulAtAny (of_content stream) (IsInside asked (of_constructed stream c.now)) post
 
   module _ {T X : Type 0} (c : Both (MutBor (Constructed S)) (MutBor (Constructed S))) (asked : Asked) where
     -- the next primitive value was taken, if there is one; a constructed one is refused

@@ -1,7 +1,7 @@
 -- Octets of identifiers that are put together from text.
 use Rattle.std.specs.Prelude.{◌≡◌, ◌≢◌, ◌⊎◌, ℕ, ◌<◌, ◌≤◌, List, [], ◌∷◌, ◌++◌, length, slice_index, Option, Some, None}
 use Rattle.std.specs.Borrow.{Bor}
-use Rattle.bcder.specs.x690.ObjectIdentifier.{number, IsSubidentifier, AreSubidentifiers}
+use Rattle.bcder.specs.x690.ObjectIdentifier.{subidentifier_number, IsSubidentifier, AreSubidentifiers}
 use Rattle.bcder.specs.declared.oid.text.OidError.{OidError}
 use Rattle.bcder.specs.declared.oid.text.OidError.TheVariants.{NotInteger, NoMemory}
 use Rattle.bcder.specs.calls.IdentifierText.{between_dots, AreComponentTexts, HasNoComponent}
@@ -20,7 +20,7 @@ AreMarked (b ∷ w) = (0x80 ≤ b) × (b < 0x100) × AreMarked w
 pub record AreDigits (n : ℕ) (w : List ℕ) : Type 0 where
   pub marked : AreMarked w
   pub some : 0 < length w
-  pub value : number w ≡ n
+  pub value : subidentifier_number w ≡ n
   pub fewest : slice_index w 0 ≢ 0x80
 
 abbrev pub AppendsDigits : List ℕ → List ℕ → ℕ → Type 0

@@ -13,8 +13,8 @@ abbrev pub number_after : ℕ → List ℕ → ℕ
 number_after high [] = high
 number_after high (b ∷ w) = number_after (128 * high + b % 128) w
 
-abbrev pub number : List ℕ → ℕ
-number w = number_after 0 w
+abbrev pub subidentifier_number : List ℕ → ℕ
+subidentifier_number w = number_after 0 w
 
 -- the octets cut after each one with bit 8 zero, behind those in front; what stands after the last such octet is left out
 abbrev pub cut_after : List ℕ → List ℕ → List (List ℕ)
@@ -34,7 +34,7 @@ IsWhole (b ∷ c ∷ w) = (0x80 ≤ b) × (b < 0x100) × IsWhole (c ∷ w)
 -- the octets of one subidentifier: the fewest that it can have, so the first is not 80
 pub record IsSubidentifier (n : ℕ) (w : List ℕ) : Type 0 where
   pub whole : IsWhole w
-  pub value : number w ≡ n
+  pub value : subidentifier_number w ≡ n
   pub fewest : slice_index w 0 ≢ 0x80
 
 -- the octets of one subidentifier after the other
@@ -59,4 +59,4 @@ components_of (s ∷ ss) =
 
 -- the components that the octets hold, whether they are complete or not
 abbrev pub components : List ℕ → List ℕ
-components w = components_of (map number (subidentifiers w))
+components w = components_of (map subidentifier_number (subidentifiers w))

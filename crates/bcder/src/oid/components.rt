@@ -1,7 +1,7 @@
 //! The components of an object identifier (X.690, 8.19.2 to 8.19.4).
 ghost use Rattle.std.specs.Prelude.{◌≡◌, ℕ, ◌^◌, [], ◌∷◌, Some, MatchOption, min, ◌↔◌, IsTrue};
-ghost use Rattle.bcder.specs.x690.ObjectIdentifier.{number, subidentifiers};
-ghost use Rattle.bcder.specs.calls.Components.{parts, part_value};
+ghost use Rattle.bcder.specs.x690.ObjectIdentifier.{subidentifier_number, subidentifiers};
+ghost use Rattle.bcder.specs.calls.Components.{component_parts, part_value};
 ghost use Rattle.bcder.specs.x690.ObjectIdentifier.{IsComplete};
 ghost use Rattle.bcder.specs.calls.Components.{part_of, parts_left, in_32_bits};
 ghost use Rattle.bcder.specs.calls.IdentifierText.{shown};
@@ -40,7 +40,7 @@ const LARGE: u64 = 1 << 33;
 
 /// The number that the octets of a subidentifier hold, or `LARGE` where it is that or more.
 fn number_to_large(octets: &[u8]) -> u64
-    ensures { result ≡ min (number octets.now) (2 ^ 33) }
+    ensures { result ≡ min (subidentifier_number octets.now) (2 ^ 33) }
 {
     let mut high = 0u64;
     for octet in octets {
@@ -106,7 +106,7 @@ fn split_subidentifier(octets: &[u8]) -> Option<(&[u8], &[u8])>
 
 impl<'a> Iter<'a> {
     pub(super) fn new(octets: &'a [u8]) -> Iter<'a>
-        ensures { parts_left result ≡ parts octets.now }
+        ensures { parts_left result ≡ component_parts octets.now }
     {
         Iter {
             position: Position::First,

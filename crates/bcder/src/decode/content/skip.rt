@@ -554,8 +554,8 @@ impl<'a, S: Source> Constructed<'a, S> {
     }
 
     /// As `skip_one`, whatever stands in front. It lends a copy of the content, and where no value
-    /// was passed the state of the copy is set: so content that is a local of a caller has no address, and a loop over its
-    /// values neither looks its state up nor its kind.
+    /// was passed the state of the copy is set: so content that is a local of a caller has no
+    /// address, and a loop over its values neither looks its state up nor its kind.
     #[inline(always)]
     fn skip_copy(&mut self, alloc: Global) -> Result<Option<()>, DecodeError<S::Error>>
         ensures moves { Moves (before S.stream self) (after S.stream self) }

@@ -5,7 +5,7 @@ use Rattle.bcder.specs.calls.Walking.{PassesValue}
 use Rattle.bcder.specs.calls.Views.{of_constructed}
 use Rattle.bcder.specs.laws.Moved.{moved_carries, untouched_is_moved, moved_twice_is_moved}
 use Rattle.bcder.proofs.Names.{within_constructed, constructed_form}
-use Rattle.bcder.specs.calls.Skipping.{RefusesAll}
+use Rattle.bcder.specs.calls.Skipping.{RefusesSkipAll}
 use Rattle.bcder.proofs.Skipped.{loop_refused, all_exact}
 use Rattle.bcder.proofs.Walked.{some_value, none_value}
 use Rattle.bcder.proofs.Walking.{all_refused, walks_refl, walks_value, walks_all, value_shorter}
@@ -26,7 +26,7 @@ returns-in_err-skip_one-clause-skipped g c =
     let i = of_constructed g.S.Source.stream c.args.self.now in
     let j = of_constructed g.S.Source.stream c.loop.self in
     let k = of_constructed g.S.Source.stream c.skip_one.new.self in
-    all_refused (RefusesAll cause_of) i k c.from_residual.result _ c.from_residual.ensures.1
+    all_refused (RefusesSkipAll cause_of) i k c.from_residual.result _ c.from_residual.ensures.1
     (loop_refused cause_of _ i j k (constructed_form g.S.Source.stream c.args.self.now) c.loop.invariant.walks c.in_err-skip_one.ensures.skipped.refused)
     c.in_err-skip_one.ensures.skipped.failed
     (c.skip_one.ensures.skipped.mode ∙ c.loop.invariant.walks.mode)
@@ -37,7 +37,7 @@ returns-in_err-skip_one-clause-exact g c =
     let i = of_constructed g.S.Source.stream c.args.self.now in
     let j = of_constructed g.S.Source.stream c.loop.self in
     let k = of_constructed g.S.Source.stream c.skip_one.new.self in
-    λ n m o h. all_exact i k _ (all_refused (RefusesAll cause_of) i k c.from_residual.result _ c.from_residual.ensures.1
+    λ n m o h. all_exact i k _ (all_refused (RefusesSkipAll cause_of) i k c.from_residual.result _ c.from_residual.ensures.1
     (loop_refused cause_of _ i j k (constructed_form g.S.Source.stream c.args.self.now) c.loop.invariant.walks c.in_err-skip_one.ensures.skipped.refused)
     c.in_err-skip_one.ensures.skipped.failed
     (c.skip_one.ensures.skipped.mode ∙ c.loop.invariant.walks.mode)
