@@ -177,6 +177,7 @@ impl<V: Values> Values for &'_ V {
 }
 
 /// How many octets the values have. That is noted, in front of the sizes inside.
+#[inline(always)]
 pub(crate) fn note_inside<V: Values>(
     values: &V,
     mode: Mode,

@@ -70,6 +70,7 @@ impl<V: Values> Values for Option<V> {
     }
 
     #[tactic(auto, using(crate::proofs::Noting::nothing_noted))]
+    #[inline(always)]
     fn note_sizes(&self, mode: Mode, sizes: &mut Sizes) -> Result<usize, EncodeError> {
         match self {
             Some(values) => values.note_sizes(mode, sizes),
@@ -126,6 +127,7 @@ impl<L: Values, R: Values> Values for Choice2<L, R> {
         }
     }
 
+    #[inline(always)]
     fn note_sizes(&self, mode: Mode, sizes: &mut Sizes) -> Result<usize, EncodeError> {
         match self {
             Choice2::One(values) => values.note_sizes(mode, sizes),
@@ -190,6 +192,7 @@ impl<L: Values, C: Values, R: Values> Values for Choice3<L, C, R> {
         }
     }
 
+    #[inline(always)]
     fn note_sizes(&self, mode: Mode, sizes: &mut Sizes) -> Result<usize, EncodeError> {
         match self {
             Choice3::One(values) => values.note_sizes(mode, sizes),

@@ -232,6 +232,7 @@ impl<V: Values> Values for Constructed<V> {
         Ok(whole)
     }
 
+    #[inline(always)]
     fn note_sizes(&self, mode: Mode, sizes: &mut Sizes) -> Result<usize, EncodeError> {
         let Some(identifier) = self.tag.value_len() else {
             return Err(EncodeError::EndOfValueTag);

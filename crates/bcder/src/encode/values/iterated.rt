@@ -128,6 +128,7 @@ where
     }
 
     #[tactic(auto, using(crate::proofs::Noting::nothing_noted))]
+    #[inline(always)]
     fn note_sizes(&self, mode: Mode, _sizes: &mut Sizes) -> Result<usize, EncodeError> {
         self.encoded_len(mode)
     }

@@ -68,6 +68,7 @@ impl<V: Values> Values for &'_ [V] {
     }
 
     #[tactic(auto, using(crate::proofs::Noting::nothing_noted))]
+    #[inline(always)]
     fn note_sizes(&self, mode: Mode, _sizes: &mut Sizes) -> Result<usize, EncodeError> {
         self.encoded_len(mode)
     }
@@ -104,6 +105,7 @@ impl<V: Values> Values for Vec<V> {
     }
 
     #[tactic(auto, using(crate::proofs::Noting::nothing_noted))]
+    #[inline(always)]
     fn note_sizes(&self, mode: Mode, _sizes: &mut Sizes) -> Result<usize, EncodeError> {
         self.encoded_len(mode)
     }

@@ -146,6 +146,7 @@ impl<T: AsSlice<U>, F: Fn(&U) -> V, U, V: Values + Drop> Values for Slice<T, F, 
     }
 
     #[tactic(auto, using(crate::proofs::Noting::nothing_noted))]
+    #[inline(always)]
     fn note_sizes(&self, mode: Mode, _sizes: &mut Sizes) -> Result<usize, EncodeError> {
         self.encoded_len(mode)
     }

@@ -73,6 +73,7 @@ pub(crate) fn joined_len<P: Parts>(parts: &P, mode: Mode) -> Result<usize, Encod
 }
 
 /// The same. The sizes that have to be told are noted.
+#[inline(always)]
 pub(crate) fn note_joined<P: Parts>(
     parts: &P,
     mode: Mode,
@@ -214,6 +215,7 @@ impl<'a, V: Values, R: Parts> Parts for Chain<'a, V, R> {
         }
     }
 
+    #[inline(always)]
     fn note_parts(&self, mode: Mode, sizes: &mut Sizes) -> Result<Option<usize>, EncodeError> {
         let first = self.first.note_sizes(mode, sizes)?;
         let rest = self.rest.note_parts(mode, sizes)?;
@@ -251,6 +253,7 @@ impl<R: Parts> Parts for &'_ R {
         (**self).parts_len(mode)
     }
 
+    #[inline(always)]
     fn note_parts(&self, mode: Mode, sizes: &mut Sizes) -> Result<Option<usize>, EncodeError> {
         (**self).note_parts(mode, sizes)
     }
@@ -313,6 +316,7 @@ impl<'a, A: Values, B: Values, C: Values, D: Values, R: Parts> Parts for Four<'a
         all.parts_len(mode)
     }
 
+    #[inline(always)]
     fn note_parts(&self, mode: Mode, sizes: &mut Sizes) -> Result<Option<usize>, EncodeError> {
         let rest = &self.rest;
         let rest = Chain {

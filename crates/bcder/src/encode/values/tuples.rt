@@ -48,6 +48,7 @@ impl<A: Values> Values for (A,) {
         joined_len(&parts!(a), mode)
     }
 
+    #[inline(always)]
     fn note_sizes(&self, mode: Mode, sizes: &mut Sizes) -> Result<usize, EncodeError> {
         let (a,) = self;
         note_joined(&parts!(a), mode, sizes)
@@ -88,6 +89,7 @@ impl<A: Values, B: Values> Values for (A, B) {
         joined_len(&parts!(a, b), mode)
     }
 
+    #[inline(always)]
     fn note_sizes(&self, mode: Mode, sizes: &mut Sizes) -> Result<usize, EncodeError> {
         let (a, b) = self;
         note_joined(&parts!(a, b), mode, sizes)
@@ -130,6 +132,7 @@ impl<A: Values, B: Values, C: Values> Values for (A, B, C) {
         joined_len(&parts!(a, b, c), mode)
     }
 
+    #[inline(always)]
     fn note_sizes(&self, mode: Mode, sizes: &mut Sizes) -> Result<usize, EncodeError> {
         let (a, b, c) = self;
         note_joined(&parts!(a, b, c), mode, sizes)
@@ -174,6 +177,7 @@ impl<A: Values, B: Values, C: Values, D: Values> Values for (A, B, C, D) {
         joined_len(&parts!(a, b, c, d), mode)
     }
 
+    #[inline(always)]
     fn note_sizes(&self, mode: Mode, sizes: &mut Sizes) -> Result<usize, EncodeError> {
         let (a, b, c, d) = self;
         note_joined(&parts!(a, b, c, d), mode, sizes)
@@ -219,6 +223,7 @@ impl<A: Values, B: Values, C: Values, D: Values, E: Values> Values for (A, B, C,
         joined_len(&parts!(a, b, c, d, e), mode)
     }
 
+    #[inline(always)]
     fn note_sizes(&self, mode: Mode, sizes: &mut Sizes) -> Result<usize, EncodeError> {
         let (a, b, c, d, e) = self;
         note_joined(&parts!(a, b, c, d, e), mode, sizes)
@@ -268,6 +273,7 @@ impl<A: Values, B: Values, C: Values, D: Values, E: Values, F: Values> Values
         joined_len(&parts!(a, b, c, d, e, f), mode)
     }
 
+    #[inline(always)]
     fn note_sizes(&self, mode: Mode, sizes: &mut Sizes) -> Result<usize, EncodeError> {
         let (a, b, c, d, e, f) = self;
         note_joined(&parts!(a, b, c, d, e, f), mode, sizes)
@@ -319,6 +325,7 @@ impl<A: Values, B: Values, C: Values, D: Values, E: Values, F: Values, G: Values
         joined_len(&parts!(a, b, c, d, e, f, g), mode)
     }
 
+    #[inline(always)]
     fn note_sizes(&self, mode: Mode, sizes: &mut Sizes) -> Result<usize, EncodeError> {
         let (a, b, c, d, e, f, g) = self;
         note_joined(&parts!(a, b, c, d, e, f, g), mode, sizes)
@@ -373,6 +380,7 @@ impl<A: Values, B: Values, C: Values, D: Values, E: Values, F: Values, G: Values
         joined_len(&parts!(a, b, c, d, e, f, g, h), mode)
     }
 
+    #[inline(always)]
     fn note_sizes(&self, mode: Mode, sizes: &mut Sizes) -> Result<usize, EncodeError> {
         let (a, b, c, d, e, f, g, h) = self;
         note_joined(&parts!(a, b, c, d, e, f, g, h), mode, sizes)
@@ -439,6 +447,7 @@ impl<
         joined_len(&parts!(a, b, c, d, e, f, g, h, i), mode)
     }
 
+    #[inline(always)]
     fn note_sizes(&self, mode: Mode, sizes: &mut Sizes) -> Result<usize, EncodeError> {
         let (a, b, c, d, e, f, g, h, i) = self;
         note_joined(&parts!(a, b, c, d, e, f, g, h, i), mode, sizes)
@@ -507,6 +516,7 @@ impl<
         joined_len(&parts!(a, b, c, d, e, f, g, h, i, j), mode)
     }
 
+    #[inline(always)]
     fn note_sizes(&self, mode: Mode, sizes: &mut Sizes) -> Result<usize, EncodeError> {
         let (a, b, c, d, e, f, g, h, i, j) = self;
         note_joined(&parts!(a, b, c, d, e, f, g, h, i, j), mode, sizes)
@@ -586,6 +596,7 @@ impl<
         joined_len(&parts!(a, b, c, d, e, f, g, h, i, j, k), mode)
     }
 
+    #[inline(always)]
     fn note_sizes(&self, mode: Mode, sizes: &mut Sizes) -> Result<usize, EncodeError> {
         let (a, b, c, d, e, f, g, h, i, j, k) = self;
         note_joined(&parts!(a, b, c, d, e, f, g, h, i, j, k), mode, sizes)
@@ -669,6 +680,7 @@ impl<
         joined_len(&parts!(a, b, c, d, e, f, g, h, i, j, k, l), mode)
     }
 
+    #[inline(always)]
     fn note_sizes(&self, mode: Mode, sizes: &mut Sizes) -> Result<usize, EncodeError> {
         let (a, b, c, d, e, f, g, h, i, j, k, l) = self;
         note_joined(&parts!(a, b, c, d, e, f, g, h, i, j, k, l), mode, sizes)
