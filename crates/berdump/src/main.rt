@@ -14,8 +14,6 @@ mod opened;
 mod request;
 mod run;
 mod target;
-#[cfg(test)]
-mod tests;
 
 use std::io::{BufWriter, Read};
 use std::process::ExitCode;

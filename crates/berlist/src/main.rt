@@ -14,8 +14,6 @@ ghost use Rattle.berlist.specs.Requests.{Asks, AsksNothing, Tells, Ends};
 mod gather;
 mod request;
 mod target;
-#[cfg(test)]
-mod tests;
 
 use bcder::{Mode, NoMemory};
 use std::alloc::Global;

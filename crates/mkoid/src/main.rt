@@ -13,8 +13,6 @@ ghost use Rattle.mkoid.specs.Lines.{octets_line, refusal_line, IsNamed, WritesAl
 ghost use Rattle.mkoid.specs.Lines.{WritesLine, WritesPart};
 
 mod target;
-#[cfg(test)]
-mod tests;
 
 use bcder::oid::OidError;
 use bcder::{NoMemory, Oid};
