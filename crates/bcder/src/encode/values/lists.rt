@@ -52,6 +52,7 @@ impl<'a, V: Values> Parts for Items<'a, V> {
         Ok(sum)
     }
 
+    #[inline(always)]
     fn note_parts(&self, mode: Mode, sizes: &mut Sizes) -> Result<Option<usize>, EncodeError> {
         let mut sum = Some(0usize);
         for item in self.items {
