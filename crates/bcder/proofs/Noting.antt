@@ -1,5 +1,5 @@
 -- Sizes that are noted where encoders are measured, and read where they are written.
-use Rattle.std.proofs.Common.{◌≡◌, ℕ, List, [], ◌∷◌, ◌++◌, length, None, Some, Result, Ok, Err, refl, sym, ap, ◌∙◌, subst, ◌⊎◌, inl, inr, append_assoc, append-nil}
+use Rattle.std.proofs.Common.{◌≡◌, ℕ, List, [], ◌∷◌, ◌++◌, length, None, Some, Result, Ok, Err, refl, sym, ap, ◌∙◌, subst, ◌⊎◌, inl, inr, append_assoc, append-nil, ◌+◌, ◌<◌, ◌≤◌, drop_of_length-le, drop, get_or, suc, add-one, drop-cons}
 use Rattle.std.specs.Prelude.{IfOk}
 use Rattle.bcder.specs.declared.length.Length.TheVariants.{Definite}
 use Rattle.bcder.specs.x690.Octets.{constructed_length}
@@ -8,7 +8,7 @@ use Rattle.bcder.specs.declared.encode.sizes.Sizes.{Sizes}
 use Rattle.bcder.specs.declared.mode.Mode.{Mode}
 use Rattle.bcder.specs.declared.mode.Mode.TheVariants.{Ber, Cer, Der}
 use Rattle.bcder.specs.calls.Meaning.{Encoded, Meaning, IsOne, encoded_octets}
-use Rattle.bcder.specs.calls.Noted.{noted, ReadsNone, Reads, ReadsThen, HasSize, ReadsInside, ReadsContents, MayRead, HasRead, Notes}
+use Rattle.bcder.specs.calls.Noted.{noted, ReadsNone, Reads, ReadsThen, ReadsEach, HasSize, ReadsInside, ReadsContents, MayRead, HasRead, Notes}
 use Rattle.bcder.proofs.Writing.{same_ok}
 
 pub one_size : {M : Meaning → Type 0} (one : IsOne M) (n : ℕ) (a : Encoded) → M (Ok a) → n ≡ length a.octets → HasSize M n
@@ -102,6 +102,44 @@ module _ (R S : List ℕ → List ℕ → Type 0) where
 
   pub then_read : (l m n : List ℕ) → HasRead R l m → HasRead S m n → HasRead (ReadsThen R S) l n
   then_read l m n p q = record { ends = ends_at l m n p.ends q.ends }
+
+-- ---- each of a list
+
+pub ReadsEach_at : {X : Type 0} (R : X → List ℕ → List ℕ → Type 0) (xs : List X) (i : ℕ) (x : X) → i < length xs → x ≡ get_or xs i x → ReadsEach R (drop i xs) ≡ ReadsThen (R x) (ReadsEach R (drop (i + 1) xs))
+ReadsEach_at R xs i x h is = ap (ReadsEach R) (drop-cons xs i x h ∙ ap (λ y. y ∷ drop (suc i) xs) (sym is) ∙ ap (λ j. x ∷ drop j xs) (sym (add-one i)))
+
+pub ReadsEach_end : {X : Type 0} (R : X → List ℕ → List ℕ → Type 0) (xs : List X) (i : ℕ) → length xs ≤ i → ReadsEach R (drop i xs) ≡ ReadsNone
+ReadsEach_end R xs i h = ap (ReadsEach R) (drop_of_length-le xs h)
+
+-- what is noted so far may be read before whatever is noted after it
+pub record NotedSoFar (R rest : List ℕ → List ℕ → Type 0) (old mid : Sizes) : Type 0 where
+  pub leads : (new : Sizes) → Notes rest mid new → Notes R old new
+
+pub noted_start : {R : List ℕ → List ℕ → Type 0} {a : Sizes} → NotedSoFar R R a a
+noted_start = record { leads = λ new n. n }
+
+pub noted_next : {R : List ℕ → List ℕ → Type 0} (S rest : List ℕ → List ℕ → Type 0) {old mid new : Sizes} → NotedSoFar R (ReadsThen S rest) old mid → Notes S mid new → NotedSoFar R rest old new
+noted_next S rest s n = record { leads = λ end more. s.leads end (then_noted S rest n more) }
+
+pub noted_done : {R : List ℕ → List ℕ → Type 0} {old mid : Sizes} → NotedSoFar R ReadsNone old mid → Notes R old mid
+noted_done {R} {old} {mid} s = s.leads mid (nothing_noted mid)
+
+-- what is read so far is what R says, before the rest, which may be read
+pub record ReadSoFar (R rest : List ℕ → List ℕ → Type 0) (old mid : List ℕ) : Type 0 where
+  pub may : MayRead rest mid
+  pub leads : (new : List ℕ) → HasRead rest mid new → HasRead R old new
+
+pub read_start : {R : List ℕ → List ℕ → Type 0} {l : List ℕ} → MayRead R l → ReadSoFar R R l l
+read_start may = record { may = may; leads = λ new r. r }
+
+pub read_next : {R : List ℕ → List ℕ → Type 0} (S rest : List ℕ → List ℕ → Type 0) {old mid new : List ℕ} → ReadSoFar R (ReadsThen S rest) old mid → HasRead S mid new → ReadSoFar R rest old new
+read_next S rest {old} {mid} {new} s r = record {
+  may = rest_may S rest mid new s.may r;
+  leads = λ end more. s.leads end (then_read S rest mid new end r more);
+}
+
+pub read_done : {R : List ℕ → List ℕ → Type 0} {old mid : List ℕ} → ReadSoFar R ReadsNone old mid → HasRead R old mid
+read_done {R} {old} {mid} s = s.leads mid (none_read mid)
 
 -- ---- inside a value
 

@@ -23,6 +23,11 @@ Reads R left after = ((left ≡ []) × (after ≡ [])) ⊎ R left after
 abbrev pub ReadsThen : (List ℕ → List ℕ → Type 0) → (List ℕ → List ℕ → Type 0) → List ℕ → List ℕ → Type 0
 ReadsThen R S left after = (between : List ℕ) × Reads R left between × Reads S between after
 
+-- what R says of each of a list, in its order
+abbrev pub ReadsEach : {X : Type 0} → (X → List ℕ → List ℕ → Type 0) → List X → List ℕ → List ℕ → Type 0
+ReadsEach R [] = ReadsNone
+ReadsEach R (x ∷ xs) = ReadsThen (R x) (ReadsEach R xs)
+
 -- n is how many octets are meant
 abbrev pub HasSize : (Meaning → Type 0) → ℕ → Type 0
 HasSize M n = (e : Encoded) → M (Ok e) → n ≡ length e.octets

@@ -7,7 +7,7 @@ ghost use Rattle.bcder.specs.calls.Encoders.{WroteOctets, into_result};
 use crate::encode::WriteError;
 use crate::encode::front::Front;
 use crate::encode::header::put_header;
-use crate::encode::slot::Failed;
+use crate::encode::slot::{Failed, slot};
 use crate::encode::target::put_all;
 use crate::int::octets::Octets;
 use crate::length::Length;
@@ -165,6 +165,30 @@ pub(crate) fn put_contents<W: io::Write>(
     put_few(identifier, contents, target, why)
 }
 
+/// Writes a primitive value from its contents octets as `put_contents`, with a slot of its own, so
+/// that the one that it is handed isn't lent on, and need not be cleared where a small number is
+/// written alone.
+#[inline(always)]
+fn put_contents_apart<W: io::Write>(
+    tag: Tag,
+    contents: &[u8],
+    target: &mut W,
+    why: &mut WriteError,
+) -> Result<(), Failed>
+    requires { length contents.now < 2 ^ 32 }
+    ensures { WroteOctets W.contents target (definite tag false contents.now)
+        (into_result result why.new) }
+{
+    let mut own = slot();
+    match put_contents(tag, contents, target, &mut own) {
+        Ok(()) => Ok(()),
+        Err(Failed) => {
+            *why = own;
+            Err(Failed)
+        }
+    }
+}
+
 /// Writes the contents octets of a number as `put_contents`, few of them as an array.
 #[inline(always)]
 pub(crate) fn put_number<W: io::Write>(
@@ -179,10 +203,10 @@ pub(crate) fn put_number<W: io::Write>(
 {
     let len = contents.len();
     if len > 5 {
-        return put_contents(tag, contents, target, why);
+        return put_contents_apart(tag, contents, target, why);
     }
     let Some(identifier) = tag.single_octet(false) else {
-        return put_any_few(tag, contents, target, why);
+        return put_contents_apart(tag, contents, target, why);
     };
     put_array(identifier, contents, target, why)
 }

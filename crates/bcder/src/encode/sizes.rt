@@ -4,7 +4,7 @@
 //! is refused. The size of what stands inside a value is noted then, in the order in which it has
 //! to be told, so that none is worked out again. There is room for some on the stack; a value whose
 //! size isn't noted measures its inside once more, and notes what stands there anew.
-ghost use Rattle.std.specs.Prelude.{◌≡◌, ◌≢◌, ◌≤◌, ◌+◌, ℕ, List, [], ◌∷◌, ◌++◌, length};
+ghost use Rattle.std.specs.Prelude.{◌≡◌, ◌≢◌, ◌≤◌, ◌+◌, ℕ, List, [], ◌∷◌, ◌++◌, length, IsTrue};
 
 /// The sizes of what stands inside values, in the order in which they are told.
 #[doc(hidden)]
@@ -38,6 +38,14 @@ impl Sizes {
         ensures full { self.new.room ≡ 0 }
     {
         self.room = 0;
+    }
+
+    /// Whether there is no place left.
+    #[inline(always)]
+    pub(crate) fn is_full(&self) -> bool
+        ensures { IsTrue result → self.now.room ≡ 0 }
+    {
+        self.room == 0
     }
 
     /// Keeps a place for a size that isn't known yet, if there is one, and tells which.

@@ -32,8 +32,9 @@ pub(crate) fn into_result(outcome: Result<(), Failed>, why: WriteError) -> Resul
     }
 }
 
-/// Keeps a refusal.
-#[cold]
+/// Keeps a refusal. The slot isn't lent on, so that where it is made and lent to no other step it
+/// need not be cleared.
+#[inline(always)]
 pub(crate) fn store_refusal(why: &mut WriteError, error: EncodeError) -> Failed
     ensures { why.new ≡ Refused error }
 {
@@ -41,8 +42,8 @@ pub(crate) fn store_refusal(why: &mut WriteError, error: EncodeError) -> Failed
     Failed
 }
 
-/// Keeps an error of the target.
-#[cold]
+/// Keeps an error of the target, as `store_refusal`.
+#[inline(always)]
 pub(crate) fn store_target_error(why: &mut WriteError, error: io::Error) -> Failed
     ensures { why.new ≡ Target error }
 {

@@ -1,16 +1,32 @@
 //! Lists of encoders: their values one after the other.
-ghost use Rattle.std.specs.Prelude.{Any, All};
+ghost use Rattle.std.specs.Prelude.{Any, All, IfOk};
 ghost use Rattle.bcder.specs.calls.Joined.{EachOf, Joined};
-ghost use Rattle.bcder.specs.calls.Noted.{ReadsNone};
+ghost use Rattle.bcder.specs.calls.Encoders.{SizeOfValues};
+ghost use Rattle.bcder.specs.calls.Noted.{ReadsEach, Notes};
 ghost use Rattle.bcder.specs.laws.Joined.{EachOf_lawful, Joined_lawful};
 
 use crate::encode::sizes::{Sizes, SizesLeft};
 use crate::encode::slot::Failed;
 use crate::encode::values::Values;
-use crate::encode::values::parts::{Parts, add_len, joined_len, write_joined, write_known_parts};
+use crate::encode::values::parts::{
+    Parts, add_len, joined_len, note_joined, write_joined, write_known_parts,
+};
 use crate::encode::{EncodeError, WriteError};
 use crate::mode::Mode;
 use std::io;
+
+/// How many octets an item has. The sizes that it tells are noted, while there is room.
+#[inline(always)]
+fn note_item<V: Values>(item: &V, mode: Mode, sizes: &mut Sizes) -> Result<usize, EncodeError>
+    requires { V.can_encode item.now }
+    ensures sized { SizeOfValues (V.means item.now mode) (V.may_lack item.now mode) result }
+    ensures noted { IfOk result (λ _. Notes (V.reads item.now mode) sizes.old sizes.new) }
+{
+    if sizes.is_full() {
+        return item.encoded_len(mode);
+    }
+    item.note_sizes(mode, sizes)
+}
 
 /// The items of a slice.
 #[derive(Clone, Copy)]
@@ -23,7 +39,7 @@ impl<'a, V: Values> Parts for Items<'a, V> {
 
     ghost may_lack = { λ x mode. Any (λ v. V.may_lack v mode) x.items.now };
 
-    ghost reads = { λ _ _. ReadsNone };
+    ghost reads = { λ x mode. ReadsEach (λ v. V.reads v mode) x.items.now };
 
     ghost can_encode = { λ x. All V.can_encode x.items.now };
 
@@ -36,16 +52,25 @@ impl<'a, V: Values> Parts for Items<'a, V> {
         Ok(sum)
     }
 
-    #[tactic(auto, using(crate::proofs::Noting::none_read))]
+    #[inline(always)]
+    fn note_parts(&self, mode: Mode, sizes: &mut Sizes) -> Result<Option<usize>, EncodeError> {
+        let mut sum = Some(0usize);
+        for item in self.items {
+            let len = note_item(item, mode, sizes)?;
+            sum = add_len(sum, len);
+        }
+        Ok(sum)
+    }
+
     fn write_parts<W: io::Write>(
         &self,
         mode: Mode,
-        _sizes: &mut SizesLeft<'_>,
+        sizes: &mut SizesLeft<'_>,
         target: &mut W,
         why: &mut WriteError,
     ) -> Result<(), Failed> {
         for item in self.items {
-            item.write_known(mode, &mut SizesLeft::none(), target, why)?;
+            item.write_known(mode, sizes, target, why)?;
         }
         Ok(())
     }
@@ -59,7 +84,7 @@ impl<V: Values> Values for &'_ [V] {
 
     ghost may_lack = { λ x mode. Any (λ v. V.may_lack v mode) x.now };
 
-    ghost reads = { λ _ _. ReadsNone };
+    ghost reads = { λ x mode. ReadsEach (λ v. V.reads v mode) x.now };
 
     ghost can_encode = { λ x. All V.can_encode x.now };
 
@@ -67,10 +92,9 @@ impl<V: Values> Values for &'_ [V] {
         joined_len(&Items { items: *self }, mode)
     }
 
-    #[tactic(auto, using(crate::proofs::Noting::nothing_noted))]
     #[inline(always)]
-    fn note_sizes(&self, mode: Mode, _sizes: &mut Sizes) -> Result<usize, EncodeError> {
-        self.encoded_len(mode)
+    fn note_sizes(&self, mode: Mode, sizes: &mut Sizes) -> Result<usize, EncodeError> {
+        note_joined(&Items { items: *self }, mode, sizes)
     }
 
     fn write_encoded<W: io::Write>(&self, mode: Mode, target: &mut W) -> Result<(), WriteError> {
@@ -96,7 +120,7 @@ impl<V: Values> Values for Vec<V> {
 
     ghost may_lack = { λ x mode. Any (λ v. V.may_lack v mode) x.items };
 
-    ghost reads = { λ _ _. ReadsNone };
+    ghost reads = { λ x mode. ReadsEach (λ v. V.reads v mode) x.items };
 
     ghost can_encode = { λ x. All V.can_encode x.items };
 
@@ -104,10 +128,9 @@ impl<V: Values> Values for Vec<V> {
         self.as_slice().encoded_len(mode)
     }
 
-    #[tactic(auto, using(crate::proofs::Noting::nothing_noted))]
     #[inline(always)]
-    fn note_sizes(&self, mode: Mode, _sizes: &mut Sizes) -> Result<usize, EncodeError> {
-        self.encoded_len(mode)
+    fn note_sizes(&self, mode: Mode, sizes: &mut Sizes) -> Result<usize, EncodeError> {
+        self.as_slice().note_sizes(mode, sizes)
     }
 
     fn write_encoded<W: io::Write>(&self, mode: Mode, target: &mut W) -> Result<(), WriteError> {
