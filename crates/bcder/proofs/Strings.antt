@@ -102,11 +102,11 @@ pub read_piece : {X : Type 0} (tag : Tag) (c d : Reading) (r : Result (List ℕ)
 read_piece tag c d (Ok b) r k l most = read_whole tag c d b r k l most
 read_piece tag c d (Err e) r k l most = refuse_octets tag c d e r k
 
--- what is told of contents octets holds of the string in one piece
-module _ {X : Type 0} (tag : Tag) (c d : Reading) where
-  pub piece_read : (w : List ℕ) (s : StringOctets) → s ≡ whole w → ReadsContent tag (MeansPiece c.mode) {X = X} c (Ok w) d → ReadsContent tag (MeansString c.mode) {X = X} c (Ok s) d
+-- what is told of contents octets holds of the string in one piece, where a primitive value means no other
+module _ {X : Type 0} (Means : Mode → Tree → StringOctets → Type 0) (in_one : (mode : Mode) (t : Tag) (contents : List ℕ) (x : StringOctets) → Means mode (primitive t contents) x → Means mode (primitive t contents) (whole contents)) (tag : Tag) (c d : Reading) where
+  pub piece_read : (w : List ℕ) (s : StringOctets) → s ≡ whole w → ReadsContent tag (λ t w. Means c.mode t (whole w)) {X = X} c (Ok w) d → ReadsContent tag (Means c.mode) {X = X} c (Ok s) d
   piece_read w s e k = record {
-    value = record { tree = k.value.tree; holds = k.value.holds; means = subst (MeansString c.mode k.value.tree) (sym e) k.value.means };
+    value = record { tree = k.value.tree; holds = k.value.holds; means = subst (Means c.mode k.value.tree) (sym e) k.value.means };
     done = k.done;
     no_fault = k.no_fault;
     refused = tt;
@@ -114,22 +114,22 @@ module _ {X : Type 0} (tag : Tag) (c d : Reading) where
     marked = k.marked;
   }
 
-  pub piece_refused : (c.kind ≡ Octets) × (c.state ≡ Open) → (e : DecodeError X) → ReadsContent {T = List ℕ} tag (MeansPiece c.mode) c (Err e) d → ReadsContent {T = StringOctets} tag (MeansString c.mode) c (Err e) d
+  pub piece_refused : (c.kind ≡ Octets) × (c.state ≡ Open) → (e : DecodeError X) → ReadsContent {T = List ℕ} tag (λ t w. Means c.mode t (whole w)) c (Err e) d → ReadsContent {T = StringOctets} tag (Means c.mode) c (Err e) d
   piece_refused o e k = record { value = tt; done = tt; no_fault = tt; refused = of_piece k.refused; mode = k.mode; marked = k.marked }
     where
-      none : HoldsNone tag (MeansPiece c.mode) c → HoldsNone tag (MeansString c.mode) c
-      none n (primitive t contents) x h means = n (primitive t contents) contents h (means.0, refl)
+      none : HoldsNone {T = List ℕ} tag (λ t w. Means c.mode t (whole w)) c → HoldsNone tag (Means c.mode) c
+      none n (primitive t contents) x h means = n (primitive t contents) contents h (in_one c.mode t contents x means)
       none n (constructed t ts) x h means = not_values c ts o.0 o.1 h.1
 
-      of_piece : RefusesToRead tag (MeansPiece c.mode) c e d → RefusesToRead tag (MeansString c.mode) c e d
+      of_piece : RefusesToRead {T = List ℕ} tag (λ t w. Means c.mode t (whole w)) c e d → RefusesToRead tag (Means c.mode) c e d
       of_piece (valued.RefusesToRead.failed s i) = valued.RefusesToRead.failed s i
       of_piece (valued.RefusesToRead.source s g) = valued.RefusesToRead.source s g
       of_piece (valued.RefusesToRead.memory s) = valued.RefusesToRead.memory s
       of_piece (valued.RefusesToRead.nothing n i) = valued.RefusesToRead.nothing (none n) i
 
-  pub piece_taken : (w : List ℕ) (s : StringOctets) → s ≡ whole w → TakesNextTree tag (MeansPiece c.mode) {X = X} c (Ok (Some w)) d → TakesNextTree tag (MeansString c.mode) {X = X} c (Ok (Some s)) d
+  pub piece_taken : (w : List ℕ) (s : StringOctets) → s ≡ whole w → TakesNextTree tag (λ t w. Means c.mode t (whole w)) {X = X} c (Ok (Some w)) d → TakesNextTree tag (Means c.mode) {X = X} c (Ok (Some s)) d
   piece_taken w s e k = record {
-    value = record { tree = k.value.tree; octets = k.value.octets; has = k.value.has; means = subst (MeansString c.mode k.value.tree) (sym e) k.value.means; stays = k.value.stays };
+    value = record { tree = k.value.tree; octets = k.value.octets; has = k.value.has; means = subst (Means c.mode k.value.tree) (sym e) k.value.means; stays = k.value.stays };
     none = tt;
     no_fault = k.no_fault;
     refused = tt;
@@ -139,18 +139,22 @@ module _ {X : Type 0} (tag : Tag) (c d : Reading) where
   }
 
   -- behind the header of a primitive value
-  pub piece_not_taken : (after : List ℕ) (f : HasHeader (tagged tag) c after) → f.form ≡ false → (e : DecodeError X) → TakesNextTree {T = List ℕ} tag (MeansPiece c.mode) c (Err e) d → TakesNextTree {T = StringOctets} tag (MeansString c.mode) c (Err e) d
+  pub piece_not_taken : (after : List ℕ) (f : HasHeader (tagged tag) c after) → f.form ≡ false → (e : DecodeError X) → TakesNextTree {T = List ℕ} tag (λ t w. Means c.mode t (whole w)) c (Err e) d → TakesNextTree {T = StringOctets} tag (Means c.mode) c (Err e) d
   piece_not_taken after f p e k = record { value = tt; none = tt; no_fault = tt; refused = of_piece k.refused; failed = k.failed; mode = k.mode; marked = k.marked }
     where
-      none : HasNoTree tag (MeansPiece c.mode) c → (t : Tree) (w rest : List ℕ) (x : StringOctets) → HasTagged tag c t w rest → MeansString c.mode t x → ⊥
-      none n (primitive t contents) w rest x h means = n.value (primitive t contents) w rest contents h (means.0, refl)
+      none : HasNoTree {T = List ℕ} tag (λ t w. Means c.mode t (whole w)) c → (t : Tree) (w rest : List ℕ) (x : StringOctets) → HasTagged tag c t w rest → Means c.mode t x → ⊥
+      none n (primitive t contents) w rest x h means = n.value (primitive t contents) w rest contents h (in_one c.mode t contents x means)
       none n (constructed t ts) w rest x h means = primitive_in_front tag c after f p t ts w rest h
 
-      of_piece : RefusesTree tag (MeansPiece c.mode) c e d → RefusesTree tag (MeansString c.mode) c e d
+      of_piece : RefusesTree {T = List ℕ} tag (λ t w. Means c.mode t (whole w)) c e d → RefusesTree tag (Means c.mode) c e d
       of_piece (valued.RefusesTree.failed s i) = valued.RefusesTree.failed s i
       of_piece (valued.RefusesTree.source s g) = valued.RefusesTree.source s g
       of_piece (valued.RefusesTree.memory s) = valued.RefusesTree.memory s
       of_piece (valued.RefusesTree.broken n i) = valued.RefusesTree.broken (record { usable = n.usable; value = none n; absent = n.absent }) i
+
+-- a primitive octet string
+pub octets_in_one : (mode : Mode) (t : Tag) (contents : List ℕ) (x : StringOctets) → MeansString mode (primitive t contents) x → MeansString mode (primitive t contents) (whole contents)
+octets_in_one mode t contents x means = (means.0, refl)
 
 -- ---- cut into segments
 

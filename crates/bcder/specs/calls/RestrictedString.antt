@@ -13,6 +13,10 @@ module _ (step : Step) where
   abbrev pub MeansRestricted : Mode → Tree → StringOctets → Type 0
   MeansRestricted mode t s = MeansString mode t s × IsOfSet step (octets_of s)
 
+  -- the same of octets in one piece
+  abbrev pub MeansPiece : Mode → Tree → List ℕ → Type 0
+  MeansPiece mode t w = MeansRestricted mode t (whole w)
+
   -- the octets of a text in one piece; or that the set hasn't all of its characters; or that memory lacked: for the set, where it may, or for a copy of octets that there are
   abbrev pub MakesText : Type 0 → List ℕ → Result StringOctets StringError → Type 0
   MakesText may_lack text (Ok s) = (w : List ℕ) × (s ≡ whole w) × Spells step w (chars text)

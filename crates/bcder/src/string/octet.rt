@@ -20,6 +20,7 @@ use crate::decode::source::see_octets;
 use bytes::Bytes;
 pub use encode::OctetStringEncoder;
 pub use iter::{OctetStringIter, OctetStringOctets};
+pub(crate) use read::{from_constructed, take_piece};
 pub use slice::OctetSliceEncoder;
 pub use source::OctetStringSource;
 use std::alloc::AllocError;

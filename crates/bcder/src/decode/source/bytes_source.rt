@@ -11,6 +11,7 @@ use std::alloc::{AllocError, Global};
 use std::convert::Infallible;
 
 // What a slice's type says of its items, for the proof alone.
+#[inline(always)]
 pub(crate) fn see_octets(octets: &[u8])
     ensures are_octets { AreOctets octets.now }
     ensures fit { length octets.now < 2 ^ 64 }

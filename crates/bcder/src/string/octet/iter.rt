@@ -6,6 +6,7 @@ ghost use Rattle.bcder.specs.steps.SegmentTable.{segment_at};
 ghost use Rattle.bcder.specs.steps.SegmentTable.{AreWithin, segments_at};
 
 use super::{OctetString, Octets, Segment};
+use crate::decode::source::see_octets;
 use std::alloc::AllocError;
 use std::marker::Model;
 
@@ -90,9 +91,13 @@ impl OctetString {
     pub fn octets(&self) -> OctetStringOctets<'_>
         ensures { result ≡ octets_of self.now }
     {
-        OctetStringOctets {
-            part: &[],
-            parts: self.iter(),
+        match &self.octets {
+            Octets::Whole(octets) => OctetStringOctets::new(octets.as_slice()),
+            Octets::Cut(..) => OctetStringOctets {
+                part: &[],
+                given: 0,
+                parts: self.iter(),
+            },
         }
     }
 }
@@ -150,8 +155,10 @@ impl<'a> Iterator for OctetStringIter<'a> {
 /// The octets of an octet string, in their order.
 #[derive(Debug, Drop)]
 pub struct OctetStringOctets<'a> {
-    /// What is left of a part.
+    /// A part, and how many of its octets were given out, so that a step over one is a step of one
+    /// number.
     part: &'a [u8],
+    given: usize,
 
     /// The parts behind it.
     parts: OctetStringIter<'a>,
@@ -159,12 +166,14 @@ pub struct OctetStringOctets<'a> {
 
 /// The clauses see the octets that are still to come.
 impl<'a> Model for OctetStringOctets<'a> {
-    ghost use Rattle.std.specs.Prelude.{ℕ, List, ◌++◌};
+    ghost use Rattle.std.specs.Prelude.{ℕ, List, ◌++◌, ◌≤◌, length, drop};
     ghost use Rattle.std.specs.List.{concat};
 
     ghost Value = { List ℕ };
 
-    ghost view = { λ o. o.part.now ++ concat o.parts };
+    ghost view = { λ o. drop o.given o.part.now ++ concat o.parts };
+
+    ghost invariant = { λ o. o.given ≤ length o.part.now };
 }
 
 impl<'a> OctetStringOctets<'a> {
@@ -174,6 +183,7 @@ impl<'a> OctetStringOctets<'a> {
     {
         OctetStringOctets {
             part: octets,
+            given: 0,
             parts: OctetStringIter::of_piece(&[]),
         }
     }
@@ -186,27 +196,28 @@ impl<'a> OctetStringOctets<'a> {
     pub fn as_slice(&self) -> Option<&'a [u8]>
         ensures { IfSome result (λ octets. octets.now ≡ self.now) }
     {
-        if !self.parts.segments.is_empty() {
+        if !self.parts.segments.is_empty() || !self.parts.front.is_empty() {
             return None;
         }
-        if self.part.is_empty() {
-            return Some(self.parts.front);
-        }
-        self.parts.front.is_empty().then_some(self.part)
+        Some(&self.part[self.given..])
     }
 
     /// What is left of a part, and the parts behind it.
     pub(crate) fn into_parts(self) -> (&'a [u8], OctetStringIter<'a>)
         ensures { self.entry ≡ result.0.now ++ concat result.1 }
     {
-        (self.part, self.parts)
+        (&self.part[self.given..], self.parts)
     }
 
     /// Octets, and parts behind them.
     pub(crate) fn from_parts(part: &'a [u8], parts: OctetStringIter<'a>) -> OctetStringOctets<'a>
         ensures { result ≡ part.now ++ concat parts.entry }
     {
-        OctetStringOctets { part, parts }
+        OctetStringOctets {
+            part,
+            given: 0,
+            parts,
+        }
     }
 
     /// Takes the octets that stand in one piece in front, as long as there are any.
@@ -215,12 +226,13 @@ impl<'a> OctetStringOctets<'a> {
             (λ piece. (self.old ≡ piece.now ++ self.new) × (0 < length piece.now)) }
     {
         loop {
-            let part = self.part;
+            let part = &self.part[self.given..];
             if !part.is_empty() {
-                self.part = &[];
+                self.given = self.part.len();
                 return Some(part);
             }
             self.part = self.parts.next()?;
+            self.given = 0;
         }
     }
 }
@@ -232,6 +244,7 @@ impl Clone for OctetStringOctets<'_> {
     fn clone(&self) -> Result<Self, AllocError> {
         Ok(OctetStringOctets {
             part: self.part,
+            given: self.given,
             parts: self.parts.clone()?,
         })
     }
@@ -249,13 +262,14 @@ impl Iterator for OctetStringOctets<'_> {
     #[inline(always)]
     fn next(&mut self) -> Option<u8> {
         loop {
-            match self.part {
-                [octet, rest @ ..] => {
-                    self.part = rest;
-                    return Some(*octet);
-                }
-                [] => self.part = self.parts.next()?,
+            if self.given < self.part.len() {
+                see_octets(self.part);
+                let octet = self.part[self.given];
+                self.given += 1;
+                return Some(octet);
             }
+            self.part = self.parts.next()?;
+            self.given = 0;
         }
     }
 }

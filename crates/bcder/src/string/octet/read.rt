@@ -30,7 +30,7 @@ fn may_be_whole(mode: Mode, len: usize) -> bool
 /// Takes all contents octets as those of a string in one piece, which in CER has 1000 at most.
 #[tactic(auto, using(crate::proofs::moves))]
 #[inline(always)]
-fn take_piece<S: Source>(
+pub(crate) fn take_piece<S: Source>(
     alloc: Global,
     octets: &mut Primitive<'_, S>,
 ) -> Result<Bytes, DecodeError<S::Error>>
@@ -48,7 +48,7 @@ fn take_piece<S: Source>(
 #[tactic(auto, using(crate::proofs::moves))]
 #[cold]
 #[inline(never)]
-fn from_constructed<S: Source>(
+pub(crate) fn from_constructed<S: Source>(
     alloc: Global,
     values: &mut Constructed<'_, S>,
 ) -> Result<OctetString, DecodeError<S::Error>>

@@ -76,6 +76,7 @@ impl Behind {
     }
 
     /// Where the next one stands.
+    #[inline(always)]
     fn next(&mut self) -> Option<Segment>
         ensures { MatchOption result
             ((self.old.parts ≡ []) × (self.new ≡ self.old))
@@ -117,6 +118,22 @@ impl Behind {
             count += 1;
         }
         Ok((Bytes::from_vec(block)?, count))
+    }
+}
+
+/// Has the next segment stand in front, where nothing does and the block is that of the segments.
+#[inline(always)]
+fn move_on(front: &mut Front, behind: &mut Behind)
+    requires { SharesBlock front.old (Some behind.old) }
+    ensures stands { SharesBlock front.new (Some behind.new) }
+    ensures same { front.new.octets ++ concat behind.new.parts
+        ≡ front.old.octets ++ concat behind.old.parts }
+    ensures no_fewer { length front.old.octets ≤ length front.new.octets }
+{
+    if front.is_empty() && front.is_shared() {
+        if let Some(segment) = behind.next() {
+            front.move_to(segment);
+        }
     }
 }
 
@@ -199,15 +216,21 @@ impl OctetStringSource {
         }
     }
 
-    /// Makes at least `len` octets stand in front, or all that there are.
-    #[inline(never)]
+    /// Makes at least `len` octets stand in front, or all that there are. Mostly the next segment has
+    /// them, and no call is made.
+    #[inline(always)]
     fn fill(&mut self, len: usize) -> Result<(), NoMemory>
         ensures { FillsFront len self result }
     {
         match &mut self.behind {
             Some(behind) => {
                 let before = self.front.len();
-                let filled = refill(&mut self.front, behind, len);
+                move_on(&mut self.front, behind);
+                let filled = if self.front.len() < len {
+                    refill(&mut self.front, behind, len)
+                } else {
+                    Ok(())
+                };
                 self.reached += self.front.len() - before;
                 filled
             }

@@ -1,21 +1,70 @@
 //! Reading restricted strings (X.690, 8.23).
-ghost use Rattle.bcder.specs.calls.RestrictedString.{MeansRestricted};
-ghost use Rattle.bcder.specs.calls.Valued.{ReadTree, TookNextTree, TookOneTree};
-ghost use Rattle.bcder.specs.calls.Views.{Moved, MovedContent};
+ghost use Rattle.bcder.specs.calls.RestrictedString.{MeansRestricted, MeansPiece};
+ghost use Rattle.bcder.specs.calls.Valued.{ReadsAny, ReadTree, TookNextTree, TookOneTree};
+ghost use Rattle.bcder.specs.calls.Views.{before, after, octets_before, octets_after};
+ghost use Rattle.bcder.specs.calls.Views.{Moved, MovedOctets, MovedContent};
 
 use super::{CharSet, RestrictedString};
-use crate::decode::{Constructed, Content, ContentError, DecodeError, Source};
-use crate::string::octet::OctetString;
+use crate::decode::header::Wanted;
+use crate::decode::{Constructed, Content, ContentError, DecodeError, Primitive, Source};
+use crate::string::octet::{OctetStringOctets, from_constructed, take_piece};
+use bytes::Bytes;
 use std::alloc::Global;
+
+/// Takes all contents octets as those of a string of the set, in one piece.
+#[tactic(auto, using(crate::proofs::moves))]
+#[inline(always)]
+fn take_accepted<L: CharSet, S: Source>(
+    alloc: Global,
+    octets: &mut Primitive<'_, S>,
+) -> Result<Bytes, DecodeError<S::Error>>
+    ensures moves { MovedOctets S.stream octets }
+    ensures read { ReadsAny (MeansPiece L.step)
+        (octets_before S.stream octets) result (octets_after S.stream octets) }
+{
+    let piece = match take_piece(alloc, octets) {
+        Ok(piece) => piece,
+        Err(error) => return Err(error),
+    };
+    match L::check(OctetStringOctets::new(piece.as_slice())) {
+        Ok(()) => Ok(piece),
+        Err(_) => Err(Primitive::content_err(
+            octets,
+            ContentError::from_static("invalid character"),
+        )),
+    }
+}
 
 #[tactic(auto, using(crate::specs::laws::Moved::untouched_is_moved))]
 impl<L: CharSet> RestrictedString<L> {
+    /// Takes all values as the segments of a string of the set.
+    #[cold]
+    #[inline(never)]
+    fn from_values<S: Source>(
+        alloc: Global,
+        values: &mut Constructed<'_, S>,
+    ) -> Result<Self, DecodeError<S::Error>>
+        ensures moves { Moved S.stream values }
+        ensures read { ReadsAny (MeansRestricted L.step)
+            (before S.stream values) result (after S.stream values) }
+    {
+        let octets = match from_constructed(alloc, values) {
+            Ok(octets) => octets,
+            Err(error) => return Err(error),
+        };
+        match RestrictedString::new(octets) {
+            Ok(string) => Ok(string),
+            Err(_) => Err(values.content_err(ContentError::from_static("invalid character"))),
+        }
+    }
+
     /// Takes the next value, which has to be a string of the set, with the set's tag.
     ///
     /// # Errors
     ///
     /// Those of [`take_opt_from`](Self::take_opt_from), and `ContentError::ExpectedTag` where that
     /// answers `None`: the content then stays usable.
+    #[inline(always)]
     pub fn take_from<S: Source>(
         alloc: Global,
         cons: &mut Constructed<'_, S>,
@@ -23,10 +72,11 @@ impl<L: CharSet> RestrictedString<L> {
         ensures moves { Moved S.stream cons }
         ensures took { TookOneTree S.stream cons L.TAG (MeansRestricted L.step) result }
     {
-        cons.take_value_if(
-            L::TAG,
-            |content| RestrictedString::<L>::from_content(alloc, content),
-        )
+        match RestrictedString::<L>::take_opt_from(alloc, cons) {
+            Ok(Some(string)) => Ok(string),
+            Ok(None) => Err(cons.expected_tag_error(L::TAG)),
+            Err(error) => Err(error),
+        }
     }
 
     /// Takes the next value if it has the set's tag, or answers `None` at the end and at a value of
@@ -40,6 +90,7 @@ impl<L: CharSet> RestrictedString<L> {
     ///
     /// Those of `OctetString::take_opt_from`, and where the octets spell no characters of the set.
     /// The content has then failed.
+    #[inline(always)]
     pub fn take_opt_from<S: Source>(
         alloc: Global,
         cons: &mut Constructed<'_, S>,
@@ -47,9 +98,27 @@ impl<L: CharSet> RestrictedString<L> {
         ensures moves { Moved S.stream cons }
         ensures took { TookNextTree S.stream cons L.TAG (MeansRestricted L.step) result }
     {
-        cons.take_opt_value_if(L::TAG, |content| {
-            RestrictedString::<L>::from_content(alloc, content)
-        })
+        match cons.next_header(Wanted::Tagged(L::TAG)) {
+            Ok(Some(header)) => {
+                if header.constructed {
+                    cons.take_constructed_body(
+                        header,
+                        |_tag, values| RestrictedString::<L>::from_values(alloc, values),
+                    )
+                } else {
+                    match cons.take_primitive_body(
+                        header,
+                        |_tag, octets| take_accepted::<L, S>(alloc, octets),
+                    ) {
+                        Ok(Some(octets)) => Ok(Some(RestrictedString::of_bytes(octets))),
+                        Ok(None) => Ok(None),
+                        Err(error) => Err(error),
+                    }
+                }
+            }
+            Ok(None) => Ok(None),
+            Err(stop) => Err(cons.stop_error(stop)),
+        }
     }
 
     /// Takes all content of a value as a string of the set, whatever the tag of the value.
@@ -65,13 +134,12 @@ impl<L: CharSet> RestrictedString<L> {
         ensures moves { MovedContent S.stream content }
         ensures read { ReadTree S.stream content (MeansRestricted L.step) result }
     {
-        let octets = match OctetString::from_content(alloc, content) {
-            Ok(octets) => octets,
-            Err(error) => return Err(error),
-        };
-        match RestrictedString::new(octets) {
-            Ok(string) => Ok(string),
-            Err(_) => Err(content.content_err(ContentError::from_static("invalid character"))),
+        match content {
+            Content::Primitive(octets) => match take_accepted::<L, S>(alloc, octets) {
+                Ok(octets) => Ok(RestrictedString::of_bytes(octets)),
+                Err(error) => Err(error),
+            },
+            Content::Constructed(values) => RestrictedString::<L>::from_values(alloc, values),
         }
     }
 }

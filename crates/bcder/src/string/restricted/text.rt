@@ -15,7 +15,7 @@ use std::marker::PhantomData;
 
 impl<L: CharSet> RestrictedString<L> {
     /// A string of octets that the set accepts, in one piece.
-    fn of_bytes(octets: Bytes) -> Self
+    pub(super) fn of_bytes(octets: Bytes) -> Self
         requires { IsOfSet L.step octets }
         ensures { result ≡ whole octets }
     {

@@ -65,6 +65,7 @@ impl Front {
     }
 
     /// Whether the segments to come stand in the same block.
+    #[inline(always)]
     pub(super) fn is_shared(&self) -> bool
         ensures { result ≡ self.now.is_shared }
     {
@@ -80,6 +81,7 @@ impl Front {
     }
 
     /// Whether there is none.
+    #[inline(always)]
     pub(super) fn is_empty(&self) -> bool
         ensures { result ≡ (length self.now.octets == 0) }
     {
@@ -118,6 +120,7 @@ impl Front {
     }
 
     /// Has a segment that stands in the block take their place.
+    #[inline(always)]
     pub(super) fn move_to(&mut self, segment: Segment)
         requires { segment.start + segment.len ≤ length self.old.block }
         ensures { self.new ≡ record {

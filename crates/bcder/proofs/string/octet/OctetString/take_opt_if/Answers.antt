@@ -10,7 +10,7 @@ use Rattle.bcder.specs.steps.StopCause.{stop_cause}
 use Rattle.bcder.proofs.Entering.{header_entered}
 use Rattle.bcder.proofs.Names.{within_constructed}
 use Rattle.bcder.proofs.Stopping.{header_stopped}
-use Rattle.bcder.proofs.Strings.{piece_taken, piece_not_taken}
+use Rattle.bcder.proofs.Strings.{octets_in_one, piece_taken, piece_not_taken}
 use Rattle.bcder.proofs.Taking.{takes_next, moves_next, of_either_form}
 use Rattle.bcder.proofs.Valued.{next_tree, no_tree, stopped_tree}
 use Rattle.bcder.proofs.string.octet.OctetString.take_opt_if.Goals as goal
@@ -57,7 +57,7 @@ returns-in-Ok-Some-take_primitive_body-clause-took g c =
     let i = of_constructed g.S.Source.stream c.args.cons.now in
     let j = of_constructed g.S.Source.stream c.take_primitive_body.new.self in
     let b = of_either_form (of_primitive g.S.Source.stream) _ (Some true) _ (header_of c.in-Ok-Some.header) _ _ (λ f. (let x : ◌≡◌ {A = Option Bool} (Some true) (Some false) = f ∙ ap Some c.if-header.false in cc)) (rw c.in-Ok-Some-take_primitive_body.field-0-is at c.in-Ok-Some-take_primitive_body.ensures) in
-    piece_taken c.args.tag i j c.in-Ok-Some-take_primitive_body.octets c.new.result c.new.ensures
+    piece_taken MeansString octets_in_one c.args.tag i j c.in-Ok-Some-take_primitive_body.octets c.new.result c.new.ensures
     (next_tree (of_primitive g.S.Source.stream) _ c.args.tag (λ mode t w. MeansString mode t (whole w)) (λ t p r q x. search rules) i j _ (within_constructed g.S.Source.stream g.met.S.Source.sound c.args.cons.now)
     (takes_next (of_primitive g.S.Source.stream) _ None (tagged c.args.tag) i _ j (header_of c.in-Ok-Some.header) e.0 e.1 _ b))
 
@@ -67,7 +67,7 @@ returns-in-Err-take_primitive_body-clause-took g c =
     let i = of_constructed g.S.Source.stream c.args.cons.now in
     let j = of_constructed g.S.Source.stream c.take_primitive_body.new.self in
     let b = of_either_form (of_primitive g.S.Source.stream) _ (Some true) _ (header_of c.in-Ok-Some.header) _ _ (λ f. (let x : ◌≡◌ {A = Option Bool} (Some true) (Some false) = f ∙ ap Some c.if-header.false in cc)) c.in-Err-take_primitive_body.ensures in
-    piece_not_taken c.args.tag i j _ (header_entered i (header_of c.in-Ok-Some.header) (of_constructed g.S.Source.stream c.next_header.new.self) (tagged c.args.tag) e.0 e.1) c.if-header.false c.in-Err-take_primitive_body.error
+    piece_not_taken MeansString octets_in_one c.args.tag i j _ (header_entered i (header_of c.in-Ok-Some.header) (of_constructed g.S.Source.stream c.next_header.new.self) (tagged c.args.tag) e.0 e.1) c.if-header.false c.in-Err-take_primitive_body.error
     (next_tree (of_primitive g.S.Source.stream) _ c.args.tag (λ mode t w. MeansString mode t (whole w)) (λ t p r q x. search rules) i j _ (within_constructed g.S.Source.stream g.met.S.Source.sound c.args.cons.now)
     (takes_next (of_primitive g.S.Source.stream) _ None (tagged c.args.tag) i _ j (header_of c.in-Ok-Some.header) e.0 e.1 _ b))
 
