@@ -1,5 +1,5 @@
 -- What a call that looks ahead for a primitive value says of the content before it looked.
-use Rattle.std.proofs.Common.{◌≡◌, ◌⊎◌, ℕ, Bool, true, false, refl, List, length, Option, Some, None, Ok, Err, sym, ◌∙◌, subst, inl, inr}
+use Rattle.std.proofs.Common.{◌≡◌, ◌⊎◌, ℕ, Bool, true, false, refl, List, length, drop, Option, Some, None, Ok, Err, sym, ◌∙◌, subst, inl, inr}
 use Rattle.std.specs.Prelude.{Result, IsErrAnd}
 use Rattle.std.specs.Borrow.{MutBor}
 use Rattle.bcder.specs.declared.mode.Mode.{Mode}
@@ -12,7 +12,8 @@ use Rattle.bcder.specs.calls.Calls.{HasForm}
 use Rattle.bcder.specs.calls.Cause.{Cause, cause_of, of_source, IsOfContent, IsRefusal}
 use Rattle.bcder.specs.x690.Encoding.{IsHeader, may_have}
 use Rattle.bcder.specs.x690.Identifier.{Tag}
-use Rattle.bcder.specs.steps.Peek.{header_of, octets_header}
+use Rattle.bcder.specs.steps.Peek.{header_of, octets_header, IsFront}
+use Rattle.bcder.specs.steps.Reading.{read_front}
 use Rattle.bcder.specs.calls.Stream.{Grew}
 use Rattle.bcder.specs.calls.Content.{Reading, Asked, tagged, Enters, HasHeader, HasMarker, HasOther, Falls, Resembles, IsElsewhere, none_left, other, marker, IsAbsent, IsLeft, RefusesHeader, failed, source, nothing}
 use Rattle.bcder.specs.steps.Entering.{EntersOctets}
@@ -106,6 +107,14 @@ module _ (c d : Reading) (t : Tag) (h : CodeHeader) (e : h.tag ≡ t) (x : Enter
       is_constructed : (h.constructed ≡ true) ⊎ (h.len ≡ Indefinite) → h.constructed ≡ true
       is_constructed (inl f) = f
       is_constructed (inr l) = only_constructed c.mode h.constructed (subst (λ z. may_have c.mode h.constructed z ≡ true) l x.is_header.allowed)
+
+-- what stands in front is the header of a primitive value, by its tag and its length
+pub octets_front : (mode : Mode) (h : CodeHeader) (k n m : ℕ) (w : List ℕ) → h.constructed ≡ false → h.len ≡ Definite n → IsFront mode h k m w → IsFront mode (octets_header h.tag n) k m w
+octets_front mode h k n m w f l i = (
+  i.0,
+  subst (λ z. read_front mode w ≡ Some (record { tag = h.tag; form = false; len = z }, drop k w)) l
+      (subst (λ z. read_front mode w ≡ Some (record { tag = h.tag; form = z; len = h.len }, drop k w)) f i.1),
+)
 
 -- what a take says where no header was passed
 module _ {C T X S : Type 0} (view : C → Reading) (post : Tag → MutBor C → Result T (DecodeError X) → MutBor C → Type 0) (c d : Reading) (mode : d.mode ≡ c.mode) (t : Tag) where

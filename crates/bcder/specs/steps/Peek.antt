@@ -1,14 +1,13 @@
 -- What stands at the front of a source, and what can be told of it from the octets at hand.
-use Rattle.std.specs.Prelude.{◌≡◌, ℕ, ◌+◌, ◌<◌, ◌≤◌, Bool, true, false, List, [], ◌++◌, length, drop, Option, Some, None}
+use Rattle.std.specs.Prelude.{◌≡◌, ℕ, ◌<◌, ◌≤◌, Bool, true, false, List, [], ◌++◌, length, drop, Option, Some, None}
 use Rattle.bcder.specs.declared.mode.Mode.{Mode}
 use Rattle.bcder.specs.declared.decode.header.Header.{Header as CodeHeader}
 use Rattle.bcder.specs.declared.decode.header.Wanted.{Wanted}
 use Rattle.bcder.specs.declared.decode.header.Wanted.TheVariants as wanted
 use Rattle.bcder.specs.declared.decode.header.Peeked.{Peeked}
 use Rattle.bcder.specs.declared.decode.header.Peeked.TheVariants as peeked
-use Rattle.bcder.specs.declared.length.Length.{Length}
 use Rattle.bcder.specs.declared.length.Length.TheVariants.{Definite}
-use Rattle.bcder.specs.x690.Identifier.{Tag, is_value_tag}
+use Rattle.bcder.specs.x690.Identifier.{Tag}
 use Rattle.bcder.specs.x690.Encoding.{Header}
 use Rattle.bcder.specs.steps.Reading.{read_identifier, read_front}
 use Rattle.bcder.specs.calls.Content.{Asked, any, tagged, IsAsked}
@@ -64,15 +63,3 @@ Sees mode asked (Some p) w = (x : List ℕ) → IsPeeked mode asked p (length w)
 -- a header of two octets, in every mode
 abbrev pub IsShortHeader : CodeHeader → List ℕ → Type 0
 IsShortHeader h w = (mode : Mode) (x : List ℕ) → IsFront mode h 2 (length w) (w ++ x)
-
--- the contents octets of this length are among so many
-abbrev pub IsAtHand : Length → ℕ → Type 0
-IsAtHand l n = (k : ℕ) → l ≡ Definite k → k ≤ n
-
--- the header of two octets of a primitive value, whose octets are among n
-pub record IsAllHere (h : CodeHeader) (n : ℕ) : Type 0 where
-  pub is_value : is_value_tag h.tag ≡ true
-  pub form : h.constructed ≡ false
-  pub len : ℕ
-  pub tells : h.len ≡ Definite len
-  pub within : 2 + len ≤ n

@@ -1,11 +1,12 @@
 //! Identifier octets and length octets at the front of a source (X.690, 8.1.2, 8.1.3).
-ghost use Rattle.std.specs.Prelude.{◌≡◌, ℕ, ◌<◌, ◌≤◌, List, ◌++◌, length, false, IsTrue};
-ghost use Rattle.std.specs.Prelude.{Some, None, IfSome, IfOk, OnOk, OnErr};
+ghost use Rattle.std.specs.Prelude.{◌≡◌, ℕ, ◌+◌, ◌<◌, ◌≤◌, List, ◌++◌, length, true, false};
+ghost use Rattle.std.specs.Prelude.{IsTrue, Some, None, IfSome, IfOk, OnOk, OnErr};
 ghost use Rattle.bcder.specs.calls.Changed.{SameFaults, MoreFaults, SameRest, SamePosition};
 ghost use Rattle.bcder.specs.calls.Changed.{SameKept};
 ghost use Rattle.bcder.specs.calls.Content.{IsAsked};
-ghost use Rattle.bcder.specs.steps.Peek.{asked, Fronts, Peeks, Sees, IsShortHeader, IsAllHere};
+ghost use Rattle.bcder.specs.steps.Peek.{asked, octets_header, Fronts, Peeks, Sees, IsShortHeader};
 ghost use Rattle.bcder.specs.steps.Reading.{read_identifier, read_length};
+ghost use Rattle.bcder.specs.x690.Identifier.{is_value_tag};
 ghost use Rattle.bcder.specs.declared.mode.Mode.{Mode as ModeValue};
 
 use crate::decode::source::Source;
@@ -132,14 +133,15 @@ fn short_header(all: bool, octets: &[u8]) -> Option<Header>
     }
 }
 
-/// The header of two octets at the front of a source, if it is that of a primitive value whose
-/// octets are all at hand. It asks for two octets, and takes none. An error is the source's own.
+/// The tag of the primitive value at the front of a source, and how many contents octets it has, if
+/// its header has two octets and all of its octets are at hand. It asks for two octets, and takes
+/// none. An error is the source's own.
 #[inline(always)]
-pub(crate) fn peek_whole<S: Source>(source: &mut S) -> Result<Option<Header>, S::Error>
-    ensures short { IfOk result (λ o. IfSome o (λ h.
-        (mode : ModeValue) → Fronts mode h 2 (S.stream source.new))) }
-    ensures whole { IfOk result (λ o. IfSome o (λ h.
-        IsAllHere h (S.stream source.new).avail)) }
+pub(crate) fn peek_whole<S: Source>(source: &mut S) -> Result<Option<(Tag, usize)>, S::Error>
+    ensures value { IfOk result (λ o. IfSome o (λ r. is_value_tag r.0 ≡ true)) }
+    ensures short { IfOk result (λ o. IfSome o (λ r.
+        (mode : ModeValue) → Fronts mode (octets_header r.0 r.1) 2 (S.stream source.new))) }
+    ensures whole { IfOk result (λ o. IfSome o (λ r. 2 + r.1 ≤ (S.stream source.new).avail)) }
     ensures no_fault { OnOk result (SameFaults S.stream source) }
     ensures fault { OnErr result (MoreFaults S.stream source) }
     ensures rest { SameRest S.stream source }
@@ -154,7 +156,7 @@ pub(crate) fn peek_whole<S: Source>(source: &mut S) -> Result<Option<Header>, S:
             if header.constructed || !header.tag.is_value() || found - 2 < len {
                 return Ok(None);
             }
-            Ok(Some(header))
+            Ok(Some((header.tag, len)))
         }
         Length::Indefinite => Ok(None),
     }

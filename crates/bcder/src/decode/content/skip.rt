@@ -7,7 +7,7 @@ ghost use Rattle.bcder.specs.calls.Cause.{IsOfContent, IsRefusal};
 ghost use Rattle.bcder.specs.calls.Content.{FitsOwed, Moves, Resembles};
 ghost use Rattle.bcder.specs.x690.Encoding.{may_have};
 ghost use Rattle.bcder.specs.steps.Inside.{kind_behind, limit_inside};
-ghost use Rattle.bcder.specs.steps.Peek.{header_of, IsAtHand};
+ghost use Rattle.bcder.specs.steps.Peek.{header_of, octets_header};
 ghost use Rattle.bcder.specs.calls.Skipping.{ExactlyAll, ExactlySkipped, ExactlyValue, FoundMemory};
 ghost use Rattle.bcder.specs.steps.SkipSteps.{IsPast, MovedBehind, SkippedBehind};
 ghost use Rattle.bcder.specs.calls.Skipping.{SkippedAll, SkippedNext, SkippedOne, SkippedValue};
@@ -21,6 +21,7 @@ ghost use Rattle.bcder.specs.calls.Walking.{Between, ExactlyNext};
 ghost use Rattle.bcder.specs.steps.WalkSteps.{Fault, NoFault};
 
 use super::inside::{go_inside, kind_behind};
+use super::take::primitive_len;
 use super::walk::Lookahead;
 use super::{Constructed, Kind, State};
 use crate::decode::error::{ContentError, DecodeError};
@@ -331,31 +332,26 @@ impl<'a, S: Source> Constructed<'a, S> {
     #[inline(always)]
     fn skip_octets<F>(
         &mut self,
-        header: Header,
+        tag: Tag,
+        len: usize,
         op: &mut F,
     ) -> Result<Option<()>, DecodeError<S::Error>>
     where
         F: FnMut(Tag, bool, usize) -> Result<(), ContentError>,
         requires callable { F.IsAlwaysCallable op.old }
-        requires primitive { header.constructed ≡ false }
-        requires allowed { may_have self.old.mode header.constructed header.len ≡ true }
-        requires fits { FitsOwed header.len (limit_in self.old) }
-        ensures moves { MovedBehind S.stream self header }
-        ensures skipped { SkippedBehind S.stream F.step self header op result }
+        requires fits { FitsOwed (Length.Definite len) (limit_in self.old) }
+        ensures moves { MovedBehind S.stream self (octets_header tag len) }
+        ensures skipped { SkippedBehind S.stream F.step self (octets_header tag len) op result }
     {
-        if let Err(error) = op(header.tag, header.constructed, 0) {
+        if let Err(error) = op(tag, false, 0) {
             return Err(self.halt_error(Halt::Refused(error)));
         }
-        match header.len {
-            Length::Definite(len) => match self.source.skip_owed(len) {
-                Ok(()) => {
-                    self.state = State::Open;
-                    Ok(Some(()))
-                }
-                Err(stop) => Err(self.halt_error(Halt::Barred(Bar::Stopped(stop)))),
-            },
-            // No primitive value has it (X.690, 8.1.3.2).
-            Length::Indefinite => unreachable!(),
+        match self.source.skip_owed(len) {
+            Ok(()) => {
+                self.state = State::Open;
+                Ok(Some(()))
+            }
+            Err(stop) => Err(self.halt_error(Halt::Barred(Bar::Stopped(stop)))),
         }
     }
 
@@ -363,44 +359,38 @@ impl<'a, S: Source> Constructed<'a, S> {
     #[inline(always)]
     fn skip_octets_at_hand<F>(
         &mut self,
-        header: Header,
+        tag: Tag,
+        len: usize,
         op: &mut F,
     ) -> Result<Option<()>, DecodeError<S::Error>>
     where
         F: FnMut(Tag, bool, usize) -> Result<(), ContentError>,
         requires callable { F.IsAlwaysCallable op.old }
-        requires primitive { header.constructed ≡ false }
-        requires definite { header.len ≡ Length.Indefinite → ⊥ }
-        requires fits { FitsOwed header.len (limit_in self.old) }
-        requires at_hand { IsAtHand header.len (source_of S.stream self.old).avail }
-        ensures moves { MovedBehind S.stream self header }
-        ensures skipped { SkippedBehind S.stream F.step self header op result }
+        requires fits { FitsOwed (Length.Definite len) (limit_in self.old) }
+        requires at_hand { len ≤ (source_of S.stream self.old).avail }
+        ensures moves { MovedBehind S.stream self (octets_header tag len) }
+        ensures skipped { SkippedBehind S.stream F.step self (octets_header tag len) op result }
     {
-        if let Err(error) = op(header.tag, header.constructed, 0) {
+        if let Err(error) = op(tag, false, 0) {
             return Err(self.halt_error(Halt::Refused(error)));
         }
-        match header.len {
-            Length::Definite(len) => {
-                self.source.pass_owed(len);
-                self.state = State::Open;
-                Ok(Some(()))
-            }
-            Length::Indefinite => unreachable!(),
-        }
+        self.source.pass_owed(len);
+        self.state = State::Open;
+        Ok(Some(()))
     }
 
     /// Passes over the header of the next value, if it is primitive, has a header of two octets,
-    /// and all of its octets are at hand. Else nothing is taken. The source is asked once at most.
+    /// and all of its octets are at hand, and answers its tag and how many contents octets it has.
+    /// Else nothing is taken. The source is asked once at most.
     #[tactic(auto, using(crate::specs::laws::Moved::untouched_is_moved), unfolding(crate::specs::calls::Views::views))]
     #[inline(always)]
-    fn enter_at_hand(&mut self) -> Result<Option<Header>, Stop<S::Error>>
+    fn enter_at_hand(&mut self) -> Result<Option<(Tag, usize)>, Stop<S::Error>>
         ensures moves { Between S.stream self Moves }
-        ensures entered { IfOk result (λ o. IfSome o (λ h.
-            IsPast (before S.stream self) (header_of h) (after S.stream self))) }
-        ensures primitive { IfOk result (λ o. IfSome o (λ h. h.constructed ≡ false)) }
-        ensures definite { IfOk result (λ o. IfSome o (λ h. h.len ≡ Length.Indefinite → ⊥)) }
-        ensures at_hand { IfOk result (λ o. IfSome o (λ h.
-            IsAtHand h.len (source_of S.stream self.new).avail)) }
+        ensures entered { IfOk result (λ o. IfSome o (λ r.
+            IsPast (before S.stream self) (header_of (octets_header r.0 r.1))
+            (after S.stream self))) }
+        ensures at_hand { IfOk result (λ o. IfSome o (λ r.
+            r.1 ≤ (source_of S.stream self.new).avail)) }
         ensures same { IfOk result (λ o. IfNone o (Between S.stream self Resembles)) }
         ensures no_fault { OnOk result (NoFault S.stream self) }
         ensures fault { IfErr result (λ e. (stop_cause e ≡ of_source) × Fault S.stream self) }
@@ -415,9 +405,9 @@ impl<'a, S: Source> Constructed<'a, S> {
             return Ok(None);
         }
         match peek_whole(self.source) {
-            Ok(Some(header)) => {
+            Ok(Some(found)) => {
                 self.pass(2);
-                Ok(Some(header))
+                Ok(Some(found))
             }
             Ok(None) => Ok(None),
             Err(error) => {
@@ -442,8 +432,8 @@ impl<'a, S: Source> Constructed<'a, S> {
     {
         match self.next_header(Wanted::Any) {
             Ok(Some(header)) => {
-                if !header.constructed {
-                    return self.skip_octets(header, op);
+                if let Some(len) = primitive_len(header.constructed, header.len) {
+                    return self.skip_octets(header.tag, len, op);
                 }
                 match skip_content(self.source, self.mode, alloc, header, op) {
                     Ok(()) => {
@@ -511,7 +501,7 @@ impl<'a, S: Source> Constructed<'a, S> {
         ensures exact { ExactlySkipped S.stream F.step self op result }
     {
         match self.enter_at_hand() {
-            Ok(Some(header)) => self.skip_octets_at_hand(header, op),
+            Ok(Some(found)) => self.skip_octets_at_hand(found.0, found.1, op),
             Ok(None) => self.skip_next_on(alloc, op),
             Err(stop) => Err(self.stop_error(stop)),
         }

@@ -91,7 +91,7 @@ pub(super) fn octets_header(tag: Tag, len: usize) -> Header
 
 /// How many contents octets a value of a form and a length has, if it is primitive.
 #[inline(always)]
-fn primitive_len(constructed: bool, len: Length) -> Option<usize>
+pub(super) fn primitive_len(constructed: bool, len: Length) -> Option<usize>
     ensures some { IfSome result (λ n. (constructed ≡ false) × (len ≡ Length.Definite n)) }
     ensures none { IfNone result ((constructed ≡ true) ⊎ (len ≡ Length.Indefinite)) }
 {
