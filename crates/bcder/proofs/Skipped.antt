@@ -10,7 +10,7 @@ use Rattle.bcder.specs.declared.decode.content.skip.Halt.TheVariants as halt
 use Rattle.bcder.specs.declared.decode.error.ContentError.{ContentError}
 use Rattle.bcder.specs.declared.decode.error.DecodeError.{DecodeError}
 use Rattle.bcder.specs.calls.Cause.{Cause, cause_of, of_source, of_content, of_memory, IsOfContent}
-use Rattle.bcder.specs.x690.Identifier.{universal, Tag, is_value_tag}
+use Rattle.bcder.specs.x690.Identifier.{universal}
 use Rattle.bcder.specs.x690.Tree.{Tree, primitive}
 use Rattle.bcder.specs.x690.Encoding.{IsEncoding, Header}
 use Rattle.bcder.specs.x690.Preorder.{Heading, preorder}
@@ -18,8 +18,7 @@ use Rattle.bcder.specs.steps.Reading.{read_header, read_contents, read_list, rea
 use Rattle.bcder.specs.calls.Stream.{Stream, Grew, capped, cut, past, limited}
 use Rattle.std.proofs.lemmas.Grind.{common_steps}
 use Rattle.bcder.specs.declared.length.Length.TheVariants.{Definite}
-use Rattle.bcder.specs.steps.Peek.{header_of, octets_header}
-use Rattle.bcder.specs.calls.Content.{Accepts, FitsOwed, Reading, Octets, Resembles, any, Falls, Moves, Advances, Enters, EndsBefore, EndsAt, IsDone, NotAtEnd}
+use Rattle.bcder.specs.calls.Content.{FitsOwed, Reading, Octets, Resembles, any, Falls, Moves, Advances, Enters, EndsBefore, EndsAt, IsDone, NotAtEnd}
 use Rattle.bcder.specs.x690.Grammar.{IsOnly}
 use Rattle.bcder.specs.calls.Walking.{HasValue, NoValue, PassesValue, RefusesWalk, PassedBy, AnswersNext, HasValues, AllBy, Walks}
 use Rattle.bcder.specs.calls.Walking as walking
@@ -190,8 +189,8 @@ module _ (c d e : Reading) (k : Header) (s t : Stream) (o p : Option ℕ) (withi
 
 -- ---- a header of two octets of a value that is here
 
-pub whole_accepted : (j d : Reading) (t : Tag) (n k : ℕ) → is_value_tag t ≡ true → 2 + n ≤ k → k ≤ length j.stream.rest → Within j → Advances j d (take 2 j.stream.rest) → Accepts j.mode (header_of (octets_header t n)) d.owed
-whole_accepted j d t n k v w l wi a = (v, refl, go j.owed d.owed refl a.owed)
+pub whole_fits : (j d : Reading) (n k : ℕ) → 2 + n ≤ k → k ≤ length j.stream.rest → Within j → Advances j d (take 2 j.stream.rest) → FitsOwed (Definite n) d.owed
+whole_fits j d n k w l wi a = go j.owed d.owed refl a.owed
   where
     go : (p q : Option ℕ) → j.owed ≡ p → Falls p (length (take 2 j.stream.rest)) q → FitsOwed (Definite n) q
     go p None e f = refl

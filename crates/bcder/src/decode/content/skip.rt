@@ -5,9 +5,8 @@ ghost use Rattle.bcder.specs.calls.Cause.{cause_of, of_content, of_memory, of_so
 ghost use Rattle.bcder.specs.steps.StopCause.{stop_cause};
 ghost use Rattle.bcder.specs.calls.Cause.{IsOfContent, IsRefusal};
 ghost use Rattle.bcder.specs.calls.Content.{FitsOwed, Moves, Resembles};
-ghost use Rattle.bcder.specs.x690.Encoding.{may_have};
 ghost use Rattle.bcder.specs.steps.Inside.{kind_behind, limit_inside};
-ghost use Rattle.bcder.specs.steps.Peek.{header_of, octets_header};
+ghost use Rattle.bcder.specs.steps.Peek.{header_of, octets_header, len_of};
 ghost use Rattle.bcder.specs.calls.Skipping.{ExactlyAll, ExactlySkipped, ExactlyValue, FoundMemory};
 ghost use Rattle.bcder.specs.steps.SkipSteps.{IsPast, MovedBehind, SkippedBehind};
 ghost use Rattle.bcder.specs.calls.Skipping.{SkippedAll, SkippedNext, SkippedOne, SkippedValue};
@@ -21,11 +20,10 @@ ghost use Rattle.bcder.specs.calls.Walking.{Between, ExactlyNext};
 ghost use Rattle.bcder.specs.steps.WalkSteps.{Fault, NoFault};
 
 use super::inside::{go_inside, kind_behind};
-use super::take::primitive_len;
 use super::walk::Lookahead;
 use super::{Constructed, Kind, State};
 use crate::decode::error::{ContentError, DecodeError};
-use crate::decode::header::{Header, Wanted, peek_whole};
+use crate::decode::header::{Form, Header, Wanted, peek_whole};
 use crate::decode::source::{LimitedSource, Source};
 use crate::decode::stop::Stop;
 use crate::length::Length;
@@ -202,8 +200,7 @@ fn go_into<S: Source>(
 ) -> Result<(), Bar<S::Error>>
     requires counted { IsCounted opened.old }
     requires few { opened.old.depth + 1 < 2 ^ 64 }
-    requires allowed { may_have cons.old.mode header.constructed header.len ≡ true }
-    requires fits { FitsOwed header.len (limit_in cons.old) }
+    requires fits { FitsOwed (len_of header.form) (limit_in cons.old) }
     ensures counted { IsCounted opened.new }
     ensures gone { Gone S.stream cons opened header result }
     ensures kind { OnOk result (TopIs (entries opened.old) cons.old.kind
@@ -213,22 +210,20 @@ fn go_into<S: Source>(
     ensures mode { cons.new.mode ≡ cons.old.mode }
     ensures marked { cons.new.marked ≡ cons.old.marked }
 {
-    if header.constructed {
-        if open(cons, opened, header.len) {
-            return Ok(());
-        }
-        return Err(Bar::NoMemory);
-    }
-    match header.len {
-        Length::Definite(len) => match cons.source.skip_owed(len) {
+    match header.form {
+        Form::Primitive(len) => match cons.source.skip_owed(len) {
             Ok(()) => {
                 cons.state = State::Open;
                 Ok(())
             }
             Err(stop) => Err(Bar::Stopped(stop)),
         },
-        // No primitive value has it (X.690, 8.1.3.2).
-        Length::Indefinite => unreachable!(),
+        Form::Constructed(len) => {
+            if open(cons, opened, len) {
+                return Ok(());
+            }
+            Err(Bar::NoMemory)
+        }
     }
 }
 
@@ -243,8 +238,7 @@ fn run<S: Source, F>(
 where
     F: FnMut(Tag, bool, usize) -> Result<(), ContentError>,
     requires callable { F.IsAlwaysCallable op.old }
-    requires allowed { may_have cons.old.mode outermost.constructed outermost.len ≡ true }
-    requires fits { FitsOwed outermost.len (limit_in cons.old) }
+    requires fits { FitsOwed (len_of outermost.form) (limit_in cons.old) }
     ensures ran { Ran S.stream F.step cons outermost op result }
     ensures name { cons.new.source.ghost_name ≡ cons.old.source.ghost_name }
 {
@@ -255,7 +249,7 @@ where
         indefinite: 0,
         frames: &mut frames,
     };
-    if let Err(error) = op(outermost.tag, outermost.constructed, 0) {
+    if let Err(error) = op(outermost.tag, outermost.form.is_constructed(), 0) {
         return Err(Halt::Refused(error));
     }
     if let Err(bar) = go_into(cons, &mut opened, outermost) {
@@ -264,7 +258,7 @@ where
     while opened.depth > 0 {
         match cons.next_header(Wanted::Any) {
             Ok(Some(header)) => {
-                if let Err(error) = op(header.tag, header.constructed, opened.depth) {
+                if let Err(error) = op(header.tag, header.form.is_constructed(), opened.depth) {
                     unwind(cons.source, opened.frames, outer);
                     return Err(Halt::Refused(error));
                 }
@@ -295,8 +289,7 @@ fn skip_content<S: Source, F>(
 where
     F: FnMut(Tag, bool, usize) -> Result<(), ContentError>,
     requires callable { F.IsAlwaysCallable op.old }
-    requires allowed { may_have mode header.constructed header.len ≡ true }
-    requires fits { FitsOwed header.len source.old.limit }
+    requires fits { FitsOwed (len_of header.form) source.old.limit }
     ensures { RanOverSource S.stream F.step source mode header op result }
 {
     let start = source.pos();
@@ -404,7 +397,7 @@ impl<'a, S: Source> Constructed<'a, S> {
         if self.is_used_up() {
             return Ok(None);
         }
-        match peek_whole(self.source) {
+        match peek_whole(self.source, self.mode) {
             Ok(Some(found)) => {
                 self.pass(2);
                 Ok(Some(found))
@@ -432,7 +425,8 @@ impl<'a, S: Source> Constructed<'a, S> {
     {
         match self.next_header(Wanted::Any) {
             Ok(Some(header)) => {
-                if let Some(len) = primitive_len(header.constructed, header.len) {
+                let form = header.form;
+                if let Form::Primitive(len) = form {
                     return self.skip_octets(header.tag, len, op);
                 }
                 match skip_content(self.source, self.mode, alloc, header, op) {
