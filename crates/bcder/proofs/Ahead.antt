@@ -1,18 +1,20 @@
 -- What a call that looks ahead for a primitive value says of the content before it looked.
-use Rattle.std.proofs.Common.{◌≡◌, ◌⊎◌, ℕ, Bool, true, false, refl, List, length, Option, Some, None, Ok, Err, sym, ◌∙◌, subst, inl, inr}
+use Rattle.std.proofs.Common.{◌≡◌, ◌⊎◌, ℕ, Bool, true, false, refl, List, length, Option, Some, None, Ok, Err, ap, sym, ◌∙◌, subst, inl, inr}
 use Rattle.std.specs.Prelude.{Result, IsErrAnd}
 use Rattle.std.specs.Borrow.{MutBor}
 use Rattle.bcder.specs.declared.mode.Mode.{Mode}
-use Rattle.bcder.specs.declared.length.Length.TheVariants.{Definite, Indefinite}
+use Rattle.bcder.specs.declared.length.Length.{Length}
+use Rattle.bcder.specs.declared.length.Length.TheVariants.{Definite}
+use Rattle.bcder.specs.declared.decode.header.Form.TheVariants as form
 use Rattle.bcder.specs.declared.decode.header.Header.{Header as CodeHeader}
 use Rattle.bcder.specs.declared.decode.content.State.TheVariants.{Failed}
 use Rattle.bcder.specs.declared.decode.error.DecodeError.{DecodeError}
 use Rattle.bcder.specs.declared.decode.error.ContentError.{ContentError}
 use Rattle.bcder.specs.calls.Calls.{HasForm}
 use Rattle.bcder.specs.calls.Cause.{Cause, cause_of, of_source, IsOfContent, IsRefusal}
-use Rattle.bcder.specs.x690.Encoding.{IsHeader, may_have}
+use Rattle.bcder.specs.x690.Encoding.{IsHeader}
 use Rattle.bcder.specs.x690.Identifier.{Tag}
-use Rattle.bcder.specs.steps.Peek.{header_of, octets_header}
+use Rattle.bcder.specs.steps.Peek.{is_constructed, len_of, header_of, octets_header}
 use Rattle.bcder.specs.calls.Stream.{Grew}
 use Rattle.bcder.specs.calls.Content.{Reading, Asked, tagged, Enters, HasHeader, HasMarker, HasOther, Falls, Resembles, IsElsewhere, none_left, other, marker, IsAbsent, IsLeft, RefusesHeader, failed, source, nothing}
 use Rattle.bcder.specs.steps.Entering.{EntersOctets}
@@ -89,23 +91,13 @@ module _ (c d e : Reading) (s : Resembles c d) (f : d.stream.faults ≡ c.stream
 -- ---- what a header that was passed is
 
 module _ (c d : Reading) (t : Tag) (h : CodeHeader) (e : h.tag ≡ t) (x : Enters c (header_of h) d) where
-  pub primitive_entered : (n : ℕ) → h.constructed ≡ false → h.len ≡ Definite n → Enters c (header_of (octets_header t n)) d
-  primitive_entered n f l =
+  pub primitive_entered : (n : ℕ) → h.form ≡ form.Primitive n → Enters c (header_of (octets_header t n)) d
+  primitive_entered n f =
       subst (λ z. Enters c (record { tag = z; form = false; len = Definite n }) d) e
-      (subst (λ z. Enters c (record { tag = h.tag; form = z; len = Definite n }) d) f
-      (subst (λ z. Enters c (record { tag = h.tag; form = h.constructed; len = z }) d) l x))
+      (subst (λ z. Enters c (record { tag = h.tag; form = is_constructed z; len = len_of z }) d) f x)
 
-  -- a primitive value has a definite length
-  pub constructed_there : (h.constructed ≡ true) ⊎ (h.len ≡ Indefinite) → HasForm true (tagged t) c
-  constructed_there k = record { usable = x.usable; after = d.stream.rest; front = header_entered c (header_of h) d (tagged t) e x; is = is_constructed k }
-    where
-      only_constructed : (m : Mode) (f : Bool) → may_have m f Indefinite ≡ true → f ≡ true
-      only_constructed m true e = refl
-      only_constructed m false e = absurd (let z : false ≡ true = e in cc)
-
-      is_constructed : (h.constructed ≡ true) ⊎ (h.len ≡ Indefinite) → h.constructed ≡ true
-      is_constructed (inl f) = f
-      is_constructed (inr l) = only_constructed c.mode h.constructed (subst (λ z. may_have c.mode h.constructed z ≡ true) l x.is_header.allowed)
+  pub constructed_there : (l : Length) → h.form ≡ form.Constructed l → HasForm true (tagged t) c
+  constructed_there l f = record { usable = x.usable; after = d.stream.rest; front = header_entered c (header_of h) d (tagged t) e x; is = ap is_constructed f }
 
 -- what a take says where no header was passed
 module _ {C T X S : Type 0} (view : C → Reading) (post : Tag → MutBor C → Result T (DecodeError X) → MutBor C → Type 0) (c d : Reading) (mode : d.mode ≡ c.mode) (t : Tag) where

@@ -1,18 +1,20 @@
 -- What is read at the front of octets, and at the front of the same octets with others behind them.
-use Rattle.std.proofs.Common.{◌≡◌, ℕ, ◌+◌, ◌-◌, ◌%◌, ◌<◌, ◌≤◌, Bool, true, false, cond, List, [], ◌∷◌, ◌++◌, length, get_or, take, drop, Option, Some, None, option_map, refl, sym, ap, ap₂, ◌∙◌, append_assoc, arith, inl, inr}
+use Rattle.std.proofs.Common.{◌≡◌, ℕ, zero, suc, ◌+◌, ◌-◌, ◌%◌, ◌<◌, ◌≤◌, Bool, true, false, cond, List, [], ◌∷◌, ◌++◌, length, get_or, take, drop, Option, Some, None, option_map, option_and_then, refl, sym, ap, ap₂, ◌∙◌, append_assoc, arith, inl, inr, subst}
 use Rattle.std.proofs.lemmas.Bool.{cases_lt, lt-ltb, le-ltb, lt-leb, le-leb}
 use Rattle.std.proofs.lemmas.List.{length-append, take-append-le, drop_at}
 use Rattle.bcder.specs.declared.mode.Mode.{Mode}
 use Rattle.bcder.specs.declared.length.Length.{Length}
 use Rattle.bcder.specs.declared.length.Length.TheVariants.{Definite, Indefinite}
-use Rattle.bcder.specs.x690.Identifier.{AreOctets, Tag, end_of_contents, IsTag, base128, identifier}
+use Rattle.bcder.specs.x690.Identifier.{AreOctets, Tag, IsTag, base128, identifier, is_value_tag}
 use Rattle.bcder.specs.x690.Length.{big_endian, AreLengthOctets}
-use Rattle.bcder.specs.steps.Reading.{may_tell, read_long, read_length, third_digit, second_digit, read_number, class_of, is_marked, read_identifier, read_front}
+use Rattle.bcder.specs.x690.Encoding.{Header, may_have}
+use Rattle.bcder.specs.steps.Reading.{may_tell, read_long, read_length, third_digit, second_digit, read_number, class_of, is_marked, read_identifier, read_front, read_header, read_end, if_zero}
 use Rattle.bcder.specs.calls.Begins.{BeginsNoIdentifier}
 use Rattle.bcder.specs.laws.Identifiers.{read_identifier-identifier, identifier_some}
-use Rattle.bcder.specs.laws.Lengths.{read_length-tells}
-use Rattle.bcder.specs.laws.Sound.{identifier_sound, length_sound}
-use Rattle.bcder.specs.laws.Stands.{AreOctets-after}
+use Rattle.bcder.specs.laws.Lengths.{read_length-tells, read_end-complete}
+use Rattle.bcder.specs.laws.Sound.{none_is, some_inj, identifier_sound, length_sound, end_sound}
+use Rattle.bcder.specs.laws.Stands.{AreOctets-after, header_sound}
+use Rattle.bcder.specs.laws.Complete.{header_complete}
 
 some_is_none : {A : Type 0} (x : A) → ◌≡◌ {A = Option A} (Some x) None → ⊥
 some_is_none x e = cc
@@ -186,34 +188,108 @@ has_length mode w len z o e =
 
 -- ---- both
 
--- identifier octets and length octets in front, whatever follows
-pub record HasFront (mode : Mode) (w : List ℕ) (t : Tag) (f : Bool) (len : Length) (z : List ℕ) : Type 0 where
-  pub size : length z ≤ length w
-  pub read : (x : List ℕ) → read_front mode (w ++ x) ≡ Some (record { tag = t; form = f; len = len }, drop (length w - length z) (w ++ x))
-
 -- what is behind a list, counted from the lengths
 behind : (w v y x : List ℕ) → w ≡ v ++ y → drop (length w - length y) (w ++ x) ≡ y ++ x
 behind w v y x e =
     let n : length w - length y ≡ length v = omega (arith, ap length e, length-append v y) in
     ap₂ drop n (ap (λ r. r ++ x) e ∙ append_assoc v y x) ∙ drop_at v (y ++ x) (length v) refl
 
-pub has_front : (mode : Mode) (w : List ℕ) (t : Tag) (f : Bool) (y : List ℕ) (len : Length) (z : List ℕ) → AreOctets w → read_identifier w ≡ Some (t, f, y) → read_length mode y ≡ Some (len, z) → HasFront mode w t f len z
-unfolding read_front
-has_front mode w t f y len z o e d =
-    let i = has_identifier w t f y o e in
-    let l = has_length mode y len z (AreOctets-after (identifier t f) w y i.is o) d in
+-- the header of a value in front, whatever follows
+pub record HasFront (mode : Mode) (w : List ℕ) (h : Header) (z : List ℕ) : Type 0 where
+  pub size : length z ≤ length w
+  pub read : (x : List ℕ) → read_header mode (w ++ x) ≡ Some (h, drop (length w - length z) (w ++ x))
+
+pub has_front : (mode : Mode) (w : List ℕ) (h : Header) (z : List ℕ) → AreOctets w → read_header mode w ≡ Some (h, z) → HasFront mode w h z
+has_front mode w h z o e =
+    let d = header_sound mode w (h, z) o e in
     record {
-      size = omega (arith, ap length i.is, length-append (identifier t f) y, ap length l.is, length-append l.octets z);
-      read = λ x. rw (i.read x, l.read x, behind w (identifier t f ++ l.octets) z x (i.is ∙ ap (λ v. identifier t f ++ v) l.is ∙ sym (append_assoc (identifier t f) l.octets z))) refl;
+      size = omega (arith, ap length d.is, length-append d.octets z);
+      read = λ x. ap (λ v. read_header mode (v ++ x)) d.is ∙ ap (read_header mode) (append_assoc d.octets z x) ∙ header_complete mode h.tag h.form h.len d.octets (z ++ x) d.is_header ∙ ap (λ v. Some (h, v)) (sym (behind w d.octets z x d.is));
     }
 
-pub no_identifier : (mode : Mode) (w : List ℕ) → read_identifier w ≡ None → read_front mode w ≡ None
-unfolding read_front
-no_identifier mode w e = rw e refl
+-- end-of-contents octets in front, whatever follows
+pub record HasEnd (mode : Mode) (w z : List ℕ) : Type 0 where
+  pub size : length z ≤ length w
+  pub read : (x : List ℕ) → read_end mode (w ++ x) ≡ Some (drop (length w - length z) (w ++ x))
 
-pub no_length : (mode : Mode) (w : List ℕ) (t : Tag) (f : Bool) (y : List ℕ) → read_identifier w ≡ Some (t, f, y) → read_length mode y ≡ None → read_front mode w ≡ None
-unfolding read_front
-no_length mode w t f y e d = rw (e, d) refl
+pub has_end : (mode : Mode) (w z : List ℕ) → AreOctets w → read_end mode w ≡ Some z → HasEnd mode w z
+has_end mode w z o e =
+    let m = end_sound mode w z o e in
+    record {
+      size = omega (arith, ap length m.is, length-append m.marker z);
+      read = λ x. ap (λ v. read_end mode (v ++ x)) m.is ∙ ap (read_end mode) (append_assoc m.marker z x) ∙ read_end-complete mode m.marker (z ++ x) m.is_end ∙ ap Some (sym (behind w m.marker z x m.is));
+    }
+
+-- ---- neither
+
+unread : (mode : Mode) (w : List ℕ) → read_identifier w ≡ None → read_header mode w ≡ None
+unfolding read_header
+unread mode w e = rw e refl
+
+unended : (mode : Mode) (w : List ℕ) → read_identifier w ≡ None → read_end mode w ≡ None
+unfolding read_end read_identifier
+unended mode [] e = refl
+unended mode (zero ∷ w) e = absurd (some_is_none _ e)
+unended mode (suc b ∷ w) e = refl
+
+pub no_identifier : (mode : Mode) (w : List ℕ) → read_identifier w ≡ None → (read_header mode w ≡ None) × (read_end mode w ≡ None)
+no_identifier mode w e = (unread mode w e, unended mode w e)
+
+-- what is behind identifier octets, if the length l is read there
+abbrev header_behind : Mode → Tag → Bool → Option (Length × List ℕ) → Option (Header × List ℕ)
+header_behind mode t f r = cond (is_value_tag t) (option_and_then (λ l. cond (may_have mode f l.0) (Some (record { tag = t; form = f; len = l.0 }, l.1)) None) r) None
+
+is_behind : (mode : Mode) (w : List ℕ) (t : Tag) (f : Bool) (y : List ℕ) → read_identifier w ≡ Some (t, f, y) → read_header mode w ≡ header_behind mode t f (read_length mode y)
+unfolding read_header
+is_behind mode w t f y e = rw e refl
+
+-- and others follow
+abbrev followed : List ℕ → Option (Length × List ℕ) → Option (Length × List ℕ)
+followed x r = option_map (λ l. (l.0, l.1 ++ x)) r
+
+stays : (mode : Mode) (y x : List ℕ) → AreOctets y → (read_length mode y ≡ None → read_length mode (y ++ x) ≡ None) → read_length mode (y ++ x) ≡ followed x (read_length mode y)
+stays mode y x o h = go (read_length mode y) refl
+  where
+    go : (r : Option (Length × List ℕ)) → read_length mode y ≡ r → read_length mode (y ++ x) ≡ followed x r
+    go None e = h e
+    go (Some l) e = (has_length mode y l.0 l.1 o e).read x
+
+refused_both : {A : Type 0} (v m : Bool) (a b : A) → cond v (cond m (Some a) None) None ≡ None → cond v (cond m (Some b) None) None ≡ None
+refused_both true true a b e = absurd (some_is_none _ e)
+refused_both true false a b e = refl
+refused_both false m a b e = refl
+
+header_refused : (mode : Mode) (t : Tag) (f : Bool) (x : List ℕ) (r : Option (Length × List ℕ)) → header_behind mode t f r ≡ None → header_behind mode t f (followed x r) ≡ None
+header_refused mode t f x None e = e
+header_refused mode t f x (Some l) e = refused_both (is_value_tag t) (may_have mode f l.0) _ _ e
+
+end_refused : (x : List ℕ) (r : Option (Length × List ℕ)) → option_and_then (λ l. if_zero l.0 l.1) r ≡ None → option_and_then (λ l. if_zero l.0 l.1) (followed x r) ≡ None
+end_refused x None e = e
+end_refused x (Some (Indefinite, z)) e = refl
+end_refused x (Some (Definite zero, z)) e = absurd (some_is_none _ e)
+end_refused x (Some (Definite (suc n), z)) e = refl
+
+-- length octets that are there are no others whatever follows
+pub length_stays : (mode : Mode) (y x : List ℕ) (l : Length × List ℕ) → read_length mode y ≡ Some l → read_length mode y ≡ None → read_length mode (y ++ x) ≡ None
+length_stays mode y x l e n = absurd (some_is_none _ (sym e ∙ n))
+
+-- octets that are no header of a value are none whatever follows, once their length octets are all there or are none
+module _ (mode : Mode) (t : Tag) (f : Bool) (x : List ℕ) where
+  pub stays_unread : (w y : List ℕ) → AreOctets w → read_identifier w ≡ Some (t, f, y) → (read_length mode y ≡ None → read_length mode (y ++ x) ≡ None) → read_header mode w ≡ None → read_header mode (w ++ x) ≡ None
+  stays_unread w y o e h n =
+      let i = has_identifier w t f y o e in
+      is_behind mode (w ++ x) t f (y ++ x) (i.read x)
+      ∙ ap (header_behind mode t f) (stays mode y x (AreOctets-after (identifier t f) w y i.is o) h)
+      ∙ header_refused mode t f x (read_length mode y) (sym (is_behind mode w t f y e) ∙ n)
+
+  pub stays_unended : (w y : List ℕ) → AreOctets w → read_identifier w ≡ Some (t, f, y) → (read_length mode y ≡ None → read_length mode (y ++ x) ≡ None) → read_end mode w ≡ None → read_end mode (w ++ x) ≡ None
+  unfolding read_end read_identifier
+  stays_unended [] y o e h n = absurd (none_is _ e)
+  stays_unended (suc b ∷ w) y o e h n = refl
+  stays_unended (zero ∷ w) y o e h n =
+      let s : w ≡ y = ap (λ r. r.2) (some_inj _ _ e) in
+      let l = stays mode w x (λ i. o (suc i)) (subst (λ z. read_length mode z ≡ None → read_length mode (z ++ x) ≡ None) (sym s) h) in
+      ap (λ r. option_and_then (λ l. if_zero l.0 l.1) r) l ∙ end_refused x (read_length mode w) n
 
 -- two octets are both where the first tells the tag alone and the second a length below 128
 pub short_stands : (mode : Mode) (w x : List ℕ) (t : Tag) (f : Bool) (n : ℕ) → 2 ≤ length w → get_or w 0 0 % 32 < 31 → get_or w 1 0 < 128 → t ≡ record { class = class_of (get_or w 0 0); number = get_or w 0 0 % 32 } → f ≡ is_marked (get_or w 0 0) → n ≡ get_or w 1 0 → read_front mode (w ++ x) ≡ Some (record { tag = t; form = f; len = Definite n }, drop 2 (w ++ x))
@@ -222,19 +298,19 @@ short_stands mode [] x t f n two low short tag mark len = absurd (omega arith)
 short_stands mode (b ∷ []) x t f n two low short tag mark len = absurd (omega arith)
 short_stands mode (b ∷ l ∷ w) x t f n two low short tag mark len = rw (lt-ltb (b % 32) 31 low, lt-ltb l 128 short, tag, mark, len) refl
 
--- also where both are zero
-pub end_stands : (mode : Mode) (w x : List ℕ) (t : Tag) (f : Bool) (n : ℕ) → 2 ≤ length w → get_or w 0 0 ≡ 0 → get_or w 1 0 ≡ 0 → t ≡ end_of_contents → f ≡ false → n ≡ 0 → read_front mode (w ++ x) ≡ Some (record { tag = t; form = f; len = Definite n }, drop 2 (w ++ x))
-unfolding read_front read_identifier read_length class_of is_marked
-end_stands mode [] x t f n two low len tag mark is = absurd (omega arith)
-end_stands mode (b ∷ []) x t f n two low len tag mark is = absurd (omega arith)
-end_stands mode (b ∷ l ∷ w) x t f n two low len tag mark is = rw (low, len, tag, mark, is) refl
-
--- or 128
+-- or is 128
 pub indefinite_stands : (mode : Mode) (w x : List ℕ) (t : Tag) (f : Bool) → 2 ≤ length w → get_or w 0 0 % 32 < 31 → get_or w 1 0 ≡ 128 → t ≡ record { class = class_of (get_or w 0 0); number = get_or w 0 0 % 32 } → f ≡ is_marked (get_or w 0 0) → read_front mode (w ++ x) ≡ Some (record { tag = t; form = f; len = Indefinite }, drop 2 (w ++ x))
 unfolding read_front read_identifier read_length
 indefinite_stands mode [] x t f two low same tag mark = absurd (omega arith)
 indefinite_stands mode (b ∷ []) x t f two low same tag mark = absurd (omega arith)
 indefinite_stands mode (b ∷ l ∷ w) x t f two low same tag mark = rw (same, lt-ltb (b % 32) 31 low, tag, mark) refl
+
+-- two zero octets are end-of-contents octets
+pub end_stands : (mode : Mode) (w x : List ℕ) → 2 ≤ length w → get_or w 0 0 ≡ 0 → get_or w 1 0 ≡ 0 → read_end mode (w ++ x) ≡ Some (drop 2 (w ++ x))
+unfolding read_end read_length
+end_stands mode [] x two low len = absurd (omega arith)
+end_stands mode (b ∷ []) x two low len = absurd (omega arith)
+end_stands mode (b ∷ l ∷ w) x two low len = rw (low, len) refl
 
 -- ---- in the words of the standard
 

@@ -5,23 +5,23 @@ use Rattle.std.proofs.lemmas.Grind.{common_steps}
 use Rattle.bcder.specs.declared.mode.Mode.{Mode}
 use Rattle.bcder.specs.declared.decode.content.Kind.{Kind}
 use Rattle.bcder.specs.declared.decode.content.State.TheVariants.{Open, Ended, Failed}
-use Rattle.bcder.specs.x690.Identifier.{AreOctets, Tag, end_of_contents, is_value_tag}
-use Rattle.bcder.specs.x690.Encoding.{Header, may_have, IsHeader}
-use Rattle.bcder.specs.steps.Reading.{read_identifier, read_front}
+use Rattle.bcder.specs.x690.Identifier.{AreOctets, Tag, end_of_contents}
+use Rattle.bcder.specs.x690.Encoding.{Header, IsHeader}
+use Rattle.bcder.specs.steps.Reading.{read_identifier, read_header, read_end}
 use Rattle.bcder.specs.declared.decode.header.Wanted.{Wanted}
 use Rattle.bcder.specs.declared.decode.header.Wanted.TheVariants.{Any, Tagged}
 use Rattle.bcder.specs.steps.Peek.{asked, HasOtherTag, HasNoHeader}
 use Rattle.bcder.specs.calls.Stream.{Layer, Stream, IsSound, Grew, cut, past, limited}
 use Rattle.bcder.specs.declared.decode.error.ContentError.{ContentError}
 use Rattle.bcder.specs.calls.Cause.{Cause}
-use Rattle.bcder.specs.calls.Content.{Reading, Asked, any, tagged, IsAsked, HasHeader, HasMarker, IndefiniteValues, Falls, Advances, Moves, Accepts, Enters, TakesMarker, NoFront, Resembles, end_header, values, Octets, DefiniteValues, UnboundedValues, IsAtEnd, of_octets, of_definite, of_indefinite, of_unbounded, NotAtEnd, IsElsewhere, none_left, other, marker, IsAbsent, IsLeft, IsMissing, NothingThere, RefusesHeader, failed, source, nothing}
+use Rattle.bcder.specs.calls.Content.{Reading, Asked, any, tagged, IsAsked, HasHeader, HasMarker, IndefiniteValues, HasOther, Falls, FitsOwed, Advances, Moves, Enters, TakesMarker, NoFront, Resembles, values, Octets, DefiniteValues, UnboundedValues, IsAtEnd, of_octets, of_definite, of_indefinite, of_unbounded, NotAtEnd, IsElsewhere, none_left, other, marker, IsAbsent, IsLeft, IsMissing, NothingThere, RefusesHeader, failed, source, nothing}
 use Rattle.bcder.specs.calls.Calls.{RefusesEnd, left_failed, source_failed, left_open}
 use Rattle.bcder.specs.laws.Limits.{limit_told_after, limited_sound}
 use Rattle.bcder.specs.laws.Sound.{none_is}
-use Rattle.bcder.specs.laws.Stands.{Headed}
+use Rattle.bcder.specs.laws.Stands.{Headed, header_sound}
 use Rattle.bcder.specs.laws.Moved.{Falls-refl}
 use Rattle.bcder.proofs.Moving.{moves_failed, moves_marker, moves_still, open_not_ended}
-use Rattle.bcder.proofs.Headers.{no_header_unread, no_header_empty, header_no_marker, no_marker_unread, no_marker_empty, no_other_front, no_other_unread, other_of, header_of_front, marker_of_front, no_header_tag, no_header_form, no_header_long, no_marker_other, size_is}
+use Rattle.bcder.proofs.Headers.{no_header_unread, no_header_empty, header_no_marker, no_marker_unread, no_marker_empty, no_other_front, no_other_end, no_other_unread, other_of, front_of_read, marker_of_end, end_no_header, header_no_end, no_header_long, size_is}
 
 -- ---- an advance of a limited source
 
@@ -63,27 +63,17 @@ drop_rest n w h e l =
     let s : length h ≡ n = size_is n h w (drop n w) e refl l in
     sym (take_at h (drop n w) n s) ∙ ap (take n) (sym e)
 
--- ---- what the header was
+-- ---- what was passed over
 
-unread_empty : (m : Mode) {r : Header × List ℕ} → read_front m [] ≡ Some r → ⊥
-unfolding read_front read_identifier
-unread_empty m e = none_is _ e
+empty_unread : (m : Mode) → read_header m [] ≡ None
+unfolding read_header read_identifier
+empty_unread m = refl
 
-module _ (c d : Reading) (n : ℕ) (h : Header) (a : Advances c d (take n c.stream.rest)) (o : AreOctets c.stream.rest) (l : n ≤ length c.stream.rest) (r : read_front c.mode c.stream.rest ≡ Some (h, drop n c.stream.rest)) (s : c.state ≡ Open) where
-  pub enters : Accepts c.mode h d.owed → d.stream.faults ≡ c.stream.faults → d.marked ≡ c.marked → d.state ≡ Failed → Enters c h d
-  enters k g m f =
-      let p : Headed c.mode h c.stream.rest (drop n c.stream.rest) = header_of_front c.mode c.stream.rest h (drop n c.stream.rest) o r k.0 k.1 in
-      record {
-        octets = p.octets;
-        is_header = p.is_header;
-        advances = subst (λ z. Advances c d z) (sym (drop_rest n c.stream.rest p.octets p.is l)) a;
-        no_fault = g;
-        unmarked = m;
-        usable = s;
-        opened = f;
-        fits = k.2;
-      }
+empty_unended : (m : Mode) → read_end m [] ≡ None
+unfolding read_end
+empty_unended m = refl
 
+module _ (c d : Reading) (n : ℕ) (a : Advances c d (take n c.stream.rest)) (o : AreOctets c.stream.rest) (l : n ≤ length c.stream.rest) (s : c.state ≡ Open) where
   rest_is : d.stream.rest ≡ drop n c.stream.rest
   rest_is = after_take (take n c.stream.rest) d.stream.rest (drop n c.stream.rest) (sym a.rest ∙ sym (take-append-drop n c.stream.rest))
     where
@@ -94,39 +84,52 @@ module _ (c d : Reading) (n : ℕ) (h : Header) (a : Advances c d (take n c.stre
           tail_is : (b : ℕ) (u v : List ℕ) → ◌≡◌ {A = List ℕ} (b ∷ u) (b ∷ v) → u ≡ v
           tail_is b u v e = cc
 
-  marker_here : h ≡ end_header → HasMarker c.mode c.stream.rest d.stream.rest
-  marker_here e = subst (λ z. HasMarker c.mode c.stream.rest z) (sym rest_is) (marker_of_front c.mode c.stream.rest h (drop n c.stream.rest) o r e)
+  -- that of a value
+  module _ (h : Header) (r : read_header c.mode c.stream.rest ≡ Some (h, drop n c.stream.rest)) where
+    pub enters : FitsOwed h.len d.owed → d.stream.faults ≡ c.stream.faults → d.marked ≡ c.marked → d.state ≡ Failed → Enters c h d
+    enters k g m f =
+        let p : Headed c.mode h c.stream.rest (drop n c.stream.rest) = header_sound c.mode c.stream.rest (h, drop n c.stream.rest) o r in
+        record {
+          octets = p.octets;
+          is_header = p.is_header;
+          advances = subst (λ z. Advances c d z) (sym (drop_rest n c.stream.rest p.octets p.is l)) a;
+          no_fault = g;
+          unmarked = m;
+          usable = s;
+          opened = f;
+          fits = k;
+        }
 
-  pub takes_marker : h ≡ end_header → c.kind ≡ IndefiniteValues → d.state ≡ Ended → TakesMarker c d
-  takes_marker e k f = record { usable = s; kind = k; marker = marker_here e; ended = f }
+    pub no_front : (FitsOwed h.len d.owed → ⊥) → NoFront c
+    no_front x = record {
+      some = λ e. none_is _ (sym (empty_unread c.mode) ∙ subst (λ z. read_header c.mode z ≡ Some (h, drop n c.stream.rest)) e r);
+      header = λ asked after z. no_header_long asked c after h n d.owed r l (subst (λ k. Falls c.owed k d.owed) (length-take-le n c.stream.rest l) a.owed) x z;
+      marker = λ k after m. no_marker_unread c.mode c.stream.rest after (header_no_end c.mode c.stream.rest h (drop n c.stream.rest) r) m;
+    }
 
-  pub marker_moves : h ≡ end_header → c.kind ≡ IndefiniteValues → d.state ≡ Ended → d.marked ≡ c.marked → Moves c d
-  marker_moves e k f m =
-      let q : HasMarker c.mode c.stream.rest d.stream.rest = marker_here e in
-      let t : q.marker ≡ take n c.stream.rest = drop_rest n c.stream.rest q.marker (q.rest ∙ ap (λ z. q.marker ++ z) rest_is) l in
-      moves_marker c d q.marker (subst (λ z. Advances c d z) (sym t) a) q.is_end m k s f
+  -- end-of-contents octets
+  module _ (r : read_end c.mode c.stream.rest ≡ Some (drop n c.stream.rest)) where
+    marker_here : HasMarker c.mode c.stream.rest d.stream.rest
+    marker_here = subst (λ z. HasMarker c.mode c.stream.rest z) (sym rest_is) (marker_of_end c.mode c.stream.rest (drop n c.stream.rest) o r)
 
-  no_header_here : (Accepts c.mode h d.owed → ⊥) → (asked : Asked) (after : List ℕ) → HasHeader asked c after → ⊥
-  no_header_here no_good asked after z =
-      by_tag (is_value_tag h.tag) (may_have c.mode h.form h.len) refl refl
-    where
-      by_tag : (v m : Bool) → is_value_tag h.tag ≡ v → may_have c.mode h.form h.len ≡ m → ⊥
-      by_tag false m v q = no_header_tag asked c after h (drop n c.stream.rest) r v z
-      by_tag true false v q = no_header_form asked c after h (drop n c.stream.rest) r q z
-      by_tag true true v q =
-          no_header_long asked c after h n d.owed r l (subst (λ k. Falls c.owed k d.owed) (length-take-le n c.stream.rest l) a.owed) (λ f. no_good (v, q, f)) z
+    pub takes_marker : c.kind ≡ IndefiniteValues → d.state ≡ Ended → TakesMarker c d
+    takes_marker k f = record { usable = s; kind = k; marker = marker_here; ended = f }
 
-  pub no_front : (Accepts c.mode h d.owed → ⊥) → (c.kind ≡ IndefiniteValues → h ≡ end_header → ⊥) → NoFront c
-  no_front x y = record { some = λ e. unread_empty c.mode (subst (λ z. read_front c.mode z ≡ Some (h, drop n c.stream.rest)) e r); header = no_header_here x; marker = λ k after m. no_marker_other c.mode c.stream.rest after h (drop n c.stream.rest) r (y k) m }
+    pub marker_moves : c.kind ≡ IndefiniteValues → d.state ≡ Ended → d.marked ≡ c.marked → Moves c d
+    marker_moves k f m =
+        let q : HasMarker c.mode c.stream.rest d.stream.rest = marker_here in
+        let t : q.marker ≡ take n c.stream.rest = drop_rest n c.stream.rest q.marker (q.rest ∙ ap (λ z. q.marker ++ z) rest_is) l in
+        moves_marker c d q.marker (subst (λ z. Advances c d z) (sym t) a) q.is_end m k s f
+
+    pub no_end_here : (c.kind ≡ IndefiniteValues → ⊥) → NoFront c
+    no_end_here x = record {
+      some = λ e. none_is _ (sym (empty_unended c.mode) ∙ subst (λ z. read_end c.mode z ≡ Some (drop n c.stream.rest)) e r);
+      header = λ asked after z. no_header_unread asked c after (end_no_header c.mode c.stream.rest (drop n c.stream.rest) r) z;
+      marker = λ k. absurd (x k);
+    }
 
 pub within : (o : Option ℕ) (s : Stream) (n : ℕ) → IsSound s → n ≤ (limited o s).avail → (AreOctets (cut o s.rest)) × (n ≤ length (cut o s.rest))
 within o s n so w = let q : IsSound (limited o s) = limited_sound o s so in (q.octets, (let h : (limited o s).avail ≤ length (cut o s.rest) = q.at_hand in omega arith))
-
-pub accepted : (h : Header) (m m' : Mode) (o o' : Option ℕ) → m' ≡ m → o' ≡ o → Accepts m' h o' → Accepts m h o
-accepted h m m' o o' e f a = subst (λ z. Accepts z h o) e (subst (λ z. Accepts m' h z) f a)
-
-pub unaccepted : (h : Header) (m m' : Mode) (o o' : Option ℕ) → m' ≡ m → o' ≡ o → Accepts m h o → Accepts m' h o'
-unaccepted h m m' o o' e f a = subst (λ z. Accepts z h o') (sym e) (subst (λ z. Accepts m h z) (sym f) a)
 
 pub advances_to : (c d e : Reading) (p : List ℕ) → Advances c d p → e.stream ≡ d.stream → e.owed ≡ d.owed → e.kind ≡ d.kind → e.mode ≡ d.mode → e.name ≡ d.name → Advances c e p
 advances_to c d e p a s o k m n = record {
@@ -223,11 +226,11 @@ front_nothing c w k o x = record {
     at_end after (of_indefinite q m) = x.marker q after m
     at_end after (of_unbounded q e) = x.some e
 
-pub unread_front : (c : Reading) → 1 ≤ length c.stream.rest → read_front c.mode c.stream.rest ≡ None → NoFront c
-unread_front c l e = record {
+pub unread_front : (c : Reading) → 1 ≤ length c.stream.rest → read_header c.mode c.stream.rest ≡ None → read_end c.mode c.stream.rest ≡ None → NoFront c
+unread_front c l e n = record {
   some = λ z. (let y = ap length z in omega (arith, l, y));
   header = λ asked after h. no_header_unread asked c after e h;
-  marker = λ k after m. no_marker_unread c.mode c.stream.rest after e m;
+  marker = λ k after m. no_marker_unread c.mode c.stream.rest after n m;
 }
 
 pub empty_nothing : (c : Reading) → c.kind ≢ Octets → (c.kind ≡ DefiniteValues → c.owed ≡ Some 0 → ⊥) → (c.kind ≡ UnboundedValues → ⊥) → c.state ≡ Open → c.stream.rest ≡ [] → NothingThere any c
@@ -258,31 +261,27 @@ header_entered c h d asked t x = record { tag = h.tag; form = h.form; len = h.le
 
 -- ---- a value of one tag
 
-pub if_nothing : (c : Reading) (t : Tag) (h : Header) (x : List ℕ) → c.state ≡ Open → NoFront c → read_front c.mode c.stream.rest ≡ Some (h, x) → h.tag ≡ t → NothingThere (tagged t) c
-if_nothing c t h x o n r e = record {
-  usable = o;
-  header = n.header (tagged t);
-  absent = λ after y. elim y [ inl z ↦ open_not_ended c.state o z.0 | inr z ↦ elsewhere after z.1 ];
-}
-  where
-    elsewhere : (after : List ℕ) → IsElsewhere t c after → ⊥
-    elsewhere after (none_left z s) = n.some z
-    elsewhere after (other z s) = no_other_front c.mode t c.stream.rest h x r e z
-    elsewhere after (marker z k m) = n.marker k after m
+module _ (c : Reading) (t : Tag) (o : c.state ≡ Open) (n : NoFront c) (no_other : HasOther t c.stream.rest → ⊥) where
+  front_is_nothing : NothingThere (tagged t) c
+  front_is_nothing = record {
+    usable = o;
+    header = n.header (tagged t);
+    absent = λ after y. elim y [ inl z ↦ open_not_ended c.state o z.0 | inr z ↦ elsewhere after z.1 ];
+  }
+    where
+      elsewhere : (after : List ℕ) → IsElsewhere t c after → ⊥
+      elsewhere after (none_left z s) = n.some z
+      elsewhere after (other z s) = no_other z
+      elsewhere after (marker z k m) = n.marker k after m
+
+pub if_nothing : (c : Reading) (t : Tag) (h : Header) (x : List ℕ) → c.state ≡ Open → NoFront c → read_header c.mode c.stream.rest ≡ Some (h, x) → h.tag ≡ t → NothingThere (tagged t) c
+if_nothing c t h x o n r e = front_is_nothing c t o n (no_other_front c.mode t c.stream.rest h x (front_of_read c.mode c.stream.rest h x r) e)
+
+pub if_ended : (c : Reading) (t : Tag) (x : List ℕ) → c.state ≡ Open → NoFront c → read_end c.mode c.stream.rest ≡ Some x → end_of_contents ≡ t → NothingThere (tagged t) c
+if_ended c t x o n r e = front_is_nothing c t o n (no_other_end c.mode t c.stream.rest x r e)
 
 pub if_unread : (c : Reading) (t : Tag) → c.state ≡ Open → 1 ≤ length c.stream.rest → HasNoHeader c.mode (tagged t) c.stream.rest → NothingThere (tagged t) c
-if_unread c t o l u =
-    let n : NoFront c = unread_front c l u.0 in
-    record {
-      usable = o;
-      header = n.header (tagged t);
-      absent = λ after y. elim y [ inl z ↦ open_not_ended c.state o z.0 | inr z ↦ elsewhere n after z.1 ];
-    }
-  where
-    elsewhere : NoFront c → (after : List ℕ) → IsElsewhere t c after → ⊥
-    elsewhere n after (none_left z s) = n.some z
-    elsewhere n after (other z s) = no_other_unread c.mode t c.stream.rest u z
-    elsewhere n after (marker z k m) = n.marker k after m
+if_unread c t o l u = front_is_nothing c t o (unread_front c l u.0 u.1) (no_other_unread c.mode t c.stream.rest u)
 
 pub no_fewer : (a b : ℕ) → a ≡ b → b ≤ a
 no_fewer a b e = omega arith
@@ -303,15 +302,30 @@ module _ (c d : Reading) (s : Resembles c d) (o : c.state ≡ Open) where
   none_nothing (Tagged t) a k n u e = absurd cc
 
   pub unread_nothing : (w : Wanted) → Within c → c.kind ≢ Octets → 1 ≤ length d.stream.rest → HasNoHeader c.mode (asked w) d.stream.rest → NothingThere (asked w) c
-  unread_nothing Any i k l u = front_nothing c i k o (unread_front c (subst (λ z. 1 ≤ length z) s.rest l) (subst (λ z. read_front c.mode z ≡ None) s.rest u.0))
+  unread_nothing Any i k l u = front_nothing c i k o (unread_front c (subst (λ z. 1 ≤ length z) s.rest l) (subst (λ z. read_header c.mode z ≡ None) s.rest u.0) (subst (λ z. read_end c.mode z ≡ None) s.rest u.1))
   unread_nothing (Tagged t) i k l u = if_unread c t o (subst (λ z. 1 ≤ length z) s.rest l) (subst (λ z. HasNoHeader c.mode (tagged t) z) s.rest u)
 
-  pub header_nothing : (w : Wanted) → Within c → c.kind ≢ Octets → NoFront c → (h : Header) (x : List ℕ) → read_front d.mode d.stream.rest ≡ Some (h, x) → IsAsked (asked w) h.tag → NothingThere (asked w) c
+  pub header_nothing : (w : Wanted) → Within c → c.kind ≢ Octets → NoFront c → (h : Header) (x : List ℕ) → read_header d.mode d.stream.rest ≡ Some (h, x) → IsAsked (asked w) h.tag → NothingThere (asked w) c
   header_nothing Any i k n h x r e = front_nothing c i k o n
-  header_nothing (Tagged t) i k n h x r e = if_nothing c t h x o n (subst (λ m. read_front m c.stream.rest ≡ Some (h, x)) s.mode (subst (λ z. read_front d.mode z ≡ Some (h, x)) s.rest r)) e
+  header_nothing (Tagged t) i k n h x r e = if_nothing c t h x o n (subst (λ m. read_header m c.stream.rest ≡ Some (h, x)) s.mode (subst (λ z. read_header d.mode z ≡ Some (h, x)) s.rest r)) e
 
-pub if_marker : (c d : Reading) (t u : Tag) → u ≡ t → u ≡ end_of_contents → TakesMarker c d → IsAbsent (tagged t) c d.stream.rest × IsLeft t c d
-if_marker c d t u e f x = (inr (x.usable, marker (sym e ∙ f) x.kind x.marker), inr (sym e ∙ f, x.usable, x.ended))
+  pub end_nothing : (w : Wanted) → Within c → c.kind ≢ Octets → NoFront c → (x : List ℕ) → read_end c.mode d.stream.rest ≡ Some x → IsAsked (asked w) end_of_contents → NothingThere (asked w) c
+  end_nothing Any i k n x r e = front_nothing c i k o n
+  end_nothing (Tagged t) i k n x r e = if_ended c t x o n (subst (λ z. read_end c.mode z ≡ Some x) s.rest r) e
+
+  -- the end marker was taken
+  pub marker_missing : (w : Wanted) → IsAsked (asked w) end_of_contents → (e : Reading) → TakesMarker d e → IsMissing (asked w) c e
+  marker_missing w i e m = by w i
+    where
+      here : HasMarker c.mode c.stream.rest e.stream.rest
+      here = subst (λ z. HasMarker z c.stream.rest e.stream.rest) s.mode (subst (λ z. HasMarker d.mode z e.stream.rest) s.rest m.marker)
+
+      kind : c.kind ≡ IndefiniteValues
+      kind = sym s.kind ∙ m.kind
+
+      by : (w : Wanted) → IsAsked (asked w) end_of_contents → IsMissing (asked w) c e
+      by Any i = (inr (o, of_indefinite kind here), inl m.ended)
+      by (Tagged t) i = (inr (o, marker (sym i) kind here), inr (sym i, o, m.ended))
 
 -- ---- why content is not left at its end
 

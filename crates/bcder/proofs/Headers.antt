@@ -1,5 +1,5 @@
 -- What stands in front of octets, by what is read there.
-use Rattle.std.proofs.Common.{◌≡◌, ℕ, ◌+◌, ◌-◌, ◌≤◌, Bool, true, false, List, [], ◌∷◌, ◌++◌, length, drop, Option, Some, None, option_map, refl, ap, sym, ◌∙◌, arith, length-append, append_assoc, subst, inl, inr}
+use Rattle.std.proofs.Common.{◌≡◌, ℕ, zero, suc, ◌+◌, ◌-◌, ◌≤◌, Bool, true, false, cond, List, [], ◌∷◌, ◌++◌, length, drop, Option, Some, None, option_map, option_and_then, refl, ap, sym, ◌∙◌, arith, length-append, append_assoc, subst, inl, inr}
 use Rattle.std.proofs.lemmas.Grind.{common_steps}
 use Rattle.bcder.specs.declared.mode.Mode.{Mode}
 use Rattle.bcder.specs.declared.length.Length.{Length}
@@ -8,14 +8,13 @@ use Rattle.bcder.specs.x690.Identifier.{AreOctets, Tag, IsTag, identifier, end_o
 use Rattle.bcder.specs.x690.Length.{IsEndOfContents}
 use Rattle.bcder.specs.x690.Tree.{Tree, primitive, constructed, Trees}
 use Rattle.bcder.specs.x690.Encoding.{may_have, IsHeader, IsDefinite, IsFramed, IsEncoding, AreEncodings, Header}
-use Rattle.bcder.specs.steps.Reading.{read_identifier, read_length, read_front, read_header}
+use Rattle.bcder.specs.steps.Reading.{class_of, is_marked, read_identifier, read_length, read_front, read_header, read_end}
 use Rattle.bcder.specs.steps.Peek.{HasOtherTag, HasNoHeader}
-use Rattle.bcder.specs.calls.Content.{Reading, Asked, tagged, IsAsked, HasHeader, HasMarker, HasOther, Falls, FitsOwed, end_header}
+use Rattle.bcder.specs.calls.Content.{Reading, Asked, tagged, IsAsked, HasHeader, HasMarker, HasOther, Falls, FitsOwed}
 use Rattle.bcder.specs.laws.Identifiers.{read_identifier-identifier}
-use Rattle.bcder.specs.laws.Lengths.{read_length-tells}
-use Rattle.bcder.specs.laws.Sound.{none_is, mapped, chained, some_inj, identifier_sound, length_sound}
-use Rattle.bcder.specs.laws.Stands.{AreOctets-after, Headed, header_sound}
-use Rattle.bcder.specs.laws.Complete.{is_value, one_header, header_size}
+use Rattle.bcder.specs.laws.Lengths.{read_length-tells, read_end-complete}
+use Rattle.bcder.specs.laws.Sound.{none_is, mapped, chained, passed, some_inj, identifier_sound, end_sound}
+use Rattle.bcder.specs.laws.Complete.{one_header, header_size, header_complete}
 
 -- ---- what stands in front is read
 
@@ -27,16 +26,6 @@ pub front_of_header : (mode : Mode) (t : Tag) (f : Bool) (len : Length) (h w x :
 front_of_header mode t f len h w x d e =
     ap (read_front mode) (e ∙ ap (λ z. z ++ x) d.is ∙ append_assoc (identifier t f) d.length_octets x)
     ∙ front_of_parts mode t f len d.length_octets x d.is_value_tag.fits (read_length-tells mode len d.length_octets x d.tells)
-
-marker_is : (e l : List ℕ) → e ≡ 0 ∷ l → e ≡ identifier end_of_contents false ++ l
-unfolding identifier
-marker_is e l h = h
-
-pub front_of_marker : (mode : Mode) (w x : List ℕ) → HasMarker mode w x → read_front mode w ≡ Some (end_header, x)
-front_of_marker mode w x m =
-    let l = m.is_end.zero_length in
-    ap (read_front mode) (m.rest ∙ ap (λ z. z ++ x) (marker_is m.marker l m.is_end.is) ∙ append_assoc (identifier end_of_contents false) l x)
-    ∙ front_of_parts mode end_of_contents false (Definite 0) l x (omega arith) (read_length-tells mode (Definite 0) l x m.is_end.is_length)
 
 -- ---- what is read stands in front
 
@@ -71,61 +60,73 @@ header_read : (mode : Mode) (w : List ℕ) (h : Header) (x : List ℕ) → Parts
 unfolding read_header
 header_read mode w h x p v a = rw (p.identified, v, p.told, a) refl
 
-pub header_of_front : (mode : Mode) (w : List ℕ) (h : Header) (x : List ℕ) → AreOctets w → read_front mode w ≡ Some (h, x) → is_value_tag h.tag ≡ true → may_have mode h.form h.len ≡ true → Headed mode h w x
-header_of_front mode w h x o e v a = header_sound mode w (h, x) o (header_read mode w h x (parts mode w h x e) v a)
+pub header_of_front : (mode : Mode) (w : List ℕ) (h : Header) (x : List ℕ) → read_front mode w ≡ Some (h, x) → is_value_tag h.tag ≡ true → may_have mode h.form h.len ≡ true → read_header mode w ≡ Some (h, x)
+header_of_front mode w h x e v a = header_read mode w h x (parts mode w h x e) v a
 
-identifier_end : (y w : List ℕ) (l x : List ℕ) → w ≡ identifier end_of_contents false ++ y → y ≡ l ++ x → w ≡ (0 ∷ l) ++ x
-unfolding identifier
-identifier_end y w l x a b = a ∙ ap (λ z. 0 ∷ z) b
+header_parts : (mode : Mode) (w : List ℕ) (h : Header) (x : List ℕ) → read_header mode w ≡ Some (h, x) → Parts mode w h x
+unfolding read_header
+header_parts mode w h x e =
+    let a = chained (λ i. cond (is_value_tag i.0) (option_and_then (λ l. cond (may_have mode i.1 l.0) (Some (record { tag = i.0; form = i.1; len = l.0 }, l.1)) None) (read_length mode i.2)) None) (read_identifier w) (h, x) e in
+    let p = passed (is_value_tag a.0.0) _ _ a.2 in
+    let b = chained (λ l. cond (may_have mode a.0.1 l.0) (Some (record { tag = a.0.0; form = a.0.1; len = l.0 }, l.1)) None) (read_length mode a.0.2) (h, x) p.1 in
+    let q = passed (may_have mode a.0.1 b.0.0) _ _ b.2 in
+    let r = pair_is _ h b.0.1 x (some_inj _ _ q.1) in
+    parts_at mode w h x a.0.2 a.0.0 a.0.1 b.0.0 b.0.1 a.1 b.1 r.0 r.1
 
-pub marker_of_front : (mode : Mode) (w : List ℕ) (h : Header) (x : List ℕ) → AreOctets w → read_front mode w ≡ Some (h, x) → h ≡ end_header → HasMarker mode w x
-marker_of_front mode w h x o e is =
-    let p : Parts mode w end_header x = subst (λ z. Parts mode w z x) is (parts mode w h x e) in
-    let i = identifier_sound w end_of_contents false p.after o p.identified in
-    let l = length_sound mode p.after (Definite 0, x) (AreOctets-after (identifier end_of_contents false) w p.after i.is o) p.told in
-    record {
-      marker = 0 ∷ l.octets;
-      is_end = record { zero_length = l.octets; is = refl; is_length = l.tells };
-      rest = identifier_end p.after w l.octets x i.is l.is;
-    }
+-- the header of a value is its identifier octets and its length octets
+pub front_of_read : (mode : Mode) (w : List ℕ) (h : Header) (x : List ℕ) → read_header mode w ≡ Some (h, x) → read_front mode w ≡ Some (h, x)
+unfolding read_front
+front_of_read mode w h x e = let p = header_parts mode w h x e in rw (p.identified, p.told) refl
+
+pub marker_of_end : (mode : Mode) (w x : List ℕ) → AreOctets w → read_end mode w ≡ Some x → HasMarker mode w x
+marker_of_end mode w x o e = let m = end_sound mode w x o e in record { marker = m.marker; is_end = m.is_end; rest = m.is }
+
+end_of_marker : (mode : Mode) (w x : List ℕ) → HasMarker mode w x → read_end mode w ≡ Some x
+end_of_marker mode w x m = ap (read_end mode) m.rest ∙ read_end-complete mode m.marker x m.is_end
+
+-- end-of-contents octets are no header of a value
+pub end_no_header : (mode : Mode) (w x : List ℕ) → read_end mode w ≡ Some x → read_header mode w ≡ None
+unfolding read_end read_header read_identifier class_of
+end_no_header mode [] x e = absurd (none_is _ e)
+end_no_header mode (suc b ∷ w) x e = absurd (none_is _ e)
+end_no_header mode (zero ∷ w) x e = refl
+
+pub header_no_end : (mode : Mode) (w : List ℕ) (h : Header) (x : List ℕ) → read_header mode w ≡ Some (h, x) → read_end mode w ≡ None
+header_no_end mode w h x e = go (read_end mode w) refl
+  where
+    go : (r : Option (List ℕ)) → read_end mode w ≡ r → read_end mode w ≡ None
+    go None q = q
+    go (Some y) q = absurd (none_is _ (sym (end_no_header mode w y q) ∙ e))
+
+-- they begin with identifier octets
+pub end_identified : (mode : Mode) (w x : List ℕ) → read_end mode w ≡ Some x → (y : List ℕ) × (read_identifier w ≡ Some (end_of_contents, false, y))
+unfolding read_end read_identifier class_of is_marked
+end_identified mode [] x e = absurd (none_is _ e)
+end_identified mode (suc b ∷ w) x e = absurd (none_is _ e)
+end_identified mode (zero ∷ w) x e = (w, refl)
 
 pub other_of : (t : Tag) (w : List ℕ) → AreOctets w → HasOtherTag (tagged t) w → HasOther t w
 other_of t w o h = let i = identifier_sound w h.0 h.1 h.2 o h.3 in record { tag = h.0; form = h.1; after = h.2; is_tag = i.fits; differs = h.4; rest = i.is }
 
 -- ---- what does not stand in front
 
-front_inj : (w : List ℕ) (mode : Mode) (h k : Header) (x y : List ℕ) → read_front mode w ≡ Some (h, x) → read_front mode w ≡ Some (k, y) → (h ≡ k) × (x ≡ y)
-front_inj w mode h k x y a b = pair_is h k x y (some_inj (h, x) (k, y) (sym a ∙ b))
+header_inj : (w : List ℕ) (mode : Mode) (h k : Header) (x y : List ℕ) → read_header mode w ≡ Some (h, x) → read_header mode w ≡ Some (k, y) → (h ≡ k) × (x ≡ y)
+header_inj w mode h k x y a b = pair_is h k x y (some_inj (h, x) (k, y) (sym a ∙ b))
 
 pub header_is : (asked : Asked) (c : Reading) (after : List ℕ) → HasHeader asked c after → Header
 header_is asked c after d = record { tag = d.tag; form = d.form; len = d.len }
 
-pub has_front : (asked : Asked) (c : Reading) (after : List ℕ) (d : HasHeader asked c after) → read_front c.mode c.stream.rest ≡ Some (header_is asked c after d, after)
+pub has_header : (asked : Asked) (c : Reading) (after : List ℕ) (d : HasHeader asked c after) → read_header c.mode c.stream.rest ≡ Some (header_is asked c after d, after)
 unfolding header_is
-has_front asked c after d = front_of_header c.mode d.tag d.form d.len d.octets c.stream.rest after d.is_header d.rest
+has_header asked c after d = ap (read_header c.mode) d.rest ∙ header_complete c.mode d.tag d.form d.len d.octets after d.is_header
 
-pub no_header_unread : (asked : Asked) (c : Reading) (after : List ℕ) → read_front c.mode c.stream.rest ≡ None → HasHeader asked c after → ⊥
-no_header_unread asked c after e d = none_is _ (sym e ∙ has_front asked c after d)
+pub no_header_unread : (asked : Asked) (c : Reading) (after : List ℕ) → read_header c.mode c.stream.rest ≡ None → HasHeader asked c after → ⊥
+no_header_unread asked c after e d = none_is _ (sym e ∙ has_header asked c after d)
 
 pub no_header_empty : (asked : Asked) (c : Reading) (after : List ℕ) → c.stream.rest ≡ [] → HasHeader asked c after → ⊥
 no_header_empty asked c after e d =
     let s : 2 ≤ length d.octets = header_size c.mode d.tag d.form d.len d.octets d.is_header in
     omega (arith, s, ap length e, ap length d.rest, length-append d.octets after)
-
-tag_of : (asked : Asked) (c : Reading) (after : List ℕ) (d : HasHeader asked c after) (h : Header) → header_is asked c after d ≡ h → (is_value_tag h.tag ≡ true) × (may_have c.mode h.form h.len ≡ true) × IsAsked asked h.tag
-unfolding header_is
-tag_of asked c after d h e =
-    subst (λ z. (is_value_tag z.tag ≡ true) × (may_have c.mode z.form z.len ≡ true) × IsAsked asked z.tag) e (is_value d.tag d.is_header.is_value_tag, d.is_header.allowed, d.is_asked)
-
-pub no_header_tag : (asked : Asked) (c : Reading) (after : List ℕ) (h : Header) (x : List ℕ) → read_front c.mode c.stream.rest ≡ Some (h, x) → is_value_tag h.tag ≡ false → HasHeader asked c after → ⊥
-no_header_tag asked c after h x e v d =
-    let p = front_inj c.stream.rest c.mode _ h after x (has_front asked c after d) e in
-    let z : true ≡ false = sym (tag_of asked c after d h p.0).0 ∙ v in cc
-
-pub no_header_form : (asked : Asked) (c : Reading) (after : List ℕ) (h : Header) (x : List ℕ) → read_front c.mode c.stream.rest ≡ Some (h, x) → may_have c.mode h.form h.len ≡ false → HasHeader asked c after → ⊥
-no_header_form asked c after h x e v d =
-    let p = front_inj c.stream.rest c.mode _ h after x (has_front asked c after d) e in
-    let z : true ≡ false = sym (tag_of asked c after d h p.0).1 ∙ v in cc
 
 -- the size of what stands before the rest
 pub size_is : (n : ℕ) (h w x : List ℕ) → w ≡ h ++ x → x ≡ drop n w → n ≤ length w → length h ≡ n
@@ -142,29 +143,23 @@ falls_at (Some z) None p k f g = absurd (f refl)
 falls_at (Some z) (Some a) None k f g = absurd (g refl)
 falls_at (Some z) (Some a) (Some b) k f g = ap Some (omega arith)
 
-pub no_header_long : (asked : Asked) (c : Reading) (after : List ℕ) (h : Header) (n : ℕ) (o : Option ℕ) → read_front c.mode c.stream.rest ≡ Some (h, drop n c.stream.rest) → n ≤ length c.stream.rest → Falls c.owed n o → (FitsOwed h.len o → ⊥) → HasHeader asked c after → ⊥
+pub no_header_long : (asked : Asked) (c : Reading) (after : List ℕ) (h : Header) (n : ℕ) (o : Option ℕ) → read_header c.mode c.stream.rest ≡ Some (h, drop n c.stream.rest) → n ≤ length c.stream.rest → Falls c.owed n o → (FitsOwed h.len o → ⊥) → HasHeader asked c after → ⊥
 unfolding header_is
 no_header_long asked c after h n o e l f unfit d =
-    let p = front_inj c.stream.rest c.mode _ h after (drop n c.stream.rest) (has_front asked c after d) e in
+    let p = header_inj c.stream.rest c.mode _ h after (drop n c.stream.rest) (has_header asked c after d) e in
     let s : length d.octets ≡ n = size_is n d.octets c.stream.rest after d.rest p.1 l in
     let q : d.owed ≡ o = falls_at c.owed d.owed o n (subst (λ z. Falls c.owed z d.owed) s d.falls) f in
     unfit (subst (λ z. FitsOwed z o) (ap (λ z. z.len) p.0) (subst (λ z. FitsOwed d.len z) q d.fits))
 
-pub no_marker_unread : (mode : Mode) (w after : List ℕ) → read_front mode w ≡ None → HasMarker mode w after → ⊥
-no_marker_unread mode w after e m = none_is _ (sym e ∙ front_of_marker mode w after m)
-
-pub no_marker_other : (mode : Mode) (w after : List ℕ) (h : Header) (x : List ℕ) → read_front mode w ≡ Some (h, x) → (h ≡ end_header → ⊥) → HasMarker mode w after → ⊥
-no_marker_other mode w after h x e n m = n (front_inj w mode h end_header x after e (front_of_marker mode w after m)).0
+pub no_marker_unread : (mode : Mode) (w after : List ℕ) → read_end mode w ≡ None → HasMarker mode w after → ⊥
+no_marker_unread mode w after e m = none_is _ (sym e ∙ end_of_marker mode w after m)
 
 pub no_marker_empty : (mode : Mode) (w after : List ℕ) → w ≡ [] → HasMarker mode w after → ⊥
 no_marker_empty mode w after e m = omega (arith, ap length e, ap length m.rest, ap length m.is_end.is, length-append m.marker after)
 
 -- a header is no marker, and no tag of its own is another
-end_no_value : is_value_tag end_of_contents ≡ false
-end_no_value = refl
-
 pub header_no_marker : (asked : Asked) (c : Reading) (after x : List ℕ) → HasHeader asked c after → HasMarker c.mode c.stream.rest x → ⊥
-header_no_marker asked c after x d m = no_header_tag asked c after end_header x (front_of_marker c.mode c.stream.rest x m) end_no_value d
+header_no_marker asked c after x d m = no_header_unread asked c after (end_no_header c.mode c.stream.rest x (end_of_marker c.mode c.stream.rest x m)) d
 
 identified_of : (t : Tag) (w : List ℕ) (o : HasOther t w) → read_identifier w ≡ Some (o.tag, o.form, o.after)
 identified_of t w o = ap read_identifier o.rest ∙ read_identifier-identifier o.tag o.form o.after o.is_tag
@@ -175,8 +170,11 @@ tag_inj a b f g x y e = let p : ◌≡◌ {A = Tag × Bool × List ℕ} (a, f, x
 pub no_other_front : (mode : Mode) (t : Tag) (w : List ℕ) (h : Header) (x : List ℕ) → read_front mode w ≡ Some (h, x) → h.tag ≡ t → HasOther t w → ⊥
 no_other_front mode t w h x e s o = let p = parts mode w h x e in o.differs (tag_inj o.tag h.tag o.form h.form o.after p.after (sym (identified_of t w o) ∙ p.identified) ∙ s)
 
+pub no_other_end : (mode : Mode) (t : Tag) (w x : List ℕ) → read_end mode w ≡ Some x → end_of_contents ≡ t → HasOther t w → ⊥
+no_other_end mode t w x e s o = let i = end_identified mode w x e in o.differs (tag_inj o.tag end_of_contents o.form false o.after i.0 (sym (identified_of t w o) ∙ i.1) ∙ s)
+
 pub no_other_unread : (mode : Mode) (t : Tag) (w : List ℕ) → HasNoHeader mode (tagged t) w → HasOther t w → ⊥
-no_other_unread mode t w n o = n.1 (o.tag, o.form, o.after, identified_of t w o, o.differs)
+no_other_unread mode t w n o = n.2 (o.tag, o.form, o.after, identified_of t w o, o.differs)
 
 -- ---- an encoding behind a header
 

@@ -283,33 +283,20 @@ module _ {C T E : Type 0} (why : E → Cause ContentError) (view : C → Reading
     pub takes_marked : h.len ≡ Indefinite → RanOver why view post c.stream c.owed IndefiniteValues c.mode h.tag r mark d.stream d.owed → TakesContent why view post c h r d
     takes_marked hn ran = takes_indefinite hn ran (λ octets e mv w. encodes_indefinite c.mode h.tag h.form h.len octets ran.handed ran.left e ran.runs.state ran.runs.mode mv w hn ran.runs.kind)
 
-    -- the same of content behind a length of either kind
-    module _ {S : Type 0} (stream : S → Stream) (l0 l1 l2 l3 : LimitedSource S) (o : Option ℕ)
-        (cs : c.stream ≡ limited_stream stream l0) (co : c.owed ≡ l0.limit) (oo : o ≡ l0.limit) (a1 : l1.limit ≡ limit_inside h.len l0.limit) (b1 : l1.source ≡ l0.source)
-        (a3 : l3.limit ≡ limit_outside h.len o l2.limit) (b3 : l3.source ≡ l2.source) (ds : d.stream ≡ limited_stream stream l3) (do' : d.owed ≡ l3.limit) (fits : FitsOwed h.len l0.limit) where
-      pub octets_taken : h.form ≡ false → may_have c.mode h.form h.len ≡ true → IsSound (stream l0.source) → RanOver why view post (limited_stream stream l1) l1.limit Octets c.mode h.tag r mark (limited_stream stream l2) l2.limit → TakesContent why view post c h r d
-      octets_taken g a so ran = by_len h.len refl
-        where
-          by_len : (len : Length) → h.len ≡ len → TakesContent why view post c h r d
-          by_len (Definite n) e =
-              takes_octets stream n l0 l1 l2 l3 o e cs co oo (a1 ∙ ap (λ z. limit_inside z l0.limit) e) b1 (a3 ∙ ap (λ z. limit_outside z o l2.limit) e) b3 ds do' fits g so ran
-          by_len Indefinite e = absurd (let x : false ≡ true = subst (λ z. may_have c.mode z Indefinite ≡ true) g (subst (λ z. may_have c.mode h.form z ≡ true) e a) in cc)
-
-      pub values_taken : h.form ≡ true → RanOver why view post (limited_stream stream l1) l1.limit (values (kind_behind h.len)) c.mode h.tag r mark (limited_stream stream l2) l2.limit → TakesContent why view post c h r d
-      values_taken g ran = by_len h.len refl
-        where
-          by_len : (len : Length) → h.len ≡ len → TakesContent why view post c h r d
-          by_len (Definite n) e =
-              takes_values stream n l0 l1 l2 l3 o e cs co oo (a1 ∙ ap (λ z. limit_inside z l0.limit) e) b1 (a3 ∙ ap (λ z. limit_outside z o l2.limit) e) b3 ds do' fits g
-              (subst (λ z. RanOver why view post (limited_stream stream l1) l1.limit (values (kind_behind z)) c.mode h.tag r mark (limited_stream stream l2) l2.limit) e ran)
-          by_len Indefinite e =
-              let i : l1.limit ≡ c.owed = a1 ∙ ap (λ z. limit_inside z l0.limit) e ∙ sym co in
-              let j : l2.limit ≡ d.owed = sym (do' ∙ a3 ∙ ap (λ z. limit_outside z o l2.limit) e) in
-              let s : limited_stream stream l1 ≡ c.stream = ap (λ z. limited l1.limit (stream z)) b1 ∙ ap (λ z. limited z (stream l0.source)) (i ∙ co) ∙ sym cs in
-              let t : limited_stream stream l2 ≡ d.stream = ap (λ z. limited l2.limit (stream z)) (sym b3) ∙ ap (λ z. limited z (stream l3.source)) (j ∙ do') ∙ sym ds in
-              takes_marked e
-              (subst (λ z. RanOver why view post c.stream c.owed IndefiniteValues c.mode h.tag r mark z d.owed) t
-              (subst (λ z. RanOver why view post c.stream c.owed IndefiniteValues c.mode h.tag r mark (limited_stream stream l2) z) j
-              (subst (λ z. RanOver why view post z c.owed IndefiniteValues c.mode h.tag r mark (limited_stream stream l2) l2.limit) s
-              (subst (λ z. RanOver why view post (limited_stream stream l1) z IndefiniteValues c.mode h.tag r mark (limited_stream stream l2) l2.limit) i
-              (subst (λ z. RanOver why view post (limited_stream stream l1) l1.limit (values (kind_behind z)) c.mode h.tag r mark (limited_stream stream l2) l2.limit) e ran)))))
+    -- the same of values behind a length of either kind
+    pub values_taken : {S : Type 0} (stream : S → Stream) (len : Length) (l0 l1 l2 l3 : LimitedSource S) (o : Option ℕ) → h.len ≡ len
+        → c.stream ≡ limited_stream stream l0 → c.owed ≡ l0.limit → o ≡ l0.limit → l1.limit ≡ limit_inside len l0.limit → l1.source ≡ l0.source
+        → l3.limit ≡ limit_outside len o l2.limit → l3.source ≡ l2.source → d.stream ≡ limited_stream stream l3 → d.owed ≡ l3.limit → FitsOwed h.len l0.limit
+        → h.form ≡ true → RanOver why view post (limited_stream stream l1) l1.limit (values (kind_behind len)) c.mode h.tag r mark (limited_stream stream l2) l2.limit → TakesContent why view post c h r d
+    values_taken stream (Definite n) l0 l1 l2 l3 o e cs co oo a1 b1 a3 b3 ds do' fits g ran =
+        takes_values stream n l0 l1 l2 l3 o e cs co oo a1 b1 a3 b3 ds do' fits g ran
+    values_taken stream Indefinite l0 l1 l2 l3 o e cs co oo a1 b1 a3 b3 ds do' fits g ran =
+        let i : l1.limit ≡ c.owed = a1 ∙ sym co in
+        let j : l2.limit ≡ d.owed = sym (do' ∙ a3) in
+        let s : limited_stream stream l1 ≡ c.stream = ap (λ z. limited l1.limit (stream z)) b1 ∙ ap (λ z. limited z (stream l0.source)) (i ∙ co) ∙ sym cs in
+        let t : limited_stream stream l2 ≡ d.stream = ap (λ z. limited l2.limit (stream z)) (sym b3) ∙ ap (λ z. limited z (stream l3.source)) (j ∙ do') ∙ sym ds in
+        takes_marked e
+        (subst (λ z. RanOver why view post c.stream c.owed IndefiniteValues c.mode h.tag r mark z d.owed) t
+        (subst (λ z. RanOver why view post c.stream c.owed IndefiniteValues c.mode h.tag r mark (limited_stream stream l2) z) j
+        (subst (λ z. RanOver why view post z c.owed IndefiniteValues c.mode h.tag r mark (limited_stream stream l2) l2.limit) s
+        (subst (λ z. RanOver why view post (limited_stream stream l1) z IndefiniteValues c.mode h.tag r mark (limited_stream stream l2) l2.limit) i ran))))

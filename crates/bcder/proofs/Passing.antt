@@ -10,9 +10,8 @@ use Rattle.bcder.specs.declared.length.Length.TheVariants.{Definite}
 use Rattle.bcder.specs.declared.decode.content.State.TheVariants.{Open}
 use Rattle.bcder.specs.x690.Identifier.{AreOctets}
 use Rattle.bcder.specs.x690.Encoding.{Header, IsHeader, IsEncoding, may_have}
-use Rattle.bcder.specs.declared.decode.header.Header.{Header as CodeHeader}
 use Rattle.bcder.specs.steps.Peek.{header_of}
-use Rattle.bcder.specs.steps.Reading.{read_front}
+use Rattle.bcder.specs.steps.Reading.{read_header}
 use Rattle.bcder.specs.x690.Tree.{Tree, primitive}
 use Rattle.bcder.specs.x690.Grammar.{IsOnly}
 use Rattle.bcder.specs.calls.Content.{Reading, Advances, Moves, Enters, Resembles, HasMarker, IsAtEnd, of_octets, of_definite, of_indefinite, of_unbounded, EndsBefore, NotAtEnd}
@@ -21,8 +20,8 @@ use Rattle.bcder.specs.steps.WalkSteps.{IsPrimitive}
 use Rattle.bcder.specs.calls.Walking as walking
 use Rattle.bcder.specs.laws.Complete.{only_at_front}
 use Rattle.bcder.specs.laws.Limits.{AreOctets-drop}
-use Rattle.bcder.specs.laws.Stands.{Headed, primitive_encodes}
-use Rattle.bcder.proofs.Headers.{header_of_front, size_is}
+use Rattle.bcder.specs.laws.Stands.{Headed, header_sound, primitive_encodes}
+use Rattle.bcder.proofs.Headers.{size_is}
 use Rattle.bcder.proofs.Moving.{moves_value}
 use Rattle.bcder.proofs.Entering.{looked_enters, no_fewer}
 
@@ -40,12 +39,9 @@ module _ (c d : Reading) (n : ℕ) (t : Tree) (k : IsEncoding c.mode t (take n c
   pub moves_encoding : d.marked ≡ c.marked → Moves c d
   moves_encoding m = moves_value c d (take n c.stream.rest) t false a k (λ x. m ∙ x) (λ x. absurd (let y : false ≡ true = x in cc)) s e
 
-module _ (c d : Reading) (h : Header) (size n : ℕ) (p : IsPrimitive h size n) (r : read_front c.mode c.stream.rest ≡ Some (h, drop size c.stream.rest)) (o : AreOctets c.stream.rest) (l : n ≤ length c.stream.rest) (a : Advances c d (take n c.stream.rest)) (s : c.state ≡ Open) (e : d.state ≡ Open) where
-  allowed : may_have c.mode h.form h.len ≡ true
-  allowed = rw (p.form, p.tells) refl
-
+module _ (c d : Reading) (h : Header) (size n : ℕ) (p : IsPrimitive h size n) (r : read_header c.mode c.stream.rest ≡ Some (h, drop size c.stream.rest)) (o : AreOctets c.stream.rest) (l : n ≤ length c.stream.rest) (a : Advances c d (take n c.stream.rest)) (s : c.state ≡ Open) (e : d.state ≡ Open) where
   headed : Headed c.mode h c.stream.rest (drop size c.stream.rest)
-  headed = header_of_front c.mode c.stream.rest h (drop size c.stream.rest) o r p.is_value allowed
+  headed = header_sound c.mode c.stream.rest (h, drop size c.stream.rest) o r
 
   abbrev contents : List ℕ
   contents = take p.len (drop size c.stream.rest)
@@ -78,8 +74,8 @@ module _ (c d : Reading) (h : Header) (size n : ℕ) (p : IsPrimitive h size n) 
   moves_primitive m = moves_encoding c d n tree encodes a s e m
 
 -- a header that was read of content, and what was read of it when it was only looked at again
-pub looked_read : (c d : Reading) (h : Header) (size : ℕ) → Resembles c d → read_front c.mode c.stream.rest ≡ Some (h, drop size c.stream.rest) → read_front d.mode d.stream.rest ≡ Some (h, drop size d.stream.rest)
-looked_read c d h size s r = subst (λ m. read_front m d.stream.rest ≡ Some (h, drop size d.stream.rest)) (sym s.mode) (subst (λ w. read_front c.mode w ≡ Some (h, drop size w)) (sym s.rest) r)
+pub looked_read : (c d : Reading) (h : Header) (size : ℕ) → Resembles c d → read_header c.mode c.stream.rest ≡ Some (h, drop size c.stream.rest) → read_header d.mode d.stream.rest ≡ Some (h, drop size d.stream.rest)
+looked_read c d h size s r = subst (λ m. read_header m d.stream.rest ≡ Some (h, drop size d.stream.rest)) (sym s.mode) (subst (λ w. read_header c.mode w ≡ Some (h, drop size w)) (sym s.rest) r)
 
 -- a value that was passed of content that was only looked at
 pub looked_passes : (c d e : Reading) → Resembles c d → PassesValue d e → PassesValue c e
@@ -119,8 +115,8 @@ pub looked_twice : (c d e : Reading) → Resembles c d → Resembles d e → Res
 looked_twice c d e s p = record { rest = p.rest ∙ s.rest; kept = p.kept ∙ s.kept; owed = p.owed ∙ s.owed; kind = p.kind ∙ s.kind; state = p.state ∙ s.state; mode = p.mode ∙ s.mode; marked = p.marked ∙ s.marked; name = p.name ∙ s.name }
 
 -- a header that was passed behind two looks
-pub looked_at_last : (c d e x : Reading) (h k : CodeHeader) → Resembles c d → d.stream.faults ≡ c.stream.faults → Resembles d e → e.stream.faults ≡ d.stream.faults → (h ≡ k) × Enters e (header_of k) x → Enters c (header_of h) x
-looked_at_last c d e x h k s f p n y = subst (λ z. Enters c (header_of z) x) (sym y.0) (looked_enters c d s (no_fewer _ _ f) f _ x (looked_enters d e p (no_fewer _ _ n) n _ x y.1))
+pub looked_at_last : (c d e x : Reading) (h : Header) → Resembles c d → d.stream.faults ≡ c.stream.faults → Resembles d e → e.stream.faults ≡ d.stream.faults → Enters e h x → Enters c h x
+looked_at_last c d e x h s f p n y = looked_enters c d s (no_fewer _ _ f) f h x (looked_enters d e p (no_fewer _ _ n) n h x y)
 
 -- whatever a call refuses that went on from there
 module _ {E : Type 0} (c d e : Reading) (s : Resembles c d) (f : d.stream.faults ≡ c.stream.faults) (Refuses : Reading → E → Reading → Type 0) (refused : (x : E) → Refuses d x e → Refuses c x e) where

@@ -1,25 +1,69 @@
 -- What is told of a header by the octets at hand, and what stands at the front of the source.
-use Rattle.std.proofs.Common.{◌≡◌, ℕ, ◌≤◌, Bool, true, false, eqb, eq-eqb, ◌&&◌, List, ◌++◌, length, take, drop, Some, None, ap, sym, subst, ◌∙◌, arith, length-append}
+use Rattle.std.proofs.Common.{◌≡◌, ℕ, ◌≤◌, Bool, true, false, eqb, eq-eqb, ◌&&◌, List, ◌++◌, length, take, drop, Option, Some, None, IfSome, ap, ap₂, sym, subst, ◌∙◌, arith, length-append}
 use denote.Enum.Bare.{sameb, true_same}
 use Rattle.std.proofs.lemmas.Grind.{common_steps}
 use Rattle.std.proofs.lemmas.List.{take-append-drop, length-take-le}
 use Rattle.bcder.specs.declared.mode.Mode.{Mode}
-use Rattle.bcder.specs.x690.Identifier.{Tag}
-use Rattle.bcder.specs.steps.Reading.{read_identifier, read_length}
+use Rattle.bcder.specs.declared.decode.header.Header.{Header as CodeHeader}
+use Rattle.bcder.specs.declared.decode.header.Form.TheVariants as form
+use Rattle.bcder.specs.declared.decode.header.Peeked.{Peeked}
+use Rattle.bcder.specs.declared.decode.header.Peeked.TheVariants as peeked
+use Rattle.bcder.specs.x690.Identifier.{Tag, end_of_contents}
+use Rattle.bcder.specs.x690.Encoding.{Header}
+use Rattle.bcder.specs.steps.Reading.{read_identifier, read_front, read_header, read_end}
 use Rattle.bcder.specs.calls.Classes.{class_kept}
 use Rattle.bcder.specs.calls.Content.{Asked, IsAsked}
 use Rattle.bcder.specs.contracts.tag.Class.{the_type}
 use Rattle.bcder.specs.laws.Sound.{none_is, some_inj}
-use Rattle.bcder.specs.steps.Peek.{HasNoHeader}
-use Rattle.bcder.proofs.Beginnings.{no_identifier, no_length}
+use Rattle.bcder.specs.steps.Peek.{is_constructed, len_of, octets_header, HasNoHeader, IsFront, Shows, IsOfTwo, HasTwo}
+use Rattle.bcder.proofs.Beginnings.{no_identifier}
+use Rattle.bcder.proofs.Headers.{other_of_front, header_of_front, end_identified}
 
 -- ---- no header
 
 pub unidentified : (mode : Mode) (asked : Asked) (w : List ℕ) → read_identifier w ≡ None → HasNoHeader mode asked w
-unidentified mode asked w e = (no_identifier mode w e, λ o. none_is _ (sym e ∙ o.3))
+unidentified mode asked w e = let n = no_identifier mode w e in (n.0, n.1, λ o. none_is _ (sym e ∙ o.3))
 
-pub unmeasured : (mode : Mode) (asked : Asked) (w : List ℕ) (t : Tag) (f : Bool) (x : List ℕ) → read_identifier w ≡ Some (t, f, x) → IsAsked asked t → read_length mode x ≡ None → HasNoHeader mode asked w
-unmeasured mode asked w t f x e i l = (no_length mode w t f x e l, λ o. o.4 (subst (λ u. IsAsked asked u) (ap (λ r. r.0) (some_inj _ _ (sym e ∙ o.3))) i))
+pub unheaded : (mode : Mode) (asked : Asked) (w : List ℕ) (t : Tag) (f : Bool) (x : List ℕ) → read_identifier w ≡ Some (t, f, x) → IsAsked asked t → read_header mode w ≡ None → read_end mode w ≡ None → HasNoHeader mode asked w
+unheaded mode asked w t f x e i h n = (h, n, λ o. o.4 (subst (λ u. IsAsked asked u) (ap (λ r. r.0) (some_inj _ _ (sym e ∙ o.3))) i))
+
+-- end-of-contents octets have the tag that stands in front
+pub end_asked : (mode : Mode) (asked : Asked) (w x : List ℕ) (t : Tag) (f : Bool) (y : List ℕ) → read_end mode w ≡ Some x → read_identifier w ≡ Some (t, f, y) → IsAsked asked t → IsAsked asked end_of_contents
+end_asked mode asked w x t f y e i a = let d = end_identified mode w x e in subst (λ u. IsAsked asked u) (ap (λ r. r.0) (some_inj _ _ (sym i ∙ d.1))) a
+
+-- ---- two octets
+
+-- a header that was read in two octets shows what is told of it
+pub two_shown : (mode : Mode) (asked : Asked) (w : List ℕ) (h : Header) (p : Peeked) → 2 ≤ length w → IsOfTwo mode asked h p → ((x : List ℕ) → read_front mode (w ++ x) ≡ Some (h, drop 2 (w ++ x))) → Shows mode asked p w
+two_shown mode asked w h peeked.Nothing l i r = absurd i
+two_shown mode asked w h peeked.Other l i r = λ x. other_of_front mode asked (w ++ x) h (drop 2 (w ++ x)) (r x) i
+two_shown mode asked w h (peeked.End k) l i r = absurd i
+two_shown mode asked w h (peeked.Front g k) l i r = λ x. (
+  (omega (arith, l, i.0), header_of_front mode (w ++ x) h (drop 2 (w ++ x)) (r x) i.3 i.4 ∙ ap Some (ap₂ (λ a n. (a, drop n (w ++ x))) (sym i.1) (sym i.0))),
+  subst (λ (z : Header). IsAsked asked z.tag) (sym i.1) i.2,
+)
+two_shown mode asked w h peeked.Refused l i r = absurd i
+
+pub two_is : (mode : Mode) (asked : Asked) (h : Header) (p : Peeked) → IsOfTwo mode asked h p → HasTwo p
+two_is mode asked h peeked.Nothing i = absurd i
+two_is mode asked h peeked.Other i = tt
+two_is mode asked h (peeked.End k) i = absurd i
+two_is mode asked h (peeked.Front g k) i = i.0
+two_is mode asked h peeked.Refused i = absurd i
+
+pub if_two : (mode : Mode) (asked : Asked) (w : List ℕ) (h : Header) (r : Option Peeked) → 2 ≤ length w → IfSome r (IsOfTwo mode asked h) → ((x : List ℕ) → read_front mode (w ++ x) ≡ Some (h, drop 2 (w ++ x))) → IfSome r (λ p. Shows mode asked p w)
+if_two mode asked w h None l i r = tt
+if_two mode asked w h (Some p) l i r = two_shown mode asked w h p l i r
+
+pub if_two_is : (mode : Mode) (asked : Asked) (h : Header) (r : Option Peeked) → IfSome r (IsOfTwo mode asked h) → IfSome r HasTwo
+if_two_is mode asked h None i = tt
+if_two_is mode asked h (Some p) i = two_is mode asked h p i
+
+-- what stands in front is the header of a primitive value, by its tag and its length
+pub octets_front : (mode : Mode) (h : CodeHeader) (k n m : ℕ) (w : List ℕ) → h.form ≡ form.Primitive n → IsFront mode h k m w → IsFront mode (octets_header h.tag n) k m w
+octets_front mode h k n m w f i = (i.0, subst (λ z. read_header mode w ≡ Some (record { tag = h.tag; form = is_constructed z; len = len_of z }, drop k w)) f i.1)
+
+-- ---- tags
 
 -- a test of two tags that says no
 pub differs : (t u : Tag) → false ≡ (sameb the_type (class_kept t.class) (class_kept u.class) && eqb t.number u.number) → t ≡ u → ⊥

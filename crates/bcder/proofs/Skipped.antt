@@ -17,10 +17,8 @@ use Rattle.bcder.specs.x690.Preorder.{Heading, preorder}
 use Rattle.bcder.specs.steps.Reading.{read_header, read_contents, read_list, read_tree}
 use Rattle.bcder.specs.calls.Stream.{Stream, Grew, capped, cut, past, limited}
 use Rattle.std.proofs.lemmas.Grind.{common_steps}
-use Rattle.bcder.specs.declared.decode.header.Header.{Header as CodeHeader}
 use Rattle.bcder.specs.declared.length.Length.TheVariants.{Definite}
-use Rattle.bcder.specs.steps.Peek.{header_of, IsAllHere, IsAtHand}
-use Rattle.bcder.specs.calls.Content.{Accepts, FitsOwed, Reading, Octets, Resembles, any, Falls, Moves, Advances, Enters, EndsBefore, EndsAt, IsDone, NotAtEnd}
+use Rattle.bcder.specs.calls.Content.{FitsOwed, Reading, Octets, Resembles, any, Falls, Moves, Advances, Enters, EndsBefore, EndsAt, IsDone, NotAtEnd}
 use Rattle.bcder.specs.x690.Grammar.{IsOnly}
 use Rattle.bcder.specs.calls.Walking.{HasValue, NoValue, PassesValue, RefusesWalk, PassedBy, AnswersNext, HasValues, AllBy, Walks}
 use Rattle.bcder.specs.calls.Walking as walking
@@ -191,32 +189,22 @@ module _ (c d e : Reading) (k : Header) (s t : Stream) (o p : Option ℕ) (withi
 
 -- ---- a header of two octets of a value that is here
 
-pub whole_accepted : (j d : Reading) (h : CodeHeader) (n : ℕ) → IsAllHere h n → n ≤ length j.stream.rest → Within j → Advances j d (take 2 j.stream.rest) → Accepts j.mode (header_of h) d.owed
-whole_accepted j d h n w l wi a = (w.is_value, rw (w.form, w.tells) refl, rw w.tells (go j.owed d.owed refl a.owed))
+pub whole_fits : (j d : Reading) (n k : ℕ) → 2 + n ≤ k → k ≤ length j.stream.rest → Within j → Advances j d (take 2 j.stream.rest) → FitsOwed (Definite n) d.owed
+whole_fits j d n k w l wi a = go j.owed d.owed refl a.owed
   where
-    go : (p q : Option ℕ) → j.owed ≡ p → Falls p (length (take 2 j.stream.rest)) q → FitsOwed (Definite w.len) q
+    go : (p q : Option ℕ) → j.owed ≡ p → Falls p (length (take 2 j.stream.rest)) q → FitsOwed (Definite n) q
     go p None e f = refl
     go None (Some m) e f = absurd (f refl)
-    go (Some k) (Some m) e f =
-        let x : length j.stream.rest ≤ k = wi.fits k e in
-        let y : 2 + w.len ≤ n = w.within in
+    go (Some i) (Some m) e f =
+        let x : length j.stream.rest ≤ i = wi.fits i e in
         let z : length (take 2 j.stream.rest) ≤ 2 = grind (arith, common_steps) in
-        let u : k ≡ length (take 2 j.stream.rest) + m = f in
-        omega (arith, x, y, z, u, l)
+        let u : i ≡ length (take 2 j.stream.rest) + m = f in
+        omega (arith, x, w, z, u, l)
 
 -- behind the header of a primitive value whose octets are at hand, its contents octets are
-pub behind_at_hand : (p : Option ℕ) (a : ℕ) (h : CodeHeader) (n : ℕ) → IsAllHere h n → capped p a + 2 ≡ n → IsAtHand h.len a
-behind_at_hand p a h n w e k t = go p e
-  where
-    same : Definite w.len ≡ Definite k
-    same = sym w.tells ∙ t
-
-    len : w.len ≡ k
-    len = cc
-
-    go : (p : Option ℕ) → capped p a + 2 ≡ n → k ≤ a
-    go None e = let y : 2 + w.len ≤ n = w.within in omega (arith, y, e, len)
-    go (Some m) e = let y : 2 + w.len ≤ n = w.within in let z : min m a ≤ a = min-le_right m a in omega (arith, y, e, len, z)
+pub behind_at_hand : (p : Option ℕ) (a n k : ℕ) → 2 + n ≤ k → capped p a + 2 ≡ k → n ≤ a
+behind_at_hand None a n k w e = omega (arith, w, e)
+behind_at_hand (Some m) a n k w e = let z : min m a ≤ a = min-le_right m a in omega (arith, w, e, z)
 
 -- ---- the same of content of which only the header was passed
 

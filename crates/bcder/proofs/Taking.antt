@@ -137,9 +137,6 @@ inside_entered c h d i asked t x n = record {
 }
 
 -- the mode allows the header that was passed
-pub allowed_entered : (c : Reading) (h : Header) (d : Reading) → Enters c h d → may_have d.mode h.form h.len ≡ true
-allowed_entered c h d x = subst (λ m. may_have m h.form h.len ≡ true) (sym x.advances.mode) x.is_header.allowed
-
 -- ---- what the calls say
 
 module _ {C T X : Type 0} (view : C → Reading) (post : Tag → MutBor C → Result T (DecodeError X) → MutBor C → Type 0) (form : Option Bool) (asked : Asked) where

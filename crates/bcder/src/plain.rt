@@ -7,52 +7,18 @@ ghost use Rattle.std.specs.Prelude.{Option, Some, None, IfSome, IfNone, MatchOpt
 ghost use Rattle.bcder.specs.declared.mode.Mode.{Mode as ModeValue};
 ghost use Rattle.bcder.specs.x690.Tree.{Tree, Trees};
 ghost use Rattle.bcder.specs.x690.Length.{IsEndOfContents};
-ghost use Rattle.bcder.specs.x690.Encoding.{IsEncoding, AreEncodings, IsHeader, may_have};
+ghost use Rattle.bcder.specs.x690.Encoding.{IsEncoding, AreEncodings, IsHeader};
 ghost use Rattle.bcder.specs.calls.ContentsLen.{length_of};
 ghost use Rattle.bcder.specs.x690.Identifier.{Tag as TagValue};
 ghost use Rattle.bcder.specs.x690.Identifier.{is_value_tag};
-ghost use Rattle.bcder.specs.steps.Reading.{read_header, after_tree, after_list, Leaves};
+ghost use Rattle.bcder.specs.steps.Peek.{len_of};
+ghost use Rattle.bcder.specs.steps.Reading.{after_tree, after_list, Leaves};
 ghost use Rattle.bcder.specs.x690.Grammar.{IsOnly, BeginsWhole};
 
-use crate::length::{Length, after_end, length_at};
+use crate::decode::header::{Form, header_at};
+use crate::length::{Length, after_end};
 use crate::mode::Mode;
-use crate::tag::{Tag, identifier_at};
-
-/// Whether a mode allows a length (X.690, 9.1, 10.1) in an encoding of a form (8.1.3.2).
-#[tactic(auto, using(std::proofs::lemmas::Bool::Decides::nat_tests))]
-#[inline(always)]
-pub(crate) fn may_have(mode: Mode, constructed: bool, len: Length) -> bool
-    ensures { result ≡ may_have mode constructed len }
-{
-    match len {
-        Length::Definite(_) => !constructed || mode != Mode::Cer,
-        Length::Indefinite => constructed && mode != Mode::Der,
-    }
-}
-
-/// The identifier and length octets at the front, and the octets after them.
-#[tactic(auto, unfolding(crate::specs::steps::Reading::read_header))]
-#[inline(always)]
-pub(crate) fn header_at(mode: Mode, octets: &[u8]) -> Option<(Tag, bool, Length, &[u8])>
-    ensures less { IfSome result (λ r. length r.3.now + 2 ≤ length octets.now) }
-    ensures read { MatchOption result
-        (read_header mode octets.now ≡ None)
-        (λ r. read_header mode octets.now
-        ≡ Some (record { tag = r.0; form = r.1; len = r.2 }, r.3.now)) }
-{
-    let Some((tag, constructed, rest)) = identifier_at(octets) else {
-        return None;
-    };
-    if !tag.is_value() {
-        return None;
-    }
-    let (len, rest) = length_at(mode, rest)?;
-    if may_have(mode, constructed, len) {
-        Some((tag, constructed, len, rest))
-    } else {
-        None
-    }
-}
+use crate::tag::Tag;
 
 /// How many octets the value at the front has, if it is primitive, has one identifier octet and one
 /// length octet (8.1.2.2, 8.1.3.4), and is all here. No mode refuses it.
@@ -146,18 +112,21 @@ fn front_within(mode: Mode, octets: &[u8], levels: usize) -> Option<(bool, &[u8]
     ensures none { IfNone result
         (length octets.now ≤ levels → after_tree mode octets.now ≡ None) }
 {
-    let Some((_, constructed, len, rest)) = header_at(mode, octets) else {
+    let Some((header, rest)) = header_at(mode, octets) else {
         return None;
     };
-    match len {
-        Length::Definite(n) => {
-            if rest.len() < n {
+    match header.form {
+        Form::Primitive(len) => {
+            if rest.len() < len {
                 return None;
             }
-            let (contents, after) = rest.split_at(n);
-            if !constructed {
-                return Some((false, after));
+            Some((false, rest.split_at(len).1))
+        }
+        Form::Constructed(Length::Definite(len)) => {
+            if rest.len() < len {
+                return None;
             }
+            let (contents, after) = rest.split_at(len);
             if levels == 0 {
                 return None;
             }
@@ -167,7 +136,7 @@ fn front_within(mode: Mode, octets: &[u8], levels: usize) -> Option<(bool, &[u8]
                 None
             }
         }
-        Length::Indefinite => Some((true, rest)),
+        Form::Constructed(Length::Indefinite) => Some((true, rest)),
     }
 }
 
@@ -222,12 +191,13 @@ pub struct Front<'a> {
     pub rest: &'a [u8],
 }
 
-fn number_told(len: Length) -> Option<usize>
-    ensures { length_of result ≡ len }
+fn number_told(form: Form) -> Option<usize>
+    ensures { length_of result ≡ len_of form }
 {
-    match len {
-        Length::Definite(n) => Some(n),
-        Length::Indefinite => None,
+    match form {
+        Form::Primitive(len) => Some(len),
+        Form::Constructed(Length::Definite(len)) => Some(len),
+        Form::Constructed(Length::Indefinite) => None,
     }
 }
 
@@ -242,14 +212,14 @@ pub fn front_at<'a>(mode: Mode, octets: &'a [u8]) -> Option<Front<'a>>
         ((t : TagValue) (form : Bool) (n : Option ℕ) (w x : List ℕ)
         → IsHeader mode t form (length_of n) w → octets.now ≡ w ++ x → ⊥) }
 {
-    let Some(header) = header_at(mode, octets) else {
+    let Some((header, rest)) = header_at(mode, octets) else {
         return None;
     };
     Some(Front {
-        tag: header.0,
-        constructed: header.1,
-        len: number_told(header.2),
-        rest: header.3,
+        tag: header.tag,
+        constructed: header.form.is_constructed(),
+        len: number_told(header.form),
+        rest,
     })
 }
 

@@ -13,6 +13,7 @@ use Rattle.bcder.specs.declared.decode.error.ContentError.{ContentError}
 use Rattle.bcder.specs.calls.Cause.{Cause, cause_of, IsRefusal}
 use Rattle.bcder.specs.x690.Identifier.{Tag}
 use Rattle.bcder.specs.x690.Encoding.{Header}
+use Rattle.bcder.specs.steps.Peek.{is_constructed, len_of}
 use Rattle.bcder.specs.calls.Stream.{Stream}
 use Rattle.bcder.specs.calls.Content.{Reading}
 use Rattle.bcder.specs.calls.Calls.{Hands, RanOver, TakesContent, popped}
@@ -35,7 +36,7 @@ limit_outside Indefinite o left = left
 
 -- the content behind a header that was passed
 abbrev pub IsBehind : {S : Type 0} → (S → Stream) → MutBor (Constructed S) → CodeHeader → Reading → Type 0
-IsBehind stream c h i = Hands (of_constructed stream c.now).mode h.constructed h.len (of_constructed stream c.now).owed (of_constructed stream c.now).stream.rest i
+IsBehind stream c h i = Hands (of_constructed stream c.now).mode (is_constructed h.form) (len_of h.form) (of_constructed stream c.now).owed (of_constructed stream c.now).stream.rest i
 
 -- a closure ran on this content
 abbrev pub RanInside : {C T E : Type 0} → (E → Cause ContentError) → (C → Reading) → (Tag → MutBor C → Result T E → MutBor C → Type 0) → Reading → Tag → Result T E → Bool → Stream → Option ℕ → Type 0

@@ -1,26 +1,37 @@
 -- What stands at the front of a source, and what can be told of it from the octets at hand.
-use Rattle.std.specs.Prelude.{◌≡◌, ℕ, ◌+◌, ◌<◌, ◌≤◌, Bool, true, false, List, [], ◌++◌, length, drop, Option, Some, None}
+use Rattle.std.specs.Prelude.{◌≡◌, ℕ, ◌<◌, ◌≤◌, Bool, true, false, List, [], ◌++◌, length, drop, Option, Some, None}
 use Rattle.bcder.specs.declared.mode.Mode.{Mode}
 use Rattle.bcder.specs.declared.decode.header.Header.{Header as CodeHeader}
+use Rattle.bcder.specs.declared.decode.header.Form.{Form}
+use Rattle.bcder.specs.declared.decode.header.Form.TheVariants as form
 use Rattle.bcder.specs.declared.decode.header.Wanted.{Wanted}
 use Rattle.bcder.specs.declared.decode.header.Wanted.TheVariants as wanted
 use Rattle.bcder.specs.declared.decode.header.Peeked.{Peeked}
 use Rattle.bcder.specs.declared.decode.header.Peeked.TheVariants as peeked
 use Rattle.bcder.specs.declared.length.Length.{Length}
 use Rattle.bcder.specs.declared.length.Length.TheVariants.{Definite}
-use Rattle.bcder.specs.x690.Identifier.{Tag, is_value_tag}
-use Rattle.bcder.specs.x690.Encoding.{Header}
-use Rattle.bcder.specs.steps.Reading.{read_identifier, read_front}
+use Rattle.bcder.specs.x690.Identifier.{Tag, end_of_contents, is_value_tag}
+use Rattle.bcder.specs.x690.Encoding.{Header, may_have}
+use Rattle.bcder.specs.steps.Reading.{read_identifier, read_header, read_end}
 use Rattle.bcder.specs.calls.Content.{Asked, any, tagged, IsAsked}
 use Rattle.bcder.specs.calls.Stream.{Stream}
 
+-- whether a form is the constructed one, and what its length octets say
+abbrev pub is_constructed : Form → Bool
+is_constructed (form.Primitive n) = false
+is_constructed (form.Constructed l) = true
+
+abbrev pub len_of : Form → Length
+len_of (form.Primitive n) = Definite n
+len_of (form.Constructed l) = l
+
 -- a header as the program keeps it
 abbrev pub header_of : CodeHeader → Header
-header_of h = record { tag = h.tag; form = h.constructed; len = h.len }
+header_of h = record { tag = h.tag; form = is_constructed h.form; len = len_of h.form }
 
 -- the header of a primitive value with so many contents octets
 abbrev pub octets_header : Tag → ℕ → CodeHeader
-octets_header t n = record { tag = t; constructed = false; len = Definite n }
+octets_header t n = record { tag = t; form = form.Primitive n }
 
 -- which headers are looked for, as the clauses of content say it
 abbrev pub asked : Wanted → Asked
@@ -31,19 +42,24 @@ asked (wanted.Tagged t) = tagged t
 abbrev pub HasOtherTag : Asked → List ℕ → Type 0
 HasOtherTag asked w = (u : Tag) × (f : Bool) × (x : List ℕ) × (read_identifier w ≡ Some (u, f, x)) × (IsAsked asked u → ⊥)
 
--- neither those stand in front, nor others with length octets behind them
+-- neither those stand in front, nor the header of a value, nor end-of-contents octets
 abbrev pub HasNoHeader : Mode → Asked → List ℕ → Type 0
-HasNoHeader mode asked w = (read_front mode w ≡ None) × (HasOtherTag asked w → ⊥)
+HasNoHeader mode asked w = (read_header mode w ≡ None) × (read_end mode w ≡ None) × (HasOtherTag asked w → ⊥)
 
 -- ---- octets, of which so many are at hand
 
--- this header stands in front, in k octets that are at hand
+-- this header of a value stands in front, in k octets that are at hand
 abbrev pub IsFront : Mode → CodeHeader → ℕ → ℕ → List ℕ → Type 0
-IsFront mode h k n w = (k ≤ n) × (read_front mode w ≡ Some (header_of h, drop k w))
+IsFront mode h k n w = (k ≤ n) × (read_header mode w ≡ Some (header_of h, drop k w))
+
+-- or end-of-contents octets
+abbrev pub IsEnd : Mode → ℕ → ℕ → List ℕ → Type 0
+IsEnd mode k n w = (k ≤ n) × (read_end mode w ≡ Some (drop k w))
 
 abbrev pub IsPeeked : Mode → Asked → Peeked → ℕ → List ℕ → Type 0
 IsPeeked mode asked peeked.Nothing n w = w ≡ []
 IsPeeked mode asked peeked.Other n w = HasOtherTag asked w
+IsPeeked mode asked (peeked.End k) n w = IsEnd mode k n w × IsAsked asked end_of_contents
 IsPeeked mode asked (peeked.Front h k) n w = IsFront mode h k n w × IsAsked asked h.tag
 IsPeeked mode asked peeked.Refused n w = (1 ≤ length w) × HasNoHeader mode asked w
 
@@ -52,27 +68,33 @@ IsPeeked mode asked peeked.Refused n w = (1 ≤ length w) × HasNoHeader mode as
 abbrev pub Fronts : Mode → CodeHeader → ℕ → Stream → Type 0
 Fronts mode h k s = IsFront mode h k s.avail s.rest
 
+abbrev pub FrontsEnd : Mode → ℕ → Stream → Type 0
+FrontsEnd mode k s = IsEnd mode k s.avail s.rest
+
 abbrev pub Peeks : Mode → Asked → Peeked → Stream → Type 0
 Peeks mode asked p s = IsPeeked mode asked p s.avail s.rest
 
 -- ---- octets at hand, whatever follows them
 
+abbrev pub Shows : Mode → Asked → Peeked → List ℕ → Type 0
+Shows mode asked p w = (x : List ℕ) → IsPeeked mode asked p (length w) (w ++ x)
+
 abbrev pub Sees : Mode → Asked → Option Peeked → List ℕ → Type 0
 Sees mode asked None w = (length w < 9) × HasNoHeader mode asked w
-Sees mode asked (Some p) w = (x : List ℕ) → IsPeeked mode asked p (length w) (w ++ x)
+Sees mode asked (Some p) w = Shows mode asked p w
 
--- a header of two octets, in every mode
-abbrev pub IsShortHeader : CodeHeader → List ℕ → Type 0
-IsShortHeader h w = (mode : Mode) (x : List ℕ) → IsFront mode h 2 (length w) (w ++ x)
+-- what is told of a header that was read in two octets
+abbrev pub IsOfTwo : Mode → Asked → Header → Peeked → Type 0
+IsOfTwo mode asked h peeked.Nothing = ⊥
+IsOfTwo mode asked h peeked.Other = IsAsked asked h.tag → ⊥
+IsOfTwo mode asked h (peeked.End k) = ⊥
+IsOfTwo mode asked h (peeked.Front g k) = (k ≡ 2) × (header_of g ≡ h) × IsAsked asked h.tag × (is_value_tag h.tag ≡ true) × (may_have mode h.form h.len ≡ true)
+IsOfTwo mode asked h peeked.Refused = ⊥
 
--- the contents octets of this length are among so many
-abbrev pub IsAtHand : Length → ℕ → Type 0
-IsAtHand l n = (k : ℕ) → l ≡ Definite k → k ≤ n
-
--- the header of two octets of a primitive value, whose octets are among n
-pub record IsAllHere (h : CodeHeader) (n : ℕ) : Type 0 where
-  pub is_value : is_value_tag h.tag ≡ true
-  pub form : h.constructed ≡ false
-  pub len : ℕ
-  pub tells : h.len ≡ Definite len
-  pub within : 2 + len ≤ n
+-- if it is a header, it has two octets
+abbrev pub HasTwo : Peeked → Type 0
+HasTwo peeked.Nothing = Unit {0}
+HasTwo peeked.Other = Unit {0}
+HasTwo (peeked.End k) = Unit {0}
+HasTwo (peeked.Front h k) = k ≡ 2
+HasTwo peeked.Refused = Unit {0}

@@ -3,7 +3,7 @@ use Rattle.std.specs.Borrow.{MutBor}
 use Rattle.std.specs.Prelude.{◌≡◌, ℕ, ◌+◌, ◌≤◌, Bool, true, false, length, take, Option, Result, IfOk, IfErr, OnOk, OnErr, IsTrue}
 use denote.Triple.Both.{Both}
 use Rattle.bcder.specs.declared.decode.content.State.TheVariants.{Failed}
-use Rattle.bcder.specs.x690.Identifier.{Tag, AreOctets, is_value_tag}
+use Rattle.bcder.specs.x690.Identifier.{Tag, AreOctets}
 use Rattle.bcder.specs.calls.Stream.{Stream, Grew}
 use Rattle.bcder.specs.declared.decode.error.ContentError.{ContentError}
 use Rattle.bcder.specs.calls.Cause.{Cause, of_source}
@@ -21,7 +21,6 @@ use Rattle.bcder.specs.calls.Walking.{PassesValue, PassedBy, RefusesWalk, Refuse
 
 -- a header of so many octets is that of a primitive value of n octets in all
 pub record IsPrimitive (h : Header) (size n : ℕ) : Type 0 where
-  pub is_value : is_value_tag h.tag ≡ true
   pub form : h.form ≡ false
   pub len : ℕ
   pub tells : h.len ≡ Definite len

@@ -1,25 +1,36 @@
-//! Identifier octets and length octets at the front of a source (X.690, 8.1.2, 8.1.3).
-ghost use Rattle.std.specs.Prelude.{◌≡◌, ℕ, ◌<◌, ◌≤◌, List, ◌++◌, length, false, IsTrue};
-ghost use Rattle.std.specs.Prelude.{Some, None, IfSome, IfOk, OnOk, OnErr};
+//! Identifier octets and length octets (X.690, 8.1.2, 8.1.3), at the front of octets and of a source.
+ghost use Rattle.std.specs.Prelude.{◌≡◌, ℕ, ◌+◌, ◌%◌, ◌<◌, ◌≤◌, List, ◌++◌, length, false, true, IsTrue};
+ghost use Rattle.std.specs.Prelude.{Some, None, IfSome, MatchOption, IfOk, OnOk, OnErr};
 ghost use Rattle.bcder.specs.calls.Changed.{SameFaults, MoreFaults, SameRest, SamePosition};
 ghost use Rattle.bcder.specs.calls.Changed.{SameKept};
 ghost use Rattle.bcder.specs.calls.Content.{IsAsked};
-ghost use Rattle.bcder.specs.steps.Peek.{asked, Fronts, Peeks, Sees, IsShortHeader, IsAllHere};
-ghost use Rattle.bcder.specs.steps.Reading.{read_identifier, read_length};
-ghost use Rattle.bcder.specs.declared.mode.Mode.{Mode as ModeValue};
+ghost use Rattle.bcder.specs.steps.Peek.{asked, header_of, octets_header, is_constructed, len_of};
+ghost use Rattle.bcder.specs.steps.Peek.{Fronts, Peeks, Sees, Shows, HasTwo, IsOfTwo};
+ghost use Rattle.bcder.specs.steps.Reading.{read_header, class_of, is_marked};
+ghost use Rattle.bcder.specs.x690.Encoding.{may_have};
 
 use crate::decode::source::Source;
-use crate::length::{Length, length_at, may_begin_length};
+use crate::length::{Length, after_end, length_at, may_begin_length};
 use crate::mode::Mode;
 use crate::tag::take::may_begin_identifier;
 use crate::tag::{Tag, identifier_at, mark_of_leading, tag_of_leading};
 
-/// Identifier octets and length octets, whatever they stand before.
+/// The form of an encoding (X.690, 8.1.2.5), and what its length octets say.
+#[derive(Clone, Copy)]
+pub(crate) enum Form {
+    /// Primitive, of so many contents octets. The indefinite form has no primitive encoding
+    /// (8.1.3.2).
+    Primitive(usize),
+
+    /// Constructed.
+    Constructed(Length),
+}
+
+/// The header of a value: its identifier octets and length octets.
 #[derive(Clone, Copy)]
 pub(crate) struct Header {
     pub tag: Tag,
-    pub constructed: bool,
-    pub len: Length,
+    pub form: Form,
 }
 
 /// A header at the front of a source, and how many octets it has.
@@ -40,6 +51,7 @@ pub(crate) enum Wanted {
 }
 
 /// What stands at the front of a source, where a header is looked for.
+#[derive(Drop)]
 pub(crate) enum Peeked {
     /// The source is at its end.
     Nothing,
@@ -47,12 +59,78 @@ pub(crate) enum Peeked {
     /// The identifier octets of another tag than the one whose headers are looked for.
     Other,
 
-    /// Identifier octets and length octets, and how many octets these are.
+    /// End-of-contents octets (8.1.5), and how many these are.
+    End { size: usize },
+
+    /// The header of a value, and how many octets it has.
     Front { header: Header, size: usize },
 
-    /// Octets that are no identifier octets, or those of such a tag without length octets behind
-    /// them.
+    /// Octets that are none of these in the mode, and no front of any.
     Refused,
+}
+
+impl Form {
+    /// Whether this is the constructed form.
+    #[inline(always)]
+    pub(crate) fn is_constructed(self) -> bool
+        ensures { result ≡ is_constructed self }
+    {
+        match self {
+            Form::Primitive(_) => false,
+            Form::Constructed(_) => true,
+        }
+    }
+}
+
+/// The form that a bit and length octets tell, if a mode allows the length (9.1, 10.1) and the form
+/// does (8.1.3.2).
+#[tactic(auto, using(std::proofs::lemmas::Bool::Decides::nat_tests))]
+#[inline(always)]
+fn form_of(mode: Mode, constructed: bool, len: Length) -> Option<Form>
+    ensures { MatchOption result
+        (may_have mode constructed len ≡ false)
+        (λ f. (may_have mode constructed len ≡ true)
+        × (is_constructed f ≡ constructed) × (len_of f ≡ len)) }
+{
+    match len {
+        Length::Definite(count) => {
+            if !constructed {
+                return Some(Form::Primitive(count));
+            }
+            if mode == Mode::Cer {
+                return None;
+            }
+            Some(Form::Constructed(Length::Definite(count)))
+        }
+        Length::Indefinite => {
+            if !constructed || mode == Mode::Der {
+                return None;
+            }
+            Some(Form::Constructed(Length::Indefinite))
+        }
+    }
+}
+
+/// The header of a value at the front, and the octets after it.
+#[tactic(auto, unfolding(crate::specs::steps::Reading::read_header))]
+#[inline(always)]
+pub(crate) fn header_at(mode: Mode, octets: &[u8]) -> Option<(Header, &[u8])>
+    ensures less { IfSome result (λ r. length r.1.now + 2 ≤ length octets.now) }
+    ensures read { MatchOption result
+        (read_header mode octets.now ≡ None)
+        (λ r. read_header mode octets.now ≡ Some (header_of r.0, r.1.now)) }
+{
+    let Some((tag, constructed, rest)) = identifier_at(octets) else {
+        return None;
+    };
+    if !tag.is_value() {
+        return None;
+    }
+    let (len, rest) = length_at(mode, rest)?;
+    match form_of(mode, constructed, len) {
+        Some(form) => Some((Header { tag, form }, rest)),
+        None => None,
+    }
 }
 
 /// Whether headers of a tag are looked for.
@@ -67,12 +145,32 @@ fn is_wanted(wanted: &Wanted, tag: Tag) -> bool
     }
 }
 
+/// The same tag: where the one that is looked for is a constant, so is what is asked of it.
+#[inline(always)]
+fn wanted_tag(wanted: &Wanted, tag: Tag) -> Tag
+    requires { IsAsked (asked wanted.now) tag }
+    ensures { result ≡ tag }
+{
+    match wanted {
+        Wanted::Tagged(wanted) => *wanted,
+        Wanted::Any => tag,
+    }
+}
+
 /// What the octets at hand tell of the header at their front, whatever follows them. `None` is
 /// where it depends on what follows.
-#[inline(always)]
 fn look(mode: Mode, wanted: &Wanted, octets: &[u8]) -> Option<Peeked>
     ensures { Sees mode (asked wanted.now) result octets.now }
 {
+    if let Some((header, rest)) = header_at(mode, octets) {
+        if !is_wanted(wanted, header.tag) {
+            return Some(Peeked::Other);
+        }
+        return Some(Peeked::Front {
+            header,
+            size: octets.len() - rest.len(),
+        });
+    }
     let Some(found) = identifier_at(octets) else {
         if may_begin_identifier(octets) {
             return None;
@@ -82,18 +180,13 @@ fn look(mode: Mode, wanted: &Wanted, octets: &[u8]) -> Option<Peeked>
     if !is_wanted(wanted, found.0) {
         return Some(Peeked::Other);
     }
+    if let Some(rest) = after_end(mode, octets) {
+        return Some(Peeked::End {
+            size: octets.len() - rest.len(),
+        });
+    }
     match length_at(mode, found.2) {
-        Some((len, rest)) => {
-            let header = Header {
-                tag: found.0,
-                constructed: found.1,
-                len,
-            };
-            Some(Peeked::Front {
-                header,
-                size: octets.len() - rest.len(),
-            })
-        }
+        Some(_) => Some(Peeked::Refused),
         None => {
             if may_begin_length(found.2) {
                 None
@@ -104,59 +197,86 @@ fn look(mode: Mode, wanted: &Wanted, octets: &[u8]) -> Option<Peeked>
     }
 }
 
-/// The header of two octets at the front, if there is one: a tag that the leading octet tells
-/// alone, and a definite length below 128. With `all` the length may be indefinite too, and
-/// end-of-contents octets are told first, so that what they are is a constant.
-#[tactic(auto, using(crate::proofs::nat_tests))]
+/// What is told by the leading octet, which tells the tag alone, and a length that has one octet.
 #[inline(always)]
-fn short_header(all: bool, octets: &[u8]) -> Option<Header>
-    ensures { IfSome result (λ h. IsShortHeader h octets.now) }
+fn front_of_two(mode: Mode, wanted: &Wanted, leading: u8, len: Length) -> Option<Peeked>
+    requires { leading % 32 < 31 }
+    ensures { IfSome result (IsOfTwo mode (asked wanted.now) (record {
+      tag = record { class = class_of leading; number = leading % 32 };
+      form = is_marked leading;
+      len = len;
+    })) }
 {
+    let tag = tag_of_leading(leading);
+    if !is_wanted(wanted, tag) {
+        return Some(Peeked::Other);
+    }
+    let tag = wanted_tag(wanted, tag);
+    if !tag.is_value() {
+        return None;
+    }
+    match form_of(mode, mark_of_leading(leading), len) {
+        Some(form) => Some(Peeked::Front {
+            header: Header { tag, form },
+            size: 2,
+        }),
+        None => None,
+    }
+}
+
+/// What two octets tell, if they are a header or end-of-contents octets: a tag that the leading
+/// octet tells alone, and a definite length below 128. Where headers of any tag are looked for the
+/// length may be indefinite too, and end-of-contents octets are told first, so that what they are
+/// is a constant.
+#[inline(always)]
+fn look_short(mode: Mode, wanted: &Wanted, octets: &[u8]) -> Option<Peeked>
+    ensures shows { IfSome result (λ p. Shows mode (asked wanted.now) p octets.now) }
+    ensures two { IfSome result HasTwo }
+{
+    let any = matches!(wanted, Wanted::Any);
     match octets {
-        [leading, len, ..] if all && *len == 0 && *leading == 0 => Some(Header {
-            tag: Tag::END_OF_VALUE,
-            constructed: false,
-            len: Length::Definite(0),
-        }),
-        [leading, len, ..] if *leading % 32 < 31 && *len < 0x80 => Some(Header {
-            tag: tag_of_leading(*leading),
-            constructed: mark_of_leading(*leading),
-            len: Length::Definite(usize::from(*len)),
-        }),
-        [leading, len, ..] if all && *leading % 32 < 31 && *len == 0x80 => Some(Header {
-            tag: tag_of_leading(*leading),
-            constructed: mark_of_leading(*leading),
-            len: Length::Indefinite,
-        }),
+        [leading, len, ..] if any && *len == 0 && *leading == 0 => Some(Peeked::End { size: 2 }),
+        [leading, len, ..] if *leading % 32 < 31 && *len < 0x80 => {
+            front_of_two(mode, wanted, *leading, Length::Definite(usize::from(*len)))
+        }
+        [leading, len, ..] if any && *leading % 32 < 31 && *len == 0x80 => {
+            front_of_two(mode, wanted, *leading, Length::Indefinite)
+        }
         _ => None,
     }
 }
 
-/// The header of two octets at the front of a source, if it is that of a primitive value whose
-/// octets are all at hand. It asks for two octets, and takes none. An error is the source's own.
+/// The tag of the primitive value at the front of a source, and how many contents octets it has, if
+/// its header has two octets and all of its octets are at hand. It asks for two octets, and takes
+/// none. An error is the source's own.
 #[inline(always)]
-pub(crate) fn peek_whole<S: Source>(source: &mut S) -> Result<Option<Header>, S::Error>
-    ensures short { IfOk result (λ o. IfSome o (λ h.
-        (mode : ModeValue) → Fronts mode h 2 (S.stream source.new))) }
-    ensures whole { IfOk result (λ o. IfSome o (λ h.
-        IsAllHere h (S.stream source.new).avail)) }
+pub(crate) fn peek_whole<S: Source>(
+    source: &mut S,
+    mode: Mode,
+) -> Result<Option<(Tag, usize)>, S::Error>
+    ensures short { IfOk result (λ o. IfSome o (λ r.
+        Fronts mode (octets_header r.0 r.1) 2 (S.stream source.new))) }
+    ensures whole { IfOk result (λ o. IfSome o (λ r. 2 + r.1 ≤ (S.stream source.new).avail)) }
     ensures no_fault { OnOk result (SameFaults S.stream source) }
     ensures fault { OnErr result (MoreFaults S.stream source) }
     ensures rest { SameRest S.stream source }
     ensures kept { SameKept S.stream source }
 {
     let found = source.request(2)?;
-    let Some(header) = short_header(false, &source.slice()[..found]) else {
-        return Ok(None);
-    };
-    match header.len {
-        Length::Definite(len) => {
-            if header.constructed || !header.tag.is_value() || found - 2 < len {
-                return Ok(None);
+    match look_short(mode, &Wanted::Any, &source.slice()[..found]) {
+        Some(Peeked::Front { header, .. }) => {
+            let form = header.form;
+            match form {
+                Form::Primitive(len) => {
+                    if found - 2 < len {
+                        return Ok(None);
+                    }
+                    Ok(Some((header.tag, len)))
+                }
+                Form::Constructed(_) => Ok(None),
             }
-            Ok(Some(header))
         }
-        Length::Indefinite => Ok(None),
+        _ => Ok(None),
     }
 }
 
@@ -176,15 +296,11 @@ pub(crate) fn peek<S: Source>(
     ensures position { SamePosition S.stream source }
     ensures kept { SameKept S.stream source }
 {
-    let any = matches!(&wanted, Wanted::Any);
     let found = source.request(2)?;
-    let Some(header) = short_header(any, &source.slice()[..found]) else {
+    let Some(peeked) = look_short(mode, &wanted, &source.slice()[..found]) else {
         return peek_on(source, mode, wanted);
     };
-    if is_wanted(&wanted, header.tag) {
-        return Ok(Peeked::Front { header, size: 2 });
-    }
-    Ok(Peeked::Other)
+    Ok(peeked)
 }
 
 /// The same, whatever size the header has.

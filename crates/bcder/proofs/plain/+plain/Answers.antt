@@ -1,4 +1,6 @@
-use Rattle.std.proofs.Common.{◌+◌, ◌≤◌, length, arith, rules}
+use Rattle.std.proofs.Common.{◌≡◌, ◌+◌, ◌≤◌, ◌∙◌, length, ap, arith, rules}
+use Rattle.bcder.specs.declared.length.Length.TheVariants.{Definite, Indefinite}
+use Rattle.bcder.specs.steps.Peek.{is_constructed, len_of}
 use Rattle.bcder.specs.x690.Identifier.{AreOctets}
 use Rattle.bcder.proofs.Levels.{list_passes, list_fails, behind_shorter, list_ended, opened, ends_one, end_passes, open_passes, open_goes_on, open_fails}
 use Rattle.bcder.proofs.Skip.{no_header, octets_behind, too_short, primitive_read, definite_read, bad_contents, indefinite_read, whole_read}
@@ -9,37 +11,47 @@ front_within-returns-in_default-clause-none t c =
     let o : AreOctets c.args.octets.now = λ i. omega (arith, c.type_inv.octets i) in
     λ _. no_header _ _ o c.in_default.ensures.read
 
-pub front_within-returns-then-rest-n-clause-none :
-    goal.front_within-returns-then-rest-n-clause-none
-front_within-returns-then-rest-n-clause-none t c =
+pub front_within-returns-then-rest-len-clause-none :
+    goal.front_within-returns-then-rest-len-clause-none
+front_within-returns-then-rest-len-clause-none t c =
     let o : AreOctets c.args.octets.now = λ i. omega (arith, c.type_inv.octets i) in
-    λ _. too_short _ _ _ _ _ _ o c.in-Some.ensures.read _ c.in-Definite.is c.if-rest-n.true
+    λ _. too_short _ _ _ _ _ _ o c.in-Some.ensures.read _ (ap len_of c.in-Primitive.is) c.if-rest-len.true
 
-pub front_within-returns-then-not-constructed-clause-read :
-    goal.front_within-returns-then-not-constructed-clause-read
-front_within-returns-then-not-constructed-clause-read t c =
+pub front_within-returns-else-rest-len-clause-read :
+    goal.front_within-returns-else-rest-len-clause-read
+front_within-returns-else-rest-len-clause-read t c =
     let o : AreOctets c.args.octets.now = λ i. omega (arith, c.type_inv.octets i) in
-    primitive_read _ _ _ _ _ _ o c.in-Some.ensures.read _ _ c.in-Definite.is c.if-rest-n.false c.if-not-constructed.true c.split_at.ensures.back
+    primitive_read _ _ _ _ _ _ o c.in-Some.ensures.read _ _ (ap len_of c.in-Primitive.is) c.if-rest-len.false (ap is_constructed c.in-Primitive.is) c.split_at.ensures.back
+
+pub front_within-returns-then-rest-len-2-clause-none :
+    goal.front_within-returns-then-rest-len-2-clause-none
+front_within-returns-then-rest-len-2-clause-none t c =
+    let o : AreOctets c.args.octets.now = λ i. omega (arith, c.type_inv.octets i) in
+    let e : c.in-Constructed-Definite.field-0 ≡ Definite c.in-Constructed-Definite.len = rw c.in-Constructed-Definite.is at c.in-Constructed-Definite.field-0-is in
+    λ _. too_short _ _ _ _ _ _ o c.in-Some.ensures.read _ (ap len_of c.in-Constructed-Definite.is ∙ e) c.if-rest-len-2.true
 
 pub front_within-returns-then-is_list_within-clause-read :
     goal.front_within-returns-then-is_list_within-clause-read
 front_within-returns-then-is_list_within-clause-read t c =
     let o : AreOctets c.args.octets.now = λ i. omega (arith, c.type_inv.octets i) in
-    definite_read _ _ _ _ _ _ o c.in-Some.ensures.read _ _ _ c.in-Definite.is c.if-rest-n.false c.if-not-constructed.false c.split_at.ensures.front c.split_at.ensures.back (c.is_list_within.ensures.list c.if-is_list_within.true)
+    let e : c.in-Constructed-Definite.field-0 ≡ Definite c.in-Constructed-Definite.len = rw c.in-Constructed-Definite.is at c.in-Constructed-Definite.field-0-is in
+    definite_read _ _ _ _ _ _ o c.in-Some.ensures.read _ _ _ (ap len_of c.in-Constructed-Definite.is ∙ e) c.if-rest-len-2.false (ap is_constructed c.in-Constructed-Definite.is) c.split_at-in-Constructed-Definite.ensures.front c.split_at-in-Constructed-Definite.ensures.back (c.is_list_within.ensures.list c.if-is_list_within.true)
 
 pub front_within-returns-else-is_list_within-clause-none :
     goal.front_within-returns-else-is_list_within-clause-none
 front_within-returns-else-is_list_within-clause-none t c =
     let o : AreOctets c.args.octets.now = λ i. omega (arith, c.type_inv.octets i) in
-    let less : length c.split_at.result.0.now + 2 ≤ length c.args.octets.now = search rules in
-    λ l. bad_contents _ _ _ _ _ _ o c.in-Some.ensures.read _ _ c.in-Definite.is c.if-rest-n.false c.if-not-constructed.false c.split_at.ensures.front (c.is_list_within.ensures.none c.if-is_list_within.false (omega (arith, l, less, c.if-levels-eq0.false)))
+    let e : c.in-Constructed-Definite.field-0 ≡ Definite c.in-Constructed-Definite.len = rw c.in-Constructed-Definite.is at c.in-Constructed-Definite.field-0-is in
+    let less : length c.split_at-in-Constructed-Definite.result.0.now + 2 ≤ length c.args.octets.now = search rules in
+    λ l. bad_contents _ _ _ _ _ _ o c.in-Some.ensures.read _ _ (ap len_of c.in-Constructed-Definite.is ∙ e) c.if-rest-len-2.false (ap is_constructed c.in-Constructed-Definite.is) c.split_at-in-Constructed-Definite.ensures.front (c.is_list_within.ensures.none c.if-is_list_within.false (omega (arith, l, less, c.if-levels-eq0.false)))
 
-pub front_within-returns-in-Indefinite-clause-read :
-    goal.front_within-returns-in-Indefinite-clause-read
-front_within-returns-in-Indefinite-clause-read t c =
+pub front_within-returns-in-Constructed-Indefinite-clause-read :
+    goal.front_within-returns-in-Constructed-Indefinite-clause-read
+front_within-returns-in-Constructed-Indefinite-clause-read t c =
     let o : AreOctets c.args.octets.now = λ i. omega (arith, c.type_inv.octets i) in
+    let e : c.in-Constructed-Indefinite.field-0 ≡ Indefinite = rw c.in-Constructed-Indefinite.is at c.in-Constructed-Indefinite.field-0-is in
     let h = c.in-Some.ensures.read in
-    (octets_behind _ _ _ _ _ _ o h, indefinite_read _ _ _ _ _ _ o h c.in-Indefinite.is)
+    (octets_behind _ _ _ _ _ _ o h, indefinite_read _ _ _ _ _ _ o h (ap len_of c.in-Constructed-Indefinite.is ∙ e))
 
 pub is_list_within-loop-rest-preserved-in-Some : goal.is_list_within-loop-rest-preserved-in-Some
 is_list_within-loop-rest-preserved-in-Some t c = list_passes _ _ _ c.loop-rest.invariant _ (search rules) (whole_read _ _ _ _ (c.in-Some.ensures.begins c.args.mode) c.split_at.ensures.back)

@@ -9,4 +9,4 @@ returns-in_default-clause-none c = no_header_found _ _ c.in_default.ensures.read
 pub returns-clause-found : goal.returns-clause-found
 returns-clause-found c =
     let o : AreOctets c.args.octets.now = λ i. omega (arith, c.type_inv.octets i) in
-    header_found _ _ _ _ _ _ _ o c.in-Some.ensures.read c.number_told.ensures
+    rw c.is_constructed.ensures (header_found _ _ _ _ _ _ _ o c.in-Some.ensures.read c.number_told.ensures)

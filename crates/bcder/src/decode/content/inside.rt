@@ -5,11 +5,10 @@ ghost use Rattle.bcder.specs.calls.Calls.{RefusesEnd};
 ghost use Rattle.bcder.specs.calls.Cause.{cause_of};
 ghost use Rattle.bcder.specs.steps.StopCause.{stop_cause};
 ghost use Rattle.bcder.specs.calls.Content.{Moves, FitsOwed, EndsAt, IsDone};
-ghost use Rattle.bcder.specs.x690.Encoding.{may_have};
 ghost use Rattle.bcder.specs.steps.Entering.{MeetsNoFault};
 ghost use Rattle.bcder.specs.steps.Inside.{kind_behind, limit_inside, limit_outside, IsBehind};
 ghost use Rattle.bcder.specs.steps.Inside.{RanInside, TakesBehind};
-ghost use Rattle.bcder.specs.steps.Peek.{header_of};
+ghost use Rattle.bcder.specs.steps.Peek.{header_of, len_of};
 ghost use Rattle.bcder.specs.calls.Views.{of_constructed, of_primitive, of_content, limited_stream};
 ghost use Rattle.bcder.specs.calls.Views.{content_name, content_source, content_mark, before};
 ghost use Rattle.bcder.specs.calls.Views.{after};
@@ -19,7 +18,7 @@ ghost use Rattle.bcder.specs.calls.Views.{content_after};
 use super::take::{pop, push};
 use super::{Constructed, Content, Kind, Primitive, State};
 use crate::decode::error::DecodeError;
-use crate::decode::header::{Header, Wanted};
+use crate::decode::header::{Form, Header, Wanted};
 use crate::decode::source::{LimitedSource, Source};
 use crate::decode::stop::{Reason, Stop};
 use crate::length::Length;
@@ -302,17 +301,16 @@ impl<'a, S: Source> Constructed<'a, S> {
             header.tag (F.pre op) }
         requires lawful { IsLawfulAt (of_primitive S.stream) (IsBehind S.stream self header)
             header.tag (F.post op) }
-        requires allowed { may_have self.old.mode header.constructed header.len ≡ true }
-        requires fits { FitsOwed header.len self.old.source.now.limit }
+        requires fits { FitsOwed (len_of header.form) self.old.source.now.limit }
         ensures { TakesBehind (of_primitive S.stream) (F.post op) (Some true)
             (before S.stream self) (header_of header) result (after S.stream self) }
     {
-        if header.constructed {
+        let Form::Primitive(len) = header.form else {
             return Err(self.refusal("expected a primitive value"));
-        }
+        };
         let mode = self.mode;
         let source = &mut *self.source;
-        let outer = go_inside(source, header.len);
+        let outer = push(source, len);
         let start = source.pos();
         let mut octets = Primitive {
             source: &mut *source,
@@ -324,13 +322,13 @@ impl<'a, S: Source> Constructed<'a, S> {
             Ok(value) => value,
             Err(error) => {
                 let marked = octets.marked;
-                go_outside(source, outer, header.len);
+                pop(source, outer, len);
                 self.marked = either(self.marked, marked);
                 return Err(error);
             }
         };
         let marked = octets.marked;
-        go_outside(source, outer, header.len);
+        pop(source, outer, len);
         self.marked = either(self.marked, marked);
         self.state = State::Open;
         Ok(Some(value))
@@ -349,17 +347,17 @@ impl<'a, S: Source> Constructed<'a, S> {
             header.tag (F.pre op) }
         requires lawful { IsLawfulAt (of_constructed S.stream) (IsBehind S.stream self header)
             header.tag (F.post op) }
-        requires fits { FitsOwed header.len self.old.source.now.limit }
+        requires fits { FitsOwed (len_of header.form) self.old.source.now.limit }
         ensures { TakesBehind (of_constructed S.stream) (F.post op) (Some false)
             (before S.stream self) (header_of header) result (after S.stream self) }
     {
-        if !header.constructed {
+        let Form::Constructed(len) = header.form else {
             return Err(self.refusal("expected a constructed value"));
-        }
+        };
         let mode = self.mode;
         let source = &mut *self.source;
-        let outer = go_inside(source, header.len);
-        let kind = kind_behind(header.len);
+        let outer = go_inside(source, len);
+        let kind = kind_behind(len);
         let start = source.pos();
         let mut values = Constructed {
             source: &mut *source,
@@ -373,13 +371,13 @@ impl<'a, S: Source> Constructed<'a, S> {
             Ok(value) => value,
             Err(error) => {
                 let marked = values.marked;
-                go_outside(source, outer, header.len);
+                go_outside(source, outer, len);
                 self.marked = either(self.marked, marked);
                 return Err(error);
             }
         };
         let marked = values.marked;
-        go_outside(source, outer, header.len);
+        go_outside(source, outer, len);
         self.marked = either(self.marked, marked);
         self.state = State::Open;
         Ok(Some(value))
@@ -398,51 +396,55 @@ impl<'a, S: Source> Constructed<'a, S> {
             header.tag (F.pre op) }
         requires lawful { IsLawfulAt (of_content S.stream) (IsBehind S.stream self header)
             header.tag (F.post op) }
-        requires allowed { may_have self.old.mode header.constructed header.len ≡ true }
-        requires fits { FitsOwed header.len self.old.source.now.limit }
+        requires fits { FitsOwed (len_of header.form) self.old.source.now.limit }
         ensures { TakesBehind (of_content S.stream) (F.post op) None
             (before S.stream self) (header_of header) result (after S.stream self) }
     {
         let mode = self.mode;
         let source = &mut *self.source;
-        let outer = go_inside(source, header.len);
-        let start = source.pos();
-        if header.constructed {
-            let kind = kind_behind(header.len);
-            let content = Content::Constructed(Constructed {
-                source: &mut *source,
-                kind,
-                state: State::Open,
-                mode,
-                marked: false,
-                start,
-            });
-            let (result, marked, _back) = run_over(content, header.tag, op);
-            go_outside(source, outer, header.len);
-            self.marked = either(self.marked, marked);
-            match result {
-                Ok(value) => {
-                    self.state = State::Open;
-                    Ok(Some(value))
+        match header.form {
+            Form::Primitive(len) => {
+                let outer = push(source, len);
+                let start = source.pos();
+                let content = Content::Primitive(Primitive {
+                    source: &mut *source,
+                    mode,
+                    marked: false,
+                    start,
+                });
+                let (result, marked, _back) = run_over(content, header.tag, op);
+                pop(source, outer, len);
+                self.marked = either(self.marked, marked);
+                match result {
+                    Ok(value) => {
+                        self.state = State::Open;
+                        Ok(Some(value))
+                    }
+                    Err(error) => Err(error),
                 }
-                Err(error) => Err(error),
             }
-        } else {
-            let content = Content::Primitive(Primitive {
-                source: &mut *source,
-                mode,
-                marked: false,
-                start,
-            });
-            let (result, marked, _back) = run_over(content, header.tag, op);
-            go_outside(source, outer, header.len);
-            self.marked = either(self.marked, marked);
-            match result {
-                Ok(value) => {
-                    self.state = State::Open;
-                    Ok(Some(value))
+            Form::Constructed(len) => {
+                let outer = go_inside(source, len);
+                let kind = kind_behind(len);
+                let start = source.pos();
+                let content = Content::Constructed(Constructed {
+                    source: &mut *source,
+                    kind,
+                    state: State::Open,
+                    mode,
+                    marked: false,
+                    start,
+                });
+                let (result, marked, _back) = run_over(content, header.tag, op);
+                go_outside(source, outer, len);
+                self.marked = either(self.marked, marked);
+                match result {
+                    Ok(value) => {
+                        self.state = State::Open;
+                        Ok(Some(value))
+                    }
+                    Err(error) => Err(error),
                 }
-                Err(error) => Err(error),
             }
         }
     }

@@ -5,9 +5,8 @@ ghost use Rattle.bcder.specs.calls.Cause.{cause_of, of_content, of_memory, of_so
 ghost use Rattle.bcder.specs.steps.StopCause.{stop_cause};
 ghost use Rattle.bcder.specs.calls.Cause.{IsOfContent, IsRefusal};
 ghost use Rattle.bcder.specs.calls.Content.{FitsOwed, Moves, Resembles};
-ghost use Rattle.bcder.specs.x690.Encoding.{may_have};
 ghost use Rattle.bcder.specs.steps.Inside.{kind_behind, limit_inside};
-ghost use Rattle.bcder.specs.steps.Peek.{header_of, IsAtHand};
+ghost use Rattle.bcder.specs.steps.Peek.{header_of, octets_header, len_of};
 ghost use Rattle.bcder.specs.calls.Skipping.{ExactlyAll, ExactlySkipped, ExactlyValue, FoundMemory};
 ghost use Rattle.bcder.specs.steps.SkipSteps.{IsPast, MovedBehind, SkippedBehind};
 ghost use Rattle.bcder.specs.calls.Skipping.{SkippedAll, SkippedNext, SkippedOne, SkippedValue};
@@ -24,7 +23,7 @@ use super::inside::{go_inside, kind_behind};
 use super::walk::Lookahead;
 use super::{Constructed, Kind, State};
 use crate::decode::error::{ContentError, DecodeError};
-use crate::decode::header::{Header, Wanted, peek_whole};
+use crate::decode::header::{Form, Header, Wanted, peek_whole};
 use crate::decode::source::{LimitedSource, Source};
 use crate::decode::stop::Stop;
 use crate::length::Length;
@@ -201,8 +200,7 @@ fn go_into<S: Source>(
 ) -> Result<(), Bar<S::Error>>
     requires counted { IsCounted opened.old }
     requires few { opened.old.depth + 1 < 2 ^ 64 }
-    requires allowed { may_have cons.old.mode header.constructed header.len ≡ true }
-    requires fits { FitsOwed header.len (limit_in cons.old) }
+    requires fits { FitsOwed (len_of header.form) (limit_in cons.old) }
     ensures counted { IsCounted opened.new }
     ensures gone { Gone S.stream cons opened header result }
     ensures kind { OnOk result (TopIs (entries opened.old) cons.old.kind
@@ -212,22 +210,20 @@ fn go_into<S: Source>(
     ensures mode { cons.new.mode ≡ cons.old.mode }
     ensures marked { cons.new.marked ≡ cons.old.marked }
 {
-    if header.constructed {
-        if open(cons, opened, header.len) {
-            return Ok(());
-        }
-        return Err(Bar::NoMemory);
-    }
-    match header.len {
-        Length::Definite(len) => match cons.source.skip_owed(len) {
+    match header.form {
+        Form::Primitive(len) => match cons.source.skip_owed(len) {
             Ok(()) => {
                 cons.state = State::Open;
                 Ok(())
             }
             Err(stop) => Err(Bar::Stopped(stop)),
         },
-        // No primitive value has it (X.690, 8.1.3.2).
-        Length::Indefinite => unreachable!(),
+        Form::Constructed(len) => {
+            if open(cons, opened, len) {
+                return Ok(());
+            }
+            Err(Bar::NoMemory)
+        }
     }
 }
 
@@ -242,8 +238,7 @@ fn run<S: Source, F>(
 where
     F: FnMut(Tag, bool, usize) -> Result<(), ContentError>,
     requires callable { F.IsAlwaysCallable op.old }
-    requires allowed { may_have cons.old.mode outermost.constructed outermost.len ≡ true }
-    requires fits { FitsOwed outermost.len (limit_in cons.old) }
+    requires fits { FitsOwed (len_of outermost.form) (limit_in cons.old) }
     ensures ran { Ran S.stream F.step cons outermost op result }
     ensures name { cons.new.source.ghost_name ≡ cons.old.source.ghost_name }
 {
@@ -254,7 +249,7 @@ where
         indefinite: 0,
         frames: &mut frames,
     };
-    if let Err(error) = op(outermost.tag, outermost.constructed, 0) {
+    if let Err(error) = op(outermost.tag, outermost.form.is_constructed(), 0) {
         return Err(Halt::Refused(error));
     }
     if let Err(bar) = go_into(cons, &mut opened, outermost) {
@@ -263,7 +258,7 @@ where
     while opened.depth > 0 {
         match cons.next_header(Wanted::Any) {
             Ok(Some(header)) => {
-                if let Err(error) = op(header.tag, header.constructed, opened.depth) {
+                if let Err(error) = op(header.tag, header.form.is_constructed(), opened.depth) {
                     unwind(cons.source, opened.frames, outer);
                     return Err(Halt::Refused(error));
                 }
@@ -294,8 +289,7 @@ fn skip_content<S: Source, F>(
 where
     F: FnMut(Tag, bool, usize) -> Result<(), ContentError>,
     requires callable { F.IsAlwaysCallable op.old }
-    requires allowed { may_have mode header.constructed header.len ≡ true }
-    requires fits { FitsOwed header.len source.old.limit }
+    requires fits { FitsOwed (len_of header.form) source.old.limit }
     ensures { RanOverSource S.stream F.step source mode header op result }
 {
     let start = source.pos();
@@ -331,31 +325,26 @@ impl<'a, S: Source> Constructed<'a, S> {
     #[inline(always)]
     fn skip_octets<F>(
         &mut self,
-        header: Header,
+        tag: Tag,
+        len: usize,
         op: &mut F,
     ) -> Result<Option<()>, DecodeError<S::Error>>
     where
         F: FnMut(Tag, bool, usize) -> Result<(), ContentError>,
         requires callable { F.IsAlwaysCallable op.old }
-        requires primitive { header.constructed ≡ false }
-        requires allowed { may_have self.old.mode header.constructed header.len ≡ true }
-        requires fits { FitsOwed header.len (limit_in self.old) }
-        ensures moves { MovedBehind S.stream self header }
-        ensures skipped { SkippedBehind S.stream F.step self header op result }
+        requires fits { FitsOwed (Length.Definite len) (limit_in self.old) }
+        ensures moves { MovedBehind S.stream self (octets_header tag len) }
+        ensures skipped { SkippedBehind S.stream F.step self (octets_header tag len) op result }
     {
-        if let Err(error) = op(header.tag, header.constructed, 0) {
+        if let Err(error) = op(tag, false, 0) {
             return Err(self.halt_error(Halt::Refused(error)));
         }
-        match header.len {
-            Length::Definite(len) => match self.source.skip_owed(len) {
-                Ok(()) => {
-                    self.state = State::Open;
-                    Ok(Some(()))
-                }
-                Err(stop) => Err(self.halt_error(Halt::Barred(Bar::Stopped(stop)))),
-            },
-            // No primitive value has it (X.690, 8.1.3.2).
-            Length::Indefinite => unreachable!(),
+        match self.source.skip_owed(len) {
+            Ok(()) => {
+                self.state = State::Open;
+                Ok(Some(()))
+            }
+            Err(stop) => Err(self.halt_error(Halt::Barred(Bar::Stopped(stop)))),
         }
     }
 
@@ -363,44 +352,38 @@ impl<'a, S: Source> Constructed<'a, S> {
     #[inline(always)]
     fn skip_octets_at_hand<F>(
         &mut self,
-        header: Header,
+        tag: Tag,
+        len: usize,
         op: &mut F,
     ) -> Result<Option<()>, DecodeError<S::Error>>
     where
         F: FnMut(Tag, bool, usize) -> Result<(), ContentError>,
         requires callable { F.IsAlwaysCallable op.old }
-        requires primitive { header.constructed ≡ false }
-        requires definite { header.len ≡ Length.Indefinite → ⊥ }
-        requires fits { FitsOwed header.len (limit_in self.old) }
-        requires at_hand { IsAtHand header.len (source_of S.stream self.old).avail }
-        ensures moves { MovedBehind S.stream self header }
-        ensures skipped { SkippedBehind S.stream F.step self header op result }
+        requires fits { FitsOwed (Length.Definite len) (limit_in self.old) }
+        requires at_hand { len ≤ (source_of S.stream self.old).avail }
+        ensures moves { MovedBehind S.stream self (octets_header tag len) }
+        ensures skipped { SkippedBehind S.stream F.step self (octets_header tag len) op result }
     {
-        if let Err(error) = op(header.tag, header.constructed, 0) {
+        if let Err(error) = op(tag, false, 0) {
             return Err(self.halt_error(Halt::Refused(error)));
         }
-        match header.len {
-            Length::Definite(len) => {
-                self.source.pass_owed(len);
-                self.state = State::Open;
-                Ok(Some(()))
-            }
-            Length::Indefinite => unreachable!(),
-        }
+        self.source.pass_owed(len);
+        self.state = State::Open;
+        Ok(Some(()))
     }
 
     /// Passes over the header of the next value, if it is primitive, has a header of two octets,
-    /// and all of its octets are at hand. Else nothing is taken. The source is asked once at most.
+    /// and all of its octets are at hand, and answers its tag and how many contents octets it has.
+    /// Else nothing is taken. The source is asked once at most.
     #[tactic(auto, using(crate::specs::laws::Moved::untouched_is_moved), unfolding(crate::specs::calls::Views::views))]
     #[inline(always)]
-    fn enter_at_hand(&mut self) -> Result<Option<Header>, Stop<S::Error>>
+    fn enter_at_hand(&mut self) -> Result<Option<(Tag, usize)>, Stop<S::Error>>
         ensures moves { Between S.stream self Moves }
-        ensures entered { IfOk result (λ o. IfSome o (λ h.
-            IsPast (before S.stream self) (header_of h) (after S.stream self))) }
-        ensures primitive { IfOk result (λ o. IfSome o (λ h. h.constructed ≡ false)) }
-        ensures definite { IfOk result (λ o. IfSome o (λ h. h.len ≡ Length.Indefinite → ⊥)) }
-        ensures at_hand { IfOk result (λ o. IfSome o (λ h.
-            IsAtHand h.len (source_of S.stream self.new).avail)) }
+        ensures entered { IfOk result (λ o. IfSome o (λ r.
+            IsPast (before S.stream self) (header_of (octets_header r.0 r.1))
+            (after S.stream self))) }
+        ensures at_hand { IfOk result (λ o. IfSome o (λ r.
+            r.1 ≤ (source_of S.stream self.new).avail)) }
         ensures same { IfOk result (λ o. IfNone o (Between S.stream self Resembles)) }
         ensures no_fault { OnOk result (NoFault S.stream self) }
         ensures fault { IfErr result (λ e. (stop_cause e ≡ of_source) × Fault S.stream self) }
@@ -414,10 +397,10 @@ impl<'a, S: Source> Constructed<'a, S> {
         if self.is_used_up() {
             return Ok(None);
         }
-        match peek_whole(self.source) {
-            Ok(Some(header)) => {
+        match peek_whole(self.source, self.mode) {
+            Ok(Some(found)) => {
                 self.pass(2);
-                Ok(Some(header))
+                Ok(Some(found))
             }
             Ok(None) => Ok(None),
             Err(error) => {
@@ -442,8 +425,9 @@ impl<'a, S: Source> Constructed<'a, S> {
     {
         match self.next_header(Wanted::Any) {
             Ok(Some(header)) => {
-                if !header.constructed {
-                    return self.skip_octets(header, op);
+                let form = header.form;
+                if let Form::Primitive(len) = form {
+                    return self.skip_octets(header.tag, len, op);
                 }
                 match skip_content(self.source, self.mode, alloc, header, op) {
                     Ok(()) => {
@@ -511,7 +495,7 @@ impl<'a, S: Source> Constructed<'a, S> {
         ensures exact { ExactlySkipped S.stream F.step self op result }
     {
         match self.enter_at_hand() {
-            Ok(Some(header)) => self.skip_octets_at_hand(header, op),
+            Ok(Some(found)) => self.skip_octets_at_hand(found.0, found.1, op),
             Ok(None) => self.skip_next_on(alloc, op),
             Err(stop) => Err(self.stop_error(stop)),
         }

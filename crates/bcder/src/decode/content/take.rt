@@ -1,79 +1,42 @@
 //! Passing over the header of the next value.
-ghost use Rattle.std.specs.Prelude.{◌≡◌, ◌⊎◌, ◌+◌, ◌≤◌, true, false, length, take, IsTrue, Some};
+ghost use Rattle.std.specs.Prelude.{◌≡◌, ◌+◌, ◌≤◌, false, length, take, IsTrue, Some};
 ghost use Rattle.std.specs.Prelude.{IfOk, IfErr, IfSome, IfNone, IsErrAnd, OnOk, OnErr};
 ghost use Rattle.bcder.specs.calls.Calls.{popped};
 ghost use Rattle.bcder.specs.calls.Changed.{SameFaults, MoreFaults, SameRest, SameKept};
 ghost use Rattle.bcder.specs.calls.Cause.{cause_of, of_source, IsOfContent, IsRefusal};
 ghost use Rattle.bcder.specs.steps.StopCause.{stop_cause};
 ghost use Rattle.bcder.specs.calls.Cause.{NamesTag};
-ghost use Rattle.bcder.specs.calls.Content.{Moves, Advances, FitsOwed, Accepts, end_header};
+ghost use Rattle.bcder.specs.calls.Content.{Moves, Advances, FitsOwed};
 ghost use Rattle.bcder.specs.calls.Content.{IsAsked, Enters, TakesMarker, NoFront, Resembles};
 ghost use Rattle.bcder.specs.steps.Entering.{EntersNext, EntersOctets, FindsNone, RefusesNext};
 ghost use Rattle.bcder.specs.steps.Entering.{MeetsNoFault, MeetsFault};
-ghost use Rattle.bcder.specs.x690.Identifier.{AreOctets, end_of_contents};
-ghost use Rattle.bcder.specs.steps.Peek.{header_of, octets_header, asked, Fronts, Peeks};
-ghost use Rattle.bcder.specs.x690.Encoding.{Header as HeaderRead};
+ghost use Rattle.bcder.specs.x690.Identifier.{AreOctets};
+ghost use Rattle.bcder.specs.steps.Peek.{header_of, len_of, octets_header, asked};
+ghost use Rattle.bcder.specs.steps.Peek.{Fronts, FrontsEnd, Peeks};
 ghost use Rattle.bcder.specs.declared.mode.Mode.{Mode as ModeValue};
 ghost use Rattle.bcder.specs.calls.Views.{before, after, limited_stream};
 
 use super::{Constructed, Kind, Primitive, State};
 use crate::decode::error::{ContentError, DecodeError};
-use crate::decode::header::{Front, Header, Peeked, Wanted, peek};
+use crate::decode::header::{Form, Front, Header, Peeked, Wanted, peek};
 use crate::decode::source::{LimitedSource, Source};
 use crate::decode::stop::{Reason, Stop};
 use crate::length::Length;
-use crate::mode::Mode;
-use crate::plain::may_have;
 use crate::tag::{Tag, leads_primitive};
 
 /// Whether the octets that a length promises are within what is owed.
 #[inline(always)]
-fn fits(len: Length, owed: Option<usize>) -> bool
-    ensures yes { IsTrue result → FitsOwed len owed }
-    ensures no { result ≡ false → FitsOwed len owed → ⊥ }
+fn fits(form: Form, owed: Option<usize>) -> bool
+    ensures yes { IsTrue result → FitsOwed (len_of form) owed }
+    ensures no { result ≡ false → FitsOwed (len_of form) owed → ⊥ }
 {
-    match (len, owed) {
-        (Length::Definite(len), Some(owed)) => len <= owed,
-        _ => true,
-    }
-}
-
-/// Whether this is the header of a value that can be taken.
-#[inline(always)]
-fn accepts(mode: Mode, tag: Tag, constructed: bool, len: Length, owed: Option<usize>) -> bool
-    ensures yes { IsTrue result
-        → Accepts mode (record { tag = tag; form = constructed; len = len }) owed }
-    ensures no { result ≡ false
-        → Accepts mode (record { tag = tag; form = constructed; len = len }) owed → ⊥ }
-{
-    tag.is_value() && may_have(mode, constructed, len) && fits(len, owed)
-}
-
-/// Whether these are end-of-contents octets (8.1.5).
-#[inline(always)]
-fn is_end(tag: Tag, constructed: bool, len: Length) -> bool
-    ensures yes { IsTrue result
-        → ◌≡◌ {A = HeaderRead} (record { tag = tag; form = constructed; len = len }) end_header }
-    ensures no { result ≡ false
-        → ◌≡◌ {A = HeaderRead} (record { tag = tag; form = constructed; len = len }) end_header
-        → ⊥ }
-{
-    tag == Tag::END_OF_VALUE && !constructed && len == Length::Definite(0)
-}
-
-/// The same header: where the tag that is looked for is a constant, so is what is asked of it.
-#[inline(always)]
-fn with_tag(wanted: &Wanted, header: Header) -> Header
-    requires { IsAsked (asked wanted.now) header.tag }
-    ensures { result ≡ header }
-{
-    match wanted {
-        Wanted::Tagged(tag) => Header {
-            tag: *tag,
-            constructed: header.constructed,
-            len: header.len,
-        },
-        Wanted::Any => header,
+    let Some(owed) = owed else {
+        return true;
+    };
+    match form {
+        Form::Primitive(len) => len <= owed,
+        Form::Constructed(Length::Definite(len)) => len <= owed,
+        Form::Constructed(Length::Indefinite) => true,
     }
 }
 
@@ -84,20 +47,7 @@ pub(super) fn octets_header(tag: Tag, len: usize) -> Header
 {
     Header {
         tag,
-        constructed: false,
-        len: Length::Definite(len),
-    }
-}
-
-/// How many contents octets a value of a form and a length has, if it is primitive.
-#[inline(always)]
-fn primitive_len(constructed: bool, len: Length) -> Option<usize>
-    ensures some { IfSome result (λ n. (constructed ≡ false) × (len ≡ Length.Definite n)) }
-    ensures none { IfNone result ((constructed ≡ true) ⊎ (len ≡ Length.Indefinite)) }
-{
-    match len {
-        Length::Definite(len) if !constructed => Some(len),
-        _ => None,
+        form: Form::Primitive(len),
     }
 }
 
@@ -115,7 +65,7 @@ fn peek_short<S: Source>(source: &mut S, tag: Tag) -> Result<Option<usize>, S::E
 {
     let found = source.request(2)?;
     match &source.slice()[..found] {
-        [leading, len, ..] if leads_primitive(tag, *leading) && *len < 0x80 => {
+        [leading, len, ..] if tag.is_value() && leads_primitive(tag, *leading) && *len < 0x80 => {
             Ok(Some(usize::from(*len)))
         }
         _ => Ok(None),
@@ -221,24 +171,16 @@ impl<'a, S: Source> Constructed<'a, S> {
         self.source.advance(size);
     }
 
-    /// Passes over a header, or an end marker.
+    /// Passes over the header of a value, whose octets have to be within what is owed.
     #[tactic(auto, unfolding(crate::specs::calls::Views::of_constructed))]
     #[inline(always)]
-    pub(super) fn enter(
-        &mut self,
-        header: Header,
-        size: usize,
-    ) -> Result<Option<Header>, Stop<S::Error>>
+    pub(super) fn enter(&mut self, header: Header, size: usize) -> Result<(), Stop<S::Error>>
         requires read { Fronts self.old.mode header size
             (limited_stream S.stream self.old.source.now) }
         requires usable { self.old.state ≡ State.Open }
         ensures moves { Moves (before S.stream self) (after S.stream self) }
-        ensures entered { IfOk result (λ o. IfSome o (λ h.
-            (h ≡ header)
-            × Enters (before S.stream self) (header_of header) (after S.stream self))) }
-        ensures ended { IfOk result (λ o. IfNone o (
-            (header.tag ≡ end_of_contents)
-            × TakesMarker (before S.stream self) (after S.stream self))) }
+        ensures entered { OnOk result
+            (Enters (before S.stream self) (header_of header) (after S.stream self)) }
         ensures refused { IfErr result (λ e.
             IsOfContent (stop_cause e) × NoFront (before S.stream self)) }
         ensures no_fault { MeetsNoFault (before S.stream self) (after S.stream self) result }
@@ -248,16 +190,34 @@ impl<'a, S: Source> Constructed<'a, S> {
     {
         self.pass(size);
         let owed = self.source.limit();
-        if accepts(self.mode, header.tag, header.constructed, header.len, owed) {
-            return Ok(Some(header));
-        }
-        if let Kind::Indefinite = self.kind {
-            if is_end(header.tag, header.constructed, header.len) {
-                self.state = State::Ended;
-                return Ok(None);
-            }
+        if fits(header.form, owed) {
+            return Ok(());
         }
         Err(Stop::Refused(Reason::ValueHeader))
+    }
+
+    /// Passes over end-of-contents octets, which have to end the content.
+    #[tactic(auto, unfolding(crate::specs::calls::Views::of_constructed))]
+    #[inline(always)]
+    fn take_end(&mut self, size: usize) -> Result<(), Stop<S::Error>>
+        requires read { FrontsEnd self.old.mode size
+            (limited_stream S.stream self.old.source.now) }
+        requires usable { self.old.state ≡ State.Open }
+        ensures moves { Moves (before S.stream self) (after S.stream self) }
+        ensures ended { OnOk result (TakesMarker (before S.stream self) (after S.stream self)) }
+        ensures refused { IfErr result (λ e.
+            IsOfContent (stop_cause e) × NoFront (before S.stream self)) }
+        ensures no_fault { MeetsNoFault (before S.stream self) (after S.stream self) result }
+        ensures failed { OnErr result (self.new.state ≡ State.Failed) }
+        ensures mode { self.new.mode ≡ self.old.mode }
+        ensures marked { self.new.marked ≡ self.old.marked }
+    {
+        self.pass(size);
+        let Kind::Indefinite = self.kind else {
+            return Err(Stop::Refused(Reason::ValueHeader));
+        };
+        self.state = State::Ended;
+        Ok(())
     }
 
     /// Whether the promised octets are used up.
@@ -278,7 +238,8 @@ impl<'a, S: Source> Constructed<'a, S> {
     }
 
     /// Looks at the next header, if it is one of those that are looked for, and takes nothing.
-    /// `None` is for another tag, and for the end of the content where no marker stands there.
+    /// `None` is for another tag, and for the end of the content, whose marker is taken where any
+    /// header is looked for.
     #[tactic(auto, using(crate::specs::laws::Moved::untouched_is_moved), unfolding(crate::specs::calls::Views::views))]
     #[inline(always)]
     pub(super) fn front(&mut self, wanted: &Wanted) -> Result<Option<Front>, Stop<S::Error>>
@@ -311,6 +272,10 @@ impl<'a, S: Source> Constructed<'a, S> {
         match self.look(wanted) {
             Ok(Peeked::Front { header, size }) => Ok(Some(Front { header, size })),
             Ok(Peeked::Other) => Ok(None),
+            Ok(Peeked::End { size }) => match self.take_end(size) {
+                Ok(()) => Ok(None),
+                Err(stop) => Err(stop),
+            },
             Ok(Peeked::Nothing) => {
                 match wanted {
                     Wanted::Tagged(_) => return Ok(None),
@@ -352,7 +317,10 @@ impl<'a, S: Source> Constructed<'a, S> {
         ensures marked { self.new.marked ≡ self.old.marked }
     {
         match self.front(&wanted) {
-            Ok(Some(front)) => self.enter(with_tag(&wanted, front.header), front.size),
+            Ok(Some(front)) => match self.enter(front.header, front.size) {
+                Ok(()) => Ok(Some(front.header)),
+                Err(stop) => Err(stop),
+            },
             Ok(None) => Ok(None),
             Err(stop) => Err(stop),
         }
@@ -369,8 +337,7 @@ impl<'a, S: Source> Constructed<'a, S> {
             (before S.stream self) result (after S.stream self) }
     {
         match self.enter(octets_header(tag, len), 2) {
-            Ok(Some(_)) => Ok(Some(len)),
-            Ok(None) => Ok(None),
+            Ok(()) => Ok(Some(len)),
             Err(stop) => Err(stop),
         }
     }
@@ -383,10 +350,13 @@ impl<'a, S: Source> Constructed<'a, S> {
             (before S.stream self) result (after S.stream self) }
     {
         match self.next_header(Wanted::Tagged(tag)) {
-            Ok(Some(header)) => match primitive_len(header.constructed, header.len) {
-                Some(len) => Ok(Some(len)),
-                None => Err(Stop::Refused(Reason::Constructed)),
-            },
+            Ok(Some(header)) => {
+                let form = header.form;
+                match form {
+                    Form::Primitive(len) => Ok(Some(len)),
+                    Form::Constructed(_) => Err(Stop::Refused(Reason::Constructed)),
+                }
+            }
             Ok(None) => Ok(None),
             Err(stop) => Err(stop),
         }

@@ -3,7 +3,7 @@ ghost use Rattle.std.specs.Prelude.{◌≡◌, ◌≢◌, ◌≤◌, false, IsTr
 ghost use Rattle.bcder.specs.steps.StopCause.{stop_cause};
 ghost use Rattle.bcder.specs.calls.Stream.{Grew, Provides};
 ghost use Rattle.bcder.specs.x690.Identifier.{Tag as TagValue};
-ghost use Rattle.bcder.specs.steps.Peek.{header_of, Fronts};
+ghost use Rattle.bcder.specs.steps.Peek.{header_of, len_of, Fronts};
 ghost use Rattle.bcder.specs.calls.Content.{Moves, FitsOwed, values, Resembles};
 ghost use Rattle.bcder.specs.calls.Calls.{RanOver};
 ghost use Rattle.bcder.specs.calls.Walking.{Between, PassedNext, ExactlyNext};
@@ -17,7 +17,7 @@ ghost use Rattle.bcder.specs.calls.Views.{Moved, of_constructed, limited_stream}
 use super::take::{pop, push};
 use super::{Constructed, Kind, State};
 use crate::decode::error::DecodeError;
-use crate::decode::header::{Header, Wanted};
+use crate::decode::header::{Form, Header, Wanted};
 use crate::decode::source::{LimitedSource, Source};
 use crate::decode::stop::Stop;
 use crate::length::Length;
@@ -57,14 +57,9 @@ pub fn walk<S: Source>(cons: &mut Constructed<'_, S>) -> Result<Option<()>, Deco
 fn primitive_size(header: Header, size: usize) -> Option<usize>
     ensures { IfSome result (λ n. IsPrimitive (header_of header) size n) }
 {
-    match header.len {
-        Length::Definite(len) => {
-            if header.constructed || !header.tag.is_value() {
-                return None;
-            }
-            size.checked_add(len)
-        }
-        Length::Indefinite => None,
+    match header.form {
+        Form::Primitive(len) => size.checked_add(len),
+        Form::Constructed(_) => None,
     }
 }
 
@@ -295,14 +290,13 @@ fn step<S: Source>(cons: &mut Constructed<'_, S>) -> Result<Option<()>, Stop<S::
         Ok(Some(front)) => match cons.pass_primitive(front.header, front.size) {
             Ok(true) => Ok(Some(())),
             Ok(false) => match cons.enter(front.header, front.size) {
-                Ok(Some(header)) => match pass_content(cons, header) {
+                Ok(()) => match pass_content(cons, front.header) {
                     Ok(()) => {
                         cons.state = State::Open;
                         Ok(Some(()))
                     }
                     Err(stop) => Err(stop),
                 },
-                Ok(None) => Ok(None),
                 Err(stop) => Err(stop),
             },
             Err(stop) => Err(stop),
@@ -320,25 +314,24 @@ fn pass_content<S: Source>(
     cons: &mut Constructed<'_, S>,
     header: Header,
 ) -> Result<(), Stop<S::Error>>
-    requires { FitsOwed header.len cons.old.source.now.limit }
+    requires { FitsOwed (len_of header.form) cons.old.source.now.limit }
     ensures taken { WalkedOver S.stream cons header result }
     ensures mode { cons.new.mode ≡ cons.old.mode }
     ensures marked { cons.new.marked ≡ cons.old.marked }
     ensures state { cons.new.state ≡ cons.old.state }
     ensures no_fault { OnOk result (NoFault S.stream cons) }
 {
-    match header.len {
-        Length::Definite(len) => {
-            if header.constructed {
-                let outer = push(cons.source, len);
-                let result = walk_over(cons.source, Kind::Definite, cons.mode);
-                pop(cons.source, outer, len);
-                result
-            } else {
-                cons.source.skip_owed(len)
-            }
+    match header.form {
+        Form::Primitive(len) => cons.source.skip_owed(len),
+        Form::Constructed(Length::Definite(len)) => {
+            let outer = push(cons.source, len);
+            let result = walk_over(cons.source, Kind::Definite, cons.mode);
+            pop(cons.source, outer, len);
+            result
         }
-        Length::Indefinite => walk_over(cons.source, Kind::Indefinite, cons.mode),
+        Form::Constructed(Length::Indefinite) => {
+            walk_over(cons.source, Kind::Indefinite, cons.mode)
+        }
     }
 }
 

@@ -86,7 +86,7 @@ impl OctetString {
     {
         match cons.next_header(Wanted::Tagged(tag)) {
             Ok(Some(header)) => {
-                if header.constructed {
+                if header.form.is_constructed() {
                     cons.take_constructed_body(
                         header,
                         |_tag, values| from_constructed(alloc, values),

@@ -8,10 +8,10 @@ ghost use Rattle.bcder.specs.steps.SegmentTable.{IsTable};
 ghost use Rattle.bcder.specs.steps.Segments.{read_segment, BeginSegment};
 
 use super::Segment;
-use crate::length::{Length, after_end};
+use crate::decode::header::{Form, header_at};
+use crate::length::after_end;
 use crate::memory::NoMemory;
 use crate::mode::Mode;
-use crate::plain::header_at;
 use crate::tag::Tag;
 use std::alloc::Global;
 
@@ -28,27 +28,24 @@ const OCTET_STRING: u8 = 0x04;
 fn any_segment_at(mode: Mode, octets: &[u8]) -> Option<(Option<usize>, &[u8])>
     ensures { Answers result (read_segment mode octets.now) }
 {
-    let Some((tag, constructed, len, rest)) = header_at(mode, octets) else {
+    let Some((header, rest)) = header_at(mode, octets) else {
         return match after_end(mode, octets) {
             Some(rest) => Some((None, rest)),
             None => None,
         };
     };
-    if tag != Tag::OCTET_STRING {
+    if header.tag != Tag::OCTET_STRING {
         return None;
     }
-    if constructed {
-        return Some((None, rest));
-    }
-    match len {
-        Length::Definite(len) => {
+    match header.form {
+        Form::Primitive(len) => {
             if rest.len() < len {
                 None
             } else {
                 Some((Some(len), rest.split_at(len).1))
             }
         }
-        Length::Indefinite => None,
+        Form::Constructed(_) => Some((None, rest)),
     }
 }
 

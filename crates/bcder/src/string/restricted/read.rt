@@ -100,7 +100,7 @@ impl<L: CharSet> RestrictedString<L> {
     {
         match cons.next_header(Wanted::Tagged(L::TAG)) {
             Ok(Some(header)) => {
-                if header.constructed {
+                if header.form.is_constructed() {
                     cons.take_constructed_body(
                         header,
                         |_tag, values| RestrictedString::<L>::from_values(alloc, values),

@@ -1,11 +1,11 @@
 use Rattle.std.proofs.Common.{◌∙◌, refl, arith}
-use Rattle.bcder.specs.steps.Peek.{header_of}
+use Rattle.bcder.specs.steps.Peek.{header_of, octets_header}
 use Rattle.bcder.specs.calls.Views.{of_constructed, limited_stream}
 use Rattle.bcder.specs.laws.Moved.{moved_twice_is_moved}
 use Rattle.bcder.proofs.Entering.{enters, within, looked_enters, looked_moves, looked_failed, no_fewer, grew_least}
 use Rattle.bcder.proofs.Moving.{moves_failed, open_not_ended}
 use Rattle.bcder.proofs.Names.{within_constructed, with_source, resembles_with_source}
-use Rattle.bcder.proofs.Skipped.{whole_accepted, behind_at_hand}
+use Rattle.bcder.proofs.Skipped.{whole_fits, behind_at_hand}
 use Rattle.bcder.proofs.decode.content.Constructed.enter_at_hand.Goals as goal
 
 pub returns-in-Ok-Some-clause-moves : goal.returns-in-Ok-Some-clause-moves
@@ -20,14 +20,14 @@ unfolding of_constructed
 returns-in-Ok-Some-clause-entered g c =
     let k = with_source c.args.self.now c.peek_whole.new.source in
     let s = resembles_with_source g.S.Source.stream c.args.self.now c.peek_whole.new.source c.peek_whole.ensures.rest c.peek_whole.ensures.kept in
-    let p = (rw c.in-Ok-Some.field-0-is at c.in-Ok-Some.ensures.short) c.args.self.now.mode in
+    let p = rw c.in-Ok-Some.field-0-is at c.in-Ok-Some.ensures.short in
     let w = rw c.in-Ok-Some.field-0-is at c.in-Ok-Some.ensures.whole in
     let l = (within k.source.now.limit (g.S.Source.stream k.source.now.source) (limited_stream g.S.Source.stream k.source.now).avail (g.met.S.Source.sound k.source.now.source) (omega arith)).1 in
     let i = within_constructed g.S.Source.stream g.met.S.Source.sound c.args.self.now in
-    let a = whole_accepted (of_constructed g.S.Source.stream k) (of_constructed g.S.Source.stream c.pass.new.self) c.in-Ok-Some.header _ w l (within_constructed g.S.Source.stream g.met.S.Source.sound k) c.pass.ensures.advances in
-    let e = enters (of_constructed g.S.Source.stream k) (of_constructed g.S.Source.stream c.pass.new.self) 2 (header_of c.in-Ok-Some.header) c.pass.ensures.advances c.pass.ensures.octets c.pass.ensures.within p.1 (s.state ∙ c.in-Open.is) a c.pass.ensures.no_fault c.pass.ensures.marked c.pass.ensures.state in
+    let a = whole_fits (of_constructed g.S.Source.stream k) (of_constructed g.S.Source.stream c.pass.new.self) c.in-Ok-Some.found.1 _ w l (within_constructed g.S.Source.stream g.met.S.Source.sound k) c.pass.ensures.advances in
+    let e = enters (of_constructed g.S.Source.stream k) (of_constructed g.S.Source.stream c.pass.new.self) 2 c.pass.ensures.advances c.pass.ensures.octets c.pass.ensures.within (s.state ∙ c.in-Open.is) (header_of (octets_header c.in-Ok-Some.found.0 c.in-Ok-Some.found.1)) p.1 a c.pass.ensures.no_fault c.pass.ensures.marked c.pass.ensures.state in
     record {
-      enters = looked_enters (of_constructed g.S.Source.stream c.args.self.now) (of_constructed g.S.Source.stream k) s (no_fewer _ _ c.in-Ok-Some.ensures.no_fault) c.in-Ok-Some.ensures.no_fault (header_of c.in-Ok-Some.header) _ e;
+      enters = looked_enters (of_constructed g.S.Source.stream c.args.self.now) (of_constructed g.S.Source.stream k) s (no_fewer _ _ c.in-Ok-Some.ensures.no_fault) c.in-Ok-Some.ensures.no_fault (header_of (octets_header c.in-Ok-Some.found.0 c.in-Ok-Some.found.1)) _ e;
       octets = i.octets;
       fits = i.fits;
     }
@@ -47,4 +47,4 @@ pub returns-in-Ok-Some-clause-at_hand : goal.returns-in-Ok-Some-clause-at_hand
 unfolding of_constructed
 returns-in-Ok-Some-clause-at_hand g c =
     let w = rw c.in-Ok-Some.field-0-is at c.in-Ok-Some.ensures.whole in
-    behind_at_hand c.pass.new.self.source.now.limit (g.S.Source.stream c.pass.new.self.source.now.source).avail c.in-Ok-Some.header _ w c.pass.ensures.avail
+    behind_at_hand c.pass.new.self.source.now.limit (g.S.Source.stream c.pass.new.self.source.now.source).avail c.in-Ok-Some.found.1 _ w c.pass.ensures.avail

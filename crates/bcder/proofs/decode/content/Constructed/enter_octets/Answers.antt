@@ -1,25 +1,20 @@
-use Rattle.std.proofs.Common.{refl, ap, inl}
-use Rattle.bcder.specs.calls.Content.{nothing}
+use Rattle.std.proofs.Common.{refl, subst, inl}
+use Rattle.bcder.specs.calls.Content.{nothing, Enters}
+use Rattle.bcder.specs.steps.Peek.{header_of}
 use Rattle.bcder.specs.calls.Views.{of_constructed}
-use Rattle.bcder.proofs.Entering.{if_marker, if_nothing}
+use Rattle.bcder.proofs.Entering.{if_nothing}
 use Rattle.bcder.proofs.decode.content.Constructed.enter_octets.Goals as goal
 
-pub returns-in-Ok-None-clause-entered : goal.returns-in-Ok-None-clause-entered
+pub returns-in-Ok-clause-entered : goal.returns-in-Ok-clause-entered
 unfolding of_constructed
-returns-in-Ok-None-clause-entered g c =
-    let e = rw c.in-Ok-None.field-0-is at c.in-Ok-None.ensures.ended in
-    record {
-      entered = tt;
-      none = record {
-        missing = if_marker (of_constructed g.S.Source.stream c.args.self.now) _ c.args.tag _ (ap (λ h. h.tag) c.octets_header.ensures) e.0 e.1;
-        marked = c.enter.ensures.marked;
-        no_fault = c.in-Ok-None.ensures.no_fault;
-      };
-      refused = tt;
-      failed = tt;
-      mode = c.enter.ensures.mode;
-      marked = c.enter.ensures.marked;
-    }
+returns-in-Ok-clause-entered g c = record {
+  entered = subst (λ k. Enters (of_constructed g.S.Source.stream c.args.self.now) (header_of k) (of_constructed g.S.Source.stream c.enter.new.self)) c.octets_header.ensures c.in-Ok.ensures.entered;
+  none = tt;
+  refused = tt;
+  failed = tt;
+  mode = c.enter.ensures.mode;
+  marked = c.enter.ensures.marked;
+}
 
 pub returns-in-Err-clause-entered : goal.returns-in-Err-clause-entered
 unfolding of_constructed

@@ -1,7 +1,8 @@
 use Rattle.std.proofs.Common.{◌∙◌, refl}
 use Rattle.bcder.specs.calls.Content.{nothing}
 use Rattle.bcder.specs.calls.Views.{of_constructed}
-use Rattle.bcder.proofs.Entering.{looked_moves, looked_failed, other_missing, none_nothing, unread_nothing, no_fewer, grew_least, kind_of}
+use Rattle.bcder.specs.laws.Moved.{moved_twice_is_moved}
+use Rattle.bcder.proofs.Entering.{looked_moves, looked_failed, looked_front, other_missing, marker_missing, end_nothing, none_nothing, unread_nothing, no_fewer, grew_least, kind_of}
 use Rattle.bcder.proofs.Names.{within_constructed, constructed_form}
 use Rattle.bcder.proofs.decode.content.Constructed.front.Goals as goal
 
@@ -27,6 +28,32 @@ returns-in-Ok-Other-clause-none g c =
       marked = c.look.ensures.same.marked;
       no_fault = c.in-Ok-Other.ensures.no_fault;
     }
+
+pub returns-in-Ok-clause-moves : goal.returns-in-Ok-clause-moves
+returns-in-Ok-clause-moves g c = moved_twice_is_moved _ _ _ (looked_moves _ _ c.look.ensures.same (no_fewer _ _ c.in-Ok-End.ensures.no_fault)) c.take_end.ensures.moves
+
+pub returns-in-Ok-clause-none : goal.returns-in-Ok-clause-none
+unfolding of_constructed
+returns-in-Ok-clause-none g c =
+    let i = of_constructed g.S.Source.stream c.args.self.now in
+    let p = rw c.in-Ok-End.field-0-is at c.in-Ok-End.ensures.peeked in
+    record {
+      missing = marker_missing i (of_constructed g.S.Source.stream c.look.new.self) c.look.ensures.same c.in-Open.is c.args.wanted.now p.1 (of_constructed g.S.Source.stream c.take_end.new.self) c.in-Ok.ensures.ended;
+      marked = c.take_end.ensures.marked ∙ c.look.ensures.same.marked;
+      no_fault = c.in-Ok.ensures.no_fault ∙ c.in-Ok-End.ensures.no_fault;
+    }
+
+pub returns-in-Err-take_end-clause-moves : goal.returns-in-Err-take_end-clause-moves
+returns-in-Err-take_end-clause-moves g c = moved_twice_is_moved _ _ _ (looked_moves _ _ c.look.ensures.same (no_fewer _ _ c.in-Ok-End.ensures.no_fault)) c.take_end.ensures.moves
+
+pub returns-in-Err-take_end-clause-refused : goal.returns-in-Err-take_end-clause-refused
+unfolding of_constructed
+returns-in-Err-take_end-clause-refused g c =
+    let i = of_constructed g.S.Source.stream c.args.self.now in
+    let j = of_constructed g.S.Source.stream c.look.new.self in
+    let p = rw c.in-Ok-End.field-0-is at c.in-Ok-End.ensures.peeked in
+    let h = c.in-Err-take_end.ensures.refused in
+    nothing (end_nothing i j c.look.ensures.same c.in-Open.is c.args.wanted.now (within_constructed g.S.Source.stream g.met.S.Source.sound c.args.self.now) (constructed_form g.S.Source.stream c.args.self.now) (looked_front i j c.look.ensures.same (no_fewer _ _ c.in-Ok-End.ensures.no_fault) h.1) _ p.0.1 p.1) h.0
 
 pub returns-in_default-clause-moves : goal.returns-in_default-clause-moves
 unfolding of_constructed

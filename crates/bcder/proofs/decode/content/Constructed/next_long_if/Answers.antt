@@ -3,25 +3,25 @@ use Rattle.bcder.specs.calls.Views.{of_constructed}
 use Rattle.bcder.proofs.Ahead.{constructed_there, primitive_entered}
 use Rattle.bcder.proofs.decode.content.Constructed.next_long_if.Goals as goal
 
-pub returns-in-None-clause-entered : goal.returns-in-None-clause-entered
+pub returns-in-Constructed-clause-entered : goal.returns-in-Constructed-clause-entered
 unfolding of_constructed
-returns-in-None-clause-entered g c =
+returns-in-Constructed-clause-entered g c =
     let e = rw c.in-Ok-Some.field-0-is at c.in-Ok-Some.ensures.entered in
     record {
       entered = tt;
       none = tt;
-      refused = inr (constructed_there (of_constructed g.S.Source.stream c.args.self.now) _ c.args.tag c.in-Ok-Some.header e.0 e.1 c.in-None.ensures.none, tt);
+      refused = inr (constructed_there (of_constructed g.S.Source.stream c.args.self.now) _ c.args.tag c.in-Ok-Some.header e.0 e.1 _ c.in-Constructed.is, tt);
       failed = e.1.opened;
       mode = c.next_header.ensures.mode;
       marked = c.next_header.ensures.marked;
     }
 
-pub returns-in-Some-clause-entered : goal.returns-in-Some-clause-entered
+pub returns-in-Primitive-clause-entered : goal.returns-in-Primitive-clause-entered
 unfolding of_constructed
-returns-in-Some-clause-entered g c =
+returns-in-Primitive-clause-entered g c =
     let e = rw c.in-Ok-Some.field-0-is at c.in-Ok-Some.ensures.entered in
     record {
-      entered = primitive_entered (of_constructed g.S.Source.stream c.args.self.now) _ c.args.tag c.in-Ok-Some.header e.0 e.1 _ c.in-Some.ensures.some.0 c.in-Some.ensures.some.1;
+      entered = primitive_entered (of_constructed g.S.Source.stream c.args.self.now) _ c.args.tag c.in-Ok-Some.header e.0 e.1 _ c.in-Primitive.is;
       none = tt;
       refused = tt;
       failed = tt;

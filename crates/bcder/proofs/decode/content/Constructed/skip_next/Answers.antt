@@ -1,22 +1,17 @@
-use Rattle.std.proofs.Common.{refl}
+use Rattle.std.proofs.Common.{refl, subst}
 use Rattle.bcder.specs.calls.Cause.{cause_of}
 use Rattle.bcder.specs.steps.StopCause.{stop_cause}
-use Rattle.bcder.specs.steps.Peek.{header_of}
+use Rattle.bcder.specs.steps.Peek.{header_of, len_of}
 use Rattle.bcder.specs.steps.Stacked.{source_of, limit_in}
+use Rattle.bcder.specs.calls.Content.{FitsOwed}
 use Rattle.bcder.specs.calls.Views.{of_constructed}
+use Rattle.bcder.proofs.Ahead.{primitive_entered}
 use Rattle.bcder.proofs.Names.{within_constructed}
 use Rattle.bcder.proofs.Skipped.{skipped_end, skipped_none, behind_moved, behind_passed, behind_stopped, behind_refused}
 use Rattle.bcder.proofs.Stepping.{next_refused}
 use Rattle.bcder.proofs.Stopping.{walk_stopped}
-use Rattle.bcder.proofs.Taking.{allowed_entered}
 use Rattle.bcder.proofs.Running.{entered_fits}
 use Rattle.bcder.proofs.decode.content.Constructed.skip_next.Goals as goal
-
-pub skip_content-requires-clause-allowed : goal.skip_content-requires-clause-allowed
-unfolding of_constructed
-skip_content-requires-clause-allowed g c =
-    let e = rw c.in-Ok-Some.field-0-is at c.in-Ok-Some.ensures.entered in
-    allowed_entered (of_constructed g.S.Source.stream c.args.self.now) (header_of c.in-Ok-Some.header) (of_constructed g.S.Source.stream c.next_header.new.self) e.1
 
 pub skip_content-requires-clause-fits : goal.skip_content-requires-clause-fits
 unfolding of_constructed
@@ -24,31 +19,27 @@ skip_content-requires-clause-fits g c =
     let e = rw c.in-Ok-Some.field-0-is at c.in-Ok-Some.ensures.entered in
     entered_fits (of_constructed g.S.Source.stream c.args.self.now) (of_constructed g.S.Source.stream c.next_header.new.self) (header_of c.in-Ok-Some.header) _ refl e.1
 
-pub skip_octets-requires-clause-allowed : goal.skip_octets-requires-clause-allowed
-unfolding of_constructed
-skip_octets-requires-clause-allowed g c =
-    let e = rw c.in-Ok-Some.field-0-is at c.in-Ok-Some.ensures.entered in
-    allowed_entered (of_constructed g.S.Source.stream c.args.self.now) (header_of c.in-Ok-Some.header) (of_constructed g.S.Source.stream c.next_header.new.self) e.1
-
 pub skip_octets-requires-clause-fits : goal.skip_octets-requires-clause-fits
 unfolding of_constructed
 skip_octets-requires-clause-fits g c =
     let e = rw c.in-Ok-Some.field-0-is at c.in-Ok-Some.ensures.entered in
-    entered_fits (of_constructed g.S.Source.stream c.args.self.now) (of_constructed g.S.Source.stream c.next_header.new.self) (header_of c.in-Ok-Some.header) _ refl e.1
+    subst (λ z. FitsOwed (len_of z) (limit_in c.next_header.new.self)) c.in-Primitive.is (entered_fits (of_constructed g.S.Source.stream c.args.self.now) (of_constructed g.S.Source.stream c.next_header.new.self) (header_of c.in-Ok-Some.header) _ refl e.1)
 
-pub returns-then-not-header-clause-moves : goal.returns-then-not-header-clause-moves
+pub returns-in-Primitive-clause-moves : goal.returns-in-Primitive-clause-moves
 unfolding of_constructed
-returns-then-not-header-clause-moves g c =
+returns-in-Primitive-clause-moves g c =
     let e = rw c.in-Ok-Some.field-0-is at c.in-Ok-Some.ensures.entered in
     let w = within_constructed g.S.Source.stream g.met.S.Source.sound c.args.self.now in
-    c.skip_octets.ensures.moves (of_constructed g.S.Source.stream c.args.self.now) (record { enters = e.1; octets = w.octets; fits = w.fits })
+    let p = primitive_entered (of_constructed g.S.Source.stream c.args.self.now) (of_constructed g.S.Source.stream c.next_header.new.self) _ c.in-Ok-Some.header refl e.1 c.in-Primitive.len c.in-Primitive.is in
+    c.skip_octets.ensures.moves (of_constructed g.S.Source.stream c.args.self.now) (record { enters = p; octets = w.octets; fits = w.fits })
 
-pub returns-then-not-header-clause-skipped : goal.returns-then-not-header-clause-skipped
+pub returns-in-Primitive-clause-skipped : goal.returns-in-Primitive-clause-skipped
 unfolding of_constructed
-returns-then-not-header-clause-skipped g c =
+returns-in-Primitive-clause-skipped g c =
     let e = rw c.in-Ok-Some.field-0-is at c.in-Ok-Some.ensures.entered in
     let w = within_constructed g.S.Source.stream g.met.S.Source.sound c.args.self.now in
-    c.skip_octets.ensures.skipped (of_constructed g.S.Source.stream c.args.self.now) (record { enters = e.1; octets = w.octets; fits = w.fits })
+    let p = primitive_entered (of_constructed g.S.Source.stream c.args.self.now) (of_constructed g.S.Source.stream c.next_header.new.self) _ c.in-Ok-Some.header refl e.1 c.in-Primitive.len c.in-Primitive.is in
+    c.skip_octets.ensures.skipped (of_constructed g.S.Source.stream c.args.self.now) (record { enters = p; octets = w.octets; fits = w.fits })
 
 pub returns-in-Ok-clause-moves : goal.returns-in-Ok-clause-moves
 unfolding of_constructed

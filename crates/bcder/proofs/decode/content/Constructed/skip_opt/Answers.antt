@@ -6,14 +6,6 @@ use Rattle.bcder.proofs.Names.{within_constructed}
 use Rattle.bcder.proofs.Skipped.{skipped_none, answers_skip, looked_told}
 use Rattle.bcder.proofs.decode.content.Constructed.skip_opt.Goals as goal
 
-pub skip_octets_at_hand-requires-clause-primitive : goal.skip_octets_at_hand-requires-clause-primitive
-unfolding of_constructed
-skip_octets_at_hand-requires-clause-primitive g c = rw c.in-Ok-Some.field-0-is at c.in-Ok-Some.ensures.primitive
-
-pub skip_octets_at_hand-requires-clause-definite : goal.skip_octets_at_hand-requires-clause-definite
-unfolding of_constructed
-skip_octets_at_hand-requires-clause-definite g c = rw c.in-Ok-Some.field-0-is at c.in-Ok-Some.ensures.definite
-
 pub skip_octets_at_hand-requires-clause-fits : goal.skip_octets_at_hand-requires-clause-fits
 unfolding of_constructed
 skip_octets_at_hand-requires-clause-fits g c = (rw c.in-Ok-Some.field-0-is at c.in-Ok-Some.ensures.entered).enters.fits

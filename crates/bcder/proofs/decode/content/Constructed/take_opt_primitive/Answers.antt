@@ -7,7 +7,7 @@ use Rattle.bcder.specs.steps.Peek.{header_of}
 use Rattle.bcder.specs.calls.Views.{of_constructed, of_primitive}
 use Rattle.bcder.specs.laws.Moved.{moved_carries}
 use Rattle.bcder.proofs.Stopping.{header_stopped}
-use Rattle.bcder.proofs.Taking.{takes_next, moves_next, next_none, next_refused, inside_entered, allowed_entered}
+use Rattle.bcder.proofs.Taking.{takes_next, moves_next, next_none, next_refused, inside_entered}
 use Rattle.bcder.proofs.decode.content.Constructed.take_opt_primitive.Goals as goal
 
 pub take_primitive_body-requires-clause-callable : goal.take_primitive_body-requires-clause-callable
@@ -19,12 +19,6 @@ pub take_primitive_body-requires-clause-lawful : goal.take_primitive_body-requir
 take_primitive_body-requires-clause-lawful g c p r q i d =
     let e = rw c.in-Ok-Some.field-0-is at c.in-Ok-Some.ensures.entered in
     c.requires.lawful _ p r q (inside_entered (of_constructed g.S.Source.stream c.args.self.now) _ _ _ any e.0 e.1 i) d
-
-pub take_primitive_body-requires-clause-allowed : goal.take_primitive_body-requires-clause-allowed
-unfolding of_constructed
-take_primitive_body-requires-clause-allowed g c =
-    let e = rw c.in-Ok-Some.field-0-is at c.in-Ok-Some.ensures.entered in
-    allowed_entered (of_constructed g.S.Source.stream c.args.self.now) (header_of c.in-Ok-Some.header) _ e.1
 
 pub take_primitive_body-requires-clause-fits : goal.take_primitive_body-requires-clause-fits
 unfolding of_constructed

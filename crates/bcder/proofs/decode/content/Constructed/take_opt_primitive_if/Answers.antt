@@ -8,7 +8,7 @@ use Rattle.bcder.specs.steps.Peek.{header_of}
 use Rattle.bcder.specs.calls.Views.{of_constructed, of_primitive}
 use Rattle.bcder.specs.laws.Moved.{moved_carries}
 use Rattle.bcder.proofs.Ahead.{next_stops}
-use Rattle.bcder.proofs.Taking.{takes_next, moves_next, next_none, inside_entered, allowed_entered, said_behind, moves_on}
+use Rattle.bcder.proofs.Taking.{takes_next, moves_next, next_none, inside_entered, said_behind, moves_on}
 use Rattle.bcder.proofs.decode.content.Constructed.take_opt_primitive_if.Goals as goal
 
 pub take_primitive_body-requires-clause-callable : goal.take_primitive_body-requires-clause-callable
@@ -24,14 +24,6 @@ take_primitive_body-requires-clause-lawful g c p r q i d =
     let t = ap (λ (k : CodeHeader). k.tag) h in
     let e = subst (λ k. Enters (of_constructed g.S.Source.stream c.args.self.now) (header_of k) (of_constructed g.S.Source.stream c.next_octets_if.new.self)) (sym h) (rw c.in-Ok-Some.field-0-is at c.in-Ok-Some.ensures.entered.entered) in
     moves_on (of_primitive g.S.Source.stream) _ (IsInside (tagged c.args.tag) (of_constructed g.S.Source.stream c.args.self.now) (header_of c.octets_header.result).tag) (λ p r q h d. c.requires.lawful _ p r q h d) _ r _ (inside_entered (of_constructed g.S.Source.stream c.args.self.now) _ _ _ (tagged c.args.tag) t e i) d.1
-
-pub take_primitive_body-requires-clause-allowed : goal.take_primitive_body-requires-clause-allowed
-unfolding of_constructed
-take_primitive_body-requires-clause-allowed g c =
-    let h = c.octets_header.ensures in
-    let t = ap (λ (k : CodeHeader). k.tag) h in
-    let e = subst (λ k. Enters (of_constructed g.S.Source.stream c.args.self.now) (header_of k) (of_constructed g.S.Source.stream c.next_octets_if.new.self)) (sym h) (rw c.in-Ok-Some.field-0-is at c.in-Ok-Some.ensures.entered.entered) in
-    allowed_entered (of_constructed g.S.Source.stream c.args.self.now) (header_of c.octets_header.result) _ e
 
 pub take_primitive_body-requires-clause-fits : goal.take_primitive_body-requires-clause-fits
 unfolding of_constructed

@@ -6,7 +6,7 @@ use Rattle.bcder.specs.steps.Peek.{header_of}
 use Rattle.bcder.specs.calls.Views.{of_constructed, of_content}
 use Rattle.bcder.specs.laws.Moved.{moved_carries}
 use Rattle.bcder.proofs.Stopping.{header_stopped}
-use Rattle.bcder.proofs.Taking.{takes_next, moves_next, next_none, next_refused, inside_entered, allowed_entered}
+use Rattle.bcder.proofs.Taking.{takes_next, moves_next, next_none, next_refused, inside_entered}
 use Rattle.bcder.proofs.decode.content.Constructed.take_opt_value.Goals as goal
 
 pub take_body-requires-clause-callable : goal.take_body-requires-clause-callable
@@ -18,12 +18,6 @@ pub take_body-requires-clause-lawful : goal.take_body-requires-clause-lawful
 take_body-requires-clause-lawful g c p r q i d =
     let e = rw c.in-Ok-Some.field-0-is at c.in-Ok-Some.ensures.entered in
     c.requires.lawful _ p r q (inside_entered (of_constructed g.S.Source.stream c.args.self.now) _ _ _ any e.0 e.1 i) d
-
-pub take_body-requires-clause-allowed : goal.take_body-requires-clause-allowed
-unfolding of_constructed
-take_body-requires-clause-allowed g c =
-    let e = rw c.in-Ok-Some.field-0-is at c.in-Ok-Some.ensures.entered in
-    allowed_entered (of_constructed g.S.Source.stream c.args.self.now) (header_of c.in-Ok-Some.header) _ e.1
 
 pub take_body-requires-clause-fits : goal.take_body-requires-clause-fits
 unfolding of_constructed

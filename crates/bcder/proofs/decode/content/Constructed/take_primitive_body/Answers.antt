@@ -1,32 +1,33 @@
 use Rattle.std.proofs.Common.{◌≡◌, refl, ap, sym, rules}
 use Rattle.std.specs.Prelude.{Some}
+use Rattle.bcder.specs.calls.Calls.{popped}
 use Rattle.bcder.specs.calls.Cause.{cause_of}
 use Rattle.bcder.specs.calls.Content.{Reading, values}
-use Rattle.bcder.specs.steps.Inside.{limit_outside, of_form, refused, taken}
-use Rattle.bcder.specs.steps.Peek.{header_of}
+use Rattle.bcder.specs.steps.Inside.{of_form, refused, taken}
+use Rattle.bcder.specs.steps.Peek.{is_constructed, len_of, header_of}
 use Rattle.bcder.specs.calls.Views.{of_constructed, of_primitive, limited_stream}
-use Rattle.bcder.proofs.Inner.{octets_taken}
+use Rattle.bcder.proofs.Inner.{takes_octets}
 use Rattle.bcder.proofs.decode.content.Constructed.take_primitive_body.Goals as goal
 
-pub returns-then-header : goal.returns-then-header
-returns-then-header g c = of_form _ refl (ap Some (sym c.if-header.true)) c.refusal.ensures refl
+pub returns-in_default : goal.returns-in_default
+returns-in_default g c = of_form _ refl (ap Some (sym (search rules))) c.refusal.ensures refl
 
 pub returns-in-Err : goal.returns-in-Err
 unfolding of_constructed of_primitive
 returns-in-Err g c =
-    let limit : c.go_outside.new.source.limit ≡ limit_outside c.args.header.len c.go_inside-outer.result c.run_octets.new.octets.source.now.limit = search rules in
-    let source : c.go_outside.new.source.source ≡ c.run_octets.new.octets.source.now.source = search rules in
-    refused _ refl (octets_taken cause_of (of_primitive g.S.Source.stream) _ (of_constructed g.S.Source.stream c.args.self.now) _ (header_of c.args.header) _ refl refl refl refl _ c.either-self.ensures
-    g.S.Source.stream c.args.self.now.source.now c.go_inside-outer.new.source c.run_octets.new.octets.source.now c.go_outside.new.source c.go_inside-outer.result
-    refl refl c.go_inside-outer.ensures.outer c.go_inside-outer.ensures.limit c.go_inside-outer.ensures.source limit source refl refl c.requires.fits c.if-header.false c.requires.allowed (g.met.S.Source.sound c.args.self.now.source.now.source) (record { handed = _; left = of_primitive g.S.Source.stream c.run_octets.new.octets; runs = record { stream = refl; owed = refl; kind = refl; state = refl; mode = refl; marked = refl; left_stream = refl; left_owed = refl; moves = c.run_octets.ensures.moves }; marks = refl; answers = tt; refuses = c.in-Err.ensures.refused }))
+    let limit : c.pop.new.source.limit ≡ popped c.push-outer.result c.in-Primitive.len c.run_octets.new.octets.source.now.limit = search rules in
+    let source : c.pop.new.source.source ≡ c.run_octets.new.octets.source.now.source = search rules in
+    refused _ refl (takes_octets cause_of (of_primitive g.S.Source.stream) _ (of_constructed g.S.Source.stream c.args.self.now) _ (header_of c.args.header) _ refl refl refl refl _ c.either-self.ensures
+    g.S.Source.stream c.in-Primitive.len c.args.self.now.source.now c.push-outer.new.source c.run_octets.new.octets.source.now c.pop.new.source c.push-outer.result
+    (ap len_of c.in-Primitive.is) refl refl c.push-outer.ensures.outer c.push-outer.ensures.limit c.push-outer.ensures.source limit source refl refl c.requires.fits (ap is_constructed c.in-Primitive.is) (g.met.S.Source.sound c.args.self.now.source.now.source) (record { handed = _; left = of_primitive g.S.Source.stream c.run_octets.new.octets; runs = record { stream = refl; owed = refl; kind = refl; state = refl; mode = refl; marked = refl; left_stream = refl; left_owed = refl; moves = c.run_octets.ensures.moves }; marks = refl; answers = tt; refuses = c.in-Err.ensures.refused }))
 
 pub returns : goal.returns
 unfolding of_constructed of_primitive
 returns g c =
-    let limit : c.go_outside-2.new.source.limit ≡ limit_outside c.args.header.len c.go_inside-outer.result c.run_octets.new.octets.source.now.limit = search rules in
-    let source : c.go_outside-2.new.source.source ≡ c.run_octets.new.octets.source.now.source = search rules in
-    let old = c.args.self.now in let new = c.go_outside-2.new.source in
+    let limit : c.pop-2.new.source.limit ≡ popped c.push-outer.result c.in-Primitive.len c.run_octets.new.octets.source.now.limit = search rules in
+    let source : c.pop-2.new.source.source ≡ c.run_octets.new.octets.source.now.source = search rules in
+    let old = c.args.self.now in let new = c.pop-2.new.source in
     let m : Reading = record { stream = limited_stream g.S.Source.stream new; owed = new.limit; kind = values old.kind; state = old.state; mode = old.mode; marked = c.either-self-2.result; name = old.source.ghost_name } in
-    taken _ m refl (octets_taken cause_of (of_primitive g.S.Source.stream) _ (of_constructed g.S.Source.stream c.args.self.now) m (header_of c.args.header) _ refl refl refl refl _ c.either-self-2.ensures
-    g.S.Source.stream c.args.self.now.source.now c.go_inside-outer.new.source c.run_octets.new.octets.source.now c.go_outside-2.new.source c.go_inside-outer.result
-    refl refl c.go_inside-outer.ensures.outer c.go_inside-outer.ensures.limit c.go_inside-outer.ensures.source limit source refl refl c.requires.fits c.if-header.false c.requires.allowed (g.met.S.Source.sound c.args.self.now.source.now.source) (record { handed = _; left = of_primitive g.S.Source.stream c.run_octets.new.octets; runs = record { stream = refl; owed = refl; kind = refl; state = refl; mode = refl; marked = refl; left_stream = refl; left_owed = refl; moves = c.run_octets.ensures.moves }; marks = refl; answers = c.in-Ok.ensures.ok; refuses = tt })) refl
+    taken _ m refl (takes_octets cause_of (of_primitive g.S.Source.stream) _ (of_constructed g.S.Source.stream c.args.self.now) m (header_of c.args.header) _ refl refl refl refl _ c.either-self-2.ensures
+    g.S.Source.stream c.in-Primitive.len c.args.self.now.source.now c.push-outer.new.source c.run_octets.new.octets.source.now c.pop-2.new.source c.push-outer.result
+    (ap len_of c.in-Primitive.is) refl refl c.push-outer.ensures.outer c.push-outer.ensures.limit c.push-outer.ensures.source limit source refl refl c.requires.fits (ap is_constructed c.in-Primitive.is) (g.met.S.Source.sound c.args.self.now.source.now.source) (record { handed = _; left = of_primitive g.S.Source.stream c.run_octets.new.octets; runs = record { stream = refl; owed = refl; kind = refl; state = refl; mode = refl; marked = refl; left_stream = refl; left_owed = refl; moves = c.run_octets.ensures.moves }; marks = refl; answers = c.in-Ok.ensures.ok; refuses = tt })) refl

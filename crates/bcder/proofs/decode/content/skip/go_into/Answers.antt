@@ -1,11 +1,12 @@
-use Rattle.std.proofs.Common.{inl, inr, refl}
+use Rattle.std.proofs.Common.{inl, inr, ap, refl}
+use Rattle.bcder.specs.steps.Peek.{is_constructed, len_of}
 use Rattle.bcder.specs.steps.Stacked.{octets, by_failure, too_few}
 use Rattle.bcder.proofs.Stepping.{stop_reason}
 use Rattle.bcder.proofs.decode.content.skip.go_into.Goals as goal
 
 pub returns-in-Ok-clause-gone : goal.returns-in-Ok-clause-gone
 returns-in-Ok-clause-gone g c = record {
-  goes = octets c.in-Definite.len c.if-header.false c.in-Definite.is c.in-Ok.ensures.enough refl c.in-Ok.ensures.rest c.skip_owed.ensures.kept c.in-Ok.ensures.limit;
+  goes = octets c.in-Primitive.len (ap is_constructed c.in-Primitive.is) (ap len_of c.in-Primitive.is) c.in-Ok.ensures.enough refl c.in-Ok.ensures.rest c.skip_owed.ensures.kept c.in-Ok.ensures.limit;
   no_fault = c.in-Ok.ensures.no_fault;
   stays = tt;
   entries = tt;
@@ -21,7 +22,7 @@ returns-in-Err-clause-gone g c = record {
   no_fault = tt;
   stays = elim (stop_reason _ _ c.in-Err.stop c.in-Err.ensures.cause) [
     | inl x ↦ by_failure x.0 x.1
-    | inr x ↦ too_few c.in-Definite.len c.if-header.false c.in-Definite.is x.0 x.1
+    | inr x ↦ too_few c.in-Primitive.len (ap is_constructed c.in-Primitive.is) (ap len_of c.in-Primitive.is) x.0 x.1
   ];
   entries = refl;
   rest = c.in-Err.ensures.err;

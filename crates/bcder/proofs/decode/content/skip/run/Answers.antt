@@ -6,22 +6,21 @@ use Rattle.bcder.proofs.Entering.{kind_of}
 use Rattle.bcder.specs.steps.Stacked.{TopIs, around, entries, source_of, limit_in}
 use Rattle.bcder.specs.calls.Views.{of_constructed}
 use Rattle.bcder.proofs.Names.{within_constructed, moves_constructed_name}
-use Rattle.bcder.proofs.Taking.{allowed_entered}
 use Rattle.bcder.proofs.Running.{some_entry, out_counts, met_entered, entered_fits, visited_refused, visited_gone, visited_barred, first_went, first_barred, not_begun, went_in, stayed_out, went_out, went_wrong, entered_shorter, left_shorter, wrong_counts, few_open, frames_count, frames_unwound}
 use Rattle.bcder.proofs.decode.content.skip.run.Given.{F-step}
 use Rattle.bcder.proofs.decode.content.skip.run.Goals as goal
 
 pub returns-in-Err-clause-ran : goal.returns-in-Err-clause-ran
 returns-in-Err-clause-ran g c =
-    not_begun _ _ _ _ _ _ _ _ [] [] _ _ refl (visited_refused _ _ [] _ _ _ _ _ c.in-Err.ensures)
+    not_begun _ _ _ _ _ _ _ _ [] [] _ _ refl (visited_refused _ _ [] _ _ _ _ _ (rw c.is_constructed.ensures at c.in-Err.ensures))
 
 pub returns-in-Err-go_into-clause-ran : goal.returns-in-Err-go_into-clause-ran
 returns-in-Err-go_into-clause-ran g c =
-    first_barred _ _ _ _ _ _ (around (reverse c.new-frames.result.items)) (entries c.go_into.new.opened) _ _ _ (ap (λ v. around (reverse v)) c.new-frames.ensures.items) c.in_default.ensures c.in-Err-go_into.bar c.in-Err-go_into.ensures.gone
+    first_barred _ _ _ _ _ _ (around (reverse c.new-frames.result.items)) (entries c.go_into.new.opened) _ _ _ (ap (λ v. around (reverse v)) c.new-frames.ensures.items) (rw c.is_constructed.ensures at c.in_default.ensures) c.in-Err-go_into.bar c.in-Err-go_into.ensures.gone
 
 pub loop-opened-init : goal.loop-opened-init
 loop-opened-init g c =
-    let w = first_went (F-step g) _ _ _ _ c.args.op.now (around (reverse c.new-frames.result.items)) (entries c.go_into.new.opened) c.op.new.self _ _ (ap (λ v. around (reverse v)) c.new-frames.ensures.items) c.in_default.ensures _ c.requires.fits c.in_default-go_into.ensures.gone in
+    let w = first_went (F-step g) _ _ _ _ c.args.op.now (around (reverse c.new-frames.result.items)) (entries c.go_into.new.opened) c.op.new.self _ _ (ap (λ v. around (reverse v)) c.new-frames.ensures.items) (rw c.is_constructed.ensures at c.in_default.ensures) _ c.requires.fits c.in_default-go_into.ensures.gone in
     record {
       callable = mut_next _ _ _ _ _ _ c.op.ensures refl c.requires.callable;
       counted = c.go_into.ensures.counted;
@@ -48,17 +47,11 @@ returns-in-Err-op-clause-ran g c =
     let i = c.loop-opened.invariant in
     let e = rw c.in-Ok-Some.field-0-is at c.in-Ok-Some.ensures.entered in
     let m = met_entered (source_of g.S.Source.stream c.loop-opened.cons) (source_of g.S.Source.stream c.next_header.new.self) (limit_in c.loop-opened.cons) (limit_in c.next_header.new.self) (of_constructed g.S.Source.stream c.loop-opened.cons) (of_constructed g.S.Source.stream c.next_header.new.self) refl refl refl refl c.args.cons.now.mode (header_of c.args.outermost) (source_of g.S.Source.stream c.args.cons.now) (limit_in c.args.cons.now) i.went.0 (entries c.loop-opened.opened) i.mode (within_constructed g.S.Source.stream g.met.S.Source.sound c.loop-opened.cons) (some_entry c.loop-opened.opened i.counted c.loop-opened-test.true) i.went.2 (header_of c.in-Ok-Some.header) e.1 in
-    stayed_out _ _ _ _ _ _ _ _ _ _ (record { calls = i.went.0; called = i.went.1; under = i.went.2; no_fault = i.no_fault }) _ _ _ m c.in-Ok-Some.ensures.no_fault (entered_fits _ _ _ _ refl e.1) _ _ (entries c.loop-opened.opened) _ _ _ _ (visited_refused _ _ (entries c.loop-opened.opened) _ _ _ _ _ (rw i.counted.depth at c.in-Err-op.ensures)) (ap g.S.Source.stream c.unwind.ensures.source) (frames_unwound c.loop-opened.opened _ _ c.unwind.ensures.limit)
+    stayed_out _ _ _ _ _ _ _ _ _ _ (record { calls = i.went.0; called = i.went.1; under = i.went.2; no_fault = i.no_fault }) _ _ _ m c.in-Ok-Some.ensures.no_fault (entered_fits _ _ _ _ refl e.1) _ _ (entries c.loop-opened.opened) _ _ _ _ (visited_refused _ _ (entries c.loop-opened.opened) _ _ _ _ _ (rw (c.is_constructed-in-Ok-Some.ensures, i.counted.depth) at c.in-Err-op.ensures)) (ap g.S.Source.stream c.unwind.ensures.source) (frames_unwound c.loop-opened.opened _ _ c.unwind.ensures.limit)
 
 pub returns-in-Err-op-clause-name : goal.returns-in-Err-op-clause-name
 returns-in-Err-op-clause-name g c =
     moves_constructed_name g.S.Source.stream c.loop-opened.cons c.next_header.new.self c.next_header.ensures.moves ∙ c.loop-opened.invariant.name
-
-pub go_into-requires-in-Ok-Some-clause-allowed : goal.go_into-requires-in-Ok-Some-clause-allowed
-unfolding of_constructed
-go_into-requires-in-Ok-Some-clause-allowed g c =
-    let e = rw c.in-Ok-Some.field-0-is at c.in-Ok-Some.ensures.entered in
-    allowed_entered (of_constructed g.S.Source.stream c.loop-opened.cons) (header_of c.in-Ok-Some.header) (of_constructed g.S.Source.stream c.next_header.new.self) e.1
 
 pub go_into-requires-in-Ok-Some-clause-fits : goal.go_into-requires-in-Ok-Some-clause-fits
 unfolding of_constructed
@@ -81,7 +74,7 @@ returns-in-Err-go_into-2-clause-ran g c =
     let i = c.loop-opened.invariant in
     let e = rw c.in-Ok-Some.field-0-is at c.in-Ok-Some.ensures.entered in
     let m = met_entered (source_of g.S.Source.stream c.loop-opened.cons) (source_of g.S.Source.stream c.next_header.new.self) (limit_in c.loop-opened.cons) (limit_in c.next_header.new.self) (of_constructed g.S.Source.stream c.loop-opened.cons) (of_constructed g.S.Source.stream c.next_header.new.self) refl refl refl refl c.args.cons.now.mode (header_of c.args.outermost) (source_of g.S.Source.stream c.args.cons.now) (limit_in c.args.cons.now) i.went.0 (entries c.loop-opened.opened) i.mode (within_constructed g.S.Source.stream g.met.S.Source.sound c.loop-opened.cons) (some_entry c.loop-opened.opened i.counted c.loop-opened-test.true) i.went.2 (header_of c.in-Ok-Some.header) e.1 in
-    stayed_out _ _ _ _ _ _ _ _ _ _ (record { calls = i.went.0; called = i.went.1; under = i.went.2; no_fault = i.no_fault }) _ _ _ m c.in-Ok-Some.ensures.no_fault (entered_fits _ _ _ _ refl e.1) _ _ (entries c.go_into-in-Ok-Some.new.opened) _ _ _ _ (visited_barred _ _ (entries c.loop-opened.opened) _ _ _ _ (entries c.go_into-in-Ok-Some.new.opened) _ _ (rw i.counted.depth at c.in_default-op.ensures) _ c.in-Err-go_into-2.ensures.gone) (ap g.S.Source.stream c.unwind-in-Err-go_into-2.ensures.source) (frames_unwound c.go_into-in-Ok-Some.new.opened _ _ c.unwind-in-Err-go_into-2.ensures.limit)
+    stayed_out _ _ _ _ _ _ _ _ _ _ (record { calls = i.went.0; called = i.went.1; under = i.went.2; no_fault = i.no_fault }) _ _ _ m c.in-Ok-Some.ensures.no_fault (entered_fits _ _ _ _ refl e.1) _ _ (entries c.go_into-in-Ok-Some.new.opened) _ _ _ _ (visited_barred _ _ (entries c.loop-opened.opened) _ _ _ _ (entries c.go_into-in-Ok-Some.new.opened) _ _ (rw (c.is_constructed-in-Ok-Some.ensures, i.counted.depth) at c.in_default-op.ensures) _ c.in-Err-go_into-2.ensures.gone) (ap g.S.Source.stream c.unwind-in-Err-go_into-2.ensures.source) (frames_unwound c.go_into-in-Ok-Some.new.opened _ _ c.unwind-in-Err-go_into-2.ensures.limit)
 
 pub returns-in-Err-go_into-2-clause-name : goal.returns-in-Err-go_into-2-clause-name
 returns-in-Err-go_into-2-clause-name g c =
@@ -100,7 +93,7 @@ loop-opened-preserved-in_default-go_into-2 g c =
     let i = c.loop-opened.invariant in
     let e = rw c.in-Ok-Some.field-0-is at c.in-Ok-Some.ensures.entered in
     let m = met_entered (source_of g.S.Source.stream c.loop-opened.cons) (source_of g.S.Source.stream c.next_header.new.self) (limit_in c.loop-opened.cons) (limit_in c.next_header.new.self) (of_constructed g.S.Source.stream c.loop-opened.cons) (of_constructed g.S.Source.stream c.next_header.new.self) refl refl refl refl c.args.cons.now.mode (header_of c.args.outermost) (source_of g.S.Source.stream c.args.cons.now) (limit_in c.args.cons.now) i.went.0 (entries c.loop-opened.opened) i.mode (within_constructed g.S.Source.stream g.met.S.Source.sound c.loop-opened.cons) (some_entry c.loop-opened.opened i.counted c.loop-opened-test.true) i.went.2 (header_of c.in-Ok-Some.header) e.1 in
-    let w = went_in (F-step g) _ _ _ _ c.args.op.now _ c.loop-opened.op _ _ (record { calls = i.went.0; called = i.went.1; under = i.went.2; no_fault = i.no_fault }) _ _ _ m c.in-Ok-Some.ensures.no_fault (entered_fits _ _ _ _ refl e.1) _ _ (entries c.go_into-in-Ok-Some.new.opened) _ _ (visited_gone (F-step g) _ (entries c.loop-opened.opened) _ _ c.loop-opened.op c.op-in-Ok-Some.new.self (entries c.go_into-in-Ok-Some.new.opened) _ _ (rw i.counted.depth at c.in_default-op.ensures) _ _ c.in_default-go_into-2.ensures.gone) in
+    let w = went_in (F-step g) _ _ _ _ c.args.op.now _ c.loop-opened.op _ _ (record { calls = i.went.0; called = i.went.1; under = i.went.2; no_fault = i.no_fault }) _ _ _ m c.in-Ok-Some.ensures.no_fault (entered_fits _ _ _ _ refl e.1) _ _ (entries c.go_into-in-Ok-Some.new.opened) _ _ (visited_gone (F-step g) _ (entries c.loop-opened.opened) _ _ c.loop-opened.op c.op-in-Ok-Some.new.self (entries c.go_into-in-Ok-Some.new.opened) _ _ (rw (c.is_constructed-in-Ok-Some.ensures, i.counted.depth) at c.in_default-op.ensures) _ _ c.in_default-go_into-2.ensures.gone) in
     record {
       callable = mut_next _ _ _ _ _ _ c.op-in-Ok-Some.ensures refl i.callable;
       counted = c.go_into-in-Ok-Some.ensures.counted;

@@ -1,9 +1,10 @@
 use Rattle.std.proofs.Common.{rules, false, ◌≡◌, ◌∙◌, ◌+◌, ◌≤◌, length, arith, refl, ap, sym, subst}
 use Rattle.std.specs.Prelude.{Ok, Some}
+use Rattle.bcder.specs.declared.length.Length.TheVariants.{Definite, Indefinite}
 use Rattle.bcder.specs.steps.StopCause.{stop_cause}
-use Rattle.bcder.specs.calls.Content.{any, nothing, EndsAt, IsDone, values}
+use Rattle.bcder.specs.calls.Content.{any, nothing, EndsAt, FitsOwed, IsDone, values}
 use Rattle.bcder.specs.calls.Calls.{content}
-use Rattle.bcder.specs.steps.Peek.{header_of}
+use Rattle.bcder.specs.steps.Peek.{is_constructed, len_of, header_of}
 use Rattle.bcder.specs.calls.Stream.{Grew}
 use Rattle.bcder.specs.calls.Walking.{source, PassesValue, RefusesValues}
 use Rattle.bcder.specs.steps.WalkSteps.{itself, walked}
@@ -23,24 +24,24 @@ use Rattle.bcder.proofs.decode.content.walk.+walk.Goals as goal
 pub step-pass_content-requires : goal.step-pass_content-requires
 unfolding of_constructed
 step-pass_content-requires g t c κs within =
-    let e = looked_at_last (of_constructed g.S.Source.stream c.args.cons.now) (of_constructed g.S.Source.stream c.front.new.self) (of_constructed g.S.Source.stream c.pass_primitive.new.self) (of_constructed g.S.Source.stream c.enter.new.self) c.in-Ok-Some-enter.header c.in-Ok-Some.front.header (rw c.in-Ok-Some.field-0-is at c.in-Ok-Some.ensures.same) c.in-Ok-Some.ensures.no_fault (c.in-Ok-false.ensures.passed.same c.in-Ok-false.field-0-test) c.in-Ok-false.ensures.passed.no_fault (rw c.in-Ok-Some-enter.field-0-is at c.in-Ok-Some-enter.ensures.entered) in
+    let e = looked_at_last (of_constructed g.S.Source.stream c.args.cons.now) (of_constructed g.S.Source.stream c.front.new.self) (of_constructed g.S.Source.stream c.pass_primitive.new.self) (of_constructed g.S.Source.stream c.enter.new.self) (header_of c.in-Ok-Some.front.header) (rw c.in-Ok-Some.field-0-is at c.in-Ok-Some.ensures.same) c.in-Ok-Some.ensures.no_fault (c.in-Ok-false.ensures.passed.same c.in-Ok-false.field-0-test) c.in-Ok-false.ensures.passed.no_fault c.in-Ok.ensures.entered in
     let f = e.fits in let h : length (of_constructed g.S.Source.stream c.enter.new.self).stream.rest + 2 ≤ length (of_constructed g.S.Source.stream c.args.cons.now).stream.rest = entered_shorter _ _ _ e in search rules
 
-pub step-returns-in-Ok-clause-moves : goal.step-returns-in-Ok-clause-moves
+pub step-returns-in-Ok-pass_content-clause-moves : goal.step-returns-in-Ok-pass_content-clause-moves
 unfolding of_constructed
-step-returns-in-Ok-clause-moves g t c =
-    let e = looked_at_last (of_constructed g.S.Source.stream c.args.cons.now) (of_constructed g.S.Source.stream c.front.new.self) (of_constructed g.S.Source.stream c.pass_primitive.new.self) (of_constructed g.S.Source.stream c.enter.new.self) c.in-Ok-Some-enter.header c.in-Ok-Some.front.header (rw c.in-Ok-Some.field-0-is at c.in-Ok-Some.ensures.same) c.in-Ok-Some.ensures.no_fault (c.in-Ok-false.ensures.passed.same c.in-Ok-false.field-0-test) c.in-Ok-false.ensures.passed.no_fault (rw c.in-Ok-Some-enter.field-0-is at c.in-Ok-Some-enter.ensures.entered) in
-    taken_moves (of_constructed g.S.Source.stream c.args.cons.now) (of_constructed g.S.Source.stream c.enter.new.self) (of_constructed g.S.Source.stream c.pass_content.new.cons) (header_of c.in-Ok-Some-enter.header) any refl e stop_cause itself (walked stop_cause) _ refl refl refl _ c.in-Ok.ensures.taken refl refl refl refl
+step-returns-in-Ok-pass_content-clause-moves g t c =
+    let e = looked_at_last (of_constructed g.S.Source.stream c.args.cons.now) (of_constructed g.S.Source.stream c.front.new.self) (of_constructed g.S.Source.stream c.pass_primitive.new.self) (of_constructed g.S.Source.stream c.enter.new.self) (header_of c.in-Ok-Some.front.header) (rw c.in-Ok-Some.field-0-is at c.in-Ok-Some.ensures.same) c.in-Ok-Some.ensures.no_fault (c.in-Ok-false.ensures.passed.same c.in-Ok-false.field-0-test) c.in-Ok-false.ensures.passed.no_fault c.in-Ok.ensures.entered in
+    taken_moves (of_constructed g.S.Source.stream c.args.cons.now) (of_constructed g.S.Source.stream c.enter.new.self) (of_constructed g.S.Source.stream c.pass_content.new.cons) (header_of c.in-Ok-Some.front.header) any refl e stop_cause itself (walked stop_cause) _ refl refl refl _ c.in-Ok-pass_content.ensures.taken refl refl refl refl
 
-pub step-returns-in-Ok-clause-passed : goal.step-returns-in-Ok-clause-passed
+pub step-returns-in-Ok-pass_content-clause-passed : goal.step-returns-in-Ok-pass_content-clause-passed
 unfolding of_constructed
-step-returns-in-Ok-clause-passed g t c =
-    let e = looked_at_last (of_constructed g.S.Source.stream c.args.cons.now) (of_constructed g.S.Source.stream c.front.new.self) (of_constructed g.S.Source.stream c.pass_primitive.new.self) (of_constructed g.S.Source.stream c.enter.new.self) c.in-Ok-Some-enter.header c.in-Ok-Some.front.header (rw c.in-Ok-Some.field-0-is at c.in-Ok-Some.ensures.same) c.in-Ok-Some.ensures.no_fault (c.in-Ok-false.ensures.passed.same c.in-Ok-false.field-0-test) c.in-Ok-false.ensures.passed.no_fault (rw c.in-Ok-Some-enter.field-0-is at c.in-Ok-Some-enter.ensures.entered) in
+step-returns-in-Ok-pass_content-clause-passed g t c =
+    let e = looked_at_last (of_constructed g.S.Source.stream c.args.cons.now) (of_constructed g.S.Source.stream c.front.new.self) (of_constructed g.S.Source.stream c.pass_primitive.new.self) (of_constructed g.S.Source.stream c.enter.new.self) (header_of c.in-Ok-Some.front.header) (rw c.in-Ok-Some.field-0-is at c.in-Ok-Some.ensures.same) c.in-Ok-Some.ensures.no_fault (c.in-Ok-false.ensures.passed.same c.in-Ok-false.field-0-test) c.in-Ok-false.ensures.passed.no_fault c.in-Ok.ensures.entered in
     record {
-      value = walks_one stop_cause itself (walked stop_cause) (λ t p r q x. x) (of_constructed g.S.Source.stream c.args.cons.now) _ (Ok (Some _)) (taken_value (of_constructed g.S.Source.stream c.args.cons.now) (of_constructed g.S.Source.stream c.enter.new.self) (of_constructed g.S.Source.stream c.pass_content.new.cons) (header_of c.in-Ok-Some-enter.header) any refl e stop_cause itself (walked stop_cause) _ refl refl refl _ c.in-Ok.ensures.taken);
+      value = walks_one stop_cause itself (walked stop_cause) (λ t p r q x. x) (of_constructed g.S.Source.stream c.args.cons.now) _ (Ok (Some _)) (taken_value (of_constructed g.S.Source.stream c.args.cons.now) (of_constructed g.S.Source.stream c.enter.new.self) (of_constructed g.S.Source.stream c.pass_content.new.cons) (header_of c.in-Ok-Some.front.header) any refl e stop_cause itself (walked stop_cause) _ refl refl refl _ c.in-Ok-pass_content.ensures.taken);
       end = tt;
       done = tt;
-      no_fault = c.in-Ok.ensures.no_fault ∙ c.in-Ok-Some-enter.ensures.no_fault ∙ c.in-Ok-false.ensures.passed.no_fault ∙ c.in-Ok-Some.ensures.no_fault;
+      no_fault = c.in-Ok-pass_content.ensures.no_fault ∙ c.in-Ok.ensures.no_fault ∙ c.in-Ok-false.ensures.passed.no_fault ∙ c.in-Ok-Some.ensures.no_fault;
       refused = tt;
       failed = tt;
       mode = c.pass_content.ensures.mode ∙ c.enter.ensures.mode ∙ c.pass_primitive.ensures.passed.mode ∙ c.front.ensures.mode;
@@ -50,13 +51,13 @@ step-returns-in-Ok-clause-passed g t c =
 pub step-returns-in-Err-pass_content-clause-moves : goal.step-returns-in-Err-pass_content-clause-moves
 unfolding of_constructed
 step-returns-in-Err-pass_content-clause-moves g t c =
-    let e = looked_at_last (of_constructed g.S.Source.stream c.args.cons.now) (of_constructed g.S.Source.stream c.front.new.self) (of_constructed g.S.Source.stream c.pass_primitive.new.self) (of_constructed g.S.Source.stream c.enter.new.self) c.in-Ok-Some-enter.header c.in-Ok-Some.front.header (rw c.in-Ok-Some.field-0-is at c.in-Ok-Some.ensures.same) c.in-Ok-Some.ensures.no_fault (c.in-Ok-false.ensures.passed.same c.in-Ok-false.field-0-test) c.in-Ok-false.ensures.passed.no_fault (rw c.in-Ok-Some-enter.field-0-is at c.in-Ok-Some-enter.ensures.entered) in
-    refused_moves (of_constructed g.S.Source.stream c.args.cons.now) (of_constructed g.S.Source.stream c.enter.new.self) (of_constructed g.S.Source.stream c.pass_content.new.cons) (header_of c.in-Ok-Some-enter.header) any refl e stop_cause itself (walked stop_cause) _ c.in-Err-pass_content.ensures.taken
+    let e = looked_at_last (of_constructed g.S.Source.stream c.args.cons.now) (of_constructed g.S.Source.stream c.front.new.self) (of_constructed g.S.Source.stream c.pass_primitive.new.self) (of_constructed g.S.Source.stream c.enter.new.self) (header_of c.in-Ok-Some.front.header) (rw c.in-Ok-Some.field-0-is at c.in-Ok-Some.ensures.same) c.in-Ok-Some.ensures.no_fault (c.in-Ok-false.ensures.passed.same c.in-Ok-false.field-0-test) c.in-Ok-false.ensures.passed.no_fault c.in-Ok.ensures.entered in
+    refused_moves (of_constructed g.S.Source.stream c.args.cons.now) (of_constructed g.S.Source.stream c.enter.new.self) (of_constructed g.S.Source.stream c.pass_content.new.cons) (header_of c.in-Ok-Some.front.header) any refl e stop_cause itself (walked stop_cause) _ c.in-Err-pass_content.ensures.taken
 
 pub step-returns-in-Err-pass_content-clause-passed : goal.step-returns-in-Err-pass_content-clause-passed
 unfolding of_constructed
 step-returns-in-Err-pass_content-clause-passed g t c =
-    let e = looked_at_last (of_constructed g.S.Source.stream c.args.cons.now) (of_constructed g.S.Source.stream c.front.new.self) (of_constructed g.S.Source.stream c.pass_primitive.new.self) (of_constructed g.S.Source.stream c.enter.new.self) c.in-Ok-Some-enter.header c.in-Ok-Some.front.header (rw c.in-Ok-Some.field-0-is at c.in-Ok-Some.ensures.same) c.in-Ok-Some.ensures.no_fault (c.in-Ok-false.ensures.passed.same c.in-Ok-false.field-0-test) c.in-Ok-false.ensures.passed.no_fault (rw c.in-Ok-Some-enter.field-0-is at c.in-Ok-Some-enter.ensures.entered) in
+    let e = looked_at_last (of_constructed g.S.Source.stream c.args.cons.now) (of_constructed g.S.Source.stream c.front.new.self) (of_constructed g.S.Source.stream c.pass_primitive.new.self) (of_constructed g.S.Source.stream c.enter.new.self) (header_of c.in-Ok-Some.front.header) (rw c.in-Ok-Some.field-0-is at c.in-Ok-Some.ensures.same) c.in-Ok-Some.ensures.no_fault (c.in-Ok-false.ensures.passed.same c.in-Ok-false.field-0-test) c.in-Ok-false.ensures.passed.no_fault c.in-Ok.ensures.entered in
     record {
       value = tt;
       end = tt;
@@ -64,7 +65,7 @@ step-returns-in-Err-pass_content-clause-passed g t c =
       no_fault = tt;
       refused =
           step_refused stop_cause (of_constructed g.S.Source.stream c.args.cons.now) (of_constructed g.S.Source.stream c.pass_content.new.cons) _ (within_constructed g.S.Source.stream g.met.S.Source.sound c.args.cons.now)
-          (content (refused_front (of_constructed g.S.Source.stream c.args.cons.now) (of_constructed g.S.Source.stream c.enter.new.self) (of_constructed g.S.Source.stream c.pass_content.new.cons) (header_of c.in-Ok-Some-enter.header) any refl e stop_cause itself (walked stop_cause) _ c.in-Err-pass_content.ensures.taken));
+          (content (refused_front (of_constructed g.S.Source.stream c.args.cons.now) (of_constructed g.S.Source.stream c.enter.new.self) (of_constructed g.S.Source.stream c.pass_content.new.cons) (header_of c.in-Ok-Some.front.header) any refl e stop_cause itself (walked stop_cause) _ c.in-Err-pass_content.ensures.taken));
       failed = c.pass_content.ensures.state ∙ e.opened;
       mode = c.pass_content.ensures.mode ∙ c.enter.ensures.mode ∙ c.pass_primitive.ensures.passed.mode ∙ c.front.ensures.mode;
       marked = c.pass_content.ensures.marked ∙ c.enter.ensures.marked ∙ c.pass_primitive.ensures.passed.marked ∙ c.front.ensures.marked;
@@ -72,9 +73,6 @@ step-returns-in-Err-pass_content-clause-passed g t c =
 
 pub step-returns-in-Ok-true-clause-moves : goal.step-returns-in-Ok-true-clause-moves
 step-returns-in-Ok-true-clause-moves g t c = moved_twice_is_moved _ _ _ c.front.ensures.moves c.pass_primitive.ensures.moves
-
-pub step-returns-in-Ok-None-enter-clause-moves : goal.step-returns-in-Ok-None-enter-clause-moves
-step-returns-in-Ok-None-enter-clause-moves g t c = moved_twice_is_moved _ _ _ c.front.ensures.moves (moved_twice_is_moved _ _ _ c.pass_primitive.ensures.moves c.enter.ensures.moves)
 
 pub step-returns-in-Err-enter-clause-moves : goal.step-returns-in-Err-enter-clause-moves
 step-returns-in-Err-enter-clause-moves g t c = moved_twice_is_moved _ _ _ c.front.ensures.moves (moved_twice_is_moved _ _ _ c.pass_primitive.ensures.moves c.enter.ensures.moves)
@@ -132,26 +130,28 @@ step-returns-in-Err-clause-passed g t c = record {
   marked = c.front.ensures.marked;
 }
 
-pub pass_content-returns-then-header-clause-taken : goal.pass_content-returns-then-header-clause-taken
+pub pass_content-returns-in-Constructed-Definite-clause-taken : goal.pass_content-returns-in-Constructed-Definite-clause-taken
 unfolding of_constructed
-pass_content-returns-then-header-clause-taken g t c =
+pass_content-returns-in-Constructed-Definite-clause-taken g t c =
+    let e : c.in-Constructed-Definite.field-0 ≡ Definite c.in-Constructed-Definite.len = rw c.in-Constructed-Definite.is at c.in-Constructed-Definite.field-0-is in
     takes_values stop_cause itself (walked stop_cause) (of_constructed g.S.Source.stream c.args.cons.now) _ (header_of c.args.header) _ refl refl refl refl false (or_none _ _ refl)
-    g.S.Source.stream c.in-Definite.len c.args.cons.now.source.now c.push-outer.new.source c.walk_over-result.new.source c.pop.new.source c.push-outer.result c.in-Definite.is
-    refl refl c.push-outer.ensures.outer c.push-outer.ensures.limit c.push-outer.ensures.source c.pop.ensures.limit c.pop.ensures.source refl refl c.requires c.if-header.true (c.walk_over-result.ensures.ran c.args.header.tag)
+    g.S.Source.stream c.in-Constructed-Definite.len c.args.cons.now.source.now c.push-outer.new.source c.walk_over-result.new.source c.pop.new.source c.push-outer.result (ap len_of c.in-Constructed-Definite.is ∙ e)
+    refl refl c.push-outer.ensures.outer c.push-outer.ensures.limit c.push-outer.ensures.source c.pop.ensures.limit c.pop.ensures.source refl refl c.requires (ap is_constructed c.in-Constructed-Definite.is) (c.walk_over-result.ensures.ran c.args.header.tag)
 
-pub pass_content-returns-else-header-clause-taken : goal.pass_content-returns-else-header-clause-taken
+pub pass_content-returns-in-Primitive-clause-taken : goal.pass_content-returns-in-Primitive-clause-taken
 unfolding of_constructed
-pass_content-returns-else-header-clause-taken g t c =
+pass_content-returns-in-Primitive-clause-taken g t c =
     let s = g.S.Source.stream c.args.cons.now.source.now.source in
     let x = g.S.Source.stream c.skip_owed.new.self.source in
-    skips stop_cause (of_constructed g.S.Source.stream c.args.cons.now) _ (header_of c.args.header) c.in-Definite.len s x c.args.cons.now.source.now.limit c.in-Definite.is c.if-header.false (rw c.in-Definite.is at c.requires) (g.met.S.Source.sound c.args.cons.now.source.now.source) refl refl refl refl refl refl refl
+    skips stop_cause (of_constructed g.S.Source.stream c.args.cons.now) _ (header_of c.args.header) c.in-Primitive.len s x c.args.cons.now.source.now.limit (ap len_of c.in-Primitive.is) (ap is_constructed c.in-Primitive.is) (subst (λ z. FitsOwed (len_of z) c.args.cons.now.source.now.limit) c.in-Primitive.is c.requires) (g.met.S.Source.sound c.args.cons.now.source.now.source) refl refl refl refl refl refl refl
     c.skip_owed.result c.skip_owed.new.self.limit refl refl c.skip_owed.ensures.limit c.skip_owed.ensures.enough c.skip_owed.ensures.rest c.skip_owed.ensures.no_fault (if_err c.skip_owed.result _ _ (λ e h. stop_reason _ _ e h) c.skip_owed.ensures.cause)
     c.skip_owed.ensures.err c.skip_owed.ensures.err_limit c.skip_owed.ensures.no_fewer c.skip_owed.ensures.kept
 
-pub pass_content-returns-in-Indefinite-clause-taken : goal.pass_content-returns-in-Indefinite-clause-taken
+pub pass_content-returns-in-Constructed-Indefinite-clause-taken : goal.pass_content-returns-in-Constructed-Indefinite-clause-taken
 unfolding of_constructed
-pass_content-returns-in-Indefinite-clause-taken g t c =
-    takes_marked stop_cause itself (walked stop_cause) (of_constructed g.S.Source.stream c.args.cons.now) _ (header_of c.args.header) _ refl refl refl refl false (or_none _ _ refl) c.in-Indefinite.is (c.walk_over.ensures.ran c.args.header.tag)
+pass_content-returns-in-Constructed-Indefinite-clause-taken g t c =
+    let e : c.in-Constructed-Indefinite.field-0 ≡ Indefinite = rw c.in-Constructed-Indefinite.is at c.in-Constructed-Indefinite.field-0-is in
+    takes_marked stop_cause itself (walked stop_cause) (of_constructed g.S.Source.stream c.args.cons.now) _ (header_of c.args.header) _ refl refl refl refl false (or_none _ _ refl) (ap len_of c.in-Constructed-Indefinite.is ∙ e) (c.walk_over.ensures.ran c.args.header.tag)
 
 pub walk_over-returns-clause-ran : goal.walk_over-returns-clause-ran
 unfolding of_constructed

@@ -1,0 +1,27 @@
+use Rattle.std.proofs.Common.{◌≡◌, ◌∙◌, true, false, refl, sym, subst}
+use Rattle.bcder.specs.x690.Identifier.{end_of_contents}
+use Rattle.bcder.specs.calls.Content.{IsAsked}
+use Rattle.bcder.specs.steps.Peek.{asked}
+use Rattle.bcder.proofs.Beginnings.{short_stands, indefinite_stands, end_stands}
+use Rattle.bcder.proofs.Peeking.{if_two}
+use Rattle.bcder.proofs.decode.header.look_short.Goals as goal
+use Rattle.bcder.proofs.decode.header.look_short.Goals.{in-Any, in_default}
+
+pub returns-in-len2-up-clause-shows : goal.returns-in-len2-up-clause-shows
+returns-in-len2-up-clause-shows c = λ x. (
+  (c.in-len2-up.len_at_least, end_stands c.args.mode c.args.octets.now x c.in-len2-up.len_at_least c.if-leading-eq0.true c.if-len-eq0.true),
+  elim c.match-matches.branch [
+    | in-Any w ↦ subst (λ z. IsAsked (asked z) end_of_contents) (sym w.in-Any.is) refl
+    | in_default w ↦ absurd (let z : false ≡ true = sym w.matches-is ∙ c.if-any.true in cc)
+  ],
+)
+
+pub returns-in-len2-up-2-clause-shows : goal.returns-in-len2-up-2-clause-shows
+returns-in-len2-up-2-clause-shows c =
+    if_two _ _ _ _ c.front_of_two.result c.in-len2-up.len_at_least c.front_of_two.ensures
+    (λ x. short_stands c.args.mode c.args.octets.now x _ _ _ c.in-len2-up.len_at_least c.if-leading-lt31.true c.if-len-lt128.true refl refl c.from.ensures)
+
+pub returns-in-len2-up-3-clause-shows : goal.returns-in-len2-up-3-clause-shows
+returns-in-len2-up-3-clause-shows c =
+    if_two _ _ _ _ c.front_of_two-in-len2-up-3.result c.in-len2-up.len_at_least c.front_of_two-in-len2-up-3.ensures
+    (λ x. indefinite_stands c.args.mode c.args.octets.now x _ _ c.in-len2-up.len_at_least c.if-leading-lt31-2.true c.if-len.true refl refl)
