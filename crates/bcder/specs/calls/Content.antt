@@ -9,10 +9,10 @@ use Rattle.bcder.specs.declared.decode.content.Kind.{Kind}
 use Rattle.bcder.specs.declared.decode.content.Kind.TheVariants as kind
 use Rattle.bcder.specs.declared.decode.content.State.{State}
 use Rattle.bcder.specs.declared.decode.content.State.TheVariants.{Open, Ended, Failed}
-use Rattle.bcder.specs.x690.Identifier.{Tag, IsTag, identifier, end_of_contents, is_value_tag}
+use Rattle.bcder.specs.x690.Identifier.{Tag, IsTag, identifier, end_of_contents}
 use Rattle.bcder.specs.x690.Length.{IsEndOfContents}
 use Rattle.bcder.specs.x690.Tree.{Trees}
-use Rattle.bcder.specs.x690.Encoding.{may_have, IsHeader, AreEncodings, Header}
+use Rattle.bcder.specs.x690.Encoding.{IsHeader, AreEncodings, Header}
 use Rattle.bcder.specs.calls.Stream.{Stream, Grew}
 use Rattle.bcder.specs.declared.decode.error.ContentError.{ContentError}
 use Rattle.bcder.specs.calls.Cause.{Cause, of_source, IsOfContent}
@@ -211,14 +211,6 @@ pub record NothingThere (asked : Asked) (c : Reading) : Type 0 where
   pub absent : (after : List ℕ) → IsAbsent asked c after → ⊥
 
 -- ---- a header that was read
-
--- what is read at an end marker
-abbrev pub end_header : Header
-end_header = record { tag = end_of_contents; form = false; len = Definite 0 }
-
--- a header that the mode allows, with a length that fits into what is owed
-abbrev pub Accepts : Mode → Header → Option ℕ → Type 0
-Accepts mode h o = (is_value_tag h.tag ≡ true) × (may_have mode h.form h.len ≡ true) × FitsOwed h.len o
 
 -- the header of a value was passed without a fault of the source, and content is failed until the value is taken
 pub record Enters (c : Reading) (h : Header) (d : Reading) : Type 0 where

@@ -1,6 +1,6 @@
-//! Identifier octets and length octets (X.690, 8.1.2, 8.1.3), at the front of octets and of a source.
-ghost use Rattle.std.specs.Prelude.{◌≡◌, ℕ, ◌+◌, ◌%◌, ◌<◌, ◌≤◌, List, ◌++◌, length, false, true, IsTrue};
-ghost use Rattle.std.specs.Prelude.{Some, None, IfSome, MatchOption, IfOk, OnOk, OnErr};
+//! Identifier and length octets (X.690, 8.1.2, 8.1.3), at the front of octets and of a source.
+ghost use Rattle.std.specs.Prelude.{◌≡◌, ℕ, ◌+◌, ◌%◌, ◌<◌, ◌≤◌, List, ◌++◌, length, false, true};
+ghost use Rattle.std.specs.Prelude.{IsTrue, Some, None, IfSome, MatchOption, IfOk, OnOk, OnErr};
 ghost use Rattle.bcder.specs.calls.Changed.{SameFaults, MoreFaults, SameRest, SamePosition};
 ghost use Rattle.bcder.specs.calls.Changed.{SameKept};
 ghost use Rattle.bcder.specs.calls.Content.{IsAsked};
