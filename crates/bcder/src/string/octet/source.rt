@@ -216,9 +216,8 @@ impl OctetStringSource {
         }
     }
 
-    /// Makes at least `len` octets stand in front, or all that there are. Mostly the next segment has
-    /// them, and no call is made.
-    #[inline(always)]
+    /// Makes at least `len` octets stand in front, or all that there are.
+    #[inline(never)]
     fn fill(&mut self, len: usize) -> Result<(), NoMemory>
         ensures { FillsFront len self result }
     {

@@ -168,6 +168,7 @@ impl CharSet for Utf8CharSet {
         Ok(CowSlice::Borrowed(text.as_bytes()))
     }
 
+    #[inline(always)]
     fn check(octets: OctetStringOctets<'_>) -> Result<(), CharSetError> {
         match octets.as_slice() {
             Some(octets) => {
@@ -192,6 +193,7 @@ impl TextCharSet for Utf8CharSet {
 
 /// Looks at the octets part by part, and takes what doesn't stand whole in one character by
 /// character.
+#[inline(never)]
 fn check_parts(octets: OctetStringOctets<'_>) -> Result<(), CharSetError>
     ensures { Checks utf8_step octets.entry result }
 {
