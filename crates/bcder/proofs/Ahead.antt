@@ -1,8 +1,7 @@
 -- What a call that looks ahead for a primitive value says of the content before it looked.
-use Rattle.std.proofs.Common.{◌≡◌, ◌⊎◌, ℕ, Bool, true, false, refl, List, length, Option, Some, None, Ok, Err, ap, sym, ◌∙◌, subst, inl, inr}
+use Rattle.std.proofs.Common.{◌≡◌, ◌⊎◌, ℕ, true, false, List, length, Option, Some, None, Ok, Err, ap, sym, ◌∙◌, subst, inl, inr}
 use Rattle.std.specs.Prelude.{Result, IsErrAnd}
 use Rattle.std.specs.Borrow.{MutBor}
-use Rattle.bcder.specs.declared.mode.Mode.{Mode}
 use Rattle.bcder.specs.declared.length.Length.{Length}
 use Rattle.bcder.specs.declared.length.Length.TheVariants.{Definite}
 use Rattle.bcder.specs.declared.decode.header.Form.TheVariants as form

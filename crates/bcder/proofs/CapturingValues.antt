@@ -56,18 +56,6 @@ where_of P Q f c i j d e s a b (source k g) = source k (rw (← a, b) g)
 where_of P Q f c i j d e s a b (nothing n o) = nothing (f n) o
 where_of P Q f c i j d e s a b (memory m) = memory m
 
--- ---- what walking refuses
-
-walk_refused : {X : Type 0} (c d : Reading) (e : DecodeError X) → walking.RefusesWalk cause_of c e d → RefusesWhere (HasNoValue c) c e d
-walk_refused c d e (walking.RefusesWalk.failed s o) = failed s o
-walk_refused c d e (walking.RefusesWalk.source k g) = source k g
-walk_refused c d e (walking.RefusesWalk.nothing s n x o) = nothing (record { none = λ t w after v. n.none t w after v.encodes v.rest }) o
-
--- the same of skipping, which may also want memory
-pub one_refused : {X : Type 0} (c d : Reading) (e : DecodeError X) → RefusesOne cause_of c e d → RefusesWhere (HasNoValue c) c e d
-one_refused c d e (skipping.RefusesOne.by_walk r) = walk_refused c d e r
-one_refused c d e (skipping.RefusesOne.by_depth g m) = memory m
-
 pub end_has_none : (c d : Reading) → Within c → EndsAt c d → HasNoValue c
 end_has_none c d w e = record { none = λ t v after h. (value_not_at_end c w t v after h).none d.stream.rest e }
 

@@ -1,5 +1,5 @@
 -- What follows from passing over a header.
-use Rattle.std.proofs.Common.{◌≡◌, ◌≢◌, ℕ, ◌-◌, ◌≤◌, Bool, true, false, List, [], ◌∷◌, ◌++◌, length, take, drop, Option, Some, None, refl, ap, sym, ◌∙◌, arith, subst, inl, inr}
+use Rattle.std.proofs.Common.{◌≡◌, ◌≢◌, ℕ, ◌-◌, ◌≤◌, List, [], ◌∷◌, ◌++◌, length, take, drop, Option, Some, None, refl, ap, sym, ◌∙◌, arith, subst, inl, inr}
 use Rattle.std.proofs.lemmas.List.{take-append-drop, length-take-le, take_at}
 use Rattle.std.proofs.lemmas.Grind.{common_steps}
 use Rattle.bcder.specs.declared.mode.Mode.{Mode}
@@ -14,7 +14,7 @@ use Rattle.bcder.specs.steps.Peek.{asked, HasOtherTag, HasNoHeader}
 use Rattle.bcder.specs.calls.Stream.{Layer, Stream, IsSound, Grew, cut, past, limited}
 use Rattle.bcder.specs.declared.decode.error.ContentError.{ContentError}
 use Rattle.bcder.specs.calls.Cause.{Cause}
-use Rattle.bcder.specs.calls.Content.{Reading, Asked, any, tagged, IsAsked, HasHeader, HasMarker, IndefiniteValues, HasOther, Falls, FitsOwed, Advances, Moves, Enters, TakesMarker, NoFront, Resembles, values, Octets, DefiniteValues, UnboundedValues, IsAtEnd, of_octets, of_definite, of_indefinite, of_unbounded, NotAtEnd, IsElsewhere, none_left, other, marker, IsAbsent, IsLeft, IsMissing, NothingThere, RefusesHeader, failed, source, nothing}
+use Rattle.bcder.specs.calls.Content.{Reading, Asked, any, tagged, IsAsked, HasHeader, HasMarker, IndefiniteValues, HasOther, Falls, FitsOwed, Advances, Moves, Enters, TakesMarker, NoFront, Resembles, values, Octets, DefiniteValues, UnboundedValues, IsAtEnd, of_octets, of_definite, of_indefinite, of_unbounded, NotAtEnd, IsElsewhere, none_left, other, marker, IsMissing, NothingThere, RefusesHeader, failed, source, nothing}
 use Rattle.bcder.specs.calls.Calls.{RefusesEnd, left_failed, source_failed, left_open}
 use Rattle.bcder.specs.laws.Limits.{limit_told_after, limited_sound}
 use Rattle.bcder.specs.laws.Sound.{none_is}

@@ -10,7 +10,7 @@ use Rattle.bcder.specs.calls.Stream.{Stream, IsSound}
 use Rattle.bcder.specs.calls.Content.{octets, values, Octets, Moves, Resembles}
 use Rattle.bcder.specs.laws.Limits.{limited_sound, limit_told, first_kept}
 use Rattle.bcder.proofs.Entering.{Within}
-use Rattle.bcder.specs.calls.Views.{of_content, of_primitive, of_constructed, content_name, content_source, content_mark, limited_stream}
+use Rattle.bcder.specs.calls.Views.{of_content, of_primitive, of_constructed, content_name, content_mark, limited_stream}
 
 pub name_of_content : {S : Type 0} (stream : S → Stream) (a : Content S) → (of_content stream a).name ≡ content_name a
 unfolding of_primitive of_constructed
@@ -33,16 +33,6 @@ pub mark_of_content : {S : Type 0} (stream : S → Stream) (a : Content S) → (
 unfolding of_primitive of_constructed
 mark_of_content stream (content.Primitive p) = refl
 mark_of_content stream (content.Constructed p) = refl
-
-pub stream_of_content : {S : Type 0} (stream : S → Stream) (a : Content S) → (of_content stream a).stream ≡ limited_stream stream (content_source a)
-unfolding of_primitive of_constructed
-stream_of_content stream (content.Primitive p) = refl
-stream_of_content stream (content.Constructed p) = refl
-
-pub owed_of_content : {S : Type 0} (stream : S → Stream) (a : Content S) → (of_content stream a).owed ≡ (content_source a).limit
-unfolding of_primitive of_constructed
-owed_of_content stream (content.Primitive p) = refl
-owed_of_content stream (content.Constructed p) = refl
 
 take_within : (n : ℕ) (xs : List ℕ) → length (take n xs) ≤ n
 take_within n xs = grind (arith, common_steps)

@@ -9,8 +9,7 @@ use Rattle.std.proofs.Math.Seq.{take-append-add}
 use Rattle.bcder.specs.declared.length.Length.TheVariants.{Definite}
 use Rattle.bcder.specs.declared.decode.content.State.TheVariants.{Open}
 use Rattle.bcder.specs.x690.Identifier.{AreOctets}
-use Rattle.bcder.specs.x690.Encoding.{Header, IsHeader, IsEncoding, may_have}
-use Rattle.bcder.specs.steps.Peek.{header_of}
+use Rattle.bcder.specs.x690.Encoding.{Header, IsHeader, IsEncoding}
 use Rattle.bcder.specs.steps.Reading.{read_header}
 use Rattle.bcder.specs.x690.Tree.{Tree, primitive}
 use Rattle.bcder.specs.x690.Grammar.{IsOnly}
@@ -110,9 +109,6 @@ looked_nothing c d s n = record { none = λ t w after k r. n.none t w after (sub
 
 pub looked_open : (c d : Reading) → Resembles c d → NotAtEnd d → NotAtEnd c
 looked_open c d s n = record { none = λ after e. n.none after (looked_ends d c after (resembles_sym c d s) e) }
-
-pub looked_twice : (c d e : Reading) → Resembles c d → Resembles d e → Resembles c e
-looked_twice c d e s p = record { rest = p.rest ∙ s.rest; kept = p.kept ∙ s.kept; owed = p.owed ∙ s.owed; kind = p.kind ∙ s.kind; state = p.state ∙ s.state; mode = p.mode ∙ s.mode; marked = p.marked ∙ s.marked; name = p.name ∙ s.name }
 
 -- a header that was passed behind two looks
 pub looked_at_last : (c d e x : Reading) (h : Header) → Resembles c d → d.stream.faults ≡ c.stream.faults → Resembles d e → e.stream.faults ≡ d.stream.faults → Enters e h x → Enters c h x

@@ -1,6 +1,5 @@
 -- What is told of a header by the octets at hand, and what stands at the front of the source.
-use Rattle.std.proofs.Common.{◌≡◌, ℕ, ◌≤◌, Bool, true, false, eqb, eq-eqb, ◌&&◌, List, ◌++◌, length, take, drop, Option, Some, None, IfSome, ap, ap₂, sym, subst, ◌∙◌, arith, length-append}
-use denote.Enum.Bare.{sameb, true_same}
+use Rattle.std.proofs.Common.{◌≡◌, ℕ, ◌≤◌, Bool, List, ◌++◌, length, take, drop, Option, Some, None, IfSome, ap, ap₂, sym, subst, ◌∙◌, arith, length-append}
 use Rattle.std.proofs.lemmas.Grind.{common_steps}
 use Rattle.std.proofs.lemmas.List.{take-append-drop, length-take-le}
 use Rattle.bcder.specs.declared.mode.Mode.{Mode}
@@ -11,11 +10,9 @@ use Rattle.bcder.specs.declared.decode.header.Peeked.TheVariants as peeked
 use Rattle.bcder.specs.x690.Identifier.{Tag, end_of_contents}
 use Rattle.bcder.specs.x690.Encoding.{Header}
 use Rattle.bcder.specs.steps.Reading.{read_identifier, read_front, read_header, read_end}
-use Rattle.bcder.specs.calls.Classes.{class_kept}
 use Rattle.bcder.specs.calls.Content.{Asked, IsAsked}
-use Rattle.bcder.specs.contracts.tag.Class.{the_type}
 use Rattle.bcder.specs.laws.Sound.{none_is, some_inj}
-use Rattle.bcder.specs.steps.Peek.{is_constructed, len_of, octets_header, HasNoHeader, IsFront, Shows, IsOfTwo, HasTwo}
+use Rattle.bcder.specs.steps.Peek.{is_constructed, len_of, octets_header, HasNoHeader, IsFront, Shows, IsOfTwo}
 use Rattle.bcder.proofs.Beginnings.{no_identifier}
 use Rattle.bcder.proofs.Headers.{other_of_front, header_of_front, end_identified}
 
@@ -44,34 +41,15 @@ two_shown mode asked w h (peeked.Front g k) l i r = λ x. (
 )
 two_shown mode asked w h peeked.Refused l i r = absurd i
 
-pub two_is : (mode : Mode) (asked : Asked) (h : Header) (p : Peeked) → IsOfTwo mode asked h p → HasTwo p
-two_is mode asked h peeked.Nothing i = absurd i
-two_is mode asked h peeked.Other i = tt
-two_is mode asked h (peeked.End k) i = absurd i
-two_is mode asked h (peeked.Front g k) i = i.0
-two_is mode asked h peeked.Refused i = absurd i
-
 pub if_two : (mode : Mode) (asked : Asked) (w : List ℕ) (h : Header) (r : Option Peeked) → 2 ≤ length w → IfSome r (IsOfTwo mode asked h) → ((x : List ℕ) → read_front mode (w ++ x) ≡ Some (h, drop 2 (w ++ x))) → IfSome r (λ p. Shows mode asked p w)
 if_two mode asked w h None l i r = tt
 if_two mode asked w h (Some p) l i r = two_shown mode asked w h p l i r
-
-pub if_two_is : (mode : Mode) (asked : Asked) (h : Header) (r : Option Peeked) → IfSome r (IsOfTwo mode asked h) → IfSome r HasTwo
-if_two_is mode asked h None i = tt
-if_two_is mode asked h (Some p) i = two_is mode asked h p i
 
 -- what stands in front is the header of a primitive value, by its tag and its length
 pub octets_front : (mode : Mode) (h : CodeHeader) (k n m : ℕ) (w : List ℕ) → h.form ≡ form.Primitive n → IsFront mode h k m w → IsFront mode (octets_header h.tag n) k m w
 octets_front mode h k n m w f i = (i.0, subst (λ z. read_header mode w ≡ Some (record { tag = h.tag; form = is_constructed z; len = len_of z }, drop k w)) f i.1)
 
 -- ---- tags
-
--- a test of two tags that says no
-pub differs : (t u : Tag) → false ≡ (sameb the_type (class_kept t.class) (class_kept u.class) && eqb t.number u.number) → t ≡ u → ⊥
-differs t u h e =
-    let p = true_same the_type (class_kept t.class) (class_kept u.class) (ap (λ (v : Tag). class_kept v.class) e) in
-    let q = eq-eqb t.number u.number (ap (λ (v : Tag). v.number) e) in
-    let r : false ≡ true = rw (p, q) at h in
-    cc
 
 -- ---- the octets at hand, and those to come
 

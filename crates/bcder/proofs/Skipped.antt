@@ -1,6 +1,6 @@
 -- What skipping promises of content, by what a run over the content of a value did.
 use Rattle.std.proofs.Common.{◌≡◌, ◌≢◌, inl, inr, ℕ, ◌+◌, ◌*◌, ◌≤◌, true, false, List, [], ◌∷◌, ◌++◌, length, take, Option, Some, None, Ok, Err, min, refl, sym, ap, subst, ◌∙◌, arith, append_assoc, append-nil, length-append}
-use Rattle.std.specs.Prelude.{Result, IsOk, IsErrAnd, ◌⊎◌, ◌<◌}
+use Rattle.std.specs.Prelude.{Result, IsOk, ◌⊎◌, ◌<◌}
 use Rattle.std.proofs.Math.Nat.{min-le_right}
 use Rattle.std.proofs.lemmas.List.{append_cancel_right}
 use Rattle.bcder.specs.declared.mode.Mode.{Mode}

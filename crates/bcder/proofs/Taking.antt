@@ -11,7 +11,7 @@ use Rattle.bcder.specs.x690.Identifier.{Tag}
 use Rattle.bcder.specs.declared.decode.error.ContentError.{ContentError}
 use Rattle.bcder.specs.calls.Cause.{Cause, cause_of}
 use Rattle.bcder.specs.x690.Tree.{Tree}
-use Rattle.bcder.specs.x690.Encoding.{may_have, IsHeader, IsEncoding, Header}
+use Rattle.bcder.specs.x690.Encoding.{IsHeader, IsEncoding, Header}
 use Rattle.bcder.specs.calls.Content.{Reading, Form, Octets, DefiniteValues, IndefiniteValues, UnboundedValues, label, Moves, Advances, Asked, IsAsked, HasHeader, Enters, RefusesHeader}
 use Rattle.bcder.specs.calls.Content as content
 use Rattle.bcder.specs.calls.Calls.{IsFormOf, ContentOf, Hands, Untagged, Answered, AnswersDone, RefusesContent, by_closure, unfinished, TakesContent, TakesValue, RefusesFront, RefusesValue, IsInside}

@@ -1,6 +1,6 @@
 -- What private steps of walking over values answer and leave.
 use Rattle.std.specs.Borrow.{MutBor}
-use Rattle.std.specs.Prelude.{◌≡◌, ℕ, ◌+◌, ◌≤◌, Bool, true, false, length, take, Option, Result, IfOk, IfErr, OnOk, OnErr, IsTrue}
+use Rattle.std.specs.Prelude.{◌≡◌, ℕ, ◌+◌, ◌≤◌, Bool, false, length, take, Option, Result, IfOk, IfErr, OnOk, OnErr, IsTrue}
 use denote.Triple.Both.{Both}
 use Rattle.bcder.specs.declared.decode.content.State.TheVariants.{Failed}
 use Rattle.bcder.specs.x690.Identifier.{Tag, AreOctets}
