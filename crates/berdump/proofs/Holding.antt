@@ -55,9 +55,6 @@ held_all mode t w x inside (f, i, e) h = one_rest t h.front f inside x h.is_fron
 pub holds : (mode : Mode) (t : Tag) (w x : List ℕ) → (f : List ℕ) × IsFront t f × (w ≡ f ++ x) → x ≢ [] → IsList mode x → Holds mode t w x
 holds mode t w x (f, i, e) n l = record { front = f; is_front = i; are = e; some = n; list = l }
 
-pub none_in_nothing : (mode : Mode) (t : Tag) (w x : List ℕ) → (f : List ℕ) × IsFront t f × (w ≡ f ++ x) → x ≡ [] → HoldsNone mode t w
-none_in_nothing mode t w x p n inside h = h.some (held_all mode t w x inside p h ∙ n)
-
 pub none_in_octets : (mode : Mode) (t : Tag) (w x : List ℕ) → (f : List ℕ) × IsFront t f × (w ≡ f ++ x) → IsNoList mode x → HoldsNone mode t w
 none_in_octets mode t w x p n inside h = n h.list.0 (subst (AreEncodings mode h.list.0) (held_all mode t w x inside p h) h.list.1)
 

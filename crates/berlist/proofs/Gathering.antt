@@ -1,6 +1,6 @@
 -- What is gathered, at each way that it can go.
 use Rattle.std.proofs.Common.{◌≡◌, ◌≢◌, ℕ, Bool, true, false, List, [], ◌∷◌, ◌++◌, Option, Some, None, MatchOption, refl, sym, ap, subst, ◌∙◌, append_assoc, append-nil, arith, inl, inr}
-use Rattle.std.specs.Prelude.{◌⊎◌, Result, Ok, Err, IfOk, IfErr, IfSome, IfNone, OnOk}
+use Rattle.std.specs.Prelude.{◌⊎◌, Result, Ok, Err, IfOk, IfErr, IfSome, OnOk}
 use Rattle.std.specs.Borrow.{MutBor, GName}
 use Rattle.std.proofs.lemmas.Fn.{chained_keeps}
 use Rattle.bcder.specs.declared.mode.Mode.{Mode}
@@ -14,14 +14,14 @@ use Rattle.bcder.specs.x690.Tree.{Tree, Trees, no_trees, ◌∷ₜ◌}
 use Rattle.bcder.specs.x690.Encoding.{AreEncodings}
 use Rattle.bcder.specs.x690.Preorder.{Heading, preorder, preorders}
 use Rattle.bcder.specs.calls.Content.{Reading, Octets, UnboundedValues, Moves, IsDone, EndsAt}
-use Rattle.bcder.specs.calls.Walking.{PassesValue, ClosesBefore, HasValues, RefusesWalk, RefusesValues, Walks}
+use Rattle.bcder.specs.calls.Walking.{ClosesBefore, HasValues, RefusesValues, Walks}
 use Rattle.bcder.specs.calls.Skipping.{Steps, Called, SkipsValue, RefusesSkip}
 use Rattle.bcder.specs.calls.Skipping as skipping
 use Rattle.bcder.specs.calls.Decoding.{IsAllOf, RefusesOn, RefusesDecode}
 use Rattle.bcder.specs.calls.Decoding as decoding
 use Rattle.bcder.specs.calls.Stream.{Stream, Grew}
 use Rattle.bcder.specs.calls.Views.{of_constructed}
-use Rattle.bcder.specs.calls.Cause.{Cause, cause_of, of_memory}
+use Rattle.bcder.specs.calls.Cause.{Cause, cause_of}
 use Rattle.bcder.specs.laws.Moved.{moved_keeps_kind}
 use Rattle.bcder.proofs.Lemmas.{open_has_not_ended, IsWithinOwed, values_with_one_more, trees_with_one_more, refused_on_the_way, no_values_at_the_end, no_trees_at_the_end, walks_nothing, walks_one_more}
 use Rattle.berlist.specs.Lines.{line, lines}

@@ -1,11 +1,11 @@
 -- Lines, one behind the other, and what was written of them.
-use Rattle.std.proofs.Common.{◌≡◌, ◌≢◌, ℕ, ◌+◌, ◌<◌, List, [], ◌∷◌, ◌++◌, length, map, take, drop, get_or, suc, refl, sym, ap, ◌∙◌, append_assoc, append-nil, add-one, drop-cons, take-append-drop}
-use Rattle.std.specs.Prelude.{string_bytes, String, Option, Result, Ok, Err, OnOk, OnErr, codes}
+use Rattle.std.proofs.Common.{◌≡◌, ◌≢◌, ℕ, ◌+◌, ◌<◌, List, [], ◌∷◌, ◌++◌, length, map, take, drop, get_or, refl, sym, ap, ◌∙◌, append_assoc, append-nil, add-one, drop-cons, take-append-drop}
+use Rattle.std.specs.Prelude.{Option, Result, Ok, Err, OnOk, OnErr}
 use Rattle.std.specs.Io.KnownBytes.{Appends}
 use Rattle.std.proofs.KnownBytes.{Appends-trans}
 use Rattle.std.proofs.lemmas.List.{map-append, take_more}
 use Rattle.mkoid.specs.Front.{AppendsShorter}
-use Rattle.mkoid.specs.Lines.{IsLine, AreLines, WritesAll, WritesSome, WritesPart}
+use Rattle.mkoid.specs.Lines.{IsLine, AreLines, WritesAll, WritesSome}
 
 pub on_ok : {T E : Type 0} (r : Result T E) (P Q : Type 0) → (P → Q) → OnOk r P → OnOk r Q
 on_ok (Ok x) P Q f h = f h

@@ -4,7 +4,7 @@ use bcder::decode::{BytesSource, SliceSource, Source};
 use bcder::encode::Values;
 use bcder::string::{
     CharSet, Ia5CharSet, NumericCharSet, PrintableCharSet, RestrictedString, StringError,
-    TextCharSet, Utf8CharSet,
+    TextCharSet, Utf8CharSet, Utf8String,
 };
 use bcder::{Mode, OctetString, Tag};
 use bytes::Bytes;
@@ -80,6 +80,32 @@ fn other_strings_that_are_read(rt: HostRuntime) {
     check::<Ia5CharSet>(&rt, alloc, Mode::Der, &[0x16, 0x01, 0x7F], Some("\u{7F}"));
     check::<Ia5CharSet>(&rt, alloc, Mode::Der, &[0x16, 0x01, 0x80], None);
     check::<Latin1>(&rt, alloc, Mode::Der, &[0x14, 0x02, 0x61, 0xE9], Some("aé"));
+}
+
+/// A string behind a null is refused, and this is said of it.
+fn check_refusal(rt: &impl Abort, alloc: Global, octets: &[u8], text: &str) {
+    let read = Mode::Ber.decode(SliceSource::new(octets), |cons| {
+        cons.take_null()?;
+        Utf8String::take_from(alloc, cons)
+    });
+    match read {
+        Ok(_) => holds(rt, false),
+        Err(error) => shows(rt, alloc, &error, text),
+    }
+}
+
+/// Characters are refused where the content begins that they stand in.
+#[test]
+fn where_a_string_is_refused(rt: HostRuntime) {
+    let alloc = rt.alloc();
+    let text = "invalid character (at position 4)";
+    check_refusal(&rt, alloc, &[0x05, 0x00, 0x0C, 0x02, 0xC3, 0x28], text);
+    let cut = [0x05, 0x00, 0x2C, 0x04, 0x04, 0x02, 0xC3, 0x28];
+    check_refusal(&rt, alloc, &cut, text);
+    let indefinite = [
+        0x05, 0x00, 0x2C, 0x80, 0x04, 0x02, 0xC3, 0x28, 0x00, 0x00,
+    ];
+    check_refusal(&rt, alloc, &indefinite, text);
 }
 
 /// Octets make a string of the set, or don't.

@@ -3,7 +3,7 @@ ghost use Rattle.std.specs.Prelude.{◌≡◌, ◌+◌, ◌≤◌, false, length
 ghost use Rattle.std.specs.Prelude.{IfOk, IfErr, IfSome, IfNone, IsErrAnd, OnOk, OnErr};
 ghost use Rattle.bcder.specs.calls.Calls.{popped};
 ghost use Rattle.bcder.specs.calls.Changed.{SameFaults, MoreFaults, SameRest, SameKept};
-ghost use Rattle.bcder.specs.calls.Cause.{cause_of, of_source, IsOfContent, IsRefusal};
+ghost use Rattle.bcder.specs.calls.Cause.{cause_of, of_source, of_memory, IsOfContent, IsRefusal};
 ghost use Rattle.bcder.specs.steps.StopCause.{stop_cause};
 ghost use Rattle.bcder.specs.calls.Cause.{NamesTag};
 ghost use Rattle.bcder.specs.calls.Content.{Moves, Advances, FitsOwed};
@@ -96,10 +96,12 @@ impl<'a, S: Source> Constructed<'a, S> {
     pub(crate) fn stop_error(&self, stop: Stop<S::Error>) -> DecodeError<S::Error>
         ensures refused { IsOfContent (stop_cause stop) → IsRefusal result }
         ensures source { stop_cause stop ≡ of_source → cause_of result ≡ of_source }
+        ensures memory { stop_cause stop ≡ of_memory → cause_of result ≡ of_memory }
     {
         match stop {
             Stop::Refused(why) => self.refusal(why.text()),
             Stop::Source(error) => DecodeError::Source(error),
+            Stop::NoMemory => DecodeError::no_memory(),
         }
     }
 

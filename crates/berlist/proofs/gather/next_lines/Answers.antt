@@ -1,5 +1,5 @@
 use Rattle.std.proofs.Common.{rules, string_bytes, ap, sym, ◌∙◌}
-use Rattle.berlist.proofs.Gathering.{lists_next, refuses_next, AddsLines}
+use Rattle.berlist.proofs.Gathering.{lists_next, refuses_next}
 use Rattle.berlist.proofs.gather.next_lines.Goals as goal
 
 pub returns-clause-listed : goal.returns-clause-listed
