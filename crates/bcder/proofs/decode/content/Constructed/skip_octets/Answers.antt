@@ -27,8 +27,8 @@ returns-in-Ok-clause-skipped g c = λ b i. behind_passed b (of_constructed g.S.S
 
 pub returns-in-Err-skip_owed-clause-moves : goal.returns-in-Err-skip_owed-clause-moves
 unfolding of_constructed
-returns-in-Err-skip_owed-clause-moves g c = λ b i. behind_stopped b (of_constructed g.S.Source.stream c.args.self.now) _ (header_of (octets_header c.args.tag c.args.len)) c.args.self.now.mode (source_of g.S.Source.stream c.args.self.now) (g.S.Source.stream c.skip_owed.new.self.source) (limit_in c.args.self.now) c.skip_owed.new.self.limit i refl refl refl refl refl refl refl refl refl (F-step g) c.args.op.now c.op.new.self cause_of (interrupt.Stopped (bar.Stopped c.in-Err-skip_owed.stop)) c.interrupt_error-in-Err-skip_owed.result refl c.interrupt_error-in-Err-skip_owed.ensures.content c.interrupt_error-in-Err-skip_owed.ensures.source c.interrupt_error-in-Err-skip_owed.ensures.memory c.interrupt_error-in-Err-skip_owed.ensures.closure (octets_stopped _ _ (header_of (octets_header c.args.tag c.args.len)) _ _ _ refl _ _ _ c.args.len refl c.in_default.ensures c.skip_owed.ensures.kept c.skip_owed.ensures.no_fewer _ c.in-Err-skip_owed.ensures.cause c.in-Err-skip_owed.ensures.err c.in-Err-skip_owed.ensures.err_limit)
+returns-in-Err-skip_owed-clause-moves g c = λ b i. behind_stopped b (of_constructed g.S.Source.stream c.args.self.now) _ (header_of (octets_header c.args.tag c.args.len)) c.args.self.now.mode (source_of g.S.Source.stream c.args.self.now) (g.S.Source.stream c.skip_owed.new.self.source) (limit_in c.args.self.now) c.skip_owed.new.self.limit i refl refl refl refl refl refl refl refl refl (F-step g) c.args.op.now c.op.new.self cause_of (interrupt.Stopped c.in-Err-skip_owed.stop) c.interrupt_error-in-Err-skip_owed.result refl c.interrupt_error-in-Err-skip_owed.ensures.content c.interrupt_error-in-Err-skip_owed.ensures.source c.interrupt_error-in-Err-skip_owed.ensures.memory c.interrupt_error-in-Err-skip_owed.ensures.closure (octets_stopped _ _ (header_of (octets_header c.args.tag c.args.len)) _ _ _ refl _ _ _ c.args.len refl c.in_default.ensures c.skip_owed.ensures.kept c.skip_owed.ensures.no_fewer _ c.in-Err-skip_owed.ensures.cause c.in-Err-skip_owed.ensures.err c.in-Err-skip_owed.ensures.err_limit)
 
 pub returns-in-Err-skip_owed-clause-skipped : goal.returns-in-Err-skip_owed-clause-skipped
 unfolding of_constructed
-returns-in-Err-skip_owed-clause-skipped g c = λ b i. behind_refused b (of_constructed g.S.Source.stream c.args.self.now) _ (header_of (octets_header c.args.tag c.args.len)) c.args.self.now.mode (source_of g.S.Source.stream c.args.self.now) (g.S.Source.stream c.skip_owed.new.self.source) (limit_in c.args.self.now) c.skip_owed.new.self.limit i refl refl refl refl refl refl refl refl refl _ c.args.op.now c.op.new.self cause_of (interrupt.Stopped (bar.Stopped c.in-Err-skip_owed.stop)) c.interrupt_error-in-Err-skip_owed.result refl c.interrupt_error-in-Err-skip_owed.ensures.content c.interrupt_error-in-Err-skip_owed.ensures.source c.interrupt_error-in-Err-skip_owed.ensures.memory c.interrupt_error-in-Err-skip_owed.ensures.closure (octets_stopped _ _ (header_of (octets_header c.args.tag c.args.len)) _ _ _ refl _ _ _ c.args.len refl c.in_default.ensures c.skip_owed.ensures.kept c.skip_owed.ensures.no_fewer _ c.in-Err-skip_owed.ensures.cause c.in-Err-skip_owed.ensures.err c.in-Err-skip_owed.ensures.err_limit)
+returns-in-Err-skip_owed-clause-skipped g c = λ b i. behind_refused b (of_constructed g.S.Source.stream c.args.self.now) _ (header_of (octets_header c.args.tag c.args.len)) c.args.self.now.mode (source_of g.S.Source.stream c.args.self.now) (g.S.Source.stream c.skip_owed.new.self.source) (limit_in c.args.self.now) c.skip_owed.new.self.limit i refl refl refl refl refl refl refl refl refl _ c.args.op.now c.op.new.self cause_of (interrupt.Stopped c.in-Err-skip_owed.stop) c.interrupt_error-in-Err-skip_owed.result refl c.interrupt_error-in-Err-skip_owed.ensures.content c.interrupt_error-in-Err-skip_owed.ensures.source c.interrupt_error-in-Err-skip_owed.ensures.memory c.interrupt_error-in-Err-skip_owed.ensures.closure (octets_stopped _ _ (header_of (octets_header c.args.tag c.args.len)) _ _ _ refl _ _ _ c.args.len refl c.in_default.ensures c.skip_owed.ensures.kept c.skip_owed.ensures.no_fewer _ c.in-Err-skip_owed.ensures.cause c.in-Err-skip_owed.ensures.err c.in-Err-skip_owed.ensures.err_limit)
