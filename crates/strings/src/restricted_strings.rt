@@ -83,6 +83,7 @@ fn other_strings_that_are_read(rt: HostRuntime) {
 }
 
 /// A string behind a null is refused, and this is said of it.
+#[tactic(auto, using(bcder::specs::laws::Moved::steps))]
 fn check_refusal(rt: &impl Abort, alloc: Global, octets: &[u8], text: &str) {
     let read = Mode::Ber.decode(SliceSource::new(octets), |cons| {
         cons.take_null()?;
