@@ -4,7 +4,7 @@ use Rattle.std.proofs.lemmas.List.{take_at}
 use Rattle.std.proofs.Math.Seq.{take-append-add, drop-append-add}
 use Rattle.std.proofs.lemmas.Grind.{common_steps}
 use Rattle.std.specs.Borrow.{MutBor}
-use Rattle.std.specs.Prelude.{Option, Some, None, Result, Ok, Err, ◌||◌, IfOk, OnOk}
+use Rattle.std.specs.Prelude.{Option, Some, None, Result, Ok, Err, ◌||◌, IfOk, IfErr, OnOk}
 use Rattle.bcder.specs.declared.mode.Mode.{Mode}
 use Rattle.bcder.specs.declared.length.Length.{Length}
 use Rattle.bcder.specs.declared.length.Length.TheVariants.{Definite, Indefinite}
@@ -300,3 +300,13 @@ module _ {C T E : Type 0} (why : E → Cause ContentError) (view : C → Reading
         (subst (λ z. RanOver why view post c.stream c.owed IndefiniteValues c.mode h.tag r mark (limited_stream stream l2) z) j
         (subst (λ z. RanOver why view post z c.owed IndefiniteValues c.mode h.tag r mark (limited_stream stream l2) l2.limit) s
         (subst (λ z. RanOver why view post (limited_stream stream l1) z IndefiniteValues c.mode h.tag r mark (limited_stream stream l2) l2.limit) i ran))))
+
+-- ---- what holds at any tag
+
+pub ok_at : {T E : Type 0} (P : Tag → T → Type 0) (t : Tag) (r : Result T E) → IfOk r (λ x. (u : Tag) → P u x) → IfOk r (P t)
+ok_at P t (Ok x) h = h t
+ok_at P t (Err e) h = tt
+
+pub err_at : {T E : Type 0} (P : Tag → E → Type 0) (t : Tag) (r : Result T E) → IfErr r (λ e. (u : Tag) → P u e) → IfErr r (P t)
+err_at P t (Ok x) h = tt
+err_at P t (Err e) h = h t

@@ -36,7 +36,17 @@ impl<'a, S: Source> Constructed<'a, S> {
         ensures took { TookNextValues S.stream self any (F.post op) result }
     {
         match self.next_header(Wanted::Any) {
-            Ok(Some(header)) => self.take_constructed_body(header, op),
+            Ok(Some(header)) => {
+                let tag = header.tag;
+                self.take_constructed_body(
+                    header,
+                    |values|
+                        requires { (p : _) → p.now ≡ values.now → F.pre op tag p }
+                        ensures { Answered (of_constructed S.stream) (F.post op tag)
+                            (before S.stream values) result (after S.stream values) }
+                    { op(tag, values) },
+                )
+            }
             Ok(None) => Ok(None),
             Err(stop) => Err(self.stop_error(stop)),
         }
@@ -87,14 +97,7 @@ impl<'a, S: Source> Constructed<'a, S> {
         ensures took { TookNextValues S.stream self (tagged tag) (Untagged (F.post op)) result }
     {
         match self.next_header(Wanted::Tagged(tag)) {
-            Ok(Some(header)) => self.take_constructed_body(
-                header,
-                |_tag, values|
-                    requires { (p : _) → p.now ≡ values.now → F.pre op p }
-                    ensures { Answered (of_constructed S.stream) (F.post op)
-                        (before S.stream values) result (after S.stream values) }
-                { op(values) },
-            ),
+            Ok(Some(header)) => self.take_constructed_body(header, op),
             Ok(None) => Ok(None),
             Err(stop) => Err(self.stop_error(stop)),
         }

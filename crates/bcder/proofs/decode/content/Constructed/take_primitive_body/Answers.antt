@@ -15,19 +15,19 @@ returns-in_default g c = of_form _ refl (ap Some (sym (search rules))) c.refusal
 pub returns-in-Err : goal.returns-in-Err
 unfolding of_constructed of_primitive
 returns-in-Err g c =
-    let limit : c.pop.new.source.limit ≡ popped c.push-outer.result c.in-Primitive.len c.run_octets.new.octets.source.now.limit = search rules in
-    let source : c.pop.new.source.source ≡ c.run_octets.new.octets.source.now.source = search rules in
+    let limit : c.pop.new.source.limit ≡ popped c.limit-outer.result c.in-Primitive.len c.run.new.inside.source.now.limit = search rules in
+    let source : c.pop.new.source.source ≡ c.run.new.inside.source.now.source = search rules in
     refused _ refl (takes_octets cause_of (of_primitive g.S.Source.stream) _ (of_constructed g.S.Source.stream c.args.self.now) _ (header_of c.args.header) _ refl refl refl refl _ c.either-self.ensures
-    g.S.Source.stream c.in-Primitive.len c.args.self.now.source.now c.push-outer.new.source c.run_octets.new.octets.source.now c.pop.new.source c.push-outer.result
-    (ap len_of c.in-Primitive.is) refl refl c.push-outer.ensures.outer c.push-outer.ensures.limit c.push-outer.ensures.source limit source refl refl c.requires.fits (ap is_constructed c.in-Primitive.is) (g.met.S.Source.sound c.args.self.now.source.now.source) (record { handed = _; left = of_primitive g.S.Source.stream c.run_octets.new.octets; runs = record { stream = refl; owed = refl; kind = refl; state = refl; mode = refl; marked = refl; left_stream = refl; left_owed = refl; moves = c.run_octets.ensures.moves }; marks = refl; answers = tt; refuses = c.in-Err.ensures.refused }))
+    g.S.Source.stream c.in-Primitive.len c.args.self.now.source.now c.set_limit.new.self c.run.new.inside.source.now c.pop.new.source c.limit-outer.result
+    (ap len_of c.in-Primitive.is) refl refl c.limit-outer.ensures c.set_limit.ensures.limit c.set_limit.ensures.source limit source refl refl c.requires.fits (ap is_constructed c.in-Primitive.is) (g.met.S.Source.sound c.args.self.now.source.now.source) (record { handed = _; left = of_primitive g.S.Source.stream c.run.new.inside; runs = record { stream = refl; owed = refl; kind = refl; state = refl; mode = refl; marked = refl; left_stream = refl; left_owed = refl; moves = c.run.ensures.moves }; marks = refl; answers = tt; refuses = c.in-Err.ensures.refused _ }))
 
 pub returns : goal.returns
 unfolding of_constructed of_primitive
 returns g c =
-    let limit : c.pop-2.new.source.limit ≡ popped c.push-outer.result c.in-Primitive.len c.run_octets.new.octets.source.now.limit = search rules in
-    let source : c.pop-2.new.source.source ≡ c.run_octets.new.octets.source.now.source = search rules in
+    let limit : c.pop-2.new.source.limit ≡ popped c.limit-outer.result c.in-Primitive.len c.run.new.inside.source.now.limit = search rules in
+    let source : c.pop-2.new.source.source ≡ c.run.new.inside.source.now.source = search rules in
     let old = c.args.self.now in let new = c.pop-2.new.source in
     let m : Reading = record { stream = limited_stream g.S.Source.stream new; owed = new.limit; kind = values old.kind; state = old.state; mode = old.mode; marked = c.either-self-2.result; name = old.source.ghost_name } in
     taken _ m refl (takes_octets cause_of (of_primitive g.S.Source.stream) _ (of_constructed g.S.Source.stream c.args.self.now) m (header_of c.args.header) _ refl refl refl refl _ c.either-self-2.ensures
-    g.S.Source.stream c.in-Primitive.len c.args.self.now.source.now c.push-outer.new.source c.run_octets.new.octets.source.now c.pop-2.new.source c.push-outer.result
-    (ap len_of c.in-Primitive.is) refl refl c.push-outer.ensures.outer c.push-outer.ensures.limit c.push-outer.ensures.source limit source refl refl c.requires.fits (ap is_constructed c.in-Primitive.is) (g.met.S.Source.sound c.args.self.now.source.now.source) (record { handed = _; left = of_primitive g.S.Source.stream c.run_octets.new.octets; runs = record { stream = refl; owed = refl; kind = refl; state = refl; mode = refl; marked = refl; left_stream = refl; left_owed = refl; moves = c.run_octets.ensures.moves }; marks = refl; answers = c.in-Ok.ensures.ok; refuses = tt })) refl
+    g.S.Source.stream c.in-Primitive.len c.args.self.now.source.now c.set_limit.new.self c.run.new.inside.source.now c.pop-2.new.source c.limit-outer.result
+    (ap len_of c.in-Primitive.is) refl refl c.limit-outer.ensures c.set_limit.ensures.limit c.set_limit.ensures.source limit source refl refl c.requires.fits (ap is_constructed c.in-Primitive.is) (g.met.S.Source.sound c.args.self.now.source.now.source) (record { handed = _; left = of_primitive g.S.Source.stream c.run.new.inside; runs = record { stream = refl; owed = refl; kind = refl; state = refl; mode = refl; marked = refl; left_stream = refl; left_owed = refl; moves = c.run.ensures.moves }; marks = refl; answers = c.in-Ok.ensures.ok _; refuses = tt })) refl
