@@ -19,7 +19,7 @@ use Rattle.bcder.specs.declared.decode.error.ContentError.{ContentError}
 use Rattle.bcder.specs.calls.Cause.{Cause}
 use Rattle.bcder.specs.calls.Content.{Reading, Form, values, Octets, DefiniteValues, IndefiniteValues, label, Moves, MovesBy, Whole, Falls, Closes, IsDone, IsUsedUp, Advances, FitsOwed}
 use Rattle.bcder.specs.calls.Calls.{IsFormOf, ContentOf, AnswersDone, RanOver, TakesContent, popped}
-use Rattle.bcder.specs.steps.Inside.{kind_behind, limit_inside, limit_outside}
+use Rattle.bcder.specs.steps.Inside.{kind_behind, limit_inside, limit_outside, IsTaken}
 use Rattle.bcder.specs.calls.Views.{limited_stream}
 use Rattle.bcder.specs.laws.Limits.{rest_told_behind, limited_sound}
 use Rattle.bcder.specs.laws.Sound.{AreOctets-take}
@@ -143,6 +143,16 @@ octets_not_indefinite k e f = (let y : Octets ≡ IndefiniteValues = sym e ∙ f
 
 definite_not_indefinite : (k : Form) → k ≡ DefiniteValues → k ≡ IndefiniteValues → ⊥
 definite_not_indefinite k e f = (let y : DefiniteValues ≡ IndefiniteValues = sym e ∙ f in cc)
+
+-- content of a definite length that is done is taken
+pub octets_taken : (i j : Reading) → Moves i j → i.state ≡ Open → i.kind ≡ Octets → IsDone j → j.owed ≡ Some 0
+unfolding Moves
+octets_taken i j m o k q = used_up Octets j (m.kind ∙ k) q (not_ended i j m o (octets_not_indefinite i.kind k))
+
+pub all_taken : (len : Length) (i j : Reading) → Moves i j → i.state ≡ Open → i.kind ≡ values (kind_behind len) → IsDone j → IsTaken len j.owed
+unfolding Moves
+all_taken (Definite n) i j m o k q = used_up DefiniteValues j (m.kind ∙ k) q (not_ended i j m o (definite_not_indefinite i.kind k))
+all_taken Indefinite i j m o k q = tt
 
 AreOctets-front : (u w v : List ℕ) → w ≡ u ++ v → AreOctets w → AreOctets u
 AreOctets-front u w v e o = subst AreOctets (ap (take (length u)) e ∙ take_at u v (length u) refl) (AreOctets-take (length u) w o)

@@ -7,6 +7,7 @@ ghost use Rattle.bcder.specs.steps.StopCause.{stop_cause};
 ghost use Rattle.bcder.specs.calls.Content.{Reading, Moves, FitsOwed, EndsAt, IsDone};
 ghost use Rattle.bcder.specs.steps.Entering.{MeetsNoFault};
 ghost use Rattle.bcder.specs.steps.Inside.{kind_behind, limit_inside, limit_outside, IsBehind};
+ghost use Rattle.bcder.specs.steps.Inside.{IsTaken};
 ghost use Rattle.bcder.specs.steps.Inside.{RanInside, TakesBehind};
 ghost use Rattle.bcder.specs.steps.Peek.{header_of, len_of};
 ghost use Rattle.bcder.specs.calls.Views.{of_constructed, of_primitive, of_content, limited_stream};
@@ -47,6 +48,24 @@ fn go_outside<S>(source: &mut LimitedSource<S>, outer: Option<usize>, len: Lengt
 {
     if let Length::Definite(len) = len {
         pop(source, outer, len);
+    }
+}
+
+/// Gives the source the limit of the content around a value back, where all of its octets were
+/// taken.
+#[inline(always)]
+fn close<S>(source: &mut LimitedSource<S>, outer: Option<usize>, len: Length)
+    requires fits { FitsOwed len outer }
+    requires taken { IsTaken len source.old.limit }
+    ensures limit { source.new.limit ≡ limit_outside len outer source.old.limit }
+    ensures source { source.new.source ≡ source.old.source }
+{
+    if let Length::Definite(len) = len {
+        let limit = match outer {
+            Some(outer) => Some(outer - len),
+            None => None,
+        };
+        source.set_limit(limit);
     }
 }
 
@@ -251,7 +270,7 @@ impl<'a, S: Source> Constructed<'a, S> {
             }
         };
         let marked = octets.marked;
-        pop(source, outer, len);
+        close(source, outer, Length::Definite(len));
         self.marked = either(self.marked, marked);
         self.state = State::Open;
         Ok(Some(value))
@@ -300,7 +319,7 @@ impl<'a, S: Source> Constructed<'a, S> {
             }
         };
         let marked = values.marked;
-        go_outside(source, outer, len);
+        close(source, outer, len);
         self.marked = either(self.marked, marked);
         self.state = State::Open;
         Ok(Some(value))
