@@ -171,7 +171,7 @@ impl<'a, S: Source> Constructed<'a, S> {
 
 /// Calls the closure on what is inside a value, which then is at its end.
 #[tactic(auto, using(crate::specs::laws::Moved::moved_twice_is_moved))]
-#[inline(always)]
+#[inline]
 fn run<C: Inside, F, T: Drop>(inside: &mut C, op: F) -> Result<T, DecodeError<C::Error>>
 where
     F: FnOnce(&mut C) -> Result<T, DecodeError<C::Error>>,
