@@ -2,14 +2,14 @@
 use Rattle.std.proofs.Common.{◌≡◌, ◌≢◌, ℕ, ◌+◌, ◌≤◌, Bool, true, false, List, ◌++◌, length, take, refl, ap, sym, ◌∙◌, arith, length-append, subst}
 use Rattle.std.proofs.lemmas.Grind.{common_steps}
 use Rattle.std.specs.Borrow.{MutBor}
-use Rattle.std.specs.Prelude.{Option, Some, None, Result, Ok, Err, ◌||◌, IfOk, IfErr}
+use Rattle.std.specs.Prelude.{Option, Some, None, Result, Ok, Err, ◌||◌, IfOk, IfErr, IsErrAnd}
 use Rattle.bcder.specs.declared.length.Length.{Length}
 use Rattle.bcder.specs.declared.length.Length.TheVariants.{Definite, Indefinite}
 use Rattle.bcder.specs.declared.decode.content.State.TheVariants.{Open, Failed}
 use Rattle.bcder.specs.declared.decode.error.DecodeError.{DecodeError}
 use Rattle.bcder.specs.x690.Identifier.{Tag}
 use Rattle.bcder.specs.declared.decode.error.ContentError.{ContentError}
-use Rattle.bcder.specs.calls.Cause.{Cause, cause_of}
+use Rattle.bcder.specs.calls.Cause.{Cause, cause_of, IsRefusal}
 use Rattle.bcder.specs.x690.Tree.{Tree}
 use Rattle.bcder.specs.x690.Encoding.{IsHeader, IsEncoding, Header}
 use Rattle.bcder.specs.calls.Content.{Reading, Form, Octets, DefiniteValues, IndefiniteValues, UnboundedValues, label, Moves, Advances, Asked, IsAsked, HasHeader, Enters, RefusesHeader}
@@ -136,8 +136,12 @@ inside_entered c h d i asked t x n = record {
       omega (arith, z, s, ap length x.advances.rest, length-append x.octets d.stream.rest));
 }
 
--- the mode allows the header that was passed
 -- ---- what the calls say
+
+-- a value of the form that is refused
+pub form_answered : {C T X : Type 0} (view : C → Reading) (post : Tag → MutBor C → Result T (DecodeError X) → MutBor C → Type 0) (form : Option Bool) (c : Reading) (h : Header) (r : Result (Option T) (DecodeError X)) (d : Reading) → IsErrAnd r IsRefusal → form ≡ Some h.form → d ≡ c → TakesBehind view post form c h r d
+form_answered view post form c h (Err e) d y f s = of_form e refl f y s
+form_answered view post form c h (Ok _) d y f s = elim y [ ]
 
 module _ {C T X : Type 0} (view : C → Reading) (post : Tag → MutBor C → Result T (DecodeError X) → MutBor C → Type 0) (form : Option Bool) (asked : Asked) where
   module _ (c c1 d : Reading) (h : Header) (t : IsAsked asked h.tag) (x : Enters c h c1) (r : Result (Option T) (DecodeError X)) where

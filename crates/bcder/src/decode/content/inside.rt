@@ -171,7 +171,7 @@ impl<'a, S: Source> Constructed<'a, S> {
 
 /// Calls the closure on what is inside a value, which then is at its end.
 #[tactic(auto, using(crate::specs::laws::Moved::moved_twice_is_moved))]
-#[inline]
+#[inline(always)]
 fn run<C: Inside, F, T: Drop>(inside: &mut C, op: F) -> Result<T, DecodeError<C::Error>>
 where
     F: FnOnce(&mut C) -> Result<T, DecodeError<C::Error>>,
@@ -247,7 +247,7 @@ impl<'a, S: Source> Constructed<'a, S> {
             (before S.stream self) (header_of header) result (after S.stream self) }
     {
         let Form::Primitive(len) = header.form else {
-            return Err(self.refusal("expected a primitive value"));
+            return self.answer_refusal("expected a primitive value");
         };
         let mode = self.mode;
         let source = &mut *self.source;
@@ -294,7 +294,7 @@ impl<'a, S: Source> Constructed<'a, S> {
             (before S.stream self) (header_of header) result (after S.stream self) }
     {
         let Form::Constructed(len) = header.form else {
-            return Err(self.refusal("expected a constructed value"));
+            return self.answer_refusal("expected a constructed value");
         };
         let mode = self.mode;
         let source = &mut *self.source;

@@ -91,6 +91,15 @@ impl<'a, S: Source> Constructed<'a, S> {
         self.source.content_err(ContentError::from_static(text))
     }
 
+    /// The same as an answer. It is a call of its own, so that no room for an error is cleared
+    /// where nothing is refused.
+    #[inline(always)]
+    pub(super) fn answer_refusal<T>(&self, text: &'static str) -> Result<T, DecodeError<S::Error>>
+        ensures { IsErrAnd result IsRefusal }
+    {
+        Err(self.refusal(text))
+    }
+
     /// The error that a stop is, at the present position.
     #[cold]
     pub(crate) fn stop_error(&self, stop: Stop<S::Error>) -> DecodeError<S::Error>
@@ -103,8 +112,7 @@ impl<'a, S: Source> Constructed<'a, S> {
         }
     }
 
-    /// The same as an answer. It is a call of its own, so that no room for an error is cleared
-    /// where nothing stops.
+    /// The same as an answer, for the same reason.
     #[inline(always)]
     pub(super) fn answer_stop<T>(&self, stop: Stop<S::Error>) -> Result<T, DecodeError<S::Error>>
         ensures { IsErrAnd result (λ e. (IsOfContent (stop_cause stop) → IsRefusal e)

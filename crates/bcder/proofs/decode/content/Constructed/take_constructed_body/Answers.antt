@@ -1,15 +1,16 @@
-use Rattle.std.proofs.Common.{◌≡◌, refl, ap, sym, subst, rules}
+use Rattle.std.proofs.Common.{◌≡◌, false, refl, ap, sym, subst, rules}
 use Rattle.std.specs.Prelude.{Some}
 use Rattle.bcder.specs.calls.Cause.{cause_of}
 use Rattle.bcder.specs.calls.Content.{Reading, values, FitsOwed}
-use Rattle.bcder.specs.steps.Inside.{limit_outside, IsTaken, of_form, refused, taken}
+use Rattle.bcder.specs.steps.Inside.{limit_outside, IsTaken, refused, taken}
 use Rattle.bcder.specs.steps.Peek.{is_constructed, len_of, header_of}
 use Rattle.bcder.specs.calls.Views.{of_constructed, limited_stream}
 use Rattle.bcder.proofs.Inner.{values_taken, all_taken}
+use Rattle.bcder.proofs.Taking.{form_answered}
 use Rattle.bcder.proofs.decode.content.Constructed.take_constructed_body.Goals as goal
 
 pub returns-in_default : goal.returns-in_default
-returns-in_default g c = of_form _ refl (ap Some (sym (search rules))) c.refusal.ensures refl
+returns-in_default g c = form_answered (of_constructed g.S.Source.stream) _ (Some false) _ (header_of c.args.header) _ _ c.answer_refusal.ensures (ap Some (sym (search rules))) refl
 
 pub returns-in-Err : goal.returns-in-Err
 unfolding of_constructed

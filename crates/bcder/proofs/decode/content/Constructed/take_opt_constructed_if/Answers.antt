@@ -1,13 +1,12 @@
 use Rattle.std.proofs.Common.{false}
 use Rattle.std.specs.Prelude.{Some}
-use Rattle.bcder.specs.calls.Cause.{cause_of}
 use Rattle.bcder.specs.steps.StopCause.{stop_cause}
 use Rattle.bcder.specs.calls.Content.{tagged}
 use Rattle.bcder.specs.steps.Peek.{header_of}
 use Rattle.bcder.specs.calls.Views.{of_constructed}
 use Rattle.bcder.specs.laws.Moved.{moved_carries}
-use Rattle.bcder.proofs.Stopping.{header_stopped}
-use Rattle.bcder.proofs.Taking.{takes_next, moves_next, next_none, next_refused, inside_entered}
+use Rattle.bcder.proofs.Ahead.{next_answered}
+use Rattle.bcder.proofs.Taking.{takes_next, moves_next, next_none, inside_entered}
 use Rattle.bcder.proofs.decode.content.Constructed.take_opt_constructed_if.Goals as goal
 
 pub take_constructed_body-requires-clause-callable : goal.take_constructed_body-requires-clause-callable
@@ -26,13 +25,13 @@ take_constructed_body-requires-clause-fits g c =
     let e = rw c.in-Ok-Some.field-0-is at c.in-Ok-Some.ensures.entered in
     e.1.fits
 
-pub returns-in-Ok-Some-clause-moves : goal.returns-in-Ok-Some-clause-moves
-returns-in-Ok-Some-clause-moves g c =
+pub returns-clause-moves : goal.returns-clause-moves
+returns-clause-moves g c =
     let e = rw c.in-Ok-Some.field-0-is at c.in-Ok-Some.ensures.entered in
     moved_carries _ _ (moves_next (of_constructed g.S.Source.stream) _ (Some false) (tagged c.args.tag) (of_constructed g.S.Source.stream c.args.self.now) _ _ (header_of c.in-Ok-Some.header) e.0 e.1 _ c.take_constructed_body.ensures)
 
-pub returns-in-Ok-Some-clause-took : goal.returns-in-Ok-Some-clause-took
-returns-in-Ok-Some-clause-took g c =
+pub returns-clause-took : goal.returns-clause-took
+returns-clause-took g c =
     let e = rw c.in-Ok-Some.field-0-is at c.in-Ok-Some.ensures.entered in
     takes_next (of_constructed g.S.Source.stream) _ (Some false) (tagged c.args.tag) (of_constructed g.S.Source.stream c.args.self.now) _ _ (header_of c.in-Ok-Some.header) e.0 e.1 _ c.take_constructed_body.ensures
 
@@ -48,4 +47,6 @@ returns-in-Err-clause-moves g c = moved_carries _ _ c.next_header.ensures.moves
 
 pub returns-in-Err-clause-took : goal.returns-in-Err-clause-took
 unfolding of_constructed
-returns-in-Err-clause-took g c = next_refused (of_constructed g.S.Source.stream) _ (Some false) (tagged c.args.tag) _ (of_constructed g.S.Source.stream c.next_header.new.self) c.next_header.ensures.mode _ (header_stopped stop_cause cause_of _ _ c.stop_error.ensures.refused c.stop_error.ensures.source _ _ (tagged c.args.tag) c.in-Err.ensures.refused) c.next_header.ensures.marked c.in-Err.ensures.failed
+returns-in-Err-clause-took g c =
+    next_answered (of_constructed g.S.Source.stream) _ (Some false) (tagged c.args.tag) (of_constructed g.S.Source.stream c.args.self.now) (of_constructed g.S.Source.stream c.next_header.new.self) c.next_header.ensures.mode
+    stop_cause _ _ c.answer_stop.ensures c.next_header.ensures.marked c.in-Err.ensures.failed c.in-Err.ensures.refused

@@ -1,16 +1,17 @@
-use Rattle.std.proofs.Common.{◌≡◌, refl, ap, sym, subst, rules}
+use Rattle.std.proofs.Common.{◌≡◌, true, refl, ap, sym, subst, rules}
 use Rattle.std.specs.Prelude.{Some}
 use Rattle.bcder.specs.calls.Calls.{popped}
 use Rattle.bcder.specs.calls.Cause.{cause_of}
 use Rattle.bcder.specs.calls.Content.{Reading, values, FitsOwed}
-use Rattle.bcder.specs.steps.Inside.{of_form, refused, taken}
+use Rattle.bcder.specs.steps.Inside.{refused, taken}
 use Rattle.bcder.specs.steps.Peek.{is_constructed, len_of, header_of}
 use Rattle.bcder.specs.calls.Views.{of_constructed, of_primitive, limited_stream}
 use Rattle.bcder.proofs.Inner.{takes_octets, octets_taken}
+use Rattle.bcder.proofs.Taking.{form_answered}
 use Rattle.bcder.proofs.decode.content.Constructed.take_primitive_body.Goals as goal
 
 pub returns-in_default : goal.returns-in_default
-returns-in_default g c = of_form _ refl (ap Some (sym (search rules))) c.refusal.ensures refl
+returns-in_default g c = form_answered (of_primitive g.S.Source.stream) _ (Some true) _ (header_of c.args.header) _ _ c.answer_refusal.ensures (ap Some (sym (search rules))) refl
 
 pub returns-in-Err : goal.returns-in-Err
 unfolding of_constructed of_primitive
