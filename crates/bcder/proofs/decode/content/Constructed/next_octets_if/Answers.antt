@@ -5,7 +5,7 @@ use Rattle.bcder.specs.calls.Views.{of_constructed}
 use Rattle.bcder.specs.laws.Moved.{moved_twice_is_moved}
 use Rattle.bcder.proofs.Ahead.{ahead}
 use Rattle.bcder.proofs.Entering.{looked_moves, looked_failed, no_fewer, grew_least}
-use Rattle.bcder.proofs.Names.{with_source, resembles_with_source}
+use Rattle.bcder.proofs.SameBorrow.{with_source, resembles_with_source}
 use Rattle.bcder.proofs.decode.content.Constructed.next_octets_if.Goals as goal
 
 pub returns-in-Failed-clause-entered : goal.returns-in-Failed-clause-entered

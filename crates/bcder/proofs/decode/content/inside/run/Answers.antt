@@ -1,7 +1,7 @@
 use Rattle.std.proofs.Common.{refl}
 use Rattle.bcder.specs.calls.Calls.{by_closure, unfinished}
 use Rattle.bcder.specs.laws.Moved.{moved_twice_is_moved}
-use Rattle.bcder.proofs.Names.{moves_name}
+use Rattle.bcder.proofs.SameBorrow.{moves_name}
 use Rattle.bcder.proofs.decode.content.inside.run.Goals as goal
 
 pub returns-in-Err-clause-name : goal.returns-in-Err-clause-name

@@ -1,7 +1,7 @@
 use Rattle.std.proofs.Common.{refl, ap, sym, ◌∙◌}
 use Rattle.bcder.specs.calls.Views.{of_constructed, of_primitive, of_content, content_name}
 use Rattle.bcder.proofs.Inner.{ok_at, err_at}
-use Rattle.bcder.proofs.Names.{name_of_content}
+use Rattle.bcder.proofs.SameBorrow.{name_of_content}
 use Rattle.bcder.proofs.decode.content.inside.run_over.Goals as goal
 
 pub returns-in-Primitive-clause-name : goal.returns-in-Primitive-clause-name
