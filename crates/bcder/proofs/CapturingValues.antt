@@ -15,7 +15,7 @@ use Rattle.bcder.specs.calls.Stream.{Grew}
 use Rattle.bcder.specs.calls.Captured.{Kept, AreWhole}
 use Rattle.bcder.specs.calls.Capturing.{IsCaptureOf, Captures, RefusesCapture, RefusesLeft, by_content, by_source, by_memory}
 use Rattle.bcder.specs.calls.CapturingValues.{RefusesWhere, failed, source, nothing, memory, WantsMemory, CapturesBy, PassesBy, CapturesValue, HasNoValue, CapturesValues, HasOthers, PassesToEnd}
-use Rattle.bcder.specs.calls.Content.{Reading, Form, octets, values, Octets, IndefiniteValues, label, Closes, Moves, Falls, HasMarker, EndsAt, IsDone, IsUsedUp}
+use Rattle.bcder.specs.calls.Content.{Reading, ContentForm, octets, values, Octets, IndefiniteValues, label, Closes, Moves, Falls, HasMarker, EndsAt, IsDone, IsUsedUp}
 use Rattle.bcder.specs.calls.Calls.{Answered}
 use Rattle.bcder.specs.calls.Decoding.{by_closure, left_failed}
 use Rattle.bcder.specs.calls.Walking.{HasValue, PassesValue, ClosesBefore, HasValues, Walks}
@@ -24,7 +24,7 @@ use Rattle.bcder.specs.calls.Skipping.{RefusesOne}
 use Rattle.bcder.specs.calls.Skipping as skipping
 use Rattle.bcder.proofs.Moving.{open_not_ended, open_not_failed}
 use Rattle.bcder.proofs.Entering.{Within}
-use Rattle.bcder.proofs.Walking.{value_not_at_end, value_once, moves_faults, grew_from, walks_refused}
+use Rattle.bcder.proofs.WalkSteps.{value_not_at_end, value_once, moves_faults, grew_from, walks_refused}
 
 -- ---- the same of content that resembles
 
@@ -193,17 +193,17 @@ module _ {C X : Type 0} (view : C → Reading) (post : MutBor C → Result (Unit
   marked_by : c.state ≡ Open → d.state ≡ Ended → HasMarker c.mode (h.holds.close ++ d.stream.rest) d.stream.rest
   marked_by o e = elim h.holds.closes [ inl x ↦ absurd (open_not_ended c.state o (sym x.1 ∙ e)) | inr x ↦ record { marker = h.holds.close; is_end = rw (← same_mode) x.0; rest = refl } ]
 
-  used_up : (g : Form) → d.kind ≡ g → g ≢ IndefiniteValues → c.state ≡ Open → c.kind ≡ g → (d.state ≡ Open) × IsUsedUp g d.owed d.stream.rest
+  used_up : (g : ContentForm) → d.kind ≡ g → g ≢ IndefiniteValues → c.state ≡ Open → c.kind ≡ g → (d.state ≡ Open) × IsUsedUp g d.owed d.stream.rest
   used_up g e n o ck = elim is_done [ inl x ↦ absurd (n (sym ck ∙ ended_by o x)) | inr x ↦ (x.0, subst (λ z. IsUsedUp z d.owed d.stream.rest) e x.1) ]
 
   unmarked_close : d.state ≡ Open → h.holds.close ≡ []
   unmarked_close o = closed_by_none k.mode c d h.holds.close o h.holds.closes
 
-  of_kind : {g : Form} → c.kind ≡ g → d.kind ≡ g
+  of_kind : {g : ContentForm} → c.kind ≡ g → d.kind ≡ g
   unfolding Moves
   of_kind e = m.kind ∙ e
 
-  closes_before : (g : Form) → c.kind ≡ g → c.state ≡ Open → ClosesBefore g c.mode c.owed k.octets (h.holds.close ++ d.stream.rest)
+  closes_before : (g : ContentForm) → c.kind ≡ g → c.state ≡ Open → ClosesBefore g c.mode c.owed k.octets (h.holds.close ++ d.stream.rest)
   closes_before octets e o = absurd (form e)
   closes_before (values kind.Definite) e o =
       let u = used_up (values kind.Definite) (of_kind e) (λ z. cc) o e in

@@ -13,7 +13,7 @@ use Rattle.bcder.specs.x690.Preorder.{Heading, preorder, preorders}
 use Rattle.bcder.specs.x690.Encoding.{Header}
 use Rattle.bcder.specs.steps.Reading.{Inside, read_header, read_end, read_contents, read_value, at_end, read_list, read_tree}
 use Rattle.bcder.specs.calls.Stream.{cut, past}
-use Rattle.bcder.proofs.Steps.{read_tree_step, read_list_step}
+use Rattle.bcder.proofs.ReadingSteps.{read_tree_step, read_list_step}
 
 pub from_header : (mode : Mode) (h : Header) (x z : List ℕ) → AreOctets x → read_header mode x ≡ Some (h, z) → read_tree mode x ≡ read_contents (read_list mode) h.tag h.form h.len z
 unfolding read_value

@@ -10,7 +10,7 @@ use Rattle.bcder.specs.calls.Content.{Reading, Octets}
 use Rattle.bcder.specs.calls.Calls.{Answered}
 use Rattle.bcder.specs.calls.Stream.{Stream}
 use Rattle.bcder.specs.calls.Views.{of_content}
-use Rattle.bcder.proofs.Names.{primitive_form, constructed_form}
+use Rattle.bcder.proofs.SameBorrow.{primitive_form, constructed_form}
 
 pub primitive_content : {S : Type 0} (stream : S → Stream) (a : Content S) (p : Primitive S) → a ≡ variant.Primitive p → (of_content stream a).kind ≡ Octets
 primitive_content stream a p e = ap (λ x. (of_content stream x).kind) e ∙ primitive_form stream p

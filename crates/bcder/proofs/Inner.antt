@@ -17,7 +17,7 @@ use Rattle.bcder.specs.x690.Encoding.{may_have, IsHeader, IsEncoding, AreEncodin
 use Rattle.bcder.specs.calls.Stream.{Layer, Stream, IsSound, cut, past, limited}
 use Rattle.bcder.specs.declared.decode.error.ContentError.{ContentError}
 use Rattle.bcder.specs.calls.Cause.{Cause}
-use Rattle.bcder.specs.calls.Content.{Reading, Form, values, Octets, DefiniteValues, IndefiniteValues, label, Moves, MovesBy, Whole, Falls, Closes, IsDone, IsUsedUp, Advances, FitsOwed}
+use Rattle.bcder.specs.calls.Content.{Reading, ContentForm, values, Octets, DefiniteValues, IndefiniteValues, label, Moves, MovesBy, Whole, Falls, Closes, IsDone, IsUsedUp, Advances, FitsOwed}
 use Rattle.bcder.specs.calls.Calls.{IsFormOf, ContentOf, AnswersDone, RanOver, TakesContent, popped}
 use Rattle.bcder.specs.steps.Inside.{kind_behind, limit_inside, limit_outside}
 use Rattle.bcder.specs.calls.Views.{limited_stream}
@@ -118,7 +118,7 @@ pub open_whole : (m : Mode) (i j : Reading) (p : List ℕ) (w : Whole m i p j) �
 open_whole m i j p w o (inl e) = (let x : p ≡ w.values = w.split ∙ ap (λ x. w.values ++ x) e.0 ∙ append-nil w.values in rw x w.encodes)
 open_whole m i j p w o (inr e) = absurd (o e.1)
 
-pub used_up : (K : Form) (j : Reading) → j.kind ≡ K → IsDone j → (j.state ≡ Ended → ⊥) → IsUsedUp K j.owed j.stream.rest
+pub used_up : (K : ContentForm) (j : Reading) → j.kind ≡ K → IsDone j → (j.state ≡ Ended → ⊥) → IsUsedUp K j.owed j.stream.rest
 used_up K j e (inl d) n = absurd (n d)
 used_up K j e (inr d) n = subst (λ k. IsUsedUp k j.owed j.stream.rest) e d.1
 
@@ -138,10 +138,10 @@ pub ended_of : (j : Reading) → j.kind ≡ IndefiniteValues → IsDone j → j.
 ended_of j k (inl e) = e
 ended_of j k (inr e) = absurd (subst (λ x. IsUsedUp x j.owed j.stream.rest) k e.1)
 
-octets_not_indefinite : (k : Form) → k ≡ Octets → k ≡ IndefiniteValues → ⊥
+octets_not_indefinite : (k : ContentForm) → k ≡ Octets → k ≡ IndefiniteValues → ⊥
 octets_not_indefinite k e f = (let y : Octets ≡ IndefiniteValues = sym e ∙ f in cc)
 
-definite_not_indefinite : (k : Form) → k ≡ DefiniteValues → k ≡ IndefiniteValues → ⊥
+definite_not_indefinite : (k : ContentForm) → k ≡ DefiniteValues → k ≡ IndefiniteValues → ⊥
 definite_not_indefinite k e f = (let y : DefiniteValues ≡ IndefiniteValues = sym e ∙ f in cc)
 
 AreOctets-front : (u w v : List ℕ) → w ≡ u ++ v → AreOctets w → AreOctets u
@@ -198,7 +198,7 @@ module _ {C T E : Type 0} (why : E → Cause ContentError) (view : C → Reading
   on_done t i j Q q (Err e) a = tt
 
   module _ (c d : Reading) (h : Header) (r : Result T E) (k : d.kind ≡ c.kind) (md : d.mode ≡ c.mode) (nm : d.name ≡ c.name) (st : d.state ≡ c.state) (mark : Bool) (mk : d.marked ≡ (c.marked || mark)) where
-    pub takes_definite : (K : Form) (n : ℕ) (s s' : Stream) (o l : Option ℕ) → h.len ≡ Definite n → IsFormOf h.form (Definite n) K → c.stream ≡ limited o s → c.owed ≡ o → d.stream ≡ limited (popped o n l) s' → d.owed ≡ popped o n l → FitsOwed (Definite n) o
+    pub takes_definite : (K : ContentForm) (n : ℕ) (s s' : Stream) (o l : Option ℕ) → h.len ≡ Definite n → IsFormOf h.form (Definite n) K → c.stream ≡ limited o s → c.owed ≡ o → d.stream ≡ limited (popped o n l) s' → d.owed ≡ popped o n l → FitsOwed (Definite n) o
         → (ran : RanOver why view post (limited (Some n) s) (Some n) K c.mode h.tag r mark (limited l s') l)
         → ((octets : List ℕ) → IsHeader c.mode h.tag h.form h.len octets → (mv : MovesBy ran.handed ran.left) → IsDone ran.left → Encodes c.mode ran.left octets mv.passed)
         → TakesContent why view post c h r d
@@ -257,7 +257,7 @@ module _ {C T E : Type 0} (why : E → Cause ContentError) (view : C → Reading
     module _ {S : Type 0} (stream : S → Stream) (n : ℕ) (l0 l1 l2 l3 : LimitedSource S) (o : Option ℕ) (hn : h.len ≡ Definite n)
         (cs : c.stream ≡ limited_stream stream l0) (co : c.owed ≡ l0.limit) (oo : o ≡ l0.limit) (a1 : l1.limit ≡ Some n) (b1 : l1.source ≡ l0.source)
         (a3 : l3.limit ≡ popped o n l2.limit) (b3 : l3.source ≡ l2.source) (ds : d.stream ≡ limited_stream stream l3) (do' : d.owed ≡ l3.limit) (fits : FitsOwed h.len l0.limit) where
-      ran_at : (K : Form) → RanOver why view post (limited_stream stream l1) l1.limit K c.mode h.tag r mark (limited_stream stream l2) l2.limit → RanOver why view post (limited (Some n) (stream l0.source)) (Some n) K c.mode h.tag r mark (limited l2.limit (stream l2.source)) l2.limit
+      ran_at : (K : ContentForm) → RanOver why view post (limited_stream stream l1) l1.limit K c.mode h.tag r mark (limited_stream stream l2) l2.limit → RanOver why view post (limited (Some n) (stream l0.source)) (Some n) K c.mode h.tag r mark (limited l2.limit (stream l2.source)) l2.limit
       ran_at K ran =
           subst (λ z. RanOver why view post (limited (Some n) (stream z)) (Some n) K c.mode h.tag r mark (limited_stream stream l2) l2.limit) b1
           (subst (λ z. RanOver why view post (limited z (stream l1.source)) z K c.mode h.tag r mark (limited_stream stream l2) l2.limit) a1 ran)

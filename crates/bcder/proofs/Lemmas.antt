@@ -7,24 +7,24 @@ pub use Rattle.bcder.proofs.Refusing.{residual as refused_as_met}
 -- what is said of an error, by what was said of it
 pub use Rattle.bcder.proofs.Refusing.{if_err as if_refused}
 -- what holds of an answer that was looked at by `is_some`
-pub use Rattle.bcder.proofs.Walked.{some_value as where_some, none_value as where_none}
+pub use Rattle.bcder.proofs.WalkCalls.{some_value as where_some, none_value as where_none}
 -- ---- content
 
 -- open content has not ended
 pub use Rattle.bcder.proofs.Moving.{open_not_ended as open_has_not_ended}
 -- no more is left than is owed; so it is with what a `Constructed` is, which isn't octets either
 pub use Rattle.bcder.proofs.Entering.{Within as IsWithinOwed}
-pub use Rattle.bcder.proofs.Names.{within_constructed as constructed_is_within_owed, constructed_form as constructed_is_not_octets}
+pub use Rattle.bcder.proofs.SameBorrow.{within_constructed as constructed_is_within_owed, constructed_form as constructed_is_not_octets}
 -- less is left after a value
-pub use Rattle.bcder.proofs.Walking.{value_shorter as shorter_by_a_value}
+pub use Rattle.bcder.proofs.WalkSteps.{value_shorter as shorter_by_a_value}
 -- ---- a loop over the values of content
 
 -- before the first value; one value on; refused at the next
-pub use Rattle.bcder.proofs.Walking.{walks_refl as walks_nothing, walks_value as walks_one_more, walks_refused as refused_on_the_way}
+pub use Rattle.bcder.proofs.WalkSteps.{walks_refl as walks_nothing, walks_value as walks_one_more, walks_refused as refused_on_the_way}
 -- a value and those that remain are those that were there
-pub use Rattle.bcder.proofs.Walking.{values_before as values_with_one_more, values_before_trees as trees_with_one_more}
+pub use Rattle.bcder.proofs.WalkSteps.{values_before as values_with_one_more, values_before_trees as trees_with_one_more}
 -- at the end no values remain
-pub use Rattle.bcder.proofs.Walking.{none_left as no_values_at_the_end, none_left_trees as no_trees_at_the_end}
+pub use Rattle.bcder.proofs.WalkSteps.{none_left as no_values_at_the_end, none_left_trees as no_trees_at_the_end}
 -- ---- what was written, and is read back
 
 -- a writer of one constructed value

@@ -9,8 +9,8 @@ use Rattle.bcder.specs.steps.Reading.{read_end, read_list, read_tree, at_end, af
 use Rattle.bcder.specs.laws.Sound.{end_sound}
 use Rattle.bcder.specs.laws.Stands.{AreOctets-after, tree_sound}
 use Rattle.bcder.proofs.Markers.{end_size}
-use Rattle.bcder.proofs.Skip.{tree_read, value_shorter}
-use Rattle.bcder.proofs.Steps.{read_list_step}
+use Rattle.bcder.proofs.PlainReader.{tree_read, value_shorter}
+use Rattle.bcder.proofs.ReadingSteps.{read_list_step}
 
 list_ends : (mode : Mode) (marked : Bool) (w x : List ℕ) → AreOctets w → at_end mode marked w ≡ Some x → after_list mode marked w ≡ Some x
 unfolding after_list

@@ -1,10 +1,10 @@
 pub use Rattle.std.proofs.lemmas.Bool.Decides.{nat_tests}
 pub use Rattle.bcder.proofs.Moving.{moves}
-pub use Rattle.bcder.proofs.Names.{moves_constructed_name, moves_octets_name, moves_content_name}
+pub use Rattle.bcder.proofs.SameBorrow.{moves_constructed_name, moves_octets_name, moves_content_name}
 pub mod Lemmas
 mod worked
-pub mod Steps
-pub mod Skip
+pub mod ReadingSteps
+pub mod PlainReader
 pub mod Fronts
 pub mod Beginnings
 pub mod Peeking
@@ -12,18 +12,18 @@ pub mod Moving
 pub mod Headers
 pub mod Entering
 pub mod Ahead
-pub mod Names
-pub mod Naming
+pub mod SameBorrow
+pub mod BorrowedContent
 pub mod Refusing
 pub mod Inner
 pub mod Taking
 pub mod Forwarding
 pub mod Remaining
 pub mod OctetTakes
-pub mod Walking
-pub mod Walked
+pub mod WalkSteps
+pub mod WalkCalls
 pub mod Stopping
-pub mod Stepping
+pub mod ContentSteps
 pub mod Passing
 pub mod Levels
 pub mod Decoding
@@ -49,22 +49,22 @@ pub mod Typed
 pub mod Valued
 pub mod Subidentifiers
 pub mod Digits
-pub mod Shown
+pub mod ComponentTexts
 pub mod Texts
 pub mod Spelling
 pub mod Fewest
-pub mod Held
+pub mod SubidentifierLists
 pub mod ReadBack
 pub mod TakenBack
 pub mod Writes
 pub mod Decimal
-pub mod Telling
+pub mod IntegerOctets
 pub mod Growing
 pub mod Ends
-pub mod Skips
+pub mod LimitStack
 pub mod Unwinding
-pub mod Running
-pub mod Skipped
+pub mod RunSteps
+pub mod SkipCalls
 pub mod Iterating
 pub mod Gathering
 pub mod Segments

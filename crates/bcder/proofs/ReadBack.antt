@@ -6,7 +6,7 @@ use Rattle.bcder.specs.x690.ObjectIdentifier.{AreSubidentifiers, IsComplete, com
 use Rattle.bcder.specs.calls.IdentifierText.{IsComponentText, AreComponentTexts, HasNoComponent, AreTextsOf, RefusesTexts, ReadsParts, RefusesParts}
 use Rattle.bcder.specs.calls.IdentifierText.RefusesTexts.{first_is_none, first_too_large, second_is_none, second_too_large, other_is_none, no_memory}
 use Rattle.bcder.proofs.Fewest.{one_fewest}
-use Rattle.bcder.proofs.Held.{components_held, complete_held}
+use Rattle.bcder.proofs.SubidentifierLists.{components_held, complete_held}
 
 -- a text is one number
 one_number : (t : List ℕ) (m n : ℕ) → IsComponentText t m → IsComponentText t n → m ≡ n

@@ -22,7 +22,7 @@ use Rattle.bcder.specs.laws.Complete.{header_complete, header_size, two_octets, 
 use Rattle.bcder.specs.laws.Lengths.{read_end-complete}
 use Rattle.bcder.specs.laws.Sound.{some_inj, none_is}
 use Rattle.bcder.proofs.Markers.{end_size}
-use Rattle.bcder.proofs.Skip.{two_read}
+use Rattle.bcder.proofs.PlainReader.{two_read}
 
 -- ---- items: values, and the ends of values that were gone into
 

@@ -12,7 +12,7 @@ use Rattle.bcder.specs.declared.decode.error.ContentError.{ContentError}
 use Rattle.bcder.specs.calls.Cause.{Cause, cause_of}
 use Rattle.bcder.specs.x690.Tree.{Tree}
 use Rattle.bcder.specs.x690.Encoding.{IsHeader, IsEncoding, Header}
-use Rattle.bcder.specs.calls.Content.{Reading, Form, Octets, DefiniteValues, IndefiniteValues, UnboundedValues, label, Moves, Advances, Asked, IsAsked, HasHeader, Enters, RefusesHeader}
+use Rattle.bcder.specs.calls.Content.{Reading, ContentForm, Octets, DefiniteValues, IndefiniteValues, UnboundedValues, label, Moves, Advances, Asked, IsAsked, HasHeader, Enters, RefusesHeader}
 use Rattle.bcder.specs.calls.Content as content
 use Rattle.bcder.specs.calls.Calls.{IsFormOf, ContentOf, Hands, Untagged, Answered, AnswersDone, RefusesContent, by_closure, unfinished, TakesContent, TakesValue, RefusesFront, RefusesValue, IsInside}
 use Rattle.bcder.specs.calls.Calls as calls
@@ -109,7 +109,7 @@ value_refused why view post asked c e d (content.RefusesHeader.source k g) = cal
 value_refused why view post asked c e d (content.RefusesHeader.nothing n o) = calls.RefusesValue.nothing n o
 
 -- the form of what is handed is not that at top level
-not_unbounded : (f : Bool) (len : Length) (k : Form) → IsFormOf f len k → k ≢ UnboundedValues
+not_unbounded : (f : Bool) (len : Length) (k : ContentForm) → IsFormOf f len k → k ≢ UnboundedValues
 not_unbounded f Indefinite k h e = (let x : IndefiniteValues ≡ UnboundedValues = sym h ∙ e in cc)
 not_unbounded false (Definite n) k h e = (let x : Octets ≡ UnboundedValues = sym h ∙ e in cc)
 not_unbounded true (Definite n) k h e = (let x : DefiniteValues ≡ UnboundedValues = sym h ∙ e in cc)

@@ -15,7 +15,7 @@ use Rattle.bcder.specs.calls.Stream.{Stream}
 use Rattle.bcder.specs.declared.decode.content.Primitive.{Primitive}
 use Rattle.bcder.specs.calls.Views.{of_primitive}
 use Rattle.bcder.specs.calls.Cause.{cause_of}
-use Rattle.bcder.specs.calls.Content.{Reading, Form, Octets, DefiniteValues, IndefiniteValues, any, tagged, label, HasHeader, IsAbsent, IsElsewhere, none_left, other, marker, of_octets}
+use Rattle.bcder.specs.calls.Content.{Reading, ContentForm, Octets, DefiniteValues, IndefiniteValues, any, tagged, label, HasHeader, IsAbsent, IsElsewhere, none_left, other, marker, of_octets}
 use Rattle.bcder.specs.calls.Content as content
 use Rattle.bcder.specs.calls.Calls.{Hands, IsFormOf, ContentOf, Answered, TakesValue, RefusesFront, RefusesContent, by_closure, unfinished, RefusesEnd, left_failed, source_failed, left_open, HasForm}
 use Rattle.bcder.specs.calls.Takes.{HasNone, TakesNext, Takes, RefusesTake, by_header, by_form, by_content}
@@ -30,7 +30,7 @@ use Rattle.bcder.specs.laws.Stands.{AreOctets-after}
 use Rattle.bcder.proofs.Moving.{open_not_ended, open_not_failed}
 use Rattle.bcder.proofs.Headers.{Shape, is_primitive, is_definite, is_indefinite, front_of_header, no_header_empty, header_no_marker, no_other_front}
 use Rattle.bcder.proofs.Entering.{Within, no_fewer}
-use Rattle.bcder.proofs.Walking.{owed_after, shape_in, short_front, grew_between}
+use Rattle.bcder.proofs.WalkSteps.{owed_after, shape_in, short_front, grew_between}
 
 -- a header of the tag, as one of any
 abbrev any_of : (tag : Tag) (c : Reading) (after : List ℕ) → HasHeader (tagged tag) c after → HasHeader any c after
@@ -63,7 +63,7 @@ no_other_form tag c f contents w rest h =
     let x : false ≡ true = ap (λ z. z.form) same.0 ∙ f.is in
     cc
 
-form_is : (f : Bool) (l : Length) (k : Form) → IsFormOf f l k → k ≡ Octets → (n : ℕ) × (f ≡ false) × (l ≡ Definite n)
+form_is : (f : Bool) (l : Length) (k : ContentForm) → IsFormOf f l k → k ≡ Octets → (n : ℕ) × (f ≡ false) × (l ≡ Definite n)
 form_is f Indefinite k h e = (let x : IndefiniteValues ≡ Octets = sym h ∙ e in cc)
 form_is false (Definite n) k h e = (n, refl, refl)
 form_is true (Definite n) k h e = (let x : DefiniteValues ≡ Octets = sym h ∙ e in cc)

@@ -15,7 +15,7 @@ use Rattle.bcder.specs.x690.Length.{IsEndOfContents}
 use Rattle.bcder.specs.x690.Tree.{Tree, primitive, constructed, Trees}
 use Rattle.bcder.specs.x690.Encoding.{may_have, IsHeader, IsDefinite, IsFramed, IsEncoding, AreEncodings}
 use Rattle.bcder.specs.calls.Cause.{cause_of}
-use Rattle.bcder.specs.calls.Content.{Reading, Form, octets, values, Octets, DefiniteValues, IndefiniteValues, tagged, label, HasHeader, HasMarker, IsDone, RefusesHeader}
+use Rattle.bcder.specs.calls.Content.{Reading, ContentForm, octets, values, Octets, DefiniteValues, IndefiniteValues, tagged, label, HasHeader, HasMarker, IsDone, RefusesHeader}
 use Rattle.bcder.specs.calls.Content as content
 use Rattle.bcder.specs.calls.Calls.{Hands, IsFormOf, ContentOf, Answered, TakesValue, RefusesFront, RefusesContent, by_closure, unfinished, RefusesEnd, left_failed, source_failed, left_open}
 use Rattle.bcder.specs.calls.Takes.{HasNone, TakesNext, Takes, RefusesTake, by_header, by_form, by_content}
@@ -25,7 +25,7 @@ use Rattle.bcder.specs.calls.Valued as valued
 use Rattle.bcder.specs.laws.Complete.{one_header, one_list, one_end_of_list}
 use Rattle.bcder.proofs.Moving.{open_not_ended, open_not_failed}
 use Rattle.bcder.proofs.Entering.{Within, no_fewer}
-use Rattle.bcder.proofs.Walking.{owed_after, done_here, grew_between}
+use Rattle.bcder.proofs.WalkSteps.{owed_after, done_here, grew_between}
 use Rattle.bcder.proofs.Typed.{header_not_absent, or_false}
 
 -- ---- content is that of one value at most
@@ -36,7 +36,7 @@ same_fronts a b x y e l = sym (take_at a x (length b) l) ∙ ap (take (length b)
 some_is : (m n : ℕ) → ◌≡◌ {A = Option ℕ} (Some m) (Some n) → m ≡ n
 some_is m n e = cc
 
-same_values : (f : Form) (mode : Mode) (o : Option ℕ) (ts us : Trees) (a b x y : List ℕ) → AreEncodings mode ts a → AreEncodings mode us b → ClosesBefore f mode o a x → ClosesBefore f mode o b y → a ++ x ≡ b ++ y → ts ≡ us
+same_values : (f : ContentForm) (mode : Mode) (o : Option ℕ) (ts us : Trees) (a b x y : List ℕ) → AreEncodings mode ts a → AreEncodings mode us b → ClosesBefore f mode o a x → ClosesBefore f mode o b y → a ++ x ≡ b ++ y → ts ≡ us
 same_values octets mode o ts us a b x y h k c d e = absurd c
 same_values (values kind.Definite) mode o ts us a b x y h k c d e =
     let s : a ≡ b = same_fronts a b x y e (some_is _ _ (sym c ∙ d)) in

@@ -12,12 +12,12 @@ use Rattle.bcder.specs.declared.decode.error.ContentError.{ContentError}
 use Rattle.bcder.specs.calls.Cause.{Cause, of_source, IsOfContent}
 use Rattle.bcder.specs.x690.Encoding.{IsHeader, IsEncoding, Header}
 use Rattle.bcder.specs.calls.Stream.{Stream, Grew}
-use Rattle.bcder.specs.calls.Content.{Reading, Form, Octets, DefiniteValues, IndefiniteValues, UnboundedValues, label, Moves, Advances, Asked, HasHeader, IsDone, EndsAt, NotAtEnd, NothingThere}
+use Rattle.bcder.specs.calls.Content.{Reading, ContentForm, Octets, DefiniteValues, IndefiniteValues, UnboundedValues, label, Moves, Advances, Asked, HasHeader, IsDone, EndsAt, NotAtEnd, NothingThere}
 
 -- ---- what a closure is handed
 
 -- the form of the content after a header
-abbrev pub IsFormOf : Bool → Length → Form → Type 0
+abbrev pub IsFormOf : Bool → Length → ContentForm → Type 0
 IsFormOf form Indefinite k = k ≡ IndefiniteValues
 IsFormOf false (Definite n) k = k ≡ Octets
 IsFormOf true (Definite n) k = k ≡ DefiniteValues
@@ -36,7 +36,7 @@ pub record Hands (m : Mode) (f : Bool) (len : Length) (owed : Option ℕ) (after
   pub octets : ContentOf len owed after i.owed i.stream.rest
 
 -- unmarked content over a stream, as it is handed to a closure
-pub record IsOver (s : Stream) (o : Option ℕ) (k : Form) (st : State) (m : Mode) (i : Reading) : Type 0 where
+pub record IsOver (s : Stream) (o : Option ℕ) (k : ContentForm) (st : State) (m : Mode) (i : Reading) : Type 0 where
   pub stream : i.stream ≡ s
   pub owed : i.owed ≡ o
   pub kind : i.kind ≡ k
@@ -173,7 +173,7 @@ pub record HasForm (f : Bool) (asked : Asked) (c : Reading) : Type 0 where
 -- ---- the steps inside a take
 
 -- content was handed over a source, and this is what was left of it
-pub record RunsOver (s : Stream) (o : Option ℕ) (k : Form) (m : Mode) (handed left : Reading) (s' : Stream) (o' : Option ℕ) : Type 0 where
+pub record RunsOver (s : Stream) (o : Option ℕ) (k : ContentForm) (m : Mode) (handed left : Reading) (s' : Stream) (o' : Option ℕ) : Type 0 where
   pub stream : handed.stream ≡ s
   pub owed : handed.owed ≡ o
   pub kind : handed.kind ≡ k
@@ -186,7 +186,7 @@ pub record RunsOver (s : Stream) (o : Option ℕ) (k : Form) (m : Mode) (handed 
 
 module _ {C T E : Type 0} (why : E → Cause ContentError) (view : C → Reading) (post : Tag → MutBor C → Result T E → MutBor C → Type 0) where
   -- a closure ran on content over a source
-  pub record RanOver (s : Stream) (o : Option ℕ) (k : Form) (m : Mode) (t : Tag) (r : Result T E) (mark : Bool) (s' : Stream) (o' : Option ℕ) : Type 0 where
+  pub record RanOver (s : Stream) (o : Option ℕ) (k : ContentForm) (m : Mode) (t : Tag) (r : Result T E) (mark : Bool) (s' : Stream) (o' : Option ℕ) : Type 0 where
     pub handed : Reading
     pub left : Reading
     pub runs : RunsOver s o k m handed left s' o'

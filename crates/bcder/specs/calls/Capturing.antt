@@ -16,13 +16,13 @@ use Rattle.bcder.specs.x690.Length.{IsEndOfContents}
 use Rattle.bcder.specs.calls.Stream.{Stream, Grew, cut}
 use Rattle.bcder.specs.calls.Sources.{capturing}
 use Rattle.bcder.specs.calls.Captured.{Kept, AreWhole}
-use Rattle.bcder.specs.calls.Content.{Form, Reading, values, label, Closes, Moves}
+use Rattle.bcder.specs.calls.Content.{ContentForm, Reading, values, label, Closes, Moves}
 use Rattle.bcder.specs.calls.Calls.{Answered, IsOver, MayBeCalledOn, IsLawfulOn}
 use Rattle.bcder.specs.calls.Decoding.{RefusesOn}
 use Rattle.bcder.specs.calls.Views.{of_constructed, limited_stream, before, after}
 
 -- unmarked content of these octets, over a source that has failed so often
-pub record IsHanded (w : List ℕ) (n : ℕ) (o : Option ℕ) (k : Form) (st : State) (m : Mode) (i : Reading) : Type 0 where
+pub record IsHanded (w : List ℕ) (n : ℕ) (o : Option ℕ) (k : ContentForm) (st : State) (m : Mode) (i : Reading) : Type 0 where
   pub rest : i.stream.rest ≡ w
   pub faults : i.stream.faults ≡ n
   pub owed : i.owed ≡ o

@@ -18,20 +18,20 @@ use Rattle.bcder.specs.declared.decode.error.ContentError.{ContentError}
 use Rattle.bcder.specs.calls.Cause.{Cause, of_source, IsOfContent}
 
 -- what content is made of: octets, or values whose end is known in one of three ways
-pub data Form : Type 0 where
-  octets : Form
-  values : Kind → Form
+pub data ContentForm : Type 0 where
+  octets : ContentForm
+  values : Kind → ContentForm
 
-abbrev pub Octets : Form
+abbrev pub Octets : ContentForm
 Octets = octets
 
-abbrev pub DefiniteValues : Form
+abbrev pub DefiniteValues : ContentForm
 DefiniteValues = values kind.Definite
 
-abbrev pub IndefiniteValues : Form
+abbrev pub IndefiniteValues : ContentForm
 IndefiniteValues = values kind.Indefinite
 
-abbrev pub UnboundedValues : Form
+abbrev pub UnboundedValues : ContentForm
 UnboundedValues = values kind.Unbounded
 
 pub record Reading : Type 0 where
@@ -39,7 +39,7 @@ pub record Reading : Type 0 where
   pub stream : Stream
   -- how many octets are owed up to the nearest limit, if there is one
   pub owed : Option ℕ
-  pub kind : Form
+  pub kind : ContentForm
   pub state : State
   pub mode : Mode
   -- whether a mode was changed in this content or inside it
@@ -155,7 +155,7 @@ pub record HasOther (t : Tag) (w : List ℕ) : Type 0 where
 -- ---- the end
 
 -- the octets of open content are used up: none is owed, or without a limit none is left
-abbrev pub IsUsedUp : Form → Option ℕ → List ℕ → Type 0
+abbrev pub IsUsedUp : ContentForm → Option ℕ → List ℕ → Type 0
 IsUsedUp octets o rest = o ≡ Some 0
 IsUsedUp (values kind.Definite) o rest = o ≡ Some 0
 IsUsedUp (values kind.Indefinite) o rest = ⊥

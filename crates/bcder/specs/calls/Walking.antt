@@ -14,7 +14,7 @@ use Rattle.bcder.specs.calls.Cause.{Cause, cause_of, of_source, IsOfContent}
 use Rattle.bcder.specs.declared.decode.error.DecodeError.{DecodeError}
 use Rattle.bcder.specs.declared.decode.content.Constructed.{Constructed}
 use Rattle.bcder.specs.calls.Views.{of_constructed}
-use Rattle.bcder.specs.calls.Content.{Reading, Form, octets, values, Octets, Moves, HasMarker, EndsBefore, EndsAt, NotAtEnd, IsDone}
+use Rattle.bcder.specs.calls.Content.{Reading, ContentForm, octets, values, Octets, Moves, HasMarker, EndsBefore, EndsAt, NotAtEnd, IsDone}
 
 -- ---- one value
 
@@ -66,7 +66,7 @@ pub record PassedBy {T E : Type 0} (Refuses : Reading → E → Reading → Type
 -- ---- all values
 
 -- content of this form ends after the octets w and before the octets `after`
-abbrev pub ClosesBefore : Form → Mode → Option ℕ → List ℕ → List ℕ → Type 0
+abbrev pub ClosesBefore : ContentForm → Mode → Option ℕ → List ℕ → List ℕ → Type 0
 ClosesBefore octets mode o w after = ⊥
 ClosesBefore (values kind.Definite) mode o w after = o ≡ Some (length w)
 ClosesBefore (values kind.Indefinite) mode o w after = (x : List ℕ) × HasMarker mode after x

@@ -81,8 +81,8 @@ of_four a b d x p h k f g m n least most =
 
 -- ---- what the table's rows have in common
 
-abbrev Form : ℕ → Lead → Type 0
-Form a l =
+abbrev LeadForm : ℕ → Lead → Type 0
+LeadForm a l =
     ((194 ≤ a) × (a ≤ 223) × (l.bits ≡ a - 192) × (l.low ≡ 128) × (l.high ≡ 191) × (l.tails ≡ 0))
     ⊎ (((224 ≤ a) × (a ≤ 239) × (l.bits ≡ a - 224) × (128 ≤ l.low) × (l.high ≤ 191) × (32 ≤ six_more l.bits l.low) × ((six_more l.bits l.high < 864) ⊎ (896 ≤ six_more l.bits l.low)) × (l.tails ≡ 1))
     ⊎ ((240 ≤ a) × (l.bits ≡ a - 240) × (128 ≤ l.low) × (l.high ≤ 191) × (16 ≤ six_more l.bits l.low) × (six_more l.bits l.high < 272) × (l.tails ≡ 2)))
@@ -94,7 +94,7 @@ row lo hi a this l o e = by (is_in_range lo hi a) refl e
     by true is e = let (p, q) = range_is lo hi a is in inl (p, q, cc)
     by false is e = inr e
 
-pub lead_forms : (a : ℕ) (l : Lead) → lead a ≡ Some l → Form a l
+pub lead_forms : (a : ℕ) (l : Lead) → lead a ≡ Some l → LeadForm a l
 lead_forms a l e =
     ⊎_elim (λ h. at _ h.2 (inl (omega arith, omega arith, refl, refl, refl, refl)))
     (λ e. ⊎_elim (λ h. at _ h.2 (inr (inl (omega arith, omega arith, refl, omega arith, omega arith, omega arith, inl (omega arith), refl))))
@@ -114,8 +114,8 @@ lead_forms a l e =
     (row 0xE0 0xE0 a _ l _ e))
     (row 0xC2 0xDF a _ l _ e)
   where
-    at : (this : Lead) → this ≡ l → Form a this → Form a l
-    at this is f = subst (Form a) is f
+    at : (this : Lead) → this ≡ l → LeadForm a this → LeadForm a l
+    at this is f = subst (LeadForm a) is f
 
 -- ---- a step reads the octets of a character
 
@@ -134,7 +134,7 @@ tail_read : (n bits : ℕ) (w : List ℕ) (x : Front) → read_tails (suc n) bit
 tail_read n bits [] x e = absurd cc
 tail_read n bits (b ∷ u) x e = let (t, more) = through _ _ x e in (b, u, refl, range_is 128 191 b t, more)
 
-stands_behind : (a : ℕ) (l : Lead) (w : List ℕ) (x : Front) → Form a l → read_behind l w ≡ Some x → Stands x (a ∷ w)
+stands_behind : (a : ℕ) (l : Lead) (w : List ℕ) (x : Front) → LeadForm a l → read_behind l w ≡ Some x → Stands x (a ∷ w)
 stands_behind a l [] x f e = absurd cc
 stands_behind a l (b ∷ w) x (inl (p, q, bits, low, high, tails)) e =
     let (t, more) = through _ _ x e in

@@ -14,10 +14,9 @@ use Rattle.bcder.specs.declared.decode.content.Kind.{Kind}
 use Rattle.bcder.specs.declared.decode.content.Kind.TheVariants as kind
 use Rattle.bcder.specs.declared.decode.content.skip.Frame.{Frame}
 use Rattle.bcder.specs.declared.decode.content.skip.OpenValues.{OpenValues}
-use Rattle.bcder.specs.declared.decode.content.skip.Bar.{Bar}
-use Rattle.bcder.specs.declared.decode.content.skip.Bar.TheVariants as bar
-use Rattle.bcder.specs.declared.decode.content.skip.Halt.{Halt}
-use Rattle.bcder.specs.declared.decode.content.skip.Halt.TheVariants as halt
+use Rattle.bcder.specs.declared.decode.stop.Stop.{Stop}
+use Rattle.bcder.specs.declared.decode.content.skip.Interrupt.{Interrupt}
+use Rattle.bcder.specs.declared.decode.content.skip.Interrupt.TheVariants as interrupt
 use Rattle.bcder.specs.declared.decode.error.ContentError.{ContentError}
 use Rattle.bcder.specs.calls.Cause.{Cause, of_content, of_memory, of_source, IsOfContent}
 use Rattle.bcder.specs.steps.StopCause.{stop_cause}
@@ -37,14 +36,10 @@ pub data Entry : Type 0 where
   Definite : Option ℕ → Entry
   Indefinite : Entry
 
--- why the content of a value wasn't gone into, and why passing over a value halted
-abbrev pub bar_cause : {S : Type 0} → Bar S → Cause ContentError
-bar_cause (bar.Stopped s) = stop_cause s
-bar_cause bar.NoMemory = of_memory
-
-abbrev pub halt_cause : {S : Type 0} → Halt S → Cause ContentError
-halt_cause (halt.Refused e) = of_content e
-halt_cause (halt.Barred b) = bar_cause b
+-- why passing over a value was interrupted
+abbrev pub interrupt_cause : {S : Type 0} → Interrupt S → Cause ContentError
+interrupt_cause (interrupt.Closure e) = of_content e
+interrupt_cause (interrupt.Stopped b) = stop_cause b
 
 -- ---- limits
 
@@ -187,13 +182,13 @@ pub record IsBroken (mode : Mode) (h : Header) (s : Stream) (o : Option ℕ) (ca
 -- ---- what calls over the stack did
 
 -- why the content of a header wasn't gone into, after n values were open
-pub data StaysAt {X : Type 0} (h : Header) (n : ℕ) (s : Stream) (e : Bar X) (t : Stream) : Type 0 where
-  for_memory : h.form ≡ true → 4 ≤ n → bar_cause e ≡ of_memory → StaysAt h n s e t
-  by_failure : bar_cause e ≡ of_source → Grew s.faults t.faults → StaysAt h n s e t
-  too_few : (m : ℕ) → h.form ≡ false → h.len ≡ len.Definite m → length s.rest < m → IsOfContent (bar_cause e) → StaysAt h n s e t
+pub data StaysAt {X : Type 0} (h : Header) (n : ℕ) (s : Stream) (e : Stop X) (t : Stream) : Type 0 where
+  for_memory : h.form ≡ true → 4 ≤ n → stop_cause e ≡ of_memory → StaysAt h n s e t
+  by_failure : stop_cause e ≡ of_source → Grew s.faults t.faults → StaysAt h n s e t
+  too_few : (m : ℕ) → h.form ≡ false → h.len ≡ len.Definite m → length s.rest < m → IsOfContent (stop_cause e) → StaysAt h n s e t
 
 -- the content of a header was gone into, or not
-pub record GoneBy {T X : Type 0} (h : Header) (es : List Entry) (s : Stream) (o : Option ℕ) (r : Result T (Bar X)) (fs : List Entry) (t : Stream) (p : Option ℕ) : Type 0 where
+pub record GoneBy {T X : Type 0} (h : Header) (es : List Entry) (s : Stream) (o : Option ℕ) (r : Result T (Stop X)) (fs : List Entry) (t : Stream) (p : Option ℕ) : Type 0 where
   pub goes : OnOk r (GoesInto h es s o fs t p)
   pub no_fault : OnOk r (t.faults ≡ s.faults)
   pub stays : IfErr r (λ e. StaysAt h (length es) s e t)
@@ -205,14 +200,14 @@ pub record GoneBy {T X : Type 0} (h : Header) (es : List Entry) (s : Stream) (o 
 
 module _ {F X : Type 0} (step : Steps F ContentError) where
   -- why the content of a header wasn't gone into, after n values were open
-  pub data StaysOut (h : Header) (n : ℕ) (s : Stream) (f : F) (e : Halt X) (g : F) (t : Stream) : Type 0 where
-    refused : (x : ContentError) → Refused step f (heading h n) x g → e ≡ halt.Refused x → StaysOut h n s f e g t
-    wanted : step f h.tag h.form n (Ok tt) g → h.form ≡ true → 4 ≤ n → halt_cause e ≡ of_memory → StaysOut h n s f e g t
-    failing : step f h.tag h.form n (Ok tt) g → halt_cause e ≡ of_source → Grew s.faults t.faults → StaysOut h n s f e g t
-    few : (m : ℕ) → step f h.tag h.form n (Ok tt) g → h.form ≡ false → h.len ≡ len.Definite m → length s.rest < m → IsOfContent (halt_cause e) → StaysOut h n s f e g t
+  pub data StaysOut (h : Header) (n : ℕ) (s : Stream) (f : F) (e : Interrupt X) (g : F) (t : Stream) : Type 0 where
+    refused : (x : ContentError) → Refused step f (heading h n) x g → e ≡ interrupt.Closure x → StaysOut h n s f e g t
+    wanted : step f h.tag h.form n (Ok tt) g → h.form ≡ true → 4 ≤ n → interrupt_cause e ≡ of_memory → StaysOut h n s f e g t
+    failing : step f h.tag h.form n (Ok tt) g → interrupt_cause e ≡ of_source → Grew s.faults t.faults → StaysOut h n s f e g t
+    few : (m : ℕ) → step f h.tag h.form n (Ok tt) g → h.form ≡ false → h.len ≡ len.Definite m → length s.rest < m → IsOfContent (interrupt_cause e) → StaysOut h n s f e g t
 
   -- the closure was called at a header that was passed, and its content gone into, or not
-  pub record VisitedBy {T : Type 0} (h : Header) (es : List Entry) (s : Stream) (o : Option ℕ) (f : F) (r : Result T (Halt X)) (g : F) (fs : List Entry) (t : Stream) (p : Option ℕ) : Type 0 where
+  pub record VisitedBy {T : Type 0} (h : Header) (es : List Entry) (s : Stream) (o : Option ℕ) (f : F) (r : Result T (Interrupt X)) (g : F) (fs : List Entry) (t : Stream) (p : Option ℕ) : Type 0 where
     pub answered : OnOk r (step f h.tag h.form (length es) (Ok tt) g)
     pub goes : OnOk r (GoesInto h es s o fs t p)
     pub no_fault : OnOk r (t.faults ≡ s.faults)
@@ -224,14 +219,14 @@ module _ {F X : Type 0} (step : Steps F ContentError) where
     pub faults : s.faults ≤ t.faults
 
   -- why the content of a header wasn't passed, and e was answered
-  pub data Breaks (mode : Mode) (h : Header) (s : Stream) (o : Option ℕ) (f : F) (e : Halt X) (g : F) (t : Stream) (p : Option ℕ) : Type 0 where
-    by_source : (calls : List Heading) → Called step f (heading h 0 ∷ calls) g → IsBroken mode h s o calls t p → halt_cause e ≡ of_source → Grew s.faults t.faults → Breaks mode h s o f e g t p
-    by_content : (calls : List Heading) → Called step f (heading h 0 ∷ calls) g → IsBroken mode h s o calls t p → read_contents (read_list mode) h.tag h.form h.len (cut o s.rest) ≡ None → IsOfContent (halt_cause e) → Breaks mode h s o f e g t p
-    by_closure : (calls before : List Heading) (last : Heading) (q : F) (x : ContentError) → heading h 0 ∷ calls ≡ before ++ last ∷ [] → Called step f before q → Refused step q last x g → IsBroken mode h s o calls t p → e ≡ halt.Refused x → Breaks mode h s o f e g t p
-    by_memory : (calls before : List Heading) (last : Heading) → heading h 0 ∷ calls ≡ before ++ last ∷ [] → Called step f (heading h 0 ∷ calls) g → last.constructed ≡ true → 4 ≤ last.depth → IsBroken mode h s o calls t p → halt_cause e ≡ of_memory → Breaks mode h s o f e g t p
+  pub data Breaks (mode : Mode) (h : Header) (s : Stream) (o : Option ℕ) (f : F) (e : Interrupt X) (g : F) (t : Stream) (p : Option ℕ) : Type 0 where
+    by_source : (calls : List Heading) → Called step f (heading h 0 ∷ calls) g → IsBroken mode h s o calls t p → interrupt_cause e ≡ of_source → Grew s.faults t.faults → Breaks mode h s o f e g t p
+    by_content : (calls : List Heading) → Called step f (heading h 0 ∷ calls) g → IsBroken mode h s o calls t p → read_contents (read_list mode) h.tag h.form h.len (cut o s.rest) ≡ None → IsOfContent (interrupt_cause e) → Breaks mode h s o f e g t p
+    by_closure : (calls before : List Heading) (last : Heading) (q : F) (x : ContentError) → heading h 0 ∷ calls ≡ before ++ last ∷ [] → Called step f before q → Refused step q last x g → IsBroken mode h s o calls t p → e ≡ interrupt.Closure x → Breaks mode h s o f e g t p
+    by_memory : (calls before : List Heading) (last : Heading) → heading h 0 ∷ calls ≡ before ++ last ∷ [] → Called step f (heading h 0 ∷ calls) g → last.constructed ≡ true → 4 ≤ last.depth → IsBroken mode h s o calls t p → interrupt_cause e ≡ of_memory → Breaks mode h s o f e g t p
 
   -- the content of a header was passed, while the closure was called, or not
-  pub record RanBy {T : Type 0} (mode : Mode) (h : Header) (s : Stream) (o : Option ℕ) (f : F) (r : Result T (Halt X)) (g : F) (t : Stream) (p : Option ℕ) : Type 0 where
+  pub record RanBy {T : Type 0} (mode : Mode) (h : Header) (s : Stream) (o : Option ℕ) (f : F) (r : Result T (Interrupt X)) (g : F) (t : Stream) (p : Option ℕ) : Type 0 where
     pub whole : OnOk r ((calls : List Heading) × Called step f (heading h 0 ∷ calls) g × IsUnderWay mode h s o calls [] t p)
     pub no_fault : OnOk r (t.faults ≡ s.faults)
     pub breaks : IfErr r (λ e. Breaks mode h s o f e g t p)
@@ -268,12 +263,12 @@ abbrev pub limit_in : {S : Type 0} → Constructed S → Option ℕ
 limit_in c = c.source.now.limit
 
 module _ {S : Type 0} (stream : S → Stream) where
-  abbrev pub Gone : {T X : Type 0} → Both (MutBor (Constructed S)) (MutBor (Constructed S)) → Both (MutBor OpenValues) (MutBor OpenValues) → CodeHeader → Result T (Bar X) → Type 0
+  abbrev pub Gone : {T X : Type 0} → Both (MutBor (Constructed S)) (MutBor (Constructed S)) → Both (MutBor OpenValues) (MutBor OpenValues) → CodeHeader → Result T (Stop X) → Type 0
   Gone c es h r = GoneBy (header_of h) (entries es.entry.now) (source_of stream c.entry.now) (limit_in c.entry.now) r (entries es.exit.now) (source_of stream c.exit.now) (limit_in c.exit.now)
 
 module _ {S F : Type 0} (stream : S → Stream) (step : Steps F ContentError) where
-  abbrev pub Ran : {T X : Type 0} → Both (MutBor (Constructed S)) (MutBor (Constructed S)) → CodeHeader → Both (MutBor F) (MutBor F) → Result T (Halt X) → Type 0
+  abbrev pub Ran : {T X : Type 0} → Both (MutBor (Constructed S)) (MutBor (Constructed S)) → CodeHeader → Both (MutBor F) (MutBor F) → Result T (Interrupt X) → Type 0
   Ran c h op r = RanBy step c.entry.now.mode (header_of h) (source_of stream c.entry.now) (limit_in c.entry.now) op.entry.now r op.exit.now (source_of stream c.exit.now) (limit_in c.exit.now)
 
-  abbrev pub RanOverSource : {T X : Type 0} → Both (MutBor (LimitedSource S)) (MutBor (LimitedSource S)) → Mode → CodeHeader → Both (MutBor F) (MutBor F) → Result T (Halt X) → Type 0
+  abbrev pub RanOverSource : {T X : Type 0} → Both (MutBor (LimitedSource S)) (MutBor (LimitedSource S)) → Mode → CodeHeader → Both (MutBor F) (MutBor F) → Result T (Interrupt X) → Type 0
   RanOverSource c mode h op r = RanBy step mode (header_of h) (stream c.entry.now.source) c.entry.now.limit op.entry.now r op.exit.now (stream c.exit.now.source) c.exit.now.limit

@@ -43,4 +43,7 @@ pub(crate) enum Stop<E> {
 
     /// The source failed.
     Source(E),
+
+    /// There was no memory for another open value.
+    NoMemory,
 }

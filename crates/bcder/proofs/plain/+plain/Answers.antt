@@ -3,7 +3,7 @@ use Rattle.bcder.specs.declared.length.Length.TheVariants.{Definite, Indefinite}
 use Rattle.bcder.specs.steps.Peek.{is_constructed, len_of}
 use Rattle.bcder.specs.x690.Identifier.{AreOctets}
 use Rattle.bcder.proofs.Levels.{list_passes, list_fails, behind_shorter, list_ended, opened, ends_one, end_passes, open_passes, open_goes_on, open_fails}
-use Rattle.bcder.proofs.Skip.{no_header, octets_behind, too_short, primitive_read, definite_read, bad_contents, indefinite_read, whole_read}
+use Rattle.bcder.proofs.PlainReader.{no_header, octets_behind, too_short, primitive_read, definite_read, bad_contents, indefinite_read, whole_read}
 use Rattle.bcder.proofs.plain.+plain.Goals as goal
 
 pub front_within-returns-in_default-clause-none : goal.front_within-returns-in_default-clause-none

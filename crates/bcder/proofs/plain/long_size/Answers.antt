@@ -1,6 +1,6 @@
 use Rattle.std.proofs.Common.{arith, refl}
 use Rattle.bcder.specs.x690.Identifier.{AreOctets}
-use Rattle.bcder.proofs.Skip.{long_begins}
+use Rattle.bcder.proofs.PlainReader.{long_begins}
 use Rattle.bcder.proofs.plain.long_size.Goals as goal
 
 pub returns-then-size-octets-clause-begins : goal.returns-then-size-octets-clause-begins

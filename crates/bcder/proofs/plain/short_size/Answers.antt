@@ -1,6 +1,6 @@
 use Rattle.std.proofs.Common.{arith, refl}
 use Rattle.bcder.specs.x690.Identifier.{AreOctets}
-use Rattle.bcder.proofs.Skip.{short_header, short_begins}
+use Rattle.bcder.proofs.PlainReader.{short_header, short_begins}
 use Rattle.bcder.proofs.plain.short_size.Goals as goal
 
 pub returns-then-size-octets-clause-begins : goal.returns-then-size-octets-clause-begins

@@ -1,6 +1,6 @@
 use Rattle.std.proofs.Common.{arith}
 use Rattle.bcder.specs.x690.Identifier.{AreOctets}
-use Rattle.bcder.proofs.Skip.{value_shorter, begins_read}
+use Rattle.bcder.proofs.PlainReader.{value_shorter, begins_read}
 use Rattle.bcder.proofs.plain.size_within.Goals as goal
 
 pub overflow_sub-result : goal.overflow_sub-result

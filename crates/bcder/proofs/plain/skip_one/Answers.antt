@@ -1,6 +1,6 @@
 use Rattle.std.proofs.Common.{arith}
 use Rattle.bcder.specs.x690.Identifier.{AreOctets}
-use Rattle.bcder.proofs.Skip.{found, if_found, if_nothing_found, whole_read}
+use Rattle.bcder.proofs.PlainReader.{found, if_found, if_nothing_found, whole_read}
 use Rattle.bcder.proofs.plain.skip_one.Goals as goal
 
 pub returns-in-Some-clause-found : goal.returns-in-Some-clause-found

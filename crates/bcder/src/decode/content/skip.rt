@@ -12,7 +12,7 @@ ghost use Rattle.bcder.specs.steps.SkipSteps.{IsPast, MovedBehind, SkippedBehind
 ghost use Rattle.bcder.specs.calls.Skipping.{SkippedAll, SkippedNext, SkippedOne, SkippedValue};
 ghost use Rattle.bcder.specs.steps.Stacked.{Counts, Gone, IsCounted, LeavesInnermost, Ran, RanOverSource};
 ghost use Rattle.bcder.specs.steps.Stacked.{TopIs};
-ghost use Rattle.bcder.specs.steps.Stacked.{entries, entry_of, framed, halt_cause, limit_around};
+ghost use Rattle.bcder.specs.steps.Stacked.{entries, entry_of, framed, interrupt_cause, limit_around};
 ghost use Rattle.bcder.specs.steps.Stacked.{limit_in};
 ghost use Rattle.bcder.specs.steps.Stacked.{source_of, unwound};
 ghost use Rattle.bcder.specs.calls.Views.{after, before, Moved};
@@ -56,23 +56,14 @@ struct OpenValues<'f> {
     frames: &'f mut SmallVec<Frame, 4>,
 }
 
-/// Why the content of a value wasn't gone into. It stands apart from `Halt`, since it has no room
-/// for an error, which the loop would move at each value.
-enum Bar<E> {
+/// Why passing over a value was interrupted. It stands apart from `Stop`, which has no room for a
+/// closure's error, that the loop would move at each value.
+enum Interrupt<E> {
+    /// The closure refused a header.
+    Closure(ContentError),
+
     /// A step over content stopped.
     Stopped(Stop<E>),
-
-    /// There was no memory for another open value.
-    NoMemory,
-}
-
-/// Why passing over a value halted.
-enum Halt<E> {
-    /// The closure refused a header.
-    Refused(ContentError),
-
-    /// The content of a value wasn't gone into.
-    Barred(Bar<E>),
 }
 
 /// What is owed in all where so much is owed behind a value and so much in it.
@@ -197,7 +188,7 @@ fn go_into<S: Source>(
     cons: &mut Constructed<'_, S>,
     opened: &mut OpenValues<'_>,
     header: Header,
-) -> Result<(), Bar<S::Error>>
+) -> Result<(), Stop<S::Error>>
     requires counted { IsCounted opened.old }
     requires few { opened.old.depth + 1 < 2 ^ 64 }
     requires fits { FitsOwed (len_of header.form) (limit_in cons.old) }
@@ -216,13 +207,13 @@ fn go_into<S: Source>(
                 cons.state = State::Open;
                 Ok(())
             }
-            Err(stop) => Err(Bar::Stopped(stop)),
+            Err(stop) => Err(stop),
         },
         Form::Constructed(len) => {
             if open(cons, opened, len) {
                 return Ok(());
             }
-            Err(Bar::NoMemory)
+            Err(Stop::NoMemory)
         }
     }
 }
@@ -234,7 +225,7 @@ fn run<S: Source, F>(
     alloc: Global,
     outermost: Header,
     op: &mut F,
-) -> Result<(), Halt<S::Error>>
+) -> Result<(), Interrupt<S::Error>>
 where
     F: FnMut(Tag, bool, usize) -> Result<(), ContentError>,
     requires callable { F.IsAlwaysCallable op.old }
@@ -250,27 +241,27 @@ where
         frames: &mut frames,
     };
     if let Err(error) = op(outermost.tag, outermost.form.is_constructed(), 0) {
-        return Err(Halt::Refused(error));
+        return Err(Interrupt::Closure(error));
     }
-    if let Err(bar) = go_into(cons, &mut opened, outermost) {
-        return Err(Halt::Barred(bar));
+    if let Err(stop) = go_into(cons, &mut opened, outermost) {
+        return Err(Interrupt::Stopped(stop));
     }
     while opened.depth > 0 {
         match cons.next_header(Wanted::Any) {
             Ok(Some(header)) => {
                 if let Err(error) = op(header.tag, header.form.is_constructed(), opened.depth) {
                     unwind(cons.source, opened.frames, outer);
-                    return Err(Halt::Refused(error));
+                    return Err(Interrupt::Closure(error));
                 }
-                if let Err(bar) = go_into(cons, &mut opened, header) {
+                if let Err(stop) = go_into(cons, &mut opened, header) {
                     unwind(cons.source, opened.frames, outer);
-                    return Err(Halt::Barred(bar));
+                    return Err(Interrupt::Stopped(stop));
                 }
             }
             Ok(None) => leave(cons, &mut opened),
             Err(stop) => {
                 unwind(cons.source, opened.frames, outer);
-                return Err(Halt::Barred(Bar::Stopped(stop)));
+                return Err(Interrupt::Stopped(stop));
             }
         }
     }
@@ -285,7 +276,7 @@ fn skip_content<S: Source, F>(
     alloc: Global,
     header: Header,
     op: &mut F,
-) -> Result<(), Halt<S::Error>>
+) -> Result<(), Interrupt<S::Error>>
 where
     F: FnMut(Tag, bool, usize) -> Result<(), ContentError>,
     requires callable { F.IsAlwaysCallable op.old }
@@ -305,18 +296,17 @@ where
 }
 
 impl<'a, S: Source> Constructed<'a, S> {
-    /// The error that a halt is, at the present position.
+    /// The error that an interrupt is, at the present position.
     #[cold]
-    fn halt_error(&self, halt: Halt<S::Error>) -> DecodeError<S::Error>
-        ensures content { IsOfContent (halt_cause halt) → IsRefusal result }
-        ensures source { halt_cause halt ≡ of_source → cause_of result ≡ of_source }
-        ensures memory { halt_cause halt ≡ of_memory → cause_of result ≡ of_memory }
-        ensures closure { (x : _) → halt ≡ Halt.Refused x → cause_of result ≡ of_content x }
+    fn interrupt_error(&self, interrupt: Interrupt<S::Error>) -> DecodeError<S::Error>
+        ensures content { IsOfContent (interrupt_cause interrupt) → IsRefusal result }
+        ensures source { interrupt_cause interrupt ≡ of_source → cause_of result ≡ of_source }
+        ensures memory { interrupt_cause interrupt ≡ of_memory → cause_of result ≡ of_memory }
+        ensures closure { (x : _) → interrupt ≡ Interrupt.Closure x → cause_of result ≡ of_content x }
     {
-        match halt {
-            Halt::Refused(error) => self.source.content_err(error),
-            Halt::Barred(Bar::Stopped(stop)) => self.stop_error(stop),
-            Halt::Barred(Bar::NoMemory) => DecodeError::no_memory(),
+        match interrupt {
+            Interrupt::Closure(error) => self.source.content_err(error),
+            Interrupt::Stopped(stop) => self.stop_error(stop),
         }
     }
 
@@ -337,14 +327,14 @@ impl<'a, S: Source> Constructed<'a, S> {
         ensures skipped { SkippedBehind S.stream F.step self (octets_header tag len) op result }
     {
         if let Err(error) = op(tag, false, 0) {
-            return Err(self.halt_error(Halt::Refused(error)));
+            return Err(self.interrupt_error(Interrupt::Closure(error)));
         }
         match self.source.skip_owed(len) {
             Ok(()) => {
                 self.state = State::Open;
                 Ok(Some(()))
             }
-            Err(stop) => Err(self.halt_error(Halt::Barred(Bar::Stopped(stop)))),
+            Err(stop) => Err(self.interrupt_error(Interrupt::Stopped(stop))),
         }
     }
 
@@ -365,7 +355,7 @@ impl<'a, S: Source> Constructed<'a, S> {
         ensures skipped { SkippedBehind S.stream F.step self (octets_header tag len) op result }
     {
         if let Err(error) = op(tag, false, 0) {
-            return Err(self.halt_error(Halt::Refused(error)));
+            return Err(self.interrupt_error(Interrupt::Closure(error)));
         }
         self.source.pass_owed(len);
         self.state = State::Open;
@@ -434,7 +424,7 @@ impl<'a, S: Source> Constructed<'a, S> {
                         self.state = State::Open;
                         Ok(Some(()))
                     }
-                    Err(halt) => Err(self.halt_error(halt)),
+                    Err(interrupt) => Err(self.interrupt_error(interrupt)),
                 }
             }
             Ok(None) => Ok(None),

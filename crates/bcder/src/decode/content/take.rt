@@ -96,10 +96,12 @@ impl<'a, S: Source> Constructed<'a, S> {
     pub(crate) fn stop_error(&self, stop: Stop<S::Error>) -> DecodeError<S::Error>
         ensures refused { IsOfContent (stop_cause stop) → IsRefusal result }
         ensures source { stop_cause stop ≡ of_source → cause_of result ≡ of_source }
+        ensures memory { stop_cause stop ≡ of_memory → cause_of result ≡ of_memory }
     {
         match stop {
             Stop::Refused(why) => self.refusal(why.text()),
             Stop::Source(error) => DecodeError::Source(error),
+            Stop::NoMemory => DecodeError::no_memory(),
         }
     }
 

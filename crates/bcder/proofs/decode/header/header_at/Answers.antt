@@ -1,7 +1,7 @@
 use Rattle.std.proofs.Common.{arith, rules}
 use Rattle.bcder.specs.x690.Identifier.{AreOctets}
 use Rattle.bcder.specs.steps.Reading.{read_header}
-use Rattle.bcder.proofs.Skip.{header_less}
+use Rattle.bcder.proofs.PlainReader.{header_less}
 use Rattle.bcder.proofs.decode.header.header_at.Goals as goal
 
 pub returns-in-Some-form_of-clause-less : goal.returns-in-Some-form_of-clause-less

@@ -1,7 +1,7 @@
 use Rattle.std.proofs.Common.{◌∙◌, sym}
 use Rattle.std.specs.Prelude.{pos}
 use Rattle.std.specs.Cmp.{signed_Decides}
-use Rattle.bcder.proofs.Telling.{octets_equal}
+use Rattle.bcder.proofs.IntegerOctets.{octets_equal}
 use Rattle.bcder.proofs.int.Integer.eq_unsigned.Goals as goal
 
 pub returns : goal.returns

@@ -1,4 +1,4 @@
-use Rattle.bcder.proofs.Telling.{negative_told}
+use Rattle.bcder.proofs.IntegerOctets.{negative_told}
 use Rattle.bcder.proofs.int.Integer.is_negative.Goals as goal
 
 pub returns : goal.returns

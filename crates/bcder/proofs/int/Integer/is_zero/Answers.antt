@@ -1,5 +1,5 @@
 use Rattle.std.proofs.Common.{◌≡◌, true, false, arith}
-use Rattle.bcder.proofs.Telling.{zero_told}
+use Rattle.bcder.proofs.IntegerOctets.{zero_told}
 use Rattle.bcder.proofs.int.Integer.is_zero.Goals as goal
 
 pub returns-in_default-3 : goal.returns-in_default-3

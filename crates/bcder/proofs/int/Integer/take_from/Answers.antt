@@ -3,7 +3,7 @@ use Rattle.bcder.specs.x690.Identifier.{integer_tag}
 use Rattle.bcder.specs.x690.Integer.{AreInteger}
 use Rattle.bcder.specs.calls.Readers.{NoInteger}
 use Rattle.bcder.specs.calls.Views.{of_constructed, of_primitive}
-use Rattle.bcder.proofs.Names.{within_constructed}
+use Rattle.bcder.proofs.SameBorrow.{within_constructed}
 use Rattle.bcder.proofs.Typed.{one_as, octets_form}
 use Rattle.bcder.proofs.int.Integer.take_from.Goals as goal
 

@@ -1,7 +1,7 @@
 use Rattle.std.proofs.Common.{◌≡◌, Bool, true, false, not, arith, subst, refl}
 use Rattle.bcder.specs.x690.Identifier.{AreOctets}
 use Rattle.bcder.specs.x690.Integer.{Leads}
-use Rattle.bcder.proofs.Telling.{unsigned_leads, leads_both}
+use Rattle.bcder.proofs.IntegerOctets.{unsigned_leads, leads_both}
 use Rattle.bcder.proofs.int.number.is_unsigned.Goals as goal
 
 turned : (b : Bool) → not b ≡ false → b ≡ true

@@ -2,7 +2,7 @@ use Rattle.std.proofs.Common.{◌≡◌, rules}
 use Rattle.bcder.specs.x690.ObjectIdentifier.{identifier_tag, IsComplete}
 use Rattle.bcder.specs.calls.ReadIdentifiers.{NoIdentifier}
 use Rattle.bcder.specs.calls.Views.{of_constructed, of_primitive}
-use Rattle.bcder.proofs.Names.{within_constructed}
+use Rattle.bcder.proofs.SameBorrow.{within_constructed}
 use Rattle.bcder.proofs.Typed.{next_as, octets_form}
 use Rattle.bcder.proofs.oid.Oid+Bytes.take_opt_from.Goals as goal
 

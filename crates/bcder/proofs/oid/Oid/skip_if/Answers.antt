@@ -3,7 +3,7 @@ use Rattle.bcder.specs.x690.ObjectIdentifier.{identifier_tag}
 use Rattle.bcder.specs.calls.ReadIdentifiers.{IsSame}
 use Rattle.bcder.specs.calls.Readers.{MeanNothing}
 use Rattle.bcder.specs.calls.Views.{of_constructed, of_primitive}
-use Rattle.bcder.proofs.Names.{within_constructed}
+use Rattle.bcder.proofs.SameBorrow.{within_constructed}
 use Rattle.bcder.proofs.Typed.{one_as, octets_form}
 use Rattle.bcder.proofs.oid.Oid.skip_if.Goals as goal
 

@@ -3,7 +3,7 @@ use Rattle.std.specs.Prelude.{codes}
 use Rattle.std.proofs.Output.{has_written_append, has_written_of_eq}
 use Rattle.bcder.specs.calls.Components.{part_of, parts_left, component_parts}
 use Rattle.bcder.specs.calls.IdentifierText.{dots_before}
-use Rattle.bcder.proofs.Shown.{shown_part, shown_more, shown_all}
+use Rattle.bcder.proofs.ComponentTexts.{shown_part, shown_more, shown_all}
 use Rattle.bcder.proofs.oid.OidDisplay.fmt.Goals as goal
 
 pub loop-component-init : goal.loop-component-init

@@ -3,7 +3,7 @@ use Rattle.std.proofs.Common.{◌≡◌, List, ℕ, ◌++◌, map}
 use Rattle.std.specs.Fmt.{HasWritten, IsPlainFormatter}
 use Rattle.bcder.specs.calls.Components.{parts_left}
 use Rattle.bcder.specs.calls.IdentifierText.{dots_before}
-use Rattle.bcder.proofs.Shown.{shown_part}
+use Rattle.bcder.proofs.ComponentTexts.{shown_part}
 use Rattle.bcder.proofs.oid.OidDisplay.fmt.Given as goal
 
 abbrev pub invariant-loop-component : goal.invariant-loop-component

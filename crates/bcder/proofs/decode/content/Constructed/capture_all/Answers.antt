@@ -3,7 +3,7 @@ use Rattle.bcder.specs.calls.Capturing.{of_captured}
 use Rattle.bcder.specs.calls.CapturingValues.{CapturesValues, HasOthers, PassesToEnd}
 use Rattle.bcder.specs.calls.Views.{of_constructed}
 use Rattle.bcder.specs.laws.Moved.{untouched_is_moved}
-use Rattle.bcder.proofs.Names.{constructed_form}
+use Rattle.bcder.proofs.SameBorrow.{constructed_form}
 use Rattle.bcder.proofs.CapturingValues.{others_of, end_usable, holds_values, captures_by, exactly_all}
 use Rattle.bcder.proofs.decode.content.Constructed.capture_all.Goals as goal
 

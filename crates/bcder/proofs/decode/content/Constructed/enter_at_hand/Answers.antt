@@ -4,8 +4,8 @@ use Rattle.bcder.specs.calls.Views.{of_constructed, limited_stream}
 use Rattle.bcder.specs.laws.Moved.{moved_twice_is_moved}
 use Rattle.bcder.proofs.Entering.{enters, within, looked_enters, looked_moves, looked_failed, no_fewer, grew_least}
 use Rattle.bcder.proofs.Moving.{moves_failed, open_not_ended}
-use Rattle.bcder.proofs.Names.{within_constructed, with_source, resembles_with_source}
-use Rattle.bcder.proofs.Skipped.{whole_fits, behind_at_hand}
+use Rattle.bcder.proofs.SameBorrow.{within_constructed, with_source, resembles_with_source}
+use Rattle.bcder.proofs.SkipCalls.{whole_fits, behind_at_hand}
 use Rattle.bcder.proofs.decode.content.Constructed.enter_at_hand.Goals as goal
 
 pub returns-in-Ok-Some-clause-moves : goal.returns-in-Ok-Some-clause-moves

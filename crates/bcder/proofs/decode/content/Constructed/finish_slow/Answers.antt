@@ -3,7 +3,7 @@ use Rattle.bcder.specs.calls.Content.{any}
 use Rattle.bcder.specs.calls.Calls.{left_open}
 use Rattle.bcder.specs.calls.Views.{of_constructed}
 use Rattle.bcder.proofs.Entering.{end_refused, header_not_at_end, header_entered}
-use Rattle.bcder.proofs.Names.{within_constructed}
+use Rattle.bcder.proofs.SameBorrow.{within_constructed}
 use Rattle.bcder.proofs.decode.content.Constructed.finish_slow.Goals as goal
 
 pub returns-in-Err-clause-refused : goal.returns-in-Err-clause-refused

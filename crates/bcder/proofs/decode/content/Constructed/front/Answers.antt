@@ -3,7 +3,7 @@ use Rattle.bcder.specs.calls.Content.{nothing}
 use Rattle.bcder.specs.calls.Views.{of_constructed}
 use Rattle.bcder.specs.laws.Moved.{moved_twice_is_moved}
 use Rattle.bcder.proofs.Entering.{looked_moves, looked_failed, looked_front, other_missing, marker_missing, end_nothing, none_nothing, unread_nothing, no_fewer, grew_least, kind_of}
-use Rattle.bcder.proofs.Names.{within_constructed, constructed_form}
+use Rattle.bcder.proofs.SameBorrow.{within_constructed, constructed_form}
 use Rattle.bcder.proofs.decode.content.Constructed.front.Goals as goal
 
 pub returns-in-Tagged-clause-moves : goal.returns-in-Tagged-clause-moves

@@ -4,7 +4,7 @@ use Rattle.bcder.specs.steps.Peek.{header_of}
 use Rattle.bcder.specs.calls.Views.{of_constructed}
 use Rattle.bcder.specs.laws.Moved.{moved_twice_is_moved}
 use Rattle.bcder.proofs.Entering.{looked_enters, looked_front, header_nothing, no_fewer}
-use Rattle.bcder.proofs.Names.{within_constructed, constructed_form}
+use Rattle.bcder.proofs.SameBorrow.{within_constructed, constructed_form}
 use Rattle.bcder.proofs.decode.content.Constructed.next_header.Goals as goal
 
 pub returns-in-Ok-clause-moves : goal.returns-in-Ok-clause-moves

@@ -1,4 +1,4 @@
-use Rattle.bcder.proofs.Skipped.{value_refused, exact_some, exact_none, exact_refused}
+use Rattle.bcder.proofs.SkipCalls.{value_refused, exact_some, exact_none, exact_refused}
 use Rattle.bcder.proofs.decode.content.Constructed.skip.Goals as goal
 
 pub returns-in-Err-clause-skipped : goal.returns-in-Err-clause-skipped

@@ -4,11 +4,11 @@ use Rattle.bcder.specs.calls.Content.{EndsAt, IsDone}
 use Rattle.bcder.specs.calls.Walking.{PassesValue}
 use Rattle.bcder.specs.calls.Views.{of_constructed}
 use Rattle.bcder.specs.laws.Moved.{moved_carries, untouched_is_moved, moved_twice_is_moved}
-use Rattle.bcder.proofs.Names.{within_constructed, constructed_form}
+use Rattle.bcder.proofs.SameBorrow.{within_constructed, constructed_form}
 use Rattle.bcder.specs.calls.Skipping.{RefusesSkipAll}
-use Rattle.bcder.proofs.Skipped.{loop_refused, all_exact}
-use Rattle.bcder.proofs.Walked.{some_value, none_value}
-use Rattle.bcder.proofs.Walking.{all_refused, walks_refl, walks_value, walks_all, value_shorter}
+use Rattle.bcder.proofs.SkipCalls.{loop_refused, all_exact}
+use Rattle.bcder.proofs.WalkCalls.{some_value, none_value}
+use Rattle.bcder.proofs.WalkSteps.{all_refused, walks_refl, walks_value, walks_all, value_shorter}
 use Rattle.bcder.proofs.decode.content.Constructed.skip_all.Goals as goal
 
 pub loop-init : goal.loop-init

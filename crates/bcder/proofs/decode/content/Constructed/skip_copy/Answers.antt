@@ -5,8 +5,8 @@ use Rattle.bcder.specs.calls.Walking.{source}
 use Rattle.bcder.specs.calls.Skipping.{by_walk}
 use Rattle.bcder.specs.calls.Views.{of_constructed}
 use Rattle.bcder.specs.laws.Moved.{moved_twice_is_moved}
-use Rattle.bcder.proofs.Naming.{moves_behind, skipped_behind}
-use Rattle.bcder.proofs.Skipped.{one_at_once, refused_at_once, looked_skipped}
+use Rattle.bcder.proofs.BorrowedContent.{moves_behind, skipped_behind}
+use Rattle.bcder.proofs.SkipCalls.{one_at_once, refused_at_once, looked_skipped}
 use Rattle.bcder.proofs.decode.content.Constructed.skip_copy.Goals as goal
 
 pub returns-in-Ok-true-clause-moves : goal.returns-in-Ok-true-clause-moves

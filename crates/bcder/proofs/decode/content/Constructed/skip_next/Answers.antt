@@ -6,11 +6,11 @@ use Rattle.bcder.specs.steps.Stacked.{source_of, limit_in}
 use Rattle.bcder.specs.calls.Content.{FitsOwed}
 use Rattle.bcder.specs.calls.Views.{of_constructed}
 use Rattle.bcder.proofs.Ahead.{primitive_entered}
-use Rattle.bcder.proofs.Names.{within_constructed}
-use Rattle.bcder.proofs.Skipped.{skipped_end, skipped_none, behind_moved, behind_passed, behind_stopped, behind_refused}
-use Rattle.bcder.proofs.Stepping.{next_refused}
+use Rattle.bcder.proofs.SameBorrow.{within_constructed}
+use Rattle.bcder.proofs.SkipCalls.{skipped_end, skipped_none, behind_moved, behind_passed, behind_stopped, behind_refused}
+use Rattle.bcder.proofs.ContentSteps.{next_refused}
 use Rattle.bcder.proofs.Stopping.{walk_stopped}
-use Rattle.bcder.proofs.Running.{entered_fits}
+use Rattle.bcder.proofs.RunSteps.{entered_fits}
 use Rattle.bcder.proofs.decode.content.Constructed.skip_next.Goals as goal
 
 pub skip_content-requires-clause-fits : goal.skip_content-requires-clause-fits
@@ -60,14 +60,14 @@ unfolding of_constructed
 returns-in-Err-skip_content-clause-moves g c =
     let e = rw c.in-Ok-Some.field-0-is at c.in-Ok-Some.ensures.entered in
     let w = within_constructed g.S.Source.stream g.met.S.Source.sound c.args.self.now in
-    behind_stopped (of_constructed g.S.Source.stream c.args.self.now) (of_constructed g.S.Source.stream c.next_header.new.self) _ (header_of c.in-Ok-Some.header) c.next_header.new.self.mode (source_of g.S.Source.stream c.next_header.new.self) (g.S.Source.stream c.skip_content.new.source.source) (limit_in c.next_header.new.self) c.skip_content.new.source.limit (record { enters = e.1; octets = w.octets; fits = w.fits }) refl refl refl refl refl refl refl refl refl _ c.args.op.now c.skip_content.new.op cause_of c.in-Err-skip_content.halt c.halt_error.result refl c.halt_error.ensures.content c.halt_error.ensures.source c.halt_error.ensures.memory c.halt_error.ensures.closure c.in-Err-skip_content.ensures
+    behind_stopped (of_constructed g.S.Source.stream c.args.self.now) (of_constructed g.S.Source.stream c.next_header.new.self) _ (header_of c.in-Ok-Some.header) c.next_header.new.self.mode (source_of g.S.Source.stream c.next_header.new.self) (g.S.Source.stream c.skip_content.new.source.source) (limit_in c.next_header.new.self) c.skip_content.new.source.limit (record { enters = e.1; octets = w.octets; fits = w.fits }) refl refl refl refl refl refl refl refl refl _ c.args.op.now c.skip_content.new.op cause_of c.in-Err-skip_content.interrupt c.interrupt_error.result refl c.interrupt_error.ensures.content c.interrupt_error.ensures.source c.interrupt_error.ensures.memory c.interrupt_error.ensures.closure c.in-Err-skip_content.ensures
 
 pub returns-in-Err-skip_content-clause-skipped : goal.returns-in-Err-skip_content-clause-skipped
 unfolding of_constructed
 returns-in-Err-skip_content-clause-skipped g c =
     let e = rw c.in-Ok-Some.field-0-is at c.in-Ok-Some.ensures.entered in
     let w = within_constructed g.S.Source.stream g.met.S.Source.sound c.args.self.now in
-    behind_refused (of_constructed g.S.Source.stream c.args.self.now) (of_constructed g.S.Source.stream c.next_header.new.self) _ (header_of c.in-Ok-Some.header) c.next_header.new.self.mode (source_of g.S.Source.stream c.next_header.new.self) (g.S.Source.stream c.skip_content.new.source.source) (limit_in c.next_header.new.self) c.skip_content.new.source.limit (record { enters = e.1; octets = w.octets; fits = w.fits }) refl refl refl refl refl refl refl refl refl _ c.args.op.now c.skip_content.new.op cause_of c.in-Err-skip_content.halt c.halt_error.result refl c.halt_error.ensures.content c.halt_error.ensures.source c.halt_error.ensures.memory c.halt_error.ensures.closure c.in-Err-skip_content.ensures
+    behind_refused (of_constructed g.S.Source.stream c.args.self.now) (of_constructed g.S.Source.stream c.next_header.new.self) _ (header_of c.in-Ok-Some.header) c.next_header.new.self.mode (source_of g.S.Source.stream c.next_header.new.self) (g.S.Source.stream c.skip_content.new.source.source) (limit_in c.next_header.new.self) c.skip_content.new.source.limit (record { enters = e.1; octets = w.octets; fits = w.fits }) refl refl refl refl refl refl refl refl refl _ c.args.op.now c.skip_content.new.op cause_of c.in-Err-skip_content.interrupt c.interrupt_error.result refl c.interrupt_error.ensures.content c.interrupt_error.ensures.source c.interrupt_error.ensures.memory c.interrupt_error.ensures.closure c.in-Err-skip_content.ensures
 
 pub returns-in-Ok-None-clause-moves : goal.returns-in-Ok-None-clause-moves
 returns-in-Ok-None-clause-moves g c =

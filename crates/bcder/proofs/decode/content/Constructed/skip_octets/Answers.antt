@@ -1,22 +1,21 @@
 use Rattle.std.proofs.Common.{refl}
-use Rattle.bcder.specs.declared.decode.content.skip.Bar.TheVariants as bar
-use Rattle.bcder.specs.declared.decode.content.skip.Halt.TheVariants as halt
+use Rattle.bcder.specs.declared.decode.content.skip.Interrupt.TheVariants as interrupt
 use Rattle.bcder.specs.calls.Cause.{cause_of}
 use Rattle.bcder.specs.steps.Peek.{header_of, octets_header}
 use Rattle.bcder.specs.steps.Stacked.{source_of, limit_in}
 use Rattle.bcder.specs.calls.Views.{of_constructed}
-use Rattle.bcder.proofs.Running.{octets_refused, octets_passed, octets_stopped}
-use Rattle.bcder.proofs.Skipped.{behind_moved, behind_passed, behind_stopped, behind_refused}
+use Rattle.bcder.proofs.RunSteps.{octets_refused, octets_passed, octets_stopped}
+use Rattle.bcder.proofs.SkipCalls.{behind_moved, behind_passed, behind_stopped, behind_refused}
 use Rattle.bcder.proofs.decode.content.Constructed.skip_octets.Given.{F-step}
 use Rattle.bcder.proofs.decode.content.Constructed.skip_octets.Goals as goal
 
 pub returns-in-Err-clause-moves : goal.returns-in-Err-clause-moves
 unfolding of_constructed
-returns-in-Err-clause-moves g c = λ b i. behind_stopped b (of_constructed g.S.Source.stream c.args.self.now) _ (header_of (octets_header c.args.tag c.args.len)) c.args.self.now.mode (source_of g.S.Source.stream c.args.self.now) (source_of g.S.Source.stream c.args.self.now) (limit_in c.args.self.now) (limit_in c.args.self.now) i refl refl refl refl refl refl refl refl refl (F-step g) c.args.op.now c.op.new.self cause_of (halt.Refused c.in-Err.error) c.halt_error.result refl c.halt_error.ensures.content c.halt_error.ensures.source c.halt_error.ensures.memory c.halt_error.ensures.closure (octets_refused _ _ (header_of (octets_header c.args.tag c.args.len)) _ _ _ refl _ _ c.in-Err.ensures)
+returns-in-Err-clause-moves g c = λ b i. behind_stopped b (of_constructed g.S.Source.stream c.args.self.now) _ (header_of (octets_header c.args.tag c.args.len)) c.args.self.now.mode (source_of g.S.Source.stream c.args.self.now) (source_of g.S.Source.stream c.args.self.now) (limit_in c.args.self.now) (limit_in c.args.self.now) i refl refl refl refl refl refl refl refl refl (F-step g) c.args.op.now c.op.new.self cause_of (interrupt.Closure c.in-Err.error) c.interrupt_error.result refl c.interrupt_error.ensures.content c.interrupt_error.ensures.source c.interrupt_error.ensures.memory c.interrupt_error.ensures.closure (octets_refused _ _ (header_of (octets_header c.args.tag c.args.len)) _ _ _ refl _ _ c.in-Err.ensures)
 
 pub returns-in-Err-clause-skipped : goal.returns-in-Err-clause-skipped
 unfolding of_constructed
-returns-in-Err-clause-skipped g c = λ b i. behind_refused b (of_constructed g.S.Source.stream c.args.self.now) _ (header_of (octets_header c.args.tag c.args.len)) c.args.self.now.mode (source_of g.S.Source.stream c.args.self.now) (source_of g.S.Source.stream c.args.self.now) (limit_in c.args.self.now) (limit_in c.args.self.now) i refl refl refl refl refl refl refl refl refl _ c.args.op.now c.op.new.self cause_of (halt.Refused c.in-Err.error) c.halt_error.result refl c.halt_error.ensures.content c.halt_error.ensures.source c.halt_error.ensures.memory c.halt_error.ensures.closure (octets_refused _ _ (header_of (octets_header c.args.tag c.args.len)) _ _ _ refl _ _ c.in-Err.ensures)
+returns-in-Err-clause-skipped g c = λ b i. behind_refused b (of_constructed g.S.Source.stream c.args.self.now) _ (header_of (octets_header c.args.tag c.args.len)) c.args.self.now.mode (source_of g.S.Source.stream c.args.self.now) (source_of g.S.Source.stream c.args.self.now) (limit_in c.args.self.now) (limit_in c.args.self.now) i refl refl refl refl refl refl refl refl refl _ c.args.op.now c.op.new.self cause_of (interrupt.Closure c.in-Err.error) c.interrupt_error.result refl c.interrupt_error.ensures.content c.interrupt_error.ensures.source c.interrupt_error.ensures.memory c.interrupt_error.ensures.closure (octets_refused _ _ (header_of (octets_header c.args.tag c.args.len)) _ _ _ refl _ _ c.in-Err.ensures)
 
 pub returns-in-Ok-clause-moves : goal.returns-in-Ok-clause-moves
 unfolding of_constructed
@@ -28,8 +27,8 @@ returns-in-Ok-clause-skipped g c = λ b i. behind_passed b (of_constructed g.S.S
 
 pub returns-in-Err-skip_owed-clause-moves : goal.returns-in-Err-skip_owed-clause-moves
 unfolding of_constructed
-returns-in-Err-skip_owed-clause-moves g c = λ b i. behind_stopped b (of_constructed g.S.Source.stream c.args.self.now) _ (header_of (octets_header c.args.tag c.args.len)) c.args.self.now.mode (source_of g.S.Source.stream c.args.self.now) (g.S.Source.stream c.skip_owed.new.self.source) (limit_in c.args.self.now) c.skip_owed.new.self.limit i refl refl refl refl refl refl refl refl refl (F-step g) c.args.op.now c.op.new.self cause_of (halt.Barred (bar.Stopped c.in-Err-skip_owed.stop)) c.halt_error-in-Err-skip_owed.result refl c.halt_error-in-Err-skip_owed.ensures.content c.halt_error-in-Err-skip_owed.ensures.source c.halt_error-in-Err-skip_owed.ensures.memory c.halt_error-in-Err-skip_owed.ensures.closure (octets_stopped _ _ (header_of (octets_header c.args.tag c.args.len)) _ _ _ refl _ _ _ c.args.len refl c.in_default.ensures c.skip_owed.ensures.kept c.skip_owed.ensures.no_fewer _ c.in-Err-skip_owed.ensures.cause c.in-Err-skip_owed.ensures.err c.in-Err-skip_owed.ensures.err_limit)
+returns-in-Err-skip_owed-clause-moves g c = λ b i. behind_stopped b (of_constructed g.S.Source.stream c.args.self.now) _ (header_of (octets_header c.args.tag c.args.len)) c.args.self.now.mode (source_of g.S.Source.stream c.args.self.now) (g.S.Source.stream c.skip_owed.new.self.source) (limit_in c.args.self.now) c.skip_owed.new.self.limit i refl refl refl refl refl refl refl refl refl (F-step g) c.args.op.now c.op.new.self cause_of (interrupt.Stopped c.in-Err-skip_owed.stop) c.interrupt_error-in-Err-skip_owed.result refl c.interrupt_error-in-Err-skip_owed.ensures.content c.interrupt_error-in-Err-skip_owed.ensures.source c.interrupt_error-in-Err-skip_owed.ensures.memory c.interrupt_error-in-Err-skip_owed.ensures.closure (octets_stopped _ _ (header_of (octets_header c.args.tag c.args.len)) _ _ _ refl _ _ _ c.args.len refl c.in_default.ensures c.skip_owed.ensures.kept c.skip_owed.ensures.no_fewer _ c.in-Err-skip_owed.ensures.cause c.in-Err-skip_owed.ensures.err c.in-Err-skip_owed.ensures.err_limit)
 
 pub returns-in-Err-skip_owed-clause-skipped : goal.returns-in-Err-skip_owed-clause-skipped
 unfolding of_constructed
-returns-in-Err-skip_owed-clause-skipped g c = λ b i. behind_refused b (of_constructed g.S.Source.stream c.args.self.now) _ (header_of (octets_header c.args.tag c.args.len)) c.args.self.now.mode (source_of g.S.Source.stream c.args.self.now) (g.S.Source.stream c.skip_owed.new.self.source) (limit_in c.args.self.now) c.skip_owed.new.self.limit i refl refl refl refl refl refl refl refl refl _ c.args.op.now c.op.new.self cause_of (halt.Barred (bar.Stopped c.in-Err-skip_owed.stop)) c.halt_error-in-Err-skip_owed.result refl c.halt_error-in-Err-skip_owed.ensures.content c.halt_error-in-Err-skip_owed.ensures.source c.halt_error-in-Err-skip_owed.ensures.memory c.halt_error-in-Err-skip_owed.ensures.closure (octets_stopped _ _ (header_of (octets_header c.args.tag c.args.len)) _ _ _ refl _ _ _ c.args.len refl c.in_default.ensures c.skip_owed.ensures.kept c.skip_owed.ensures.no_fewer _ c.in-Err-skip_owed.ensures.cause c.in-Err-skip_owed.ensures.err c.in-Err-skip_owed.ensures.err_limit)
+returns-in-Err-skip_owed-clause-skipped g c = λ b i. behind_refused b (of_constructed g.S.Source.stream c.args.self.now) _ (header_of (octets_header c.args.tag c.args.len)) c.args.self.now.mode (source_of g.S.Source.stream c.args.self.now) (g.S.Source.stream c.skip_owed.new.self.source) (limit_in c.args.self.now) c.skip_owed.new.self.limit i refl refl refl refl refl refl refl refl refl _ c.args.op.now c.op.new.self cause_of (interrupt.Stopped c.in-Err-skip_owed.stop) c.interrupt_error-in-Err-skip_owed.result refl c.interrupt_error-in-Err-skip_owed.ensures.content c.interrupt_error-in-Err-skip_owed.ensures.source c.interrupt_error-in-Err-skip_owed.ensures.memory c.interrupt_error-in-Err-skip_owed.ensures.closure (octets_stopped _ _ (header_of (octets_header c.args.tag c.args.len)) _ _ _ refl _ _ _ c.args.len refl c.in_default.ensures c.skip_owed.ensures.kept c.skip_owed.ensures.no_fewer _ c.in-Err-skip_owed.ensures.cause c.in-Err-skip_owed.ensures.err c.in-Err-skip_owed.ensures.err_limit)

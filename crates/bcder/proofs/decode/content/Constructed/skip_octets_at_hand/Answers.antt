@@ -1,22 +1,22 @@
 use Rattle.std.proofs.Common.{refl}
-use Rattle.bcder.specs.declared.decode.content.skip.Halt.TheVariants as halt
+use Rattle.bcder.specs.declared.decode.content.skip.Interrupt.TheVariants as interrupt
 use Rattle.bcder.specs.calls.Cause.{cause_of}
 use Rattle.bcder.specs.steps.Peek.{header_of, octets_header}
 use Rattle.bcder.specs.steps.Stacked.{source_of, limit_in}
 use Rattle.bcder.specs.calls.Views.{of_constructed}
 use Rattle.bcder.proofs.Entering.{no_fewer}
-use Rattle.bcder.proofs.Running.{octets_refused, octets_passed}
-use Rattle.bcder.proofs.Skipped.{behind_moved, behind_passed, behind_stopped, behind_refused}
+use Rattle.bcder.proofs.RunSteps.{octets_refused, octets_passed}
+use Rattle.bcder.proofs.SkipCalls.{behind_moved, behind_passed, behind_stopped, behind_refused}
 use Rattle.bcder.proofs.decode.content.Constructed.skip_octets_at_hand.Given.{F-step}
 use Rattle.bcder.proofs.decode.content.Constructed.skip_octets_at_hand.Goals as goal
 
 pub returns-in-Err-clause-moves : goal.returns-in-Err-clause-moves
 unfolding of_constructed
-returns-in-Err-clause-moves g c = λ b i. behind_stopped b (of_constructed g.S.Source.stream c.args.self.now) _ (header_of (octets_header c.args.tag c.args.len)) c.args.self.now.mode (source_of g.S.Source.stream c.args.self.now) (source_of g.S.Source.stream c.args.self.now) (limit_in c.args.self.now) (limit_in c.args.self.now) i refl refl refl refl refl refl refl refl refl (F-step g) c.args.op.now c.op.new.self cause_of (halt.Refused c.in-Err.error) c.halt_error.result refl c.halt_error.ensures.content c.halt_error.ensures.source c.halt_error.ensures.memory c.halt_error.ensures.closure (octets_refused _ _ (header_of (octets_header c.args.tag c.args.len)) _ _ _ refl _ _ c.in-Err.ensures)
+returns-in-Err-clause-moves g c = λ b i. behind_stopped b (of_constructed g.S.Source.stream c.args.self.now) _ (header_of (octets_header c.args.tag c.args.len)) c.args.self.now.mode (source_of g.S.Source.stream c.args.self.now) (source_of g.S.Source.stream c.args.self.now) (limit_in c.args.self.now) (limit_in c.args.self.now) i refl refl refl refl refl refl refl refl refl (F-step g) c.args.op.now c.op.new.self cause_of (interrupt.Closure c.in-Err.error) c.interrupt_error.result refl c.interrupt_error.ensures.content c.interrupt_error.ensures.source c.interrupt_error.ensures.memory c.interrupt_error.ensures.closure (octets_refused _ _ (header_of (octets_header c.args.tag c.args.len)) _ _ _ refl _ _ c.in-Err.ensures)
 
 pub returns-in-Err-clause-skipped : goal.returns-in-Err-clause-skipped
 unfolding of_constructed
-returns-in-Err-clause-skipped g c = λ b i. behind_refused b (of_constructed g.S.Source.stream c.args.self.now) _ (header_of (octets_header c.args.tag c.args.len)) c.args.self.now.mode (source_of g.S.Source.stream c.args.self.now) (source_of g.S.Source.stream c.args.self.now) (limit_in c.args.self.now) (limit_in c.args.self.now) i refl refl refl refl refl refl refl refl refl _ c.args.op.now c.op.new.self cause_of (halt.Refused c.in-Err.error) c.halt_error.result refl c.halt_error.ensures.content c.halt_error.ensures.source c.halt_error.ensures.memory c.halt_error.ensures.closure (octets_refused _ _ (header_of (octets_header c.args.tag c.args.len)) _ _ _ refl _ _ c.in-Err.ensures)
+returns-in-Err-clause-skipped g c = λ b i. behind_refused b (of_constructed g.S.Source.stream c.args.self.now) _ (header_of (octets_header c.args.tag c.args.len)) c.args.self.now.mode (source_of g.S.Source.stream c.args.self.now) (source_of g.S.Source.stream c.args.self.now) (limit_in c.args.self.now) (limit_in c.args.self.now) i refl refl refl refl refl refl refl refl refl _ c.args.op.now c.op.new.self cause_of (interrupt.Closure c.in-Err.error) c.interrupt_error.result refl c.interrupt_error.ensures.content c.interrupt_error.ensures.source c.interrupt_error.ensures.memory c.interrupt_error.ensures.closure (octets_refused _ _ (header_of (octets_header c.args.tag c.args.len)) _ _ _ refl _ _ c.in-Err.ensures)
 
 pub returns-clause-moves : goal.returns-clause-moves
 unfolding of_constructed

@@ -1,8 +1,8 @@
 use Rattle.bcder.specs.calls.Cause.{cause_of}
 use Rattle.bcder.specs.calls.Views.{of_constructed}
 use Rattle.bcder.specs.laws.Moved.{moved_carries, moved_twice_is_moved}
-use Rattle.bcder.proofs.Names.{within_constructed}
-use Rattle.bcder.proofs.Skipped.{one_at_once, one_exact, looked_skipped}
+use Rattle.bcder.proofs.SameBorrow.{within_constructed}
+use Rattle.bcder.proofs.SkipCalls.{one_at_once, one_exact, looked_skipped}
 use Rattle.bcder.proofs.decode.content.Constructed.skip_one.Goals as goal
 
 pub returns-in-Ok-true-clause-moves : goal.returns-in-Ok-true-clause-moves

@@ -2,8 +2,8 @@ use Rattle.bcder.specs.calls.Cause.{cause_of}
 use Rattle.bcder.specs.calls.Views.{of_constructed}
 use Rattle.bcder.specs.calls.Walking.{source}
 use Rattle.bcder.specs.laws.Moved.{moved_carries, moved_twice_is_moved}
-use Rattle.bcder.proofs.Names.{within_constructed}
-use Rattle.bcder.proofs.Skipped.{skipped_none, answers_skip, looked_told}
+use Rattle.bcder.proofs.SameBorrow.{within_constructed}
+use Rattle.bcder.proofs.SkipCalls.{skipped_none, answers_skip, looked_told}
 use Rattle.bcder.proofs.decode.content.Constructed.skip_opt.Goals as goal
 
 pub skip_octets_at_hand-requires-clause-fits : goal.skip_octets_at_hand-requires-clause-fits

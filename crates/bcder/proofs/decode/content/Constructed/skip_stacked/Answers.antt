@@ -1,5 +1,5 @@
 use Rattle.bcder.specs.laws.Moved.{untouched_is_moved}
-use Rattle.bcder.proofs.Names.{moves_constructed_name}
+use Rattle.bcder.proofs.SameBorrow.{moves_constructed_name}
 use Rattle.bcder.proofs.decode.content.Constructed.skip_stacked.Goals as goal
 
 pub returns-clause-moves : goal.returns-clause-moves

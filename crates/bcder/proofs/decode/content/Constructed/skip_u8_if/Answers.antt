@@ -2,7 +2,7 @@ use Rattle.std.proofs.Common.{rules}
 use Rattle.bcder.specs.x690.Identifier.{integer_tag}
 use Rattle.bcder.specs.calls.Readers.{IsThis, MeanAnother}
 use Rattle.bcder.specs.calls.Views.{of_constructed, of_primitive}
-use Rattle.bcder.proofs.Names.{within_constructed}
+use Rattle.bcder.proofs.SameBorrow.{within_constructed}
 use Rattle.bcder.proofs.Typed.{one_as, octets_form}
 use Rattle.bcder.proofs.decode.content.Constructed.skip_u8_if.Goals as goal
 

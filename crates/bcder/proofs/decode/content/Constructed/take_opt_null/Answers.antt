@@ -2,7 +2,7 @@ use Rattle.std.proofs.Common.{rules, refl}
 use Rattle.bcder.specs.x690.Identifier.{null_tag}
 use Rattle.bcder.specs.calls.Readers.{IsNull, MeanNothing}
 use Rattle.bcder.specs.calls.Views.{of_constructed, of_primitive}
-use Rattle.bcder.proofs.Names.{within_constructed}
+use Rattle.bcder.proofs.SameBorrow.{within_constructed}
 use Rattle.bcder.proofs.Typed.{passes_as, refuses_as, octets_form}
 use Rattle.bcder.proofs.decode.content.Constructed.take_opt_null.Goals as goal
 

@@ -3,9 +3,9 @@ use Rattle.bcder.specs.calls.Content.{IsDone}
 use Rattle.bcder.specs.calls.Walking.{PassesValue}
 use Rattle.bcder.specs.calls.Views.{of_constructed}
 use Rattle.bcder.specs.laws.Moved.{untouched_is_moved, moved_twice_is_moved, moved_carries}
-use Rattle.bcder.proofs.Names.{within_constructed, constructed_form}
-use Rattle.bcder.proofs.Walking.{walks_refl, walks_value, value_shorter}
-use Rattle.bcder.proofs.Walked.{some_value, none_value}
+use Rattle.bcder.proofs.SameBorrow.{within_constructed, constructed_form}
+use Rattle.bcder.proofs.WalkSteps.{walks_refl, walks_value, value_shorter}
+use Rattle.bcder.proofs.WalkCalls.{some_value, none_value}
 use Rattle.bcder.proofs.CapturingValues.{loop_refused_one, pass_refused}
 use Rattle.bcder.proofs.decode.content.capture_values.pass_all.Goals as goal
 

@@ -2,7 +2,7 @@ use Rattle.std.proofs.Common.{rules, refl, sym, ◌≡◌, ◌∙◌, inl, inr}
 use Rattle.bcder.specs.declared.decode.content.State.TheVariants.{Open, Ended, Failed}
 use Rattle.bcder.specs.calls.Decoding.{by_closure, left_failed}
 use Rattle.bcder.specs.calls.Views.{of_constructed}
-use Rattle.bcder.proofs.Names.{moves_constructed_name}
+use Rattle.bcder.proofs.SameBorrow.{moves_constructed_name}
 use Rattle.bcder.proofs.decode.content.decode.run.Goals as goal
 
 pub returns-in-Err-clause-refused : goal.returns-in-Err-clause-refused

@@ -1,7 +1,7 @@
 use Rattle.std.proofs.Common.{refl, ◌∙◌, sym}
 use Rattle.bcder.specs.calls.Calls.{by_closure, unfinished}
 use Rattle.bcder.specs.calls.Views.{of_content}
-use Rattle.bcder.proofs.Names.{mark_of_content}
+use Rattle.bcder.proofs.SameBorrow.{mark_of_content}
 use Rattle.bcder.proofs.decode.content.inside.run.Goals as goal
 
 pub returns-in-Err-clause-refused : goal.returns-in-Err-clause-refused

@@ -1,7 +1,7 @@
 use Rattle.std.proofs.Common.{inl, inr, ap, refl}
 use Rattle.bcder.specs.steps.Peek.{is_constructed, len_of}
 use Rattle.bcder.specs.steps.Stacked.{octets, by_failure, too_few}
-use Rattle.bcder.proofs.Stepping.{stop_reason}
+use Rattle.bcder.proofs.ContentSteps.{stop_reason}
 use Rattle.bcder.proofs.decode.content.skip.go_into.Goals as goal
 
 pub returns-in-Ok-clause-gone : goal.returns-in-Ok-clause-gone

@@ -5,8 +5,8 @@ use Rattle.bcder.specs.laws.Moved.{moved_keeps_kind}
 use Rattle.bcder.proofs.Entering.{kind_of}
 use Rattle.bcder.specs.steps.Stacked.{TopIs, around, entries, source_of, limit_in}
 use Rattle.bcder.specs.calls.Views.{of_constructed}
-use Rattle.bcder.proofs.Names.{within_constructed, moves_constructed_name}
-use Rattle.bcder.proofs.Running.{some_entry, out_counts, met_entered, entered_fits, visited_refused, visited_gone, visited_barred, first_went, first_barred, not_begun, went_in, stayed_out, went_out, went_wrong, entered_shorter, left_shorter, wrong_counts, few_open, frames_count, frames_unwound}
+use Rattle.bcder.proofs.SameBorrow.{within_constructed, moves_constructed_name}
+use Rattle.bcder.proofs.RunSteps.{some_entry, out_counts, met_entered, entered_fits, visited_refused, visited_gone, visited_stopped, first_went, first_stopped, not_begun, went_in, stayed_out, went_out, went_wrong, entered_shorter, left_shorter, wrong_counts, few_open, frames_count, frames_unwound}
 use Rattle.bcder.proofs.decode.content.skip.run.Given.{F-step}
 use Rattle.bcder.proofs.decode.content.skip.run.Goals as goal
 
@@ -16,7 +16,7 @@ returns-in-Err-clause-ran g c =
 
 pub returns-in-Err-go_into-clause-ran : goal.returns-in-Err-go_into-clause-ran
 returns-in-Err-go_into-clause-ran g c =
-    first_barred _ _ _ _ _ _ (around (reverse c.new-frames.result.items)) (entries c.go_into.new.opened) _ _ _ (ap (λ v. around (reverse v)) c.new-frames.ensures.items) (rw c.is_constructed.ensures at c.in_default.ensures) c.in-Err-go_into.bar c.in-Err-go_into.ensures.gone
+    first_stopped _ _ _ _ _ _ (around (reverse c.new-frames.result.items)) (entries c.go_into.new.opened) _ _ _ (ap (λ v. around (reverse v)) c.new-frames.ensures.items) (rw c.is_constructed.ensures at c.in_default.ensures) c.in-Err-go_into.stop c.in-Err-go_into.ensures.gone
 
 pub loop-opened-init : goal.loop-opened-init
 loop-opened-init g c =
@@ -74,7 +74,7 @@ returns-in-Err-go_into-2-clause-ran g c =
     let i = c.loop-opened.invariant in
     let e = rw c.in-Ok-Some.field-0-is at c.in-Ok-Some.ensures.entered in
     let m = met_entered (source_of g.S.Source.stream c.loop-opened.cons) (source_of g.S.Source.stream c.next_header.new.self) (limit_in c.loop-opened.cons) (limit_in c.next_header.new.self) (of_constructed g.S.Source.stream c.loop-opened.cons) (of_constructed g.S.Source.stream c.next_header.new.self) refl refl refl refl c.args.cons.now.mode (header_of c.args.outermost) (source_of g.S.Source.stream c.args.cons.now) (limit_in c.args.cons.now) i.went.0 (entries c.loop-opened.opened) i.mode (within_constructed g.S.Source.stream g.met.S.Source.sound c.loop-opened.cons) (some_entry c.loop-opened.opened i.counted c.loop-opened-test.true) i.went.2 (header_of c.in-Ok-Some.header) e.1 in
-    stayed_out _ _ _ _ _ _ _ _ _ _ (record { calls = i.went.0; called = i.went.1; under = i.went.2; no_fault = i.no_fault }) _ _ _ m c.in-Ok-Some.ensures.no_fault (entered_fits _ _ _ _ refl e.1) _ _ (entries c.go_into-in-Ok-Some.new.opened) _ _ _ _ (visited_barred _ _ (entries c.loop-opened.opened) _ _ _ _ (entries c.go_into-in-Ok-Some.new.opened) _ _ (rw (c.is_constructed-in-Ok-Some.ensures, i.counted.depth) at c.in_default-op.ensures) _ c.in-Err-go_into-2.ensures.gone) (ap g.S.Source.stream c.unwind-in-Err-go_into-2.ensures.source) (frames_unwound c.go_into-in-Ok-Some.new.opened _ _ c.unwind-in-Err-go_into-2.ensures.limit)
+    stayed_out _ _ _ _ _ _ _ _ _ _ (record { calls = i.went.0; called = i.went.1; under = i.went.2; no_fault = i.no_fault }) _ _ _ m c.in-Ok-Some.ensures.no_fault (entered_fits _ _ _ _ refl e.1) _ _ (entries c.go_into-in-Ok-Some.new.opened) _ _ _ _ (visited_stopped _ _ (entries c.loop-opened.opened) _ _ _ _ (entries c.go_into-in-Ok-Some.new.opened) _ _ (rw (c.is_constructed-in-Ok-Some.ensures, i.counted.depth) at c.in_default-op.ensures) _ c.in-Err-go_into-2.ensures.gone) (ap g.S.Source.stream c.unwind-in-Err-go_into-2.ensures.source) (frames_unwound c.go_into-in-Ok-Some.new.opened _ _ c.unwind-in-Err-go_into-2.ensures.limit)
 
 pub returns-in-Err-go_into-2-clause-name : goal.returns-in-Err-go_into-2-clause-name
 returns-in-Err-go_into-2-clause-name g c =

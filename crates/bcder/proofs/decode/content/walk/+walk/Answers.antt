@@ -10,15 +10,15 @@ use Rattle.bcder.specs.calls.Walking.{source, PassesValue, RefusesValues}
 use Rattle.bcder.specs.steps.WalkSteps.{itself, walked}
 use Rattle.bcder.specs.calls.Views.{of_constructed, limited_stream}
 use Rattle.bcder.specs.laws.Moved.{moved_twice_is_moved, moved_is_no_longer}
-use Rattle.bcder.proofs.Names.{within_constructed, constructed_form, moves_constructed_name}
+use Rattle.bcder.proofs.SameBorrow.{within_constructed, constructed_form, moves_constructed_name}
 use Rattle.bcder.proofs.Entering.{looked_front, front_nothing, no_fewer}
 use Rattle.bcder.proofs.Passing.{looked_at_last}
 use Rattle.bcder.proofs.Refusing.{if_err}
 use Rattle.bcder.proofs.Inner.{takes_values, takes_marked}
 use Rattle.bcder.proofs.Taking.{taken_value, taken_moves, refused_front, refused_moves}
-use Rattle.bcder.proofs.Stepping.{step_refused, next_refused, entered_shorter, stop_reason, or_none, ran_values, skips}
-use Rattle.bcder.proofs.Walking.{walks_refl, walks_value, walks_refused, all_refused, walks_all, value_shorter}
-use Rattle.bcder.proofs.Walked.{walks_one, some_value, none_value}
+use Rattle.bcder.proofs.ContentSteps.{step_refused, next_refused, entered_shorter, stop_reason, or_none, ran_values, skips}
+use Rattle.bcder.proofs.WalkSteps.{walks_refl, walks_value, walks_refused, all_refused, walks_all, value_shorter}
+use Rattle.bcder.proofs.WalkCalls.{walks_one, some_value, none_value}
 use Rattle.bcder.proofs.decode.content.walk.+walk.Goals as goal
 
 pub step-pass_content-requires : goal.step-pass_content-requires

@@ -4,10 +4,10 @@ use Rattle.bcder.specs.steps.StopCause.{stop_cause}
 use Rattle.bcder.specs.calls.Views.{of_constructed}
 use Rattle.bcder.specs.calls.Walking.{source}
 use Rattle.bcder.specs.laws.Moved.{moved_carries, moved_twice_is_moved}
-use Rattle.bcder.proofs.Names.{within_constructed}
+use Rattle.bcder.proofs.SameBorrow.{within_constructed}
 use Rattle.bcder.proofs.Passing.{looked_next}
 use Rattle.bcder.proofs.Stopping.{walk_stopped}
-use Rattle.bcder.proofs.Walked.{answers_next}
+use Rattle.bcder.proofs.WalkCalls.{answers_next}
 use Rattle.bcder.proofs.decode.content.walk.walk.Goals as goal
 
 pub returns-in-Ok-true-clause-moves : goal.returns-in-Ok-true-clause-moves

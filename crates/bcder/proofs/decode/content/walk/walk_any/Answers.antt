@@ -1,7 +1,7 @@
 use Rattle.bcder.specs.steps.StopCause.{stop_cause}
 use Rattle.bcder.specs.calls.Views.{of_constructed}
 use Rattle.bcder.specs.laws.Moved.{moved_twice_is_moved}
-use Rattle.bcder.proofs.Names.{moves_constructed_name}
+use Rattle.bcder.proofs.SameBorrow.{moves_constructed_name}
 use Rattle.bcder.proofs.Passing.{looked_next}
 use Rattle.bcder.proofs.decode.content.walk.walk_any.Goals as goal
 

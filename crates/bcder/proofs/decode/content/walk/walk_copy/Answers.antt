@@ -2,7 +2,7 @@ use Rattle.std.proofs.Common.{refl, sym, ◌∙◌}
 use Rattle.std.specs.Prelude.{Ok, Err, Some, None}
 use Rattle.bcder.specs.steps.StopCause.{stop_cause}
 use Rattle.bcder.specs.calls.Views.{of_constructed}
-use Rattle.bcder.proofs.Naming.{moves_behind, passed_behind}
+use Rattle.bcder.proofs.BorrowedContent.{moves_behind, passed_behind}
 use Rattle.bcder.proofs.decode.content.walk.walk_copy.Goals as goal
 
 pub returns-in-Ok-Some-clause-moves : goal.returns-in-Ok-Some-clause-moves

@@ -1,4 +1,4 @@
-use Rattle.bcder.proofs.Telling.{octets_equal}
+use Rattle.bcder.proofs.IntegerOctets.{octets_equal}
 use Rattle.bcder.proofs.int.compare.IntegerPartialEq.eq.Goals as goal
 
 pub returns : goal.returns

@@ -1,4 +1,4 @@
-use Rattle.bcder.proofs.Telling.{int_eq_pos}
+use Rattle.bcder.proofs.IntegerOctets.{int_eq_pos}
 use Rattle.bcder.proofs.int.compare.UnsignedPartialEq.eq.Goals as goal
 
 pub returns : goal.returns

@@ -3,7 +3,7 @@ use Rattle.bcder.specs.x690.BitString.{bit_string_tag}
 use Rattle.bcder.specs.calls.ReadBits.{HoldBits}
 use Rattle.bcder.specs.calls.Readers.{MeanNothing}
 use Rattle.bcder.specs.calls.Views.{of_constructed, of_primitive}
-use Rattle.bcder.proofs.Names.{within_constructed}
+use Rattle.bcder.proofs.SameBorrow.{within_constructed}
 use Rattle.bcder.proofs.Typed.{one_as, octets_form}
 use Rattle.bcder.proofs.string.bit.BitString.skip_in.Goals as goal
 

@@ -8,7 +8,7 @@ use Rattle.bcder.specs.laws.Moved.{moved_carries}
 use Rattle.bcder.specs.steps.Peek.{header_of}
 use Rattle.bcder.specs.steps.StopCause.{stop_cause}
 use Rattle.bcder.proofs.Entering.{header_entered}
-use Rattle.bcder.proofs.Names.{within_constructed}
+use Rattle.bcder.proofs.SameBorrow.{within_constructed}
 use Rattle.bcder.proofs.Stopping.{header_stopped}
 use Rattle.bcder.proofs.Strings.{octets_in_one, piece_taken, piece_not_taken}
 use Rattle.bcder.proofs.Taking.{takes_next, moves_next, of_either_form}

@@ -2,7 +2,7 @@ use Rattle.std.proofs.Common.{rules, sym, subst, ◌∙◌}
 use Rattle.bcder.specs.x690.OctetString.{AreCut}
 use Rattle.bcder.specs.steps.SegmentTable.{IsTable}
 use Rattle.bcder.specs.calls.Views.{of_constructed}
-use Rattle.bcder.proofs.Names.{constructed_form}
+use Rattle.bcder.proofs.SameBorrow.{constructed_form}
 use Rattle.bcder.proofs.Strings.{read_segments, refuse_segments, refuse_values, refuse_constructed}
 use Rattle.bcder.proofs.string.octet.read.from_constructed.Goals as goal
 

@@ -9,7 +9,7 @@ use Rattle.bcder.specs.steps.Peek.{header_of}
 use Rattle.bcder.specs.steps.StopCause.{stop_cause}
 use Rattle.bcder.proofs.Accepting.{accepted_in_one}
 use Rattle.bcder.proofs.Entering.{header_entered}
-use Rattle.bcder.proofs.Names.{within_constructed}
+use Rattle.bcder.proofs.SameBorrow.{within_constructed}
 use Rattle.bcder.proofs.Stopping.{header_stopped}
 use Rattle.bcder.proofs.Strings.{piece_taken, piece_not_taken}
 use Rattle.bcder.proofs.Taking.{takes_next, moves_next, of_either_form}

@@ -3,7 +3,7 @@ use Rattle.bcder.specs.calls.Capturing.{of_captured}
 use Rattle.bcder.specs.calls.Sources.{capturing}
 use Rattle.bcder.specs.calls.Views.{limited_stream}
 use Rattle.bcder.specs.laws.Limits.{ahead_sound, limited_sound}
-use Rattle.bcder.proofs.Names.{within_constructed}
+use Rattle.bcder.proofs.SameBorrow.{within_constructed}
 use Rattle.bcder.proofs.CapturingValues.{end_has_none}
 use Rattle.bcder.proofs.decode.content.fn.Constructed.capture_one.capture.Goals as goal
 

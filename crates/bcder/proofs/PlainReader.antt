@@ -15,7 +15,7 @@ use Rattle.bcder.specs.steps.Reading.{class_of, is_marked, read_identifier, read
 use Rattle.bcder.specs.laws.Complete.{header_size, two_octets, tree_complete, one_encoding}
 use Rattle.bcder.specs.laws.Sound.{mapped, none_is}
 use Rattle.bcder.specs.laws.Stands.{AreOctets-after, header_sound, tree_sound}
-use Rattle.bcder.proofs.Steps.{read_tree_step}
+use Rattle.bcder.proofs.ReadingSteps.{read_tree_step}
 use Rattle.bcder.proofs.Ends.{from_header}
 
 -- what is read of octets is the value in front of these

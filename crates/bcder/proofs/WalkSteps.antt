@@ -13,7 +13,7 @@ use Rattle.bcder.specs.x690.Encoding.{IsEncoding, AreEncodings}
 use Rattle.bcder.specs.calls.Stream.{Grew}
 use Rattle.bcder.specs.declared.decode.error.ContentError.{ContentError}
 use Rattle.bcder.specs.calls.Cause.{Cause, of_source, IsOfContent}
-use Rattle.bcder.specs.calls.Content.{Reading, Form, octets, values, Octets, DefiniteValues, IndefiniteValues, any, HasHeader, HasMarker, Moves, MovesBy, Falls, FitsOwed, IsDone, IsUsedUp, IsAtEnd, of_octets, of_definite, of_indefinite, of_unbounded, EndsBefore, EndsAt, NotAtEnd, NothingThere}
+use Rattle.bcder.specs.calls.Content.{Reading, ContentForm, octets, values, Octets, DefiniteValues, IndefiniteValues, any, HasHeader, HasMarker, Moves, MovesBy, Falls, FitsOwed, IsDone, IsUsedUp, IsAtEnd, of_octets, of_definite, of_indefinite, of_unbounded, EndsBefore, EndsAt, NotAtEnd, NothingThere}
 use Rattle.bcder.specs.calls.Calls.{Hands, IsFormOf, ContentOf, RefusesEnd, left_failed, source_failed, left_open}
 use Rattle.bcder.specs.calls.Walking.{HasValue, NoValue, PassesValue, ClosesBefore, HasValues, IsShort, AllBy, Walks}
 use Rattle.bcder.specs.calls.Walking as walking
@@ -62,7 +62,7 @@ first_of m no_trees w h = inl h
 first_of m (t ∷ₜ ts) w h = inr (record { tree = t; trees = ts; front = h.0; others = h.1; first = h.2; rest = h.3; are = refl; is = h.4 })
 
 -- where no values are left, content is at its end
-ends_before : (c : Reading) (f : Form) (all after : List ℕ) → c.kind ≡ f → c.state ≡ Open → ClosesBefore f c.mode c.owed all after → all ≡ [] → c.stream.rest ≡ all ++ after → (x : List ℕ) × EndsBefore c x
+ends_before : (c : Reading) (f : ContentForm) (all after : List ℕ) → c.kind ≡ f → c.state ≡ Open → ClosesBefore f c.mode c.owed all after → all ≡ [] → c.stream.rest ≡ all ++ after → (x : List ℕ) × EndsBefore c x
 ends_before c octets all after q s h e r = absurd h
 ends_before c (values kind.Definite) all after q s h e r = (after, inr (s, of_definite q (h ∙ ap (λ x. Some (length x)) e)))
 ends_before c (values kind.Indefinite) all after q s h e r = (h.0, inr (s, of_indefinite q (subst (λ z. HasMarker c.mode z h.0) (sym (r ∙ ap (λ x. x ++ after) e)) h.1)))
@@ -83,7 +83,7 @@ falls_to (Some o) None a b n f e g = absurd (f refl)
 falls_to (Some o) (Some p) a b n f e g = ap Some (let z : o ≡ b = (let y : ◌≡◌ {A = Option ℕ} (Some o) (Some b) = e in cc) in omega arith)
 
 module _ (j k : Reading) (w : Within j) (one : PassesValue j k) (m : MovesBy j k) (mode : k.mode ≡ j.mode) where
-  closes_on : (f : Form) (all others after : List ℕ) → ClosesBefore f j.mode j.owed all after → all ≡ one.value ++ others → ClosesBefore f j.mode k.owed others after
+  closes_on : (f : ContentForm) (all others after : List ℕ) → ClosesBefore f j.mode j.owed all after → all ≡ one.value ++ others → ClosesBefore f j.mode k.owed others after
   closes_on octets all others after c e = c
   closes_on (values kind.Definite) all others after c e =
       let l : length m.passed ≡ length one.value = passed_length m.passed one.value k.stream.rest (sym m.rest ∙ one.has.rest) in
@@ -118,7 +118,7 @@ module _ (j k : Reading) (w : Within j) (one : PassesValue j k) (m : MovesBy j k
   falls_from (Some o) None a b n f e q = absurd (f refl)
   falls_from (Some o) (Some p) a b n f e q = ap Some (let z : p ≡ n = (let y : ◌≡◌ {A = Option ℕ} (Some p) (Some n) = e in cc) in omega arith)
 
-  closes_back : (f : Form) (others after : List ℕ) → ClosesBefore f j.mode k.owed others after → ClosesBefore f j.mode j.owed (one.value ++ others) after
+  closes_back : (f : ContentForm) (others after : List ℕ) → ClosesBefore f j.mode k.owed others after → ClosesBefore f j.mode j.owed (one.value ++ others) after
   closes_back octets others after c = c
   closes_back (values kind.Definite) others after c =
       let l : length m.passed ≡ length one.value = passed_length m.passed one.value k.stream.rest (sym m.rest ∙ one.has.rest) in
@@ -201,13 +201,13 @@ walks_all i j k o w (inr e) s = w.were (none_left j k.stream.rest (λ q. o (sym 
 
 -- ---- a value that was refused in its content
 
-form_octets : (f : Bool) (l : Length) (n : ℕ) (k : Form) → f ≡ false → l ≡ Definite n → IsFormOf f l k → k ≡ Octets
+form_octets : (f : Bool) (l : Length) (n : ℕ) (k : ContentForm) → f ≡ false → l ≡ Definite n → IsFormOf f l k → k ≡ Octets
 form_octets f l n k a b h = subst (λ x. IsFormOf false x k) b (subst (λ x. IsFormOf x l k) a h)
 
-form_definite : (f : Bool) (l : Length) (n : ℕ) (k : Form) → f ≡ true → l ≡ Definite n → IsFormOf f l k → k ≡ DefiniteValues
+form_definite : (f : Bool) (l : Length) (n : ℕ) (k : ContentForm) → f ≡ true → l ≡ Definite n → IsFormOf f l k → k ≡ DefiniteValues
 form_definite f l n k a b h = subst (λ x. IsFormOf true x k) b (subst (λ x. IsFormOf x l k) a h)
 
-form_indefinite : (f : Bool) (l : Length) (k : Form) → l ≡ Indefinite → IsFormOf f l k → k ≡ IndefiniteValues
+form_indefinite : (f : Bool) (l : Length) (k : ContentForm) → l ≡ Indefinite → IsFormOf f l k → k ≡ IndefiniteValues
 form_indefinite f l k b h = subst (λ x. IsFormOf f x k) b h
 
 -- the octets that a length counts
@@ -261,7 +261,7 @@ module _ (c i : Reading) (after : List ℕ) (f : HasHeader any c after) (g : Han
   short_front k n = record { none = λ t v x e r. short_shape x k n (shape_in t v x e r) }
 
 -- content that is done is at its end
-pub done_here : (j : Reading) (f : Form) → j.kind ≡ f → IsDone j → EndsAt j j
+pub done_here : (j : Reading) (f : ContentForm) → j.kind ≡ f → IsDone j → EndsAt j j
 done_here j f e (inl s) = inl s
 done_here j octets e (inr s) = inr (s.0, of_octets e (subst (λ x. IsUsedUp x j.owed j.stream.rest) e s.1))
 done_here j (values kind.Definite) e (inr s) = inr (s.0, of_definite e (subst (λ x. IsUsedUp x j.owed j.stream.rest) e s.1))

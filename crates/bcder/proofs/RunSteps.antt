@@ -9,10 +9,8 @@ use Rattle.bcder.specs.declared.length.Length.TheVariants as len
 use Rattle.bcder.specs.declared.decode.content.Kind.{Kind}
 use Rattle.bcder.specs.declared.decode.content.State.TheVariants.{Open}
 use Rattle.bcder.specs.steps.Stacked.{Entry, entries, remain, due, heading, unwound, TopIs, Passes, GoesInto, octets, LeavesInnermost, Counts, PassesCalls, IsUnderWay, IsBroken, StaysAt, for_memory, by_failure, too_few, GoneBy, IsCounted, framed, StaysOut, refused, wanted, failing, few, VisitedBy, Breaks, by_source, by_content, by_closure, by_memory, RanBy}
-use Rattle.bcder.specs.declared.decode.content.skip.Bar.{Bar}
-use Rattle.bcder.specs.declared.decode.content.skip.Bar.TheVariants as bar
-use Rattle.bcder.specs.declared.decode.content.skip.Halt.{Halt}
-use Rattle.bcder.specs.declared.decode.content.skip.Halt.TheVariants as halt
+use Rattle.bcder.specs.declared.decode.content.skip.Interrupt.{Interrupt}
+use Rattle.bcder.specs.declared.decode.content.skip.Interrupt.TheVariants as interrupt
 use Rattle.bcder.specs.declared.decode.stop.Stop.{Stop}
 use Rattle.bcder.specs.declared.decode.error.ContentError.{ContentError}
 use Rattle.bcder.specs.steps.StopCause.{stop_cause, MatchStop}
@@ -32,10 +30,10 @@ use Rattle.bcder.specs.laws.Complete.{header_size}
 use Rattle.bcder.specs.laws.Limits.{first_kept}
 use Rattle.bcder.proofs.Entering.{Within}
 use Rattle.bcder.proofs.Moving.{open_not_failed}
-use Rattle.bcder.proofs.Stepping.{stop_reason}
+use Rattle.bcder.proofs.ContentSteps.{stop_reason}
 use Rattle.bcder.specs.calls.Walking.{NoValue}
-use Rattle.bcder.proofs.Walking.{no_value_of_nothing, end_of_nothing, moves_faults}
-use Rattle.bcder.proofs.Skips.{calls_on, falls_unwound, source_passes, first_gone, first_broken, IsMet, met, met_gone, met_broken, left, broken, nothing_more, nothing_whole, few_there}
+use Rattle.bcder.proofs.WalkSteps.{no_value_of_nothing, end_of_nothing, moves_faults}
+use Rattle.bcder.proofs.LimitStack.{calls_on, falls_unwound, source_passes, first_gone, first_broken, IsMet, met, met_gone, met_broken, left, broken, nothing_more, nothing_whole, few_there}
 use Rattle.bcder.proofs.Unwinding.{counts_falls, unwound_indefinites}
 
 -- the closure was called at a header and at headings after it, and these values are open, without a fault
@@ -93,17 +91,17 @@ went_out mode h s o calls es fs t v x p q r c d k cs co ds do' u m ck ti st cm w
 -- ---- a header that was met, and its content
 
 module _ {F X : Type 0} (step : Steps F ContentError) (h : Header) (es : List Entry) (s : Stream) (o : Option ℕ) (f g : F) where
-  pub visited_refused : {T : Type 0} (x : ContentError) → step f h.tag h.form (length es) (Err x) g → VisitedBy {X = X} step {T = T} h es s o f (Err (halt.Refused x)) g es s o
+  pub visited_refused : {T : Type 0} (x : ContentError) → step f h.tag h.form (length es) (Err x) g → VisitedBy {X = X} step {T = T} h es s o f (Err (interrupt.Closure x)) g es s o
   visited_refused x r = record { answered = tt; goes = tt; no_fault = tt; stays = refused x r refl; entries = refl; rest = refl; limit = refl; kept = refl; faults = omega arith }
 
   module _ (fs : List Entry) (t : Stream) (p : Option ℕ) (called : step f h.tag h.form (length es) (Ok tt) g) where
     pub visited_gone : {T U : Type 0} (x : T) (y : U) → GoneBy {X = X} h es s o (Ok x) fs t p → VisitedBy {X = X} step h es s o f (Ok y) g fs t p
     visited_gone x y z = record { answered = called; goes = z.goes; no_fault = z.no_fault; stays = tt; entries = tt; rest = tt; limit = tt; kept = z.kept; faults = z.faults }
 
-    pub visited_barred : {T U : Type 0} (e : Bar X) → GoneBy {T = T} h es s o (Err e) fs t p → VisitedBy step {T = U} h es s o f (Err (halt.Barred e)) g fs t p
-    visited_barred e z = record { answered = tt; goes = tt; no_fault = tt; stays = go z.stays; entries = z.entries; rest = z.rest; limit = z.limit; kept = z.kept; faults = z.faults }
+    pub visited_stopped : {T U : Type 0} (e : Stop X) → GoneBy {T = T} h es s o (Err e) fs t p → VisitedBy step {T = U} h es s o f (Err (interrupt.Stopped e)) g fs t p
+    visited_stopped e z = record { answered = tt; goes = tt; no_fault = tt; stays = go z.stays; entries = z.entries; rest = z.rest; limit = z.limit; kept = z.kept; faults = z.faults }
       where
-        go : StaysAt h (length es) s e t → StaysOut step h (length es) s f (halt.Barred e) g t
+        go : StaysAt h (length es) s e t → StaysOut step h (length es) s f (interrupt.Stopped e) g t
         go (for_memory a l j) = wanted called a l j
         go (by_failure j k) = failing called j k
         go (too_few m a k l j) = few m called a k l j
@@ -122,7 +120,7 @@ module _ {F : Type 0} (step : Steps F ContentError) (mode : Mode) (h : Header) (
     no_fault = v.no_fault;
   }
 
-  pub not_begun : {X : Type 0} → (e : Halt X) (g : F) (es fs : List Entry) (t : Stream) (p : Option ℕ) → es ≡ [] → VisitedBy step {T = Unit {0}} h es s o f (Err e) g fs t p → RanBy step {T = Unit {0}} mode h s o f (Err e) g t p
+  pub not_begun : {X : Type 0} → (e : Interrupt X) (g : F) (es fs : List Entry) (t : Stream) (p : Option ℕ) → es ≡ [] → VisitedBy step {T = Unit {0}} h es s o f (Err e) g fs t p → RanBy step {T = Unit {0}} mode h s o f (Err e) g t p
   not_begun e g es fs t p i v = record { whole = tt; no_fault = tt; breaks = go v.stays; faults = v.faults }
     where
       b : IsBroken mode h s o [] t p
@@ -145,8 +143,8 @@ module _ {F : Type 0} (step : Steps F ContentError) (mode : Mode) (h : Header) (
     pub first_went : {X : Type 0} (x : Unit {0}) → FitsOwed h.len o → GoneBy {X = X} h es s o (Ok x) fs t p → Goes step mode h s o f fs g t p
     first_went {X} x w z = began {X = X} x g es fs t p none w (visited_gone {X = X} step h es s o f g fs t p at_first x x z)
 
-    pub first_barred : {T X : Type 0} (e : Bar X) → GoneBy {T = T} h es s o (Err e) fs t p → RanBy step {T = Unit {0}} mode h s o f (Err (halt.Barred e)) g t p
-    first_barred e z = not_begun (halt.Barred e) g es fs t p none (visited_barred step h es s o f g fs t p at_first e z)
+    pub first_stopped : {T X : Type 0} (e : Stop X) → GoneBy {T = T} h es s o (Err e) fs t p → RanBy step {T = Unit {0}} mode h s o f (Err (interrupt.Stopped e)) g t p
+    first_stopped e z = not_begun (interrupt.Stopped e) g es fs t p none (visited_stopped step h es s o f g fs t p at_first e z)
 
   module _ (es : List Entry) (g : F) (t : Stream) (p : Option ℕ) (w : Goes step mode h s o f es g t p) where
     -- a value inside was gone into
@@ -160,7 +158,7 @@ module _ {F : Type 0} (step : Steps F ContentError) (mode : Mode) (h : Header) (
       }
 
       -- or not, and the limit was given back
-      stayed_out_of : {X : Type 0} → (e : Halt X) (g' : F) (fs : List Entry) (t' : Stream) (p' r : Option ℕ) → VisitedBy step {T = Unit {0}} k es v q g (Err e) g' fs t' p' → r ≡ unwound fs p' → RanBy step {T = Unit {0}} mode h s o f (Err e) g' t' r
+      stayed_out_of : {X : Type 0} → (e : Interrupt X) (g' : F) (fs : List Entry) (t' : Stream) (p' r : Option ℕ) → VisitedBy step {T = Unit {0}} k es v q g (Err e) g' fs t' p' → r ≡ unwound fs p' → RanBy step {T = Unit {0}} mode h s o f (Err e) g' t' r
       stayed_out_of e g' fs t' p' r z i = record { whole = tt; no_fault = tt; breaks = go z.stays; faults = omega (arith, z.faults, nf, w.no_fault) }
         where
           after_it : List Heading
@@ -184,12 +182,12 @@ module _ {F : Type 0} (step : Steps F ContentError) (mode : Mode) (h : Header) (
           go (failing a j y) = by_source after_it (called a) b j (grew y)
           go (few n a j y l c) = by_content after_it (called a) b (none n y l) c
 
-      pub stayed_out : {X : Type 0} → (e : Halt X) (g' : F) (fs : List Entry) (t' u' : Stream) (p' r : Option ℕ) → VisitedBy step {T = Unit {0}} k es v q g (Err e) g' fs t' p' → u' ≡ t' → r ≡ unwound fs p' → RanBy step {T = Unit {0}} mode h s o f (Err e) g' u' r
+      pub stayed_out : {X : Type 0} → (e : Interrupt X) (g' : F) (fs : List Entry) (t' u' : Stream) (p' r : Option ℕ) → VisitedBy step {T = Unit {0}} k es v q g (Err e) g' fs t' p' → u' ≡ t' → r ≡ unwound fs p' → RanBy step {T = Unit {0}} mode h s o f (Err e) g' u' r
       stayed_out e g' fs t' u' p' r z y i = subst (λ x. RanBy step {T = Unit {0}} mode h s o f (Err e) g' x r) (sym y) (stayed_out_of e g' fs t' p' r z i)
 
     -- the next header was refused, and the limit was given back
-    pub went_wrong : {X : Type 0} → (e : Stop X) (v x' : Stream) (q r : Option ℕ) (c d : Reading) (k : Kind) (cs : c.stream ≡ limited p t) (co : c.owed ≡ p) (ds : d.stream ≡ limited q v) (do' : d.owed ≡ q) → Moves c d → 1 ≤ length es → c.kind ≡ values k → TopIs es k → c.state ≡ Open → c.mode ≡ mode → Within c → RefusesHeader stop_cause any c e d → x' ≡ v → r ≡ unwound es q → RanBy step {T = Unit {0}} mode h s o f (Err (halt.Barred (bar.Stopped e))) g x' r
-    went_wrong e v x' q r c d k cs co ds do' m some ck ti st cm wi x j i = subst (λ z. RanBy step {T = Unit {0}} mode h s o f (Err (halt.Barred (bar.Stopped e))) g z r) (sym j) record { whole = tt; no_fault = tt; breaks = go x; faults = (let y : c.stream.faults ≤ d.stream.faults = moves_faults c d m in omega (arith, w.no_fault, ap (λ z. z.faults) cs, ap (λ z. z.faults) ds)) }
+    pub went_wrong : {X : Type 0} → (e : Stop X) (v x' : Stream) (q r : Option ℕ) (c d : Reading) (k : Kind) (cs : c.stream ≡ limited p t) (co : c.owed ≡ p) (ds : d.stream ≡ limited q v) (do' : d.owed ≡ q) → Moves c d → 1 ≤ length es → c.kind ≡ values k → TopIs es k → c.state ≡ Open → c.mode ≡ mode → Within c → RefusesHeader stop_cause any c e d → x' ≡ v → r ≡ unwound es q → RanBy step {T = Unit {0}} mode h s o f (Err (interrupt.Stopped e)) g x' r
+    went_wrong e v x' q r c d k cs co ds do' m some ck ti st cm wi x j i = subst (λ z. RanBy step {T = Unit {0}} mode h s o f (Err (interrupt.Stopped e)) g z r) (sym j) record { whole = tt; no_fault = tt; breaks = go x; faults = (let y : c.stream.faults ≤ d.stream.faults = moves_faults c d m in omega (arith, w.no_fault, ap (λ z. z.faults) cs, ap (λ z. z.faults) ds)) }
       where
         a : Passing t v p q c d cs co ds do'
         a = passing t v p q c d cs co ds do' m
@@ -204,7 +202,7 @@ module _ {F : Type 0} (step : Steps F ContentError) (mode : Mode) (h : Header) (
         remains [] l ti li n j = absurd (omega arith)
         remains (top ∷ fs) l ti li n j = nothing_more mode fs t p c k ck st cm co (ap (λ z. z.rest) cs) (octets_moved t v p q c d cs co ds do' wi) n j top ti li
 
-        go : RefusesHeader stop_cause any c e d → Breaks step mode h s o f (halt.Barred (bar.Stopped e)) g v r
+        go : RefusesHeader stop_cause any c e d → Breaks step mode h s o f (interrupt.Stopped e) g v r
         go (failed y z) = absurd (open_not_failed c.state st y)
         go (source y z) = by_source w.calls w.called b y (grew z)
         go (nothing n z) = by_content w.calls w.called b (nothing_whole mode h s o (heading h 0 ∷ w.calls) (remain mode es p t.rest) w.under.outcome (remains es some ti w.under.limits (no_value_of_nothing c wi n) (end_of_nothing c n))) z
@@ -284,16 +282,16 @@ left_shorter t v p q c d cs co ds do' m =
 -- ---- a primitive value, which needs no stack
 
 module _ {F X : Type 0} (step : Steps F ContentError) (mode : Mode) (h : Header) (s : Stream) (o : Option ℕ) (f : F) (form : h.form ≡ false) where
-  pub octets_refused : (x : ContentError) (g : F) → step f h.tag h.form 0 (Err x) g → RanBy {X = X} step {T = Unit {0}} mode h s o f (Err (halt.Refused x)) g s o
-  octets_refused x g r = not_begun step mode h s o f (halt.Refused x) g [] [] s o refl (record { answered = tt; goes = tt; no_fault = tt; stays = refused x r refl; entries = refl; rest = refl; limit = refl; kept = refl; faults = omega arith })
+  pub octets_refused : (x : ContentError) (g : F) → step f h.tag h.form 0 (Err x) g → RanBy {X = X} step {T = Unit {0}} mode h s o f (Err (interrupt.Closure x)) g s o
+  octets_refused x g r = not_begun step mode h s o f (interrupt.Closure x) g [] [] s o refl (record { answered = tt; goes = tt; no_fault = tt; stays = refused x r refl; entries = refl; rest = refl; limit = refl; kept = refl; faults = omega arith })
 
   module _ (g : F) (t : Stream) (p : Option ℕ) (n : ℕ) (tells : h.len ≡ len.Definite n) (called : step f h.tag h.form 0 (Ok tt) g) (kept : t.kept ≡ s.kept) (least : s.faults ≤ t.faults) where
     pub octets_passed : FitsOwed h.len o → n ≤ length s.rest → t.rest ≡ drop n s.rest → p ≡ popped o n (Some 0) → t.faults ≡ s.faults → RanBy {X = X} step {T = Unit {0}} mode h s o f (Ok tt) g t p
     octets_passed fits enough rest limit nf = went_through step mode h s o f tt [] g t p refl (began step mode h s o f {X = X} tt g [] [] t p refl fits (record { answered = called; goes = octets n form tells enough refl rest kept limit; no_fault = nf; stays = tt; entries = tt; rest = tt; limit = tt; kept = kept; faults = least }))
 
-    pub octets_stopped : (e : Stop X) → MatchStop e (Grew s.faults t.faults) (length s.rest < n) → t.rest ≡ s.rest → p ≡ o → RanBy {X = X} step {T = Unit {0}} mode h s o f (Err (halt.Barred (bar.Stopped e))) g t p
-    octets_stopped e why rest limit = not_begun step mode h s o f (halt.Barred (bar.Stopped e)) g [] [] t p refl (record { answered = tt; goes = tt; no_fault = tt; stays = go (stop_reason _ _ e why); entries = refl; rest = rest; limit = limit; kept = kept; faults = least })
+    pub octets_stopped : (e : Stop X) → MatchStop e (Grew s.faults t.faults) (length s.rest < n) → t.rest ≡ s.rest → p ≡ o → RanBy {X = X} step {T = Unit {0}} mode h s o f (Err (interrupt.Stopped e)) g t p
+    octets_stopped e why rest limit = not_begun step mode h s o f (interrupt.Stopped e) g [] [] t p refl (record { answered = tt; goes = tt; no_fault = tt; stays = go (stop_reason _ _ e why); entries = refl; rest = rest; limit = limit; kept = kept; faults = least })
       where
-        go : (stop_cause e ≡ of_source) × Grew s.faults t.faults ⊎ (length s.rest < n) × IsOfContent (stop_cause e) → StaysOut step h 0 s f (halt.Barred (bar.Stopped e)) g t
+        go : (stop_cause e ≡ of_source) × Grew s.faults t.faults ⊎ (length s.rest < n) × IsOfContent (stop_cause e) → StaysOut step h 0 s f (interrupt.Stopped e) g t
         go (inl x) = failing called x.0 x.1
         go (inr x) = few n called form tells x.0 x.1

@@ -5,8 +5,8 @@ use Rattle.std.proofs.Math.Nat.{min-le_right}
 use Rattle.std.proofs.lemmas.List.{append_cancel_right}
 use Rattle.bcder.specs.declared.mode.Mode.{Mode}
 use Rattle.bcder.specs.declared.decode.content.State.TheVariants.{Open, Ended, Failed}
-use Rattle.bcder.specs.declared.decode.content.skip.Halt.{Halt}
-use Rattle.bcder.specs.declared.decode.content.skip.Halt.TheVariants as halt
+use Rattle.bcder.specs.declared.decode.content.skip.Interrupt.{Interrupt}
+use Rattle.bcder.specs.declared.decode.content.skip.Interrupt.TheVariants as interrupt
 use Rattle.bcder.specs.declared.decode.error.ContentError.{ContentError}
 use Rattle.bcder.specs.declared.decode.error.DecodeError.{DecodeError}
 use Rattle.bcder.specs.calls.Cause.{Cause, cause_of, of_source, of_content, of_memory, IsOfContent}
@@ -25,7 +25,7 @@ use Rattle.bcder.specs.calls.Walking as walking
 use Rattle.bcder.specs.steps.SkipSteps.{IsPast}
 use Rattle.bcder.specs.calls.Skipping.{Steps, Called, WereCalls, SkipsValue, RefusesSkip, SkippedBy, AnswersAll, IsShallow, AnswersSkip, AnswersValue, SkippedValueBy, RefusesOne, RefusesSkipAll, FoundMemory}
 use Rattle.bcder.specs.calls.Skipping as skipping
-use Rattle.bcder.specs.steps.Stacked.{heading, halt_cause, PassesCalls, IsUnderWay, IsBroken, RanBy, Breaks, by_source, by_content, by_closure, by_memory}
+use Rattle.bcder.specs.steps.Stacked.{heading, interrupt_cause, PassesCalls, IsUnderWay, IsBroken, RanBy, Breaks, by_source, by_content, by_closure, by_memory}
 use Rattle.bcder.specs.laws.Complete.{header_complete, header_size, tree_complete, only_at_front}
 use Rattle.bcder.specs.laws.Sound.{none_is, some_inj}
 use Rattle.bcder.specs.laws.Stands.{Stands, tree_sound}
@@ -34,10 +34,10 @@ use Rattle.bcder.proofs.Ends.{from_header}
 use Rattle.bcder.proofs.Entering.{Within, header_not_at_end, header_entered}
 use Rattle.bcder.proofs.Inner.{layers_eq}
 use Rattle.bcder.proofs.Moving.{moves_value, moves_failed, advances_trans, open_not_ended, open_not_failed}
-use Rattle.bcder.proofs.Skips.{cut_falls, past_falls, finished}
+use Rattle.bcder.proofs.LimitStack.{cut_falls, past_falls, finished}
 use Rattle.bcder.proofs.Passing.{looked_ends, looked_open, looked_refused, looked_by}
-use Rattle.bcder.proofs.Walked.{answers_next}
-use Rattle.bcder.proofs.Walking.{value_not_at_end, value_once, walks_refused}
+use Rattle.bcder.proofs.WalkCalls.{answers_next}
+use Rattle.bcder.proofs.WalkSteps.{value_not_at_end, value_once, walks_refused}
 
 -- ---- calls that were made
 
@@ -154,8 +154,8 @@ module _ (c d e : Reading) (k : Header) (s t : Stream) (o p : Option ℕ) (withi
   nothing_there : read_contents (read_list c.mode) k.tag k.form k.len (cut o s.rest) ≡ None → NoValue c
   nothing_there n = record { none = λ v w after h r. none_is (v, after) (sym (read_is ∙ n) ∙ ap (read_tree c.mode) r ∙ tree_complete c.mode v w after h) }
 
-  module _ {F X Y : Type 0} (step : Steps F ContentError) (f g : F) (why : Y → Cause ContentError) (h : Halt X) (y : Y) (st : e.state ≡ Failed) (nf : d.stream.faults ≡ c.stream.faults) (ends : c.state ≢ Ended)
-      (hc : IsOfContent (halt_cause h) → IsOfContent (why y)) (hs : halt_cause h ≡ of_source → why y ≡ of_source) (hm : halt_cause h ≡ of_memory → why y ≡ of_memory) (hx : (z : ContentError) → h ≡ halt.Refused z → why y ≡ of_content z) where
+  module _ {F X Y : Type 0} (step : Steps F ContentError) (f g : F) (why : Y → Cause ContentError) (h : Interrupt X) (y : Y) (st : e.state ≡ Failed) (nf : d.stream.faults ≡ c.stream.faults) (ends : c.state ≢ Ended)
+      (hc : IsOfContent (interrupt_cause h) → IsOfContent (why y)) (hs : interrupt_cause h ≡ of_source → why y ≡ of_source) (hm : interrupt_cause h ≡ of_memory → why y ≡ of_memory) (hx : (z : ContentError) → h ≡ interrupt.Closure z → why y ≡ of_content z) where
     refused_by : Breaks step c.mode k s o f h g t p → RefusesSkip why step c f y g e
     refused_by (by_source calls called b j z) = skipping.RefusesSkip.by_content (heading k 0 ∷ calls) called (broken_calls calls b) (walking.RefusesWalk.source (hs j) (subst (λ n. Grew n e.stream.faults) (ap (λ q. q.faults) (sym ds) ∙ nf) (subst (λ n. Grew s.faults n) (ap (λ q. q.faults) (sym es)) z)))
     refused_by (by_content calls called b n j) = skipping.RefusesSkip.by_content (heading k 0 ∷ calls) called (broken_calls calls b) (walking.RefusesWalk.nothing x.usable (nothing_there n) not_at_end (hc j))
@@ -215,7 +215,7 @@ module _ (c d e : Reading) (k : Header) (m : Mode) (s t : Stream) (o p : Option 
     (ds : d.stream ≡ limited o s) (do' : d.owed ≡ o) (es : e.stream ≡ limited p t) (eo : e.owed ≡ p)
     (ek : e.kind ≡ d.kind) (em : e.mode ≡ d.mode) (en : e.name ≡ d.name) (ea : e.marked ≡ d.marked)
     {F X : Type 0} (step : Steps F ContentError) (f g : F) where
-  of_content_mode : {T : Type 0} (r : Result T (Halt X)) → RanBy step m k s o f r g t p → RanBy step c.mode k s o f r g t p
+  of_content_mode : {T : Type 0} (r : Result T (Interrupt X)) → RanBy step m k s o f r g t p → RanBy step c.mode k s o f r g t p
   of_content_mode r x = subst (λ z. RanBy step z k s o f r g t p) (sym dm ∙ i.enters.advances.mode) x
 
   pub behind_moved : {T : Type 0} (y : T) → RanBy {X = X} step m k s o f (Ok y) g t p → e.state ≡ Open → Moves c e
@@ -224,8 +224,8 @@ module _ (c d e : Reading) (k : Header) (m : Mode) (s t : Stream) (o p : Option 
   pub behind_passed : {T U Y : Type 0} (why : Y → Cause ContentError) (y : T) (z : U) → RanBy {X = X} step m k s o f (Ok y) g t p → e.state ≡ Open → SkippedBy why step c f (Ok (Some z)) g e
   behind_passed why y z x st = (let r = of_content_mode (Ok y) x in skipped_value c d e k s t o p (past_within c d k i) i.enters ds do' es eo ek em en ea r.whole.0 r.whole.2 st why step f g z r.no_fault i.enters.no_fault r.whole.1)
 
-  module _ {Y : Type 0} (why : Y → Cause ContentError) (h : Halt X) (y : Y) (st : e.state ≡ d.state)
-      (hc : IsOfContent (halt_cause h) → IsOfContent (why y)) (hs : halt_cause h ≡ of_source → why y ≡ of_source) (hm : halt_cause h ≡ of_memory → why y ≡ of_memory) (hx : (z : ContentError) → h ≡ halt.Refused z → why y ≡ of_content z) where
+  module _ {Y : Type 0} (why : Y → Cause ContentError) (h : Interrupt X) (y : Y) (st : e.state ≡ d.state)
+      (hc : IsOfContent (interrupt_cause h) → IsOfContent (why y)) (hs : interrupt_cause h ≡ of_source → why y ≡ of_source) (hm : interrupt_cause h ≡ of_memory → why y ≡ of_memory) (hx : (z : ContentError) → h ≡ interrupt.Closure z → why y ≡ of_content z) where
     pub behind_stopped : {T : Type 0} → RanBy step {T = T} m k s o f (Err h) g t p → Moves c e
     behind_stopped x = (let r = of_content_mode (Err h) x in breaks_moves c d e k s t o p (past_within c d k i) i.enters ds do' es eo ek em en ea step f g why h y (st ∙ i.enters.opened) i.enters.no_fault (open_not_ended _ i.enters.usable) hc hs hm hx r.faults r.breaks)
 

@@ -8,7 +8,7 @@ use Rattle.bcder.specs.declared.decode.error.ContentError.{ContentError}
 use Rattle.bcder.specs.calls.Cause.{Cause}
 use Rattle.bcder.specs.x690.Preorder.{Heading}
 use Rattle.bcder.specs.calls.Stream.{Stream}
-use Rattle.bcder.specs.calls.Content.{Reading, Form, Moves, Whole, IsAtEnd, of_octets, of_definite, of_indefinite, of_unbounded, EndsBefore, NotAtEnd}
+use Rattle.bcder.specs.calls.Content.{Reading, ContentForm, Moves, Whole, IsAtEnd, of_octets, of_definite, of_indefinite, of_unbounded, EndsBefore, NotAtEnd}
 use Rattle.bcder.specs.calls.Walking.{NoValue, PassesValue, PassedBy}
 use Rattle.bcder.specs.calls.Walking as walking
 use Rattle.bcder.specs.calls.Skipping.{WereCalls, RefusesOne}
@@ -100,7 +100,7 @@ module _ (n : GName) where
     one_named y (skipping.RefusesOne.by_walk r) = skipping.RefusesOne.by_walk (refused_named y r)
     one_named y (skipping.RefusesOne.by_depth g j) = skipping.RefusesOne.by_depth (record { calls = g.calls; last = g.last; were = calls_named _ g.were; constructed = g.constructed; deep = g.deep }) j
 
-same_fields : (s s' : Stream) → s ≡ s' → (o o' : Option ℕ) → o ≡ o' → (k k' : Form) → k ≡ k' → (t t' : State) → t ≡ t' → (m m' : Mode) → m ≡ m' → (b b' : Bool) → b ≡ b' → (n n' : GName) → n ≡ n' → ◌≡◌ {A = Reading} (record { stream = s; owed = o; kind = k; state = t; mode = m; marked = b; name = n }) (record { stream = s'; owed = o'; kind = k'; state = t'; mode = m'; marked = b'; name = n' })
+same_fields : (s s' : Stream) → s ≡ s' → (o o' : Option ℕ) → o ≡ o' → (k k' : ContentForm) → k ≡ k' → (t t' : State) → t ≡ t' → (m m' : Mode) → m ≡ m' → (b b' : Bool) → b ≡ b' → (n n' : GName) → n ≡ n' → ◌≡◌ {A = Reading} (record { stream = s; owed = o; kind = k; state = t; mode = m; marked = b; name = n }) (record { stream = s'; owed = o'; kind = k'; state = t'; mode = m'; marked = b'; name = n' })
 same_fields s s' es o o' eo k k' ek t t' et m m' em b b' eb n n' en = cc
 
 -- content e is what d is, which content c became by a step, behind a borrow of another name

@@ -18,7 +18,7 @@ use Rattle.bcder.specs.x690.Preorder.{Heading, preorder, preorders}
 use Rattle.bcder.specs.steps.Growing.{AreOpen, grown}
 use Rattle.bcder.specs.steps.Reading.{read_header, read_end, read_contents, at_end, read_list, read_tree}
 use Rattle.bcder.specs.calls.Stream.{Layer, Stream, cut, past, limit_left}
-use Rattle.bcder.specs.calls.Content.{Reading, values, Octets, Falls, FitsOwed, Form, HasMarker, of_octets, of_definite, of_indefinite, of_unbounded, EndsAt, NotAtEnd}
+use Rattle.bcder.specs.calls.Content.{Reading, values, Octets, Falls, FitsOwed, ContentForm, HasMarker, of_octets, of_definite, of_indefinite, of_unbounded, EndsAt, NotAtEnd}
 use Rattle.bcder.specs.calls.Walking.{NoValue}
 use Rattle.bcder.specs.x690.Length.{IsEndOfContents}
 use Rattle.bcder.specs.calls.Calls.{popped}
@@ -392,7 +392,7 @@ module _ (mode : Mode) (h : Header) (s : Stream) (o : Option ℕ) (calls : List 
 kinds_differ : (k : Kind) → k ≡ kind.Definite → k ≡ kind.Indefinite → ⊥
 kinds_differ k a b = let e : kind.Definite ≡ kind.Indefinite = sym a ∙ b in cc
 
-kind_is : (j k : Kind) → ◌≡◌ {A = Form} (values j) (values k) → j ≡ k
+kind_is : (j k : Kind) → ◌≡◌ {A = ContentForm} (values j) (values k) → j ≡ k
 kind_is j k e = cc
 
 -- what remains is what remains without it
@@ -427,7 +427,7 @@ module _ (mode : Mode) (es : List Entry) (t v : Stream) (p q : Option ℕ) (w : 
   -- the end of content, as content tells it
   pub end_left : (c : Reading) (d : Reading) (k : Kind) (top : Entry) → c.kind ≡ values k → TopIs (top ∷ es) k → c.state ≡ Open → c.mode ≡ mode → c.owed ≡ p → c.stream.rest ≡ cut p t.rest → d.stream.rest ≡ cut q v.rest → AreOctets (cut p t.rest) → EndsAt c d → (remain mode (top ∷ es) p t.rest ≡ remain mode es (restored top q) v.rest) × (unwound (top ∷ es) q ≡ unwound es (restored top q))
   end_left c d k top ck ti cs cm co cr dr a (inl x) = absurd (open_not_ended c.state cs x)
-  end_left c d k top ck ti cs cm co cr dr a (inr (s, of_octets x o)) = absurd (let y : ◌≡◌ {A = Form} (values k) Octets = sym ck ∙ x in cc)
+  end_left c d k top ck ti cs cm co cr dr a (inr (s, of_octets x o)) = absurd (let y : ◌≡◌ {A = ContentForm} (values k) Octets = sym ck ∙ x in cc)
   end_left c d k (Definite b) ck ti cs cm co cr dr a (inr (s, of_definite x o)) = definite_left b (sym co ∙ o)
   end_left c d k Indefinite ck ti cs cm co cr dr a (inr (s, of_definite x o)) = absurd (kinds_differ k (kind_is k kind.Definite (sym ck ∙ x)) ti)
   end_left c d k (Definite b) ck ti cs cm co cr dr a (inr (s, of_indefinite x m)) = absurd (kinds_differ k ti (kind_is k kind.Indefinite (sym ck ∙ x)))

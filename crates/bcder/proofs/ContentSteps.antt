@@ -14,7 +14,7 @@ use Rattle.bcder.specs.declared.decode.stop.Stop.TheVariants as stop
 use Rattle.bcder.specs.x690.Identifier.{Tag, AreOctets}
 use Rattle.bcder.specs.x690.Encoding.{Header}
 use Rattle.bcder.specs.calls.Stream.{Stream, IsSound, Grew, past, limited}
-use Rattle.bcder.specs.calls.Content.{Reading, Form, octets, Octets, any, Enters, RefusesHeader, Moves, Advances, FitsOwed, IsDone}
+use Rattle.bcder.specs.calls.Content.{Reading, ContentForm, octets, Octets, any, Enters, RefusesHeader, Moves, Advances, FitsOwed, IsDone}
 use Rattle.bcder.specs.calls.Calls.{IsFormOf, Answered, AnswersDone, RefusesContent, by_closure, RanOver, TakesContent, RefusesValue, popped}
 use Rattle.bcder.specs.steps.WalkSteps.{WalksBy, itself, walked}
 use Rattle.bcder.specs.calls.Walking as walking
@@ -23,8 +23,8 @@ use Rattle.bcder.specs.laws.Moved.{untouched_is_moved, moved_keeps_kind}
 use Rattle.bcder.proofs.Moving.{moves_still, moves_octets}
 use Rattle.bcder.specs.laws.Complete.{header_size}
 use Rattle.bcder.proofs.Entering.{Within}
-use Rattle.bcder.proofs.Walking.{done_here}
-use Rattle.bcder.proofs.Walked.{refuses_walk}
+use Rattle.bcder.proofs.WalkSteps.{done_here}
+use Rattle.bcder.proofs.WalkCalls.{refuses_walk}
 use Rattle.bcder.proofs.Taking.{value_refused}
 use Rattle.bcder.proofs.Inner.{layer_is, layers_eq, takes_definite, encodes_primitive}
 
@@ -37,7 +37,7 @@ module _ {T E : Type 0} (why : E → Cause ContentError) where
   unfolding held
   answered t i j r w = record { handed = held i; left = held j; handed_is = refl; left_is = refl; called = w }
 
-  answers_walked : (t : Tag) (i j : Reading) (r : Result T E) (f : Form) → j.kind ≡ f → WalksBy why i r j → IfOk r (λ x. AnswersDone {R = Result T E} itself (walked why) t i (Ok x) j)
+  answers_walked : (t : Tag) (i j : Reading) (r : Result T E) (f : ContentForm) → j.kind ≡ f → WalksBy why i r j → IfOk r (λ x. AnswersDone {R = Result T E} itself (walked why) t i (Ok x) j)
   answers_walked t i j (Ok x) f k w = record { left = j; answered = answered t i j (Ok x) w; finishes = untouched_is_moved j; marked = refl; no_fault = refl; ends = done_here j f k w.done; done = w.done }
   answers_walked t i j (Err e) f k w = tt
 
@@ -46,7 +46,7 @@ module _ {T E : Type 0} (why : E → Cause ContentError) where
   refuses_walked t i j (Err e) w = by_closure (answered t i j (Err e) w)
 
   -- content over a source was walked
-  pub ran_walked : (i j : Reading) (r : Result T E) → WalksBy why i r j → (s s' : Stream) (o o' : Option ℕ) (f : Form) (m : Mode) (t : Tag) → i.stream ≡ s → i.owed ≡ o → i.kind ≡ f → i.state ≡ Open → i.mode ≡ m → i.marked ≡ false → j.stream ≡ s' → j.owed ≡ o' → j.kind ≡ f → j.marked ≡ false → RanOver why itself (walked why) s o f m t r false s' o'
+  pub ran_walked : (i j : Reading) (r : Result T E) → WalksBy why i r j → (s s' : Stream) (o o' : Option ℕ) (f : ContentForm) (m : Mode) (t : Tag) → i.stream ≡ s → i.owed ≡ o → i.kind ≡ f → i.state ≡ Open → i.mode ≡ m → i.marked ≡ false → j.stream ≡ s' → j.owed ≡ o' → j.kind ≡ f → j.marked ≡ false → RanOver why itself (walked why) s o f m t r false s' o'
   ran_walked i j r w s s' o o' f m t is io ik it im ia js jo jk ja = record {
     handed = i;
     left = j;
@@ -60,7 +60,7 @@ module _ {T E : Type 0} (why : E → Cause ContentError) where
   always P (Ok x) p = p
   always P (Err x) p = tt
 
-  pub ran_values : (i j : Reading) (r : Result T E) → Moves i j → j.marked ≡ i.marked → OnOk r (IsDone j) → IfErr r (λ e. walking.RefusesValues why i e j) → (s s' : Stream) (o o' : Option ℕ) (f : Form) (m : Mode) (t : Tag) → i.stream ≡ s → i.owed ≡ o → i.kind ≡ f → i.state ≡ Open → i.mode ≡ m → i.marked ≡ false → j.stream ≡ s' → j.owed ≡ o' → RanOver why itself (walked why) s o f m t r false s' o'
+  pub ran_values : (i j : Reading) (r : Result T E) → Moves i j → j.marked ≡ i.marked → OnOk r (IsDone j) → IfErr r (λ e. walking.RefusesValues why i e j) → (s s' : Stream) (o o' : Option ℕ) (f : ContentForm) (m : Mode) (t : Tag) → i.stream ≡ s → i.owed ≡ o → i.kind ≡ f → i.state ≡ Open → i.mode ≡ m → i.marked ≡ false → j.stream ≡ s' → j.owed ≡ o' → RanOver why itself (walked why) s o f m t r false s' o'
   ran_values i j r mv mk d h s s' o o' f m t is io ik it im ia js jo = ran_walked i j r (record { moves = mv; marked = always _ r mk; done = d; refused = h }) s s' o o' f m t is io ik it im ia js jo (moved_keeps_kind i j mv ∙ ik) (mk ∙ ia)
 
 -- ---- why a step was refused
@@ -79,6 +79,7 @@ entered_shorter c h d x =
 pub stop_reason : {S : Type 0} (A B : Type 0) (e : Stop S) → MatchStop e A B → (stop_cause e ≡ of_source) × A ⊎ B × IsOfContent (stop_cause e)
 stop_reason A B (stop.Source x) a = inl (refl, a)
 stop_reason A B (stop.Refused x) b = inr (b, tt)
+stop_reason A B stop.NoMemory none = absurd none
 
 -- ---- the octets of a primitive value, passed at once
 

@@ -19,7 +19,7 @@ use Rattle.bcder.specs.calls.Walking as walking
 use Rattle.bcder.specs.laws.Complete.{only_at_front}
 use Rattle.bcder.proofs.Moving.{open_not_failed}
 use Rattle.bcder.proofs.Entering.{Within, header_not_at_end, no_fewer}
-use Rattle.bcder.proofs.Walking.{no_value_of_nothing, end_of_nothing, refused_inside, refused_end as refused_left, value_not_at_end, value_once}
+use Rattle.bcder.proofs.WalkSteps.{no_value_of_nothing, end_of_nothing, refused_inside, refused_end as refused_left, value_not_at_end, value_once}
 
 abbrev pub WalksContent : {C T E : Type 0} → (E → Cause ContentError) → (C → Reading) → (Tag → MutBor C → Result T E → MutBor C → Type 0) → Type 0
 WalksContent {C} {T} {E} why view post = (t : Tag) (p : MutBor C) (r : Result T E) (q : MutBor C) → post t p r q → WalksBy why (view p.now) r (view q.now)
