@@ -88,8 +88,10 @@ length_fits Der t n h = h
 
 -- ---- a short primitive value
 
-pub short_definite : (t : Tag) (i : ℕ) (w : List ℕ) → identifier t false ≡ i ∷ [] → length w < 128 → definite t false w ≡ i ∷ length w ∷ w
+-- a length below 128 is one octet
+pub short_length : (n : ℕ) → n < 128 → definite_length n ≡ n ∷ []
 unfolding definite_length
-short_definite t i w one few =
-    let d : definite_length (length w) ≡ length w ∷ [] = rw (lt-ltb (length w) 128 few) refl in
-    ap (λ v. (v ++ definite_length (length w)) ++ w) one ∙ ap (λ v. (i ∷ v) ++ w) d
+short_length n few = rw (lt-ltb n 128 few) refl
+
+pub short_definite : (t : Tag) (i : ℕ) (w : List ℕ) → identifier t false ≡ i ∷ [] → length w < 128 → definite t false w ≡ i ∷ length w ∷ w
+short_definite t i w one few = ap (λ v. (v ++ definite_length (length w)) ++ w) one ∙ ap (λ v. (i ∷ v) ++ w) (short_length (length w) few)

@@ -59,7 +59,9 @@ pub fn write_header<W: io::Write>(
     into_result(outcome, why)
 }
 
-/// Writes a header as `put_header`, of any size.
+/// Writes a header as `put_header`, of any size. One that has a length of two octets behind one
+/// identifier octet is an array, as `put_header` has it for a length of one.
+#[tactic(auto, unfolding(crate::specs::x690::Octets::definite_length))]
 fn put_any_header<W: io::Write>(
     target: &mut W,
     tag: Tag,
@@ -71,6 +73,11 @@ fn put_any_header<W: io::Write>(
     ensures { WroteOctets W.contents target (header tag constructed len)
         (into_result result why.new) }
 {
+    if let (Some(identifier), Length::Definite(size)) = (tag.single_octet(constructed), len) {
+        if size >= 0x80 && size < 0x100 {
+            return put_all(target, &[identifier, 0x81, size as u8], why);
+        }
+    }
     let mut front = Front::new();
     tag.spell(constructed, &mut front);
     len.spell(&mut front);

@@ -212,6 +212,9 @@ fn value_len<P: PrimitiveContent>(tag: Tag, prim: &P, mode: Mode) -> Result<usiz
         return Err(EncodeError::EndOfValueTag);
     };
     let len = prim.encoded_len(mode)?;
+    if len < 0x80 {
+        return Ok(identifier + 1 + len);
+    }
     if len > 0xFFFF_FFFF {
         return Err(EncodeError::LengthTooLarge);
     }

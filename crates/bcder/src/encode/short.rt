@@ -70,7 +70,8 @@ fn few_together(identifier: u8, contents: &[u8]) -> [u8; 10]
     }
 }
 
-/// Writes a primitive value with one identifier octet and at most eight contents octets.
+/// Writes a primitive value with one identifier octet and at most eight contents octets. Three of
+/// them are written as an array, whose size is known where it is copied.
 #[inline(always)]
 fn put_few<W: io::Write>(
     identifier: u8,
@@ -82,6 +83,9 @@ fn put_few<W: io::Write>(
     ensures { WroteOctets W.contents target (identifier ∷ length contents.now ∷ contents.now)
         (into_result result why.new) }
 {
+    if let [a, b, c] = contents {
+        return put_all(target, &[identifier, 3, *a, *b, *c], why);
+    }
     let end = 2 + contents.len();
     put_all(target, &few_together(identifier, contents)[..end], why)
 }
@@ -108,22 +112,6 @@ fn put_array<W: io::Write>(
     }
 }
 
-/// The octets of a primitive value with one identifier octet and at most 64 contents octets, in
-/// front of others.
-#[inline(always)]
-fn together(identifier: u8, contents: &[u8]) -> [u8; 66]
-    requires { length contents.now ≤ 64 }
-    ensures { take (2 + length contents.now) result
-        ≡ identifier ∷ length contents.now ∷ contents.now }
-{
-    let len = contents.len();
-    let mut value = [0; 66];
-    value[0] = identifier;
-    value[1] = len as u8;
-    value[2..2 + len].copy_from_slice(contents);
-    value
-}
-
 /// Writes a primitive value with one identifier octet and at most 64 contents octets.
 fn put_together<W: io::Write>(
     identifier: u8,
@@ -135,8 +123,10 @@ fn put_together<W: io::Write>(
     ensures { WroteOctets W.contents target (identifier ∷ length contents.now ∷ contents.now)
         (into_result result why.new) }
 {
-    let len = contents.len();
-    put_all(target, &together(identifier, contents)[..2 + len], why)
+    let mut front = Front::new();
+    front.add(&[identifier, contents.len() as u8]);
+    front.add(contents);
+    put_all(target, front.as_slice(), why)
 }
 
 /// Writes a primitive value from its contents octets: of up to 64, where its identifier is one
@@ -169,7 +159,7 @@ pub(crate) fn put_contents<W: io::Write>(
 /// that the one that it is handed isn't lent on, and need not be cleared where a small number is
 /// written alone.
 #[inline(always)]
-fn put_contents_apart<W: io::Write>(
+fn put_with_own_slot<W: io::Write>(
     tag: Tag,
     contents: &[u8],
     target: &mut W,
@@ -203,10 +193,10 @@ pub(crate) fn put_number<W: io::Write>(
 {
     let len = contents.len();
     if len > 5 {
-        return put_contents_apart(tag, contents, target, why);
+        return put_with_own_slot(tag, contents, target, why);
     }
     let Some(identifier) = tag.single_octet(false) else {
-        return put_contents_apart(tag, contents, target, why);
+        return put_with_own_slot(tag, contents, target, why);
     };
     put_array(identifier, contents, target, why)
 }

@@ -75,6 +75,7 @@ pub(crate) fn enclosed_size(tag: Tag, mode: Mode, len: usize) -> Result<usize, E
 
 /// The same, where it is known how many octets the identifier has.
 #[inline(always)]
+#[tactic(auto, unfolding(crate::specs::x690::Octets::definite_length))]
 fn size_behind(identifier: usize, _tag: Tag, mode: Mode, len: usize) -> Result<usize, EncodeError>
     requires small { identifier < 5 }
     requires known { identifier ≡ length (identifier_of _tag true) }
@@ -88,6 +89,9 @@ fn size_behind(identifier: usize, _tag: Tag, mode: Mode, len: usize) -> Result<u
             Ok(identifier + 1 + len + 2)
         }
         Mode::Ber | Mode::Der => {
+            if len < 0x80 {
+                return Ok(identifier + 1 + len);
+            }
             if len > 0xFFFF_FFFF {
                 return Err(EncodeError::LengthTooLarge);
             }
