@@ -1,5 +1,5 @@
 -- What a call that looks ahead for a primitive value says of the content before it looked.
-use Rattle.std.proofs.Common.{◌≡◌, ◌⊎◌, ℕ, true, false, List, length, Option, Some, None, Ok, Err, ap, sym, ◌∙◌, subst, inl, inr}
+use Rattle.std.proofs.Common.{◌≡◌, ◌⊎◌, ℕ, Bool, true, false, List, length, Option, Some, None, Ok, Err, ap, sym, ◌∙◌, subst, inl, inr}
 use Rattle.std.specs.Prelude.{Result, IsErrAnd}
 use Rattle.std.specs.Borrow.{MutBor}
 use Rattle.bcder.specs.declared.length.Length.{Length}
@@ -108,3 +108,9 @@ module _ {C T X S : Type 0} (view : C → Reading) (post : Tag → MutBor C → 
   pub next_stops : (stopped : S → Cause ContentError) (s : S) (r : Result (Option T) (DecodeError X)) → IsErrAnd r (λ e. (IsOfContent (stopped s) → IsRefusal e) × (stopped s ≡ of_source → cause_of e ≡ of_source)) → d.marked ≡ c.marked → d.state ≡ Failed → RefusesHeader stopped (tagged t) c s d ⊎ HasForm true (tagged t) c × IsOfContent (stopped s) → TakesNext view post (Some true) (tagged t) c r d
   next_stops stopped s (Err e) y m f h = next_stopped stopped s e y.0 y.1 m f h
   next_stops stopped s (Ok _) y m f h = elim y [ ]
+
+-- the same of a value of any form
+module _ {C T X S : Type 0} (view : C → Reading) (post : Tag → MutBor C → Result T (DecodeError X) → MutBor C → Type 0) (form : Option Bool) (asked : Asked) (c d : Reading) (mode : d.mode ≡ c.mode) where
+  pub next_answered : (stopped : S → Cause ContentError) (s : S) (r : Result (Option T) (DecodeError X)) → IsErrAnd r (λ e. (IsOfContent (stopped s) → IsRefusal e) × (stopped s ≡ of_source → cause_of e ≡ of_source)) → d.marked ≡ c.marked → d.state ≡ Failed → RefusesHeader stopped asked c s d → TakesNext view post form asked c r d
+  next_answered stopped s (Err e) y m f h = next_refused view post form asked c d mode e (header_stopped stopped cause_of s e y.0 y.1 c d asked h) m f
+  next_answered stopped s (Ok _) y m f h = elim y [ ]

@@ -4,7 +4,7 @@ use Rattle.std.proofs.lemmas.List.{take_at}
 use Rattle.std.proofs.Math.Seq.{take-append-add, drop-append-add}
 use Rattle.std.proofs.lemmas.Grind.{common_steps}
 use Rattle.std.specs.Borrow.{MutBor}
-use Rattle.std.specs.Prelude.{Option, Some, None, Result, Ok, Err, ◌||◌, IfOk, OnOk}
+use Rattle.std.specs.Prelude.{Option, Some, None, Result, Ok, Err, ◌||◌, IfOk, IfErr, OnOk}
 use Rattle.bcder.specs.declared.mode.Mode.{Mode}
 use Rattle.bcder.specs.declared.length.Length.{Length}
 use Rattle.bcder.specs.declared.length.Length.TheVariants.{Definite, Indefinite}
@@ -19,7 +19,7 @@ use Rattle.bcder.specs.declared.decode.error.ContentError.{ContentError}
 use Rattle.bcder.specs.calls.Cause.{Cause}
 use Rattle.bcder.specs.calls.Content.{Reading, ContentForm, values, Octets, DefiniteValues, IndefiniteValues, label, Moves, MovesBy, Whole, Falls, Closes, IsDone, IsUsedUp, Advances, FitsOwed}
 use Rattle.bcder.specs.calls.Calls.{IsFormOf, ContentOf, AnswersDone, RanOver, TakesContent, popped}
-use Rattle.bcder.specs.steps.Inside.{kind_behind, limit_inside, limit_outside}
+use Rattle.bcder.specs.steps.Inside.{kind_behind, limit_inside, limit_outside, IsTaken}
 use Rattle.bcder.specs.calls.Views.{limited_stream}
 use Rattle.bcder.specs.laws.Limits.{rest_told_behind, limited_sound}
 use Rattle.bcder.specs.laws.Sound.{AreOctets-take}
@@ -143,6 +143,16 @@ octets_not_indefinite k e f = (let y : Octets ≡ IndefiniteValues = sym e ∙ f
 
 definite_not_indefinite : (k : ContentForm) → k ≡ DefiniteValues → k ≡ IndefiniteValues → ⊥
 definite_not_indefinite k e f = (let y : DefiniteValues ≡ IndefiniteValues = sym e ∙ f in cc)
+
+-- content of a definite length that is done is taken
+pub octets_taken : (i j : Reading) → Moves i j → i.state ≡ Open → i.kind ≡ Octets → IsDone j → j.owed ≡ Some 0
+unfolding Moves
+octets_taken i j m o k q = used_up Octets j (m.kind ∙ k) q (not_ended i j m o (octets_not_indefinite i.kind k))
+
+pub all_taken : (len : Length) (i j : Reading) → Moves i j → i.state ≡ Open → i.kind ≡ values (kind_behind len) → IsDone j → IsTaken len j.owed
+unfolding Moves
+all_taken (Definite n) i j m o k q = used_up DefiniteValues j (m.kind ∙ k) q (not_ended i j m o (definite_not_indefinite i.kind k))
+all_taken Indefinite i j m o k q = tt
 
 AreOctets-front : (u w v : List ℕ) → w ≡ u ++ v → AreOctets w → AreOctets u
 AreOctets-front u w v e o = subst AreOctets (ap (take (length u)) e ∙ take_at u v (length u) refl) (AreOctets-take (length u) w o)
@@ -300,3 +310,13 @@ module _ {C T E : Type 0} (why : E → Cause ContentError) (view : C → Reading
         (subst (λ z. RanOver why view post c.stream c.owed IndefiniteValues c.mode h.tag r mark (limited_stream stream l2) z) j
         (subst (λ z. RanOver why view post z c.owed IndefiniteValues c.mode h.tag r mark (limited_stream stream l2) l2.limit) s
         (subst (λ z. RanOver why view post (limited_stream stream l1) z IndefiniteValues c.mode h.tag r mark (limited_stream stream l2) l2.limit) i ran))))
+
+-- ---- what holds at any tag
+
+pub ok_at : {T E : Type 0} (P : Tag → T → Type 0) (t : Tag) (r : Result T E) → IfOk r (λ x. (u : Tag) → P u x) → IfOk r (P t)
+ok_at P t (Ok x) h = h t
+ok_at P t (Err e) h = tt
+
+pub err_at : {T E : Type 0} (P : Tag → E → Type 0) (t : Tag) (r : Result T E) → IfErr r (λ e. (u : Tag) → P u e) → IfErr r (P t)
+err_at P t (Ok x) h = tt
+err_at P t (Err e) h = h t

@@ -7,10 +7,14 @@ use Rattle.bcder.specs.declared.decode.content.Content.TheVariants as content
 use Rattle.bcder.specs.declared.decode.content.Primitive.{Primitive}
 use Rattle.bcder.specs.declared.decode.source.limited.LimitedSource.{LimitedSource}
 use Rattle.bcder.specs.calls.Stream.{Stream, IsSound}
-use Rattle.bcder.specs.calls.Content.{octets, values, Octets, Moves, Resembles}
+use Rattle.bcder.specs.calls.Content.{Reading, octets, values, Octets, Moves, Resembles}
 use Rattle.bcder.specs.laws.Limits.{limited_sound, limit_told, first_kept}
 use Rattle.bcder.proofs.Entering.{Within}
 use Rattle.bcder.specs.calls.Views.{of_content, of_primitive, of_constructed, content_name, content_mark, limited_stream}
+
+pub moves_name : (c d : Reading) → Moves c d → d.name ≡ c.name
+unfolding Moves
+moves_name c d m = m.name
 
 pub name_of_content : {S : Type 0} (stream : S → Stream) (a : Content S) → (of_content stream a).name ≡ content_name a
 unfolding of_primitive of_constructed

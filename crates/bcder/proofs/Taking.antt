@@ -2,14 +2,14 @@
 use Rattle.std.proofs.Common.{◌≡◌, ◌≢◌, ℕ, ◌+◌, ◌≤◌, Bool, true, false, List, ◌++◌, length, take, refl, ap, sym, ◌∙◌, arith, length-append, subst}
 use Rattle.std.proofs.lemmas.Grind.{common_steps}
 use Rattle.std.specs.Borrow.{MutBor}
-use Rattle.std.specs.Prelude.{Option, Some, None, Result, Ok, Err, ◌||◌, IfOk, IfErr}
+use Rattle.std.specs.Prelude.{Option, Some, None, Result, Ok, Err, ◌||◌, IfOk, IfErr, IsErrAnd}
 use Rattle.bcder.specs.declared.length.Length.{Length}
 use Rattle.bcder.specs.declared.length.Length.TheVariants.{Definite, Indefinite}
 use Rattle.bcder.specs.declared.decode.content.State.TheVariants.{Open, Failed}
 use Rattle.bcder.specs.declared.decode.error.DecodeError.{DecodeError}
 use Rattle.bcder.specs.x690.Identifier.{Tag}
 use Rattle.bcder.specs.declared.decode.error.ContentError.{ContentError}
-use Rattle.bcder.specs.calls.Cause.{Cause, cause_of}
+use Rattle.bcder.specs.calls.Cause.{Cause, cause_of, IsRefusal}
 use Rattle.bcder.specs.x690.Tree.{Tree}
 use Rattle.bcder.specs.x690.Encoding.{IsHeader, IsEncoding, Header}
 use Rattle.bcder.specs.calls.Content.{Reading, ContentForm, Octets, DefiniteValues, IndefiniteValues, UnboundedValues, label, Moves, Advances, Asked, IsAsked, HasHeader, Enters, RefusesHeader}
@@ -136,8 +136,12 @@ inside_entered c h d i asked t x n = record {
       omega (arith, z, s, ap length x.advances.rest, length-append x.octets d.stream.rest));
 }
 
--- the mode allows the header that was passed
 -- ---- what the calls say
+
+-- a value of the form that is refused
+pub form_answered : {C T X : Type 0} (view : C → Reading) (post : Tag → MutBor C → Result T (DecodeError X) → MutBor C → Type 0) (form : Option Bool) (c : Reading) (h : Header) (r : Result (Option T) (DecodeError X)) (d : Reading) → IsErrAnd r IsRefusal → form ≡ Some h.form → d ≡ c → TakesBehind view post form c h r d
+form_answered view post form c h (Err e) d y f s = of_form e refl f y s
+form_answered view post form c h (Ok _) d y f s = elim y [ ]
 
 module _ {C T X : Type 0} (view : C → Reading) (post : Tag → MutBor C → Result T (DecodeError X) → MutBor C → Type 0) (form : Option Bool) (asked : Asked) where
   module _ (c c1 d : Reading) (h : Header) (t : IsAsked asked h.tag) (x : Enters c h c1) (r : Result (Option T) (DecodeError X)) where
@@ -192,40 +196,34 @@ of_either_form view post form c h r d n (of_form e q f o s) = absurd (n f)
 of_either_form view post form c h r d n (refused e q a) = refused e q a
 of_either_form view post form c h r d n (taken v m q a s) = taken v m q a s
 
--- a closure that hands on what it is handed to one of content alone
+-- a closure of content alone, which hands it on to one of a tag and content
 module _ {C R : Type 0} (view : C → Reading) (post : MutBor C → R → MutBor C → Type 0) where
   pub moves_on : (P : Reading → Type 0) → ((p : MutBor C) (r : R) (q : MutBor C) → P (view p.now) → post p r q → Moves (view p.now) (view q.now)) → (i : Reading) (r : R) (j : Reading) → P i → Answered view post i r j → Moves i j
   moves_on P k i r j h a =
       let m : Moves (view a.handed.now) (view a.left.now) = k a.handed r a.left (subst P (sym a.handed_is) h) a.called in
       subst (λ z. Moves z j) a.handed_is (subst (λ z. Moves (view a.handed.now) z) a.left_is m)
 
-module _ {C T X : Type 0} (view : C → Reading) (post : Tag → MutBor C → Result T (DecodeError X) → MutBor C → Type 0) (last : MutBor C → Result T (DecodeError X) → MutBor C → Type 0)
-    (k : (t : Tag) (p : MutBor C) (r : Result T (DecodeError X)) (q : MutBor C) → post t p r q → Answered view last (view p.now) r (view q.now)) where
-  abbrev post' : Tag → MutBor C → Result T (DecodeError X) → MutBor C → Type 0
-  post' = Untagged last
-
-  said_of : (t : Tag) (i : Reading) (r : Result T (DecodeError X)) (j : Reading) → Answered view (post t) i r j → Answered view (post' t) i r j
-  said_of t i r j a =
-      let m = k t a.handed r a.left a.called in
+module _ {C T X : Type 0} (view : C → Reading) (h : Header) (last : Tag → MutBor C → Result T (DecodeError X) → MutBor C → Type 0) (post : MutBor C → Result T (DecodeError X) → MutBor C → Type 0)
+    (k : (p : MutBor C) (r : Result T (DecodeError X)) (q : MutBor C) → post p r q → Answered view (last h.tag) (view p.now) r (view q.now)) where
+  said_of : (i : Reading) (r : Result T (DecodeError X)) (j : Reading) → Answered view post i r j → Answered view (last h.tag) i r j
+  said_of i r j a =
+      let m = k a.handed r a.left a.called in
       record { handed = m.handed; left = m.left; handed_is = m.handed_is ∙ a.handed_is; left_is = m.left_is ∙ a.left_is; called = m.called }
 
-  said_done : (t : Tag) (i : Reading) (r : Result T (DecodeError X)) (j : Reading) → AnswersDone view post t i r j → AnswersDone view post' t i r j
-  said_done t i r j a = record { left = a.left; answered = said_of t i r a.left a.answered; finishes = a.finishes; marked = a.marked; no_fault = a.no_fault; ends = a.ends; done = a.done }
+  said_ok : (i j : Reading) (r : Result T (DecodeError X)) → IfOk r (λ v. AnswersDone {R = Result T (DecodeError X)} view (Untagged post) h.tag i (Ok v) j) → IfOk r (λ v. AnswersDone {R = Result T (DecodeError X)} view last h.tag i (Ok v) j)
+  said_ok i j (Ok v) a = record { left = a.left; answered = said_of i (Ok v) a.left a.answered; finishes = a.finishes; marked = a.marked; no_fault = a.no_fault; ends = a.ends; done = a.done }
+  said_ok i j (Err e) a = tt
 
-  said_refused : (t : Tag) (i : Reading) (e : DecodeError X) (j : Reading) → RefusesContent cause_of view post t i e j → RefusesContent cause_of view post' t i e j
-  said_refused t i e j (by_closure a) = by_closure (said_of t i (Err e) j a)
-  said_refused t i e j (unfinished v l a m k z) = unfinished v l (said_of t i (Ok v) l a) m k z
+  said_refused : (i : Reading) (e : DecodeError X) (j : Reading) → RefusesContent cause_of view (Untagged post) h.tag i e j → RefusesContent cause_of view last h.tag i e j
+  said_refused i e j (by_closure a) = by_closure (said_of i (Err e) j a)
+  said_refused i e j (unfinished v l a m k z) = unfinished v l (said_of i (Ok v) l a) m k z
 
-  said_ok : (t : Tag) (i j : Reading) (r : Result T (DecodeError X)) → IfOk r (λ v. AnswersDone {R = Result T (DecodeError X)} view post t i (Ok v) j) → IfOk r (λ v. AnswersDone {R = Result T (DecodeError X)} view post' t i (Ok v) j)
-  said_ok t i j (Ok v) a = said_done t i (Ok v) j a
-  said_ok t i j (Err e) a = tt
+  said_err : (i j : Reading) (r : Result T (DecodeError X)) → IfErr r (λ e. RefusesContent cause_of view (Untagged post) h.tag i e j) → IfErr r (λ e. RefusesContent cause_of view last h.tag i e j)
+  said_err i j (Ok v) a = tt
+  said_err i j (Err e) a = said_refused i e j a
 
-  said_err : (t : Tag) (i j : Reading) (r : Result T (DecodeError X)) → IfErr r (λ e. RefusesContent cause_of view post t i e j) → IfErr r (λ e. RefusesContent cause_of view post' t i e j)
-  said_err t i j (Ok v) a = tt
-  said_err t i j (Err e) a = said_refused t i e j a
-
-  said_content : (c : Reading) (h : Header) (r : Result T (DecodeError X)) (d : Reading) → TakesContent cause_of view post c h r d → TakesContent cause_of view post' c h r d
-  said_content c h r d a = record {
+  said_content : (c : Reading) (r : Result T (DecodeError X)) (d : Reading) → TakesContent cause_of view (Untagged post) c h r d → TakesContent cause_of view last c h r d
+  said_content c r d a = record {
     passed = a.passed;
     advances = a.advances;
     state = a.state;
@@ -238,11 +236,11 @@ module _ {C T X : Type 0} (view : C → Reading) (post : Tag → MutBor C → Re
     follows = a.follows;
     faults_handed = a.faults_handed;
     faults_left = a.faults_left;
-    answers = said_ok h.tag a.handed a.left r a.answers;
-    refuses = said_err h.tag a.handed a.left r a.refuses;
+    answers = said_ok a.handed a.left r a.answers;
+    refuses = said_err a.handed a.left r a.refuses;
   }
 
-  pub said_behind : (form : Option Bool) (c : Reading) (h : Header) (r : Result (Option T) (DecodeError X)) (d : Reading) → TakesBehind view post form c h r d → TakesBehind view post' form c h r d
-  said_behind form c h r d (of_form e q f o s) = of_form e q f o s
-  said_behind form c h r d (refused e q a) = refused e q (said_content c h (Err e) d a)
-  said_behind form c h r d (taken v m q a s) = taken v m q (said_content c h (Ok v) m a) s
+  pub said_behind : (form : Option Bool) (c : Reading) (r : Result (Option T) (DecodeError X)) (d : Reading) → TakesBehind view (Untagged post) form c h r d → TakesBehind view last form c h r d
+  said_behind form c r d (of_form e q f o s) = of_form e q f o s
+  said_behind form c r d (refused e q a) = refused e q (said_content c (Err e) d a)
+  said_behind form c r d (taken v m q a s) = taken v m q (said_content c (Ok v) m a) s

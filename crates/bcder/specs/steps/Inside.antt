@@ -34,6 +34,11 @@ abbrev pub limit_outside : Length → Option ℕ → Option ℕ → Option ℕ
 limit_outside (Definite n) o left = popped o n left
 limit_outside Indefinite o left = left
 
+-- none of the octets that a length promises is left
+abbrev pub IsTaken : Length → Option ℕ → Type 0
+IsTaken (Definite n) left = left ≡ Some 0
+IsTaken Indefinite left = Unit {0}
+
 -- the content behind a header that was passed
 abbrev pub IsBehind : {S : Type 0} → (S → Stream) → MutBor (Constructed S) → CodeHeader → Reading → Type 0
 IsBehind stream c h i = Hands (of_constructed stream c.now).mode (is_constructed h.form) (len_of h.form) (of_constructed stream c.now).owed (of_constructed stream c.now).stream.rest i

@@ -35,11 +35,20 @@ impl<'a, S: Source> Constructed<'a, S> {
         ensures moves { Moved S.stream self }
         ensures took { TookNextOctets S.stream self any (F.post op) result }
     {
-        match self.next_header(Wanted::Any) {
-            Ok(Some(header)) => self.take_primitive_body(header, op),
-            Ok(None) => Ok(None),
-            Err(stop) => Err(self.stop_error(stop)),
-        }
+        let header = match self.next_header(Wanted::Any) {
+            Ok(Some(header)) => header,
+            Ok(None) => return Ok(None),
+            Err(stop) => return self.answer_stop(stop),
+        };
+        let tag = header.tag;
+        self.take_primitive_body(
+            header,
+            |octets|
+                requires { (p : _) → p.now ≡ octets.now → F.pre op tag p }
+                ensures { Answered (of_primitive S.stream) (F.post op tag)
+                    (octets_before S.stream octets) result (octets_after S.stream octets) }
+            { op(tag, octets) },
+        )
     }
 
     /// Takes the next value, which has to be there and primitive.
@@ -91,14 +100,7 @@ impl<'a, S: Source> Constructed<'a, S> {
             Ok(None) => return Ok(None),
             Err(stop) => return self.answer_stop(stop),
         };
-        self.take_primitive_body(
-            octets_header(tag, len),
-            |_tag, octets|
-                requires { (p : _) → p.now ≡ octets.now → F.pre op p }
-                ensures { Answered (of_primitive S.stream) (F.post op)
-                    (octets_before S.stream octets) result (octets_after S.stream octets) }
-            { op(octets) },
-        )
+        self.take_primitive_body(octets_header(tag, len), op)
     }
 
     /// Takes the next value, which has to have this tag and be primitive.

@@ -131,7 +131,7 @@ impl<'a, S: Source> Primitive<'a, S> {
 #[tactic(auto, using(crate::proofs::moves, crate::proofs::Reading::refuses_missing))]
 impl<'a, S: Source> Primitive<'a, S> {
     /// Reads all octets that are owed as the number of a type, and takes them.
-    #[inline(always)]
+    #[inline]
     pub(super) fn read_number<N: Number>(&mut self) -> Result<N, DecodeError<S::Error>>
         ensures moves { MovedOctets S.stream self }
         ensures read { ReadOctets S.stream self (IsNumber N.value N.in_range) result }
@@ -154,7 +154,7 @@ impl<'a, S: Source> Primitive<'a, S> {
     ///
     /// Where the octets are no such value, where fewer come than are owed, and where the source
     /// fails. Then none is taken.
-    #[inline(always)]
+    #[inline]
     pub fn to_bool(&mut self) -> Result<bool, DecodeError<S::Error>>
         ensures moves { MovedOctets S.stream self }
         ensures read { ReadOctets S.stream self

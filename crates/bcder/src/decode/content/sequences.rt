@@ -35,11 +35,20 @@ impl<'a, S: Source> Constructed<'a, S> {
         ensures moves { Moved S.stream self }
         ensures took { TookNextValues S.stream self any (F.post op) result }
     {
-        match self.next_header(Wanted::Any) {
-            Ok(Some(header)) => self.take_constructed_body(header, op),
-            Ok(None) => Ok(None),
-            Err(stop) => Err(self.stop_error(stop)),
-        }
+        let header = match self.next_header(Wanted::Any) {
+            Ok(Some(header)) => header,
+            Ok(None) => return Ok(None),
+            Err(stop) => return self.answer_stop(stop),
+        };
+        let tag = header.tag;
+        self.take_constructed_body(
+            header,
+            |values|
+                requires { (p : _) → p.now ≡ values.now → F.pre op tag p }
+                ensures { Answered (of_constructed S.stream) (F.post op tag)
+                    (before S.stream values) result (after S.stream values) }
+            { op(tag, values) },
+        )
     }
 
     /// Takes the next value, which has to be there and constructed.
@@ -86,18 +95,12 @@ impl<'a, S: Source> Constructed<'a, S> {
         ensures moves { Moved S.stream self }
         ensures took { TookNextValues S.stream self (tagged tag) (Untagged (F.post op)) result }
     {
-        match self.next_header(Wanted::Tagged(tag)) {
-            Ok(Some(header)) => self.take_constructed_body(
-                header,
-                |_tag, values|
-                    requires { (p : _) → p.now ≡ values.now → F.pre op p }
-                    ensures { Answered (of_constructed S.stream) (F.post op)
-                        (before S.stream values) result (after S.stream values) }
-                { op(values) },
-            ),
-            Ok(None) => Ok(None),
-            Err(stop) => Err(self.stop_error(stop)),
-        }
+        let header = match self.next_header(Wanted::Tagged(tag)) {
+            Ok(Some(header)) => header,
+            Ok(None) => return Ok(None),
+            Err(stop) => return self.answer_stop(stop),
+        };
+        self.take_constructed_body(header, op)
     }
 
     /// Takes the next value, which has to have this tag and be constructed.

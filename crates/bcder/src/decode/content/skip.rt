@@ -19,7 +19,7 @@ ghost use Rattle.bcder.specs.calls.Views.{after, before, Moved};
 ghost use Rattle.bcder.specs.calls.Walking.{Between, ExactlyNext};
 ghost use Rattle.bcder.specs.steps.WalkSteps.{Fault, NoFault};
 
-use super::inside::{go_inside, kind_behind};
+use super::inside::go_inside;
 use super::walk::Lookahead;
 use super::{Constructed, Kind, State};
 use crate::decode::error::{ContentError, DecodeError};
@@ -115,8 +115,7 @@ fn open<S>(cons: &mut Constructed<'_, S>, opened: &mut OpenValues<'_>, len: Leng
         Length::Indefinite => opened.indefinite += 1,
     }
     opened.depth += 1;
-    go_inside(cons.source, len);
-    cons.kind = kind_behind(len);
+    cons.kind = go_inside(cons.source, len);
     cons.state = State::Open;
     true
 }

@@ -91,6 +91,15 @@ impl<'a, S: Source> Constructed<'a, S> {
         self.source.content_err(ContentError::from_static(text))
     }
 
+    /// The same as an answer. It is a call of its own, so that no room for an error is cleared
+    /// where nothing is refused.
+    #[inline(always)]
+    pub(super) fn answer_refusal<T>(&self, text: &'static str) -> Result<T, DecodeError<S::Error>>
+        ensures { IsErrAnd result IsRefusal }
+    {
+        Err(self.refusal(text))
+    }
+
     /// The error that a stop is, at the present position.
     #[cold]
     pub(crate) fn stop_error(&self, stop: Stop<S::Error>) -> DecodeError<S::Error>
@@ -105,8 +114,7 @@ impl<'a, S: Source> Constructed<'a, S> {
         }
     }
 
-    /// The same as an answer. It is a call of its own, so that no room for an error is cleared
-    /// where nothing stops.
+    /// The same as an answer, for the same reason.
     #[inline(always)]
     pub(super) fn answer_stop<T>(&self, stop: Stop<S::Error>) -> Result<T, DecodeError<S::Error>>
         ensures { IsErrAnd result (λ e. (IsOfContent (stop_cause stop) → IsRefusal e)
@@ -121,33 +129,6 @@ impl<'a, S: Source> Constructed<'a, S> {
         ensures { NamesTag tag result }
     {
         self.source.content_err(ContentError::ExpectedTag(tag))
-    }
-
-    /// Looks at the front, where a header is looked for, and takes nothing.
-    #[tactic(auto, unfolding(crate::specs::calls::Views::of_constructed))]
-    #[inline(always)]
-    fn look(&mut self, wanted: &Wanted) -> Result<Peeked, S::Error>
-        ensures same { Resembles (before S.stream self) (after S.stream self) }
-        ensures peeked { IfOk result (λ p. Peeks self.old.mode (asked wanted.now) p
-            (limited_stream S.stream self.new.source.now)) }
-        ensures no_fault { MeetsNoFault (before S.stream self) (after S.stream self) result }
-        ensures fault { MeetsFault (before S.stream self) (after S.stream self) result }
-    {
-        peek(self.source, self.mode, *wanted)
-    }
-
-    /// Looks for a primitive value of a tag with a header of two octets, and takes nothing.
-    #[tactic(auto, unfolding(crate::specs::calls::Views::of_constructed))]
-    #[inline(always)]
-    fn look_short(&mut self, tag: Tag) -> Result<Option<usize>, S::Error>
-        ensures same { Resembles (before S.stream self) (after S.stream self) }
-        ensures peeked { IfOk result (λ o. IfSome o (λ n. (mode : ModeValue)
-            → Fronts mode (octets_header tag n) 2
-            (limited_stream S.stream self.new.source.now))) }
-        ensures no_fault { MeetsNoFault (before S.stream self) (after S.stream self) result }
-        ensures fault { MeetsFault (before S.stream self) (after S.stream self) result }
-    {
-        peek_short(self.source, tag)
     }
 
     /// Passes over octets that are at hand. The content has failed until the value that they begin
@@ -271,7 +252,7 @@ impl<'a, S: Source> Constructed<'a, S> {
         if self.is_used_up() {
             return Ok(None);
         }
-        match self.look(wanted) {
+        match peek(self.source, self.mode, *wanted) {
             Ok(Peeked::Front { header, size }) => Ok(Some(Front { header, size })),
             Ok(Peeked::Other) => Ok(None),
             Ok(Peeked::End { size }) => match self.take_end(size) {
@@ -382,7 +363,7 @@ impl<'a, S: Source> Constructed<'a, S> {
         if self.is_used_up() {
             return Ok(None);
         }
-        match self.look_short(tag) {
+        match peek_short(self.source, tag) {
             Ok(Some(len)) => self.enter_octets(tag, len),
             Ok(None) => self.next_long_if(tag),
             Err(error) => {

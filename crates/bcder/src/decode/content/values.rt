@@ -42,11 +42,20 @@ impl<'a, S: Source> Constructed<'a, S> {
         ensures moves { Moved S.stream self }
         ensures took { TookNextContent S.stream self any (F.post op) result }
     {
-        match self.next_header(Wanted::Any) {
-            Ok(Some(header)) => self.take_body(header, op),
-            Ok(None) => Ok(None),
-            Err(stop) => Err(self.stop_error(stop)),
-        }
+        let header = match self.next_header(Wanted::Any) {
+            Ok(Some(header)) => header,
+            Ok(None) => return Ok(None),
+            Err(stop) => return self.answer_stop(stop),
+        };
+        let tag = header.tag;
+        self.take_body(
+            header,
+            |content|
+                requires { (p : _) → p.now ≡ content.now → F.pre op tag p }
+                ensures { Answered (of_content S.stream) (F.post op tag)
+                    (content_before S.stream content) result (content_after S.stream content) }
+            { op(tag, content) },
+        )
     }
 
     /// Takes the next value, which has to be there.
@@ -100,19 +109,12 @@ impl<'a, S: Source> Constructed<'a, S> {
         ensures moves { Moved S.stream self }
         ensures took { TookNextContent S.stream self (tagged tag) (Untagged (F.post op)) result }
     {
-        match self.next_header(Wanted::Tagged(tag)) {
-            Ok(Some(header)) => self.take_body(
-                header,
-                |_tag, content|
-                    requires { (p : _) → p.now ≡ content.now → F.pre op p }
-                    ensures { Answered (of_content S.stream) (F.post op)
-                        (content_before S.stream content) result
-                        (content_after S.stream content) }
-                { op(content) },
-            ),
-            Ok(None) => Ok(None),
-            Err(stop) => Err(self.stop_error(stop)),
-        }
+        let header = match self.next_header(Wanted::Tagged(tag)) {
+            Ok(Some(header)) => header,
+            Ok(None) => return Ok(None),
+            Err(stop) => return self.answer_stop(stop),
+        };
+        self.take_body(header, op)
     }
 
     /// Takes the next value, which has to have this tag.

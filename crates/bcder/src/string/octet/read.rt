@@ -89,12 +89,12 @@ impl OctetString {
                 if header.form.is_constructed() {
                     cons.take_constructed_body(
                         header,
-                        |_tag, values| from_constructed(alloc, values),
+                        |values| from_constructed(alloc, values),
                     )
                 } else {
                     match cons.take_primitive_body(
                         header,
-                        |_tag, octets| take_piece(alloc, octets),
+                        |octets| take_piece(alloc, octets),
                     ) {
                         Ok(Some(octets)) => Ok(Some(OctetString::new(octets))),
                         Ok(None) => Ok(None),

@@ -103,12 +103,12 @@ impl<L: CharSet> RestrictedString<L> {
                 if header.form.is_constructed() {
                     cons.take_constructed_body(
                         header,
-                        |_tag, values| RestrictedString::<L>::from_values(alloc, values),
+                        |values| RestrictedString::<L>::from_values(alloc, values),
                     )
                 } else {
                     match cons.take_primitive_body(
                         header,
-                        |_tag, octets| take_accepted::<L, S>(alloc, octets),
+                        |octets| take_accepted::<L, S>(alloc, octets),
                     ) {
                         Ok(Some(octets)) => Ok(Some(RestrictedString::of_bytes(octets))),
                         Ok(None) => Ok(None),

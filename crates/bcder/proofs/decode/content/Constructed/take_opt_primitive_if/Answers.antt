@@ -1,6 +1,5 @@
-use Rattle.std.proofs.Common.{true, ap, sym, subst, rules}
+use Rattle.std.proofs.Common.{true, ap, sym, subst}
 use Rattle.std.specs.Prelude.{Some}
-use Rattle.bcder.specs.calls.Calls.{IsInside}
 use Rattle.bcder.specs.declared.decode.header.Header.{Header as CodeHeader}
 use Rattle.bcder.specs.steps.StopCause.{stop_cause}
 use Rattle.bcder.specs.calls.Content.{tagged, Enters}
@@ -8,22 +7,22 @@ use Rattle.bcder.specs.steps.Peek.{header_of}
 use Rattle.bcder.specs.calls.Views.{of_constructed, of_primitive}
 use Rattle.bcder.specs.laws.Moved.{moved_carries}
 use Rattle.bcder.proofs.Ahead.{next_stops}
-use Rattle.bcder.proofs.Taking.{takes_next, moves_next, next_none, inside_entered, said_behind, moves_on}
+use Rattle.bcder.proofs.Taking.{takes_next, moves_next, next_none, inside_entered}
 use Rattle.bcder.proofs.decode.content.Constructed.take_opt_primitive_if.Goals as goal
 
 pub take_primitive_body-requires-clause-callable : goal.take_primitive_body-requires-clause-callable
-take_primitive_body-requires-clause-callable g c p i y s =
+take_primitive_body-requires-clause-callable g c p i =
     let h = c.octets_header.ensures in
     let t = ap (λ (k : CodeHeader). k.tag) h in
     let e = subst (λ k. Enters (of_constructed g.S.Source.stream c.args.self.now) (header_of k) (of_constructed g.S.Source.stream c.next_octets_if.new.self)) (sym h) (rw c.in-Ok-Some.field-0-is at c.in-Ok-Some.ensures.entered.entered) in
-    c.requires.callable _ y (subst (λ z. IsInside (tagged c.args.tag) (of_constructed g.S.Source.stream c.args.self.now) (header_of c.octets_header.result).tag (of_primitive g.S.Source.stream z)) (sym s) (inside_entered (of_constructed g.S.Source.stream c.args.self.now) _ _ _ (tagged c.args.tag) t e i))
+    c.requires.callable _ p (inside_entered (of_constructed g.S.Source.stream c.args.self.now) _ _ _ (tagged c.args.tag) t e i)
 
 pub take_primitive_body-requires-clause-lawful : goal.take_primitive_body-requires-clause-lawful
 take_primitive_body-requires-clause-lawful g c p r q i d =
     let h = c.octets_header.ensures in
     let t = ap (λ (k : CodeHeader). k.tag) h in
     let e = subst (λ k. Enters (of_constructed g.S.Source.stream c.args.self.now) (header_of k) (of_constructed g.S.Source.stream c.next_octets_if.new.self)) (sym h) (rw c.in-Ok-Some.field-0-is at c.in-Ok-Some.ensures.entered.entered) in
-    moves_on (of_primitive g.S.Source.stream) _ (IsInside (tagged c.args.tag) (of_constructed g.S.Source.stream c.args.self.now) (header_of c.octets_header.result).tag) (λ p r q h d. c.requires.lawful _ p r q h d) _ r _ (inside_entered (of_constructed g.S.Source.stream c.args.self.now) _ _ _ (tagged c.args.tag) t e i) d.1
+    c.requires.lawful _ p r q (inside_entered (of_constructed g.S.Source.stream c.args.self.now) _ _ _ (tagged c.args.tag) t e i) d
 
 pub take_primitive_body-requires-clause-fits : goal.take_primitive_body-requires-clause-fits
 unfolding of_constructed
@@ -45,7 +44,7 @@ returns-clause-took g c =
     let h = c.octets_header.ensures in
     let t = ap (λ (k : CodeHeader). k.tag) h in
     let e = subst (λ k. Enters (of_constructed g.S.Source.stream c.args.self.now) (header_of k) (of_constructed g.S.Source.stream c.next_octets_if.new.self)) (sym h) (rw c.in-Ok-Some.field-0-is at c.in-Ok-Some.ensures.entered.entered) in
-    takes_next (of_primitive g.S.Source.stream) _ (Some true) (tagged c.args.tag) (of_constructed g.S.Source.stream c.args.self.now) _ _ (header_of c.octets_header.result) t e _ (said_behind (of_primitive g.S.Source.stream) _ _ (λ t p r q h. search rules) (Some true) _ _ _ _ c.take_primitive_body.ensures)
+    takes_next (of_primitive g.S.Source.stream) _ (Some true) (tagged c.args.tag) (of_constructed g.S.Source.stream c.args.self.now) _ _ (header_of c.octets_header.result) t e _ c.take_primitive_body.ensures
 
 pub returns-in-Ok-None-clause-moves : goal.returns-in-Ok-None-clause-moves
 returns-in-Ok-None-clause-moves g c = moved_carries _ _ c.next_octets_if.ensures.moves

@@ -1,25 +1,22 @@
-use Rattle.std.proofs.Common.{sym, subst, rules}
 use Rattle.std.specs.Prelude.{None}
-use Rattle.bcder.specs.calls.Calls.{IsInside}
-use Rattle.bcder.specs.calls.Cause.{cause_of}
 use Rattle.bcder.specs.steps.StopCause.{stop_cause}
 use Rattle.bcder.specs.calls.Content.{tagged}
 use Rattle.bcder.specs.steps.Peek.{header_of}
 use Rattle.bcder.specs.calls.Views.{of_constructed, of_content}
 use Rattle.bcder.specs.laws.Moved.{moved_carries}
-use Rattle.bcder.proofs.Stopping.{header_stopped}
-use Rattle.bcder.proofs.Taking.{takes_next, moves_next, next_none, next_refused, inside_entered, said_behind, moves_on}
+use Rattle.bcder.proofs.Ahead.{next_answered}
+use Rattle.bcder.proofs.Taking.{takes_next, moves_next, next_none, inside_entered}
 use Rattle.bcder.proofs.decode.content.Constructed.take_opt_value_if.Goals as goal
 
 pub take_body-requires-clause-callable : goal.take_body-requires-clause-callable
-take_body-requires-clause-callable g c p i y s =
+take_body-requires-clause-callable g c p i =
     let e = rw c.in-Ok-Some.field-0-is at c.in-Ok-Some.ensures.entered in
-    c.requires.callable _ y (subst (λ z. IsInside (tagged c.args.tag) (of_constructed g.S.Source.stream c.args.self.now) (header_of c.in-Ok-Some.header).tag (of_content g.S.Source.stream z)) (sym s) (inside_entered (of_constructed g.S.Source.stream c.args.self.now) _ _ _ (tagged c.args.tag) e.0 e.1 i))
+    c.requires.callable _ p (inside_entered (of_constructed g.S.Source.stream c.args.self.now) _ _ _ (tagged c.args.tag) e.0 e.1 i)
 
 pub take_body-requires-clause-lawful : goal.take_body-requires-clause-lawful
 take_body-requires-clause-lawful g c p r q i d =
     let e = rw c.in-Ok-Some.field-0-is at c.in-Ok-Some.ensures.entered in
-    moves_on (of_content g.S.Source.stream) _ (IsInside (tagged c.args.tag) (of_constructed g.S.Source.stream c.args.self.now) (header_of c.in-Ok-Some.header).tag) (λ p r q h d. c.requires.lawful _ p r q h d) _ r _ (inside_entered (of_constructed g.S.Source.stream c.args.self.now) _ _ _ (tagged c.args.tag) e.0 e.1 i) d.1
+    c.requires.lawful _ p r q (inside_entered (of_constructed g.S.Source.stream c.args.self.now) _ _ _ (tagged c.args.tag) e.0 e.1 i) d
 
 pub take_body-requires-clause-fits : goal.take_body-requires-clause-fits
 unfolding of_constructed
@@ -27,15 +24,15 @@ take_body-requires-clause-fits g c =
     let e = rw c.in-Ok-Some.field-0-is at c.in-Ok-Some.ensures.entered in
     e.1.fits
 
-pub returns-in-Ok-Some-clause-moves : goal.returns-in-Ok-Some-clause-moves
-returns-in-Ok-Some-clause-moves g c =
+pub returns-clause-moves : goal.returns-clause-moves
+returns-clause-moves g c =
     let e = rw c.in-Ok-Some.field-0-is at c.in-Ok-Some.ensures.entered in
     moved_carries _ _ (moves_next (of_content g.S.Source.stream) _ None (tagged c.args.tag) (of_constructed g.S.Source.stream c.args.self.now) _ _ (header_of c.in-Ok-Some.header) e.0 e.1 _ c.take_body.ensures)
 
-pub returns-in-Ok-Some-clause-took : goal.returns-in-Ok-Some-clause-took
-returns-in-Ok-Some-clause-took g c =
+pub returns-clause-took : goal.returns-clause-took
+returns-clause-took g c =
     let e = rw c.in-Ok-Some.field-0-is at c.in-Ok-Some.ensures.entered in
-    takes_next (of_content g.S.Source.stream) _ None (tagged c.args.tag) (of_constructed g.S.Source.stream c.args.self.now) _ _ (header_of c.in-Ok-Some.header) e.0 e.1 _ (said_behind (of_content g.S.Source.stream) _ _ (λ t p r q h. search rules) None _ _ _ _ c.take_body.ensures)
+    takes_next (of_content g.S.Source.stream) _ None (tagged c.args.tag) (of_constructed g.S.Source.stream c.args.self.now) _ _ (header_of c.in-Ok-Some.header) e.0 e.1 _ c.take_body.ensures
 
 pub returns-in-Ok-None-clause-moves : goal.returns-in-Ok-None-clause-moves
 returns-in-Ok-None-clause-moves g c = moved_carries _ _ c.next_header.ensures.moves
@@ -49,4 +46,6 @@ returns-in-Err-clause-moves g c = moved_carries _ _ c.next_header.ensures.moves
 
 pub returns-in-Err-clause-took : goal.returns-in-Err-clause-took
 unfolding of_constructed
-returns-in-Err-clause-took g c = next_refused (of_content g.S.Source.stream) _ None (tagged c.args.tag) _ (of_constructed g.S.Source.stream c.next_header.new.self) c.next_header.ensures.mode _ (header_stopped stop_cause cause_of _ _ c.stop_error.ensures.refused c.stop_error.ensures.source _ _ (tagged c.args.tag) c.in-Err.ensures.refused) c.next_header.ensures.marked c.in-Err.ensures.failed
+returns-in-Err-clause-took g c =
+    next_answered (of_content g.S.Source.stream) _ None (tagged c.args.tag) (of_constructed g.S.Source.stream c.args.self.now) (of_constructed g.S.Source.stream c.next_header.new.self) c.next_header.ensures.mode
+    stop_cause _ _ c.answer_stop.ensures c.next_header.ensures.marked c.in-Err.ensures.failed c.in-Err.ensures.refused

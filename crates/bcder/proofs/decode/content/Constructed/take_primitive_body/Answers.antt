@@ -1,33 +1,41 @@
-use Rattle.std.proofs.Common.{◌≡◌, refl, ap, sym, rules}
+use Rattle.std.proofs.Common.{◌≡◌, true, refl, ap, sym, subst, rules}
 use Rattle.std.specs.Prelude.{Some}
 use Rattle.bcder.specs.calls.Calls.{popped}
 use Rattle.bcder.specs.calls.Cause.{cause_of}
-use Rattle.bcder.specs.calls.Content.{Reading, values}
-use Rattle.bcder.specs.steps.Inside.{of_form, refused, taken}
+use Rattle.bcder.specs.calls.Content.{Reading, values, FitsOwed}
+use Rattle.bcder.specs.steps.Inside.{refused, taken}
 use Rattle.bcder.specs.steps.Peek.{is_constructed, len_of, header_of}
 use Rattle.bcder.specs.calls.Views.{of_constructed, of_primitive, limited_stream}
-use Rattle.bcder.proofs.Inner.{takes_octets}
+use Rattle.bcder.proofs.Inner.{takes_octets, octets_taken}
+use Rattle.bcder.proofs.Taking.{form_answered}
 use Rattle.bcder.proofs.decode.content.Constructed.take_primitive_body.Goals as goal
 
 pub returns-in_default : goal.returns-in_default
-returns-in_default g c = of_form _ refl (ap Some (sym (search rules))) c.refusal.ensures refl
+returns-in_default g c = form_answered (of_primitive g.S.Source.stream) _ (Some true) _ (header_of c.args.header) _ _ c.answer_refusal.ensures (ap Some (sym (search rules))) refl
 
 pub returns-in-Err : goal.returns-in-Err
 unfolding of_constructed of_primitive
 returns-in-Err g c =
-    let limit : c.pop.new.source.limit ≡ popped c.push-outer.result c.in-Primitive.len c.run_octets.new.octets.source.now.limit = search rules in
-    let source : c.pop.new.source.source ≡ c.run_octets.new.octets.source.now.source = search rules in
+    let limit : c.pop.new.source.limit ≡ popped c.limit-outer.result c.in-Primitive.len c.run.new.inside.source.now.limit = search rules in
+    let source : c.pop.new.source.source ≡ c.run.new.inside.source.now.source = search rules in
     refused _ refl (takes_octets cause_of (of_primitive g.S.Source.stream) _ (of_constructed g.S.Source.stream c.args.self.now) _ (header_of c.args.header) _ refl refl refl refl _ c.either-self.ensures
-    g.S.Source.stream c.in-Primitive.len c.args.self.now.source.now c.push-outer.new.source c.run_octets.new.octets.source.now c.pop.new.source c.push-outer.result
-    (ap len_of c.in-Primitive.is) refl refl c.push-outer.ensures.outer c.push-outer.ensures.limit c.push-outer.ensures.source limit source refl refl c.requires.fits (ap is_constructed c.in-Primitive.is) (g.met.S.Source.sound c.args.self.now.source.now.source) (record { handed = _; left = of_primitive g.S.Source.stream c.run_octets.new.octets; runs = record { stream = refl; owed = refl; kind = refl; state = refl; mode = refl; marked = refl; left_stream = refl; left_owed = refl; moves = c.run_octets.ensures.moves }; marks = refl; answers = tt; refuses = c.in-Err.ensures.refused }))
+    g.S.Source.stream c.in-Primitive.len c.args.self.now.source.now c.set_limit.new.self c.run.new.inside.source.now c.pop.new.source c.limit-outer.result
+    (ap len_of c.in-Primitive.is) refl refl c.limit-outer.ensures c.set_limit.ensures.limit c.set_limit.ensures.source limit source refl refl c.requires.fits (ap is_constructed c.in-Primitive.is) (g.met.S.Source.sound c.args.self.now.source.now.source) (record { handed = _; left = of_primitive g.S.Source.stream c.run.new.inside; runs = record { stream = refl; owed = refl; kind = refl; state = refl; mode = refl; marked = refl; left_stream = refl; left_owed = refl; moves = c.run.ensures.moves }; marks = refl; answers = tt; refuses = c.in-Err.ensures.refused _ }))
+
+pub close-requires-clause-taken : goal.close-requires-clause-taken
+unfolding of_primitive
+close-requires-clause-taken g c = (let h : c.run.new.inside.source.now.limit ≡ Some 0 = octets_taken _ _ c.run.ensures.moves refl refl (c.in-Ok.ensures.ok c.args.header.tag).done in search rules)
+
+pub close-requires-clause-fits : goal.close-requires-clause-fits
+close-requires-clause-fits g c = subst (λ z. FitsOwed z c.limit-outer.result) (ap len_of c.in-Primitive.is) (subst (FitsOwed (len_of c.args.header.form)) (sym c.limit-outer.ensures) c.requires.fits)
 
 pub returns : goal.returns
 unfolding of_constructed of_primitive
 returns g c =
-    let limit : c.pop-2.new.source.limit ≡ popped c.push-outer.result c.in-Primitive.len c.run_octets.new.octets.source.now.limit = search rules in
-    let source : c.pop-2.new.source.source ≡ c.run_octets.new.octets.source.now.source = search rules in
-    let old = c.args.self.now in let new = c.pop-2.new.source in
+    let limit : c.close.new.source.limit ≡ popped c.limit-outer.result c.in-Primitive.len c.run.new.inside.source.now.limit = search rules in
+    let source : c.close.new.source.source ≡ c.run.new.inside.source.now.source = search rules in
+    let old = c.args.self.now in let new = c.close.new.source in
     let m : Reading = record { stream = limited_stream g.S.Source.stream new; owed = new.limit; kind = values old.kind; state = old.state; mode = old.mode; marked = c.either-self-2.result; name = old.source.ghost_name } in
     taken _ m refl (takes_octets cause_of (of_primitive g.S.Source.stream) _ (of_constructed g.S.Source.stream c.args.self.now) m (header_of c.args.header) _ refl refl refl refl _ c.either-self-2.ensures
-    g.S.Source.stream c.in-Primitive.len c.args.self.now.source.now c.push-outer.new.source c.run_octets.new.octets.source.now c.pop-2.new.source c.push-outer.result
-    (ap len_of c.in-Primitive.is) refl refl c.push-outer.ensures.outer c.push-outer.ensures.limit c.push-outer.ensures.source limit source refl refl c.requires.fits (ap is_constructed c.in-Primitive.is) (g.met.S.Source.sound c.args.self.now.source.now.source) (record { handed = _; left = of_primitive g.S.Source.stream c.run_octets.new.octets; runs = record { stream = refl; owed = refl; kind = refl; state = refl; mode = refl; marked = refl; left_stream = refl; left_owed = refl; moves = c.run_octets.ensures.moves }; marks = refl; answers = c.in-Ok.ensures.ok; refuses = tt })) refl
+    g.S.Source.stream c.in-Primitive.len c.args.self.now.source.now c.set_limit.new.self c.run.new.inside.source.now c.close.new.source c.limit-outer.result
+    (ap len_of c.in-Primitive.is) refl refl c.limit-outer.ensures c.set_limit.ensures.limit c.set_limit.ensures.source limit source refl refl c.requires.fits (ap is_constructed c.in-Primitive.is) (g.met.S.Source.sound c.args.self.now.source.now.source) (record { handed = _; left = of_primitive g.S.Source.stream c.run.new.inside; runs = record { stream = refl; owed = refl; kind = refl; state = refl; mode = refl; marked = refl; left_stream = refl; left_owed = refl; moves = c.run.ensures.moves }; marks = refl; answers = c.in-Ok.ensures.ok _; refuses = tt })) refl

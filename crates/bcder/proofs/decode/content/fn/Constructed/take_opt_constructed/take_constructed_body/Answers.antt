@@ -1,5 +1,5 @@
 use Rattle.std.proofs.Common.{refl}
-use Rattle.bcder.proofs.decode.content.fn.Constructed.take_opt_value_if.take_body.Goals as goal
+use Rattle.bcder.proofs.decode.content.fn.Constructed.take_opt_constructed.take_constructed_body.Goals as goal
 
 pub op-requires : goal.op-requires
 op-requires g c = c.requires _ refl

@@ -1,5 +1,5 @@
 use Rattle.std.proofs.Common.{refl}
-use Rattle.bcder.proofs.decode.content.fn.Constructed.take_opt_constructed_if.take_constructed_body.Goals as goal
+use Rattle.bcder.proofs.decode.content.fn.Constructed.take_opt_primitive.take_primitive_body.Goals as goal
 
 pub op-requires : goal.op-requires
 op-requires g c = c.requires _ refl
