@@ -126,7 +126,7 @@ impl<'a, S: Source> Inside for Constructed<'a, S> {
         }
         match self.finish_slow() {
             Ok(()) => Ok(()),
-            Err(stop) => Err(self.stop_error(stop)),
+            Err(stop) => self.answer_stop(stop),
         }
     }
 }

@@ -131,6 +131,14 @@ impl<'a, S: Source> Constructed<'a, S> {
         self.source.content_err(ContentError::ExpectedTag(tag))
     }
 
+    /// The same as an answer, where room for an error isn't cleared either.
+    #[inline(always)]
+    pub(super) fn answer_expected_tag<T>(&self, tag: Tag) -> Result<T, DecodeError<S::Error>>
+        ensures { IsErrAnd result (NamesTag tag) }
+    {
+        Err(self.expected_tag_error(tag))
+    }
+
     /// Passes over octets that are at hand. The content has failed until the value that they begin
     /// is taken.
     #[tactic(auto, unfolding(crate::specs::calls::Views::of_constructed))]
