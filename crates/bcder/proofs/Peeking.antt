@@ -3,8 +3,6 @@ use Rattle.std.proofs.Common.{◌≡◌, ℕ, ◌≤◌, Bool, List, ◌++◌, l
 use Rattle.std.proofs.lemmas.Grind.{common_steps}
 use Rattle.std.proofs.lemmas.List.{take-append-drop, length-take-le}
 use Rattle.bcder.specs.declared.mode.Mode.{Mode}
-use Rattle.bcder.specs.declared.decode.header.Header.{Header as CodeHeader}
-use Rattle.bcder.specs.declared.decode.header.Form.TheVariants as form
 use Rattle.bcder.specs.declared.decode.header.Peeked.{Peeked}
 use Rattle.bcder.specs.declared.decode.header.Peeked.TheVariants as peeked
 use Rattle.bcder.specs.x690.Identifier.{Tag, end_of_contents}
@@ -12,7 +10,7 @@ use Rattle.bcder.specs.x690.Encoding.{Header}
 use Rattle.bcder.specs.steps.Reading.{read_identifier, read_front, read_header, read_end}
 use Rattle.bcder.specs.calls.Content.{Asked, IsAsked}
 use Rattle.bcder.specs.laws.Sound.{none_is, some_inj}
-use Rattle.bcder.specs.steps.Peek.{is_constructed, len_of, octets_header, HasNoHeader, IsFront, Shows, IsOfTwo}
+use Rattle.bcder.specs.steps.Peek.{HasNoHeader, Shows, IsFrontOf}
 use Rattle.bcder.proofs.Beginnings.{no_identifier}
 use Rattle.bcder.proofs.Headers.{other_of_front, header_of_front, end_identified}
 
@@ -31,23 +29,19 @@ end_asked mode asked w x t f y e i a = let d = end_identified mode w x e in subs
 -- ---- two octets
 
 -- a header that was read in two octets shows what is told of it
-pub two_shown : (mode : Mode) (asked : Asked) (w : List ℕ) (h : Header) (p : Peeked) → 2 ≤ length w → IsOfTwo mode asked h p → ((x : List ℕ) → read_front mode (w ++ x) ≡ Some (h, drop 2 (w ++ x))) → Shows mode asked p w
-two_shown mode asked w h peeked.Nothing l i r = absurd i
-two_shown mode asked w h peeked.Other l i r = λ x. other_of_front mode asked (w ++ x) h (drop 2 (w ++ x)) (r x) i
-two_shown mode asked w h (peeked.End k) l i r = absurd i
-two_shown mode asked w h (peeked.Front g k) l i r = λ x. (
-  (omega (arith, l, i.0), header_of_front mode (w ++ x) h (drop 2 (w ++ x)) (r x) i.3 i.4 ∙ ap Some (ap₂ (λ a n. (a, drop n (w ++ x))) (sym i.1) (sym i.0))),
+pub front_shown : (mode : Mode) (asked : Asked) (w : List ℕ) (n : ℕ) (h : Header) (p : Peeked) → n ≤ length w → IsFrontOf mode asked n h p → ((x : List ℕ) → read_front mode (w ++ x) ≡ Some (h, drop n (w ++ x))) → Shows mode asked p w
+front_shown mode asked w n h peeked.Nothing l i r = absurd i
+front_shown mode asked w n h peeked.Other l i r = λ x. other_of_front mode asked (w ++ x) h (drop n (w ++ x)) (r x) i
+front_shown mode asked w n h (peeked.End k) l i r = absurd i
+front_shown mode asked w n h (peeked.Front g k) l i r = λ x. (
+  (omega (arith, l, i.0), header_of_front mode (w ++ x) h (drop n (w ++ x)) (r x) i.3 i.4 ∙ ap Some (ap₂ (λ a m. (a, drop m (w ++ x))) (sym i.1) (sym i.0))),
   subst (λ (z : Header). IsAsked asked z.tag) (sym i.1) i.2,
 )
-two_shown mode asked w h peeked.Refused l i r = absurd i
+front_shown mode asked w n h peeked.Refused l i r = absurd i
 
-pub if_two : (mode : Mode) (asked : Asked) (w : List ℕ) (h : Header) (r : Option Peeked) → 2 ≤ length w → IfSome r (IsOfTwo mode asked h) → ((x : List ℕ) → read_front mode (w ++ x) ≡ Some (h, drop 2 (w ++ x))) → IfSome r (λ p. Shows mode asked p w)
-if_two mode asked w h None l i r = tt
-if_two mode asked w h (Some p) l i r = two_shown mode asked w h p l i r
-
--- what stands in front is the header of a primitive value, by its tag and its length
-pub octets_front : (mode : Mode) (h : CodeHeader) (k n m : ℕ) (w : List ℕ) → h.form ≡ form.Primitive n → IsFront mode h k m w → IsFront mode (octets_header h.tag n) k m w
-octets_front mode h k n m w f i = (i.0, subst (λ z. read_header mode w ≡ Some (record { tag = h.tag; form = is_constructed z; len = len_of z }, drop k w)) f i.1)
+pub if_front : (mode : Mode) (asked : Asked) (w : List ℕ) (n : ℕ) (h : Header) (r : Option Peeked) → n ≤ length w → IfSome r (IsFrontOf mode asked n h) → ((x : List ℕ) → read_front mode (w ++ x) ≡ Some (h, drop n (w ++ x))) → IfSome r (λ p. Shows mode asked p w)
+if_front mode asked w n h None l i r = tt
+if_front mode asked w n h (Some p) l i r = front_shown mode asked w n h p l i r
 
 -- ---- tags
 

@@ -11,7 +11,7 @@ use Rattle.bcder.specs.x690.Length.{big_endian}
 use Rattle.bcder.specs.x690.Tree.{Tree, constructed, Trees}
 use Rattle.bcder.specs.x690.Encoding.{may_have, IsEncoding, Header}
 use Rattle.bcder.specs.x690.Grammar.{IsOnly, BeginsWhole}
-use Rattle.bcder.specs.steps.Reading.{class_of, is_marked, read_identifier, read_length, read_long, may_tell, BeginPrimitive, read_header, read_contents, read_value, read_list, read_tree, after_tree, after_list}
+use Rattle.bcder.specs.steps.Reading.{class_of, is_marked, read_identifier, read_length, read_long, may_tell, BeginPrimitive, read_front, read_header, read_contents, read_value, read_list, read_tree, after_tree, after_list}
 use Rattle.bcder.specs.laws.Complete.{header_size, two_octets, tree_complete, one_encoding}
 use Rattle.bcder.specs.laws.Sound.{mapped, none_is}
 use Rattle.bcder.specs.laws.Stands.{AreOctets-after, header_sound, tree_sound}
@@ -86,7 +86,7 @@ module _ (mode : Mode) (w : List ℕ) (t : Tag) (f : Bool) (len : Length) (z : L
 
 -- ---- a primitive value with a header of two octets
 
-value_octet : (b : ℕ) → b % 64 < 31 → b ≢ 0 → is_value_tag (record { class = class_of b; number = b % 32 }) ≡ true
+pub value_octet : (b : ℕ) → b % 64 < 31 → b ≢ 0 → is_value_tag (record { class = class_of b; number = b % 32 }) ≡ true
 unfolding class_of
 value_octet b l z =
     elim (cases_lt b 64) [
@@ -103,6 +103,10 @@ value_octet b l z =
     numbered : (n : ℕ) → n ≢ 0 → is_value_tag (record { class = universal; number = n }) ≡ true
     numbered zero h = absurd (h refl)
     numbered (suc n) h = refl
+
+pub unmarked_octet : (b : ℕ) → b % 64 < 31 → is_marked b ≡ false
+unfolding is_marked
+unmarked_octet b l = lt-leb 32 (b % 64) (omega arith)
 
 pub short_header : (b n : ℕ) → 1 ≤ b % 64 → b % 64 ≤ 30 → n < 128 → BeginPrimitive b n
 unfolding read_header read_identifier is_marked read_length
@@ -160,6 +164,15 @@ long_header mode b h l n x some k e m =
     let p : b % 32 < 31 = omega arith in
     let z : b ≢ 0 = λ e. (let m : b % 64 ≡ 0 = rw e refl in omega arith) in
     (record { class = class_of b; number = b % 32 }, rw (lt-ltb (b % 32) 31 p, lt-leb 32 (b % 64) (omega arith), value_octet b (omega arith) z, two_read mode h l n x e m) refl)
+
+-- a leading octet and a length of three octets
+pub long_stands : (mode : Mode) (w x : List ℕ) (t : Tag) (f : Bool) (n : ℕ) → 4 ≤ length w → get_or w 0 0 % 32 < 31 → get_or w 1 0 ≡ 130 → get_or w 2 0 ≢ 0 → t ≡ record { class = class_of (get_or w 0 0); number = get_or w 0 0 % 32 } → f ≡ is_marked (get_or w 0 0) → n ≡ get_or w 2 0 * 256 + get_or w 3 0 → read_front mode (w ++ x) ≡ Some (record { tag = t; form = f; len = Definite n }, drop 4 (w ++ x))
+unfolding read_front read_identifier read_length
+long_stands mode [] x t f n four low same some tag mark len = absurd (omega arith)
+long_stands mode (b ∷ []) x t f n four low same some tag mark len = absurd (omega arith)
+long_stands mode (b ∷ c ∷ []) x t f n four low same some tag mark len = absurd (omega arith)
+long_stands mode (b ∷ c ∷ h ∷ []) x t f n four low same some tag mark len = absurd (omega arith)
+long_stands mode (b ∷ c ∷ h ∷ l ∷ w) x t f n four low same some tag mark len = rw (same, lt-ltb (b % 32) 31 low, tag, mark, two_read mode h l n (w ++ x) (sym len) (omega (arith, len, some))) refl
 
 pub long_begins : (w : List ℕ) (n m : ℕ) → AreOctets w → 4 ≤ length w → 1 ≤ get_or w 0 0 % 64 → get_or w 0 0 % 64 ≤ 30 → get_or w 1 0 ≡ 130 → m ≡ get_or w 2 0 * 256 + get_or w 3 0 → 256 ≤ m → n ≡ 4 + m → n ≤ length w → (mode : Mode) → BeginsWhole mode w n
 long_begins [] n m o four s k c e l r h mode = absurd (omega arith)

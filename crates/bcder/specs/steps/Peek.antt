@@ -83,18 +83,10 @@ abbrev pub Sees : Mode → Asked → Option Peeked → List ℕ → Type 0
 Sees mode asked None w = (length w < 9) × HasNoHeader mode asked w
 Sees mode asked (Some p) w = Shows mode asked p w
 
--- what is told of a header that was read in two octets
-abbrev pub IsOfTwo : Mode → Asked → Header → Peeked → Type 0
-IsOfTwo mode asked h peeked.Nothing = ⊥
-IsOfTwo mode asked h peeked.Other = IsAsked asked h.tag → ⊥
-IsOfTwo mode asked h (peeked.End k) = ⊥
-IsOfTwo mode asked h (peeked.Front g k) = (k ≡ 2) × (header_of g ≡ h) × IsAsked asked h.tag × (is_value_tag h.tag ≡ true) × (may_have mode h.form h.len ≡ true)
-IsOfTwo mode asked h peeked.Refused = ⊥
-
--- if it is a header, it has two octets
-abbrev pub HasTwo : Peeked → Type 0
-HasTwo peeked.Nothing = Unit {0}
-HasTwo peeked.Other = Unit {0}
-HasTwo (peeked.End k) = Unit {0}
-HasTwo (peeked.Front h k) = k ≡ 2
-HasTwo peeked.Refused = Unit {0}
+-- what is told of a header that was read in n octets
+abbrev pub IsFrontOf : Mode → Asked → ℕ → Header → Peeked → Type 0
+IsFrontOf mode asked n h peeked.Nothing = ⊥
+IsFrontOf mode asked n h peeked.Other = IsAsked asked h.tag → ⊥
+IsFrontOf mode asked n h (peeked.End k) = ⊥
+IsFrontOf mode asked n h (peeked.Front g k) = (k ≡ n) × (header_of g ≡ h) × IsAsked asked h.tag × (is_value_tag h.tag ≡ true) × (may_have mode h.form h.len ≡ true)
+IsFrontOf mode asked n h peeked.Refused = ⊥

@@ -4,8 +4,9 @@ ghost use Rattle.std.specs.Prelude.{IsTrue, Some, None, IfSome, MatchOption, IfO
 ghost use Rattle.bcder.specs.calls.Changed.{SameFaults, MoreFaults, SameRest, SamePosition};
 ghost use Rattle.bcder.specs.calls.Changed.{SameKept};
 ghost use Rattle.bcder.specs.calls.Content.{IsAsked};
+ghost use Rattle.bcder.specs.declared.mode.Mode.{Mode as ModeValue};
 ghost use Rattle.bcder.specs.steps.Peek.{asked, header_of, octets_header, is_constructed, len_of};
-ghost use Rattle.bcder.specs.steps.Peek.{Fronts, Peeks, Sees, Shows, HasTwo, IsOfTwo};
+ghost use Rattle.bcder.specs.steps.Peek.{Fronts, Peeks, Sees, Shows, IsFront, IsFrontOf};
 ghost use Rattle.bcder.specs.steps.Reading.{read_header, class_of, is_marked};
 ghost use Rattle.bcder.specs.x690.Encoding.{may_have};
 
@@ -197,11 +198,32 @@ fn look(mode: Mode, wanted: &Wanted, octets: &[u8]) -> Option<Peeked>
     }
 }
 
-/// What is told by the leading octet, which tells the tag alone, and a length that has one octet.
+/// The tag of the primitive value whose header of two octets stands in front, and how many contents
+/// octets it has. No mode refuses it.
 #[inline(always)]
-fn front_of_two(mode: Mode, wanted: &Wanted, leading: u8, len: Length) -> Option<Peeked>
+fn short_octets(octets: &[u8]) -> Option<(Tag, usize)>
+    ensures { IfSome result (λ r. (mode : ModeValue) (x : List ℕ)
+        → IsFront mode (octets_header r.0 r.1) 2 (length octets.now) (octets.now ++ x)) }
+{
+    match octets {
+        [leading, len, ..] if *leading % 64 < 31 && *leading != 0 && *len < 0x80 => {
+            Some((tag_of_leading(*leading), usize::from(*len)))
+        }
+        _ => None,
+    }
+}
+
+/// What is told by the leading octet, which tells the tag alone, and a length, in so many octets.
+#[inline(always)]
+fn short_front(
+    mode: Mode,
+    wanted: &Wanted,
+    leading: u8,
+    len: Length,
+    size: usize,
+) -> Option<Peeked>
     requires { leading % 32 < 31 }
-    ensures { IfSome result (IsOfTwo mode (asked wanted.now) (record {
+    ensures { IfSome result (IsFrontOf mode (asked wanted.now) size (record {
       tag = record { class = class_of leading; number = leading % 32 };
       form = is_marked leading;
       len = len;
@@ -218,44 +240,57 @@ fn front_of_two(mode: Mode, wanted: &Wanted, leading: u8, len: Length) -> Option
     match form_of(mode, mark_of_leading(leading), len) {
         Some(form) => Some(Peeked::Front {
             header: Header { tag, form },
-            size: 2,
+            size,
         }),
         None => None,
     }
 }
 
-/// What two octets tell, if they are a header or end-of-contents octets: a tag that the leading
-/// octet tells alone, and a definite length below 128. Where headers of any tag are looked for the
-/// length may be indefinite too, and end-of-contents octets are told first, so that what they are
-/// is a constant.
+/// What the first octets tell, if they are a header or end-of-contents octets: a tag that the
+/// leading octet tells alone, and a definite length below 128. Where headers of any tag are looked
+/// for a primitive value is told first, then end-of-contents octets, so that what they are is a
+/// constant; the length may be indefinite too, or have three octets where it needs them.
 #[inline(always)]
 fn look_short(mode: Mode, wanted: &Wanted, octets: &[u8]) -> Option<Peeked>
-    ensures shows { IfSome result (λ p. Shows mode (asked wanted.now) p octets.now) }
-    ensures two { IfSome result HasTwo }
+    ensures { IfSome result (λ p. Shows mode (asked wanted.now) p octets.now) }
 {
     let any = matches!(wanted, Wanted::Any);
+    if any {
+        if let Some(found) = short_octets(octets) {
+            return Some(Peeked::Front {
+                header: Header {
+                    tag: found.0,
+                    form: Form::Primitive(found.1),
+                },
+                size: 2,
+            });
+        }
+    }
     match octets {
         [leading, len, ..] if any && *len == 0 && *leading == 0 => Some(Peeked::End { size: 2 }),
         [leading, len, ..] if *leading % 32 < 31 && *len < 0x80 => {
-            front_of_two(mode, wanted, *leading, Length::Definite(usize::from(*len)))
+            short_front(mode, wanted, *leading, Length::Definite(usize::from(*len)), 2)
         }
         [leading, len, ..] if any && *leading % 32 < 31 && *len == 0x80 => {
-            front_of_two(mode, wanted, *leading, Length::Indefinite)
+            short_front(mode, wanted, *leading, Length::Indefinite, 2)
+        }
+        [leading, count, high, low, ..]
+            if any && *leading % 32 < 31 && *count == 0x82 && *high != 0 =>
+        {
+            let len = usize::from(*high) * 0x100 + usize::from(*low);
+            short_front(mode, wanted, *leading, Length::Definite(len), 4)
         }
         _ => None,
     }
 }
 
 /// The tag of the primitive value at the front of a source, and how many contents octets it has, if
-/// its header has two octets and all of its octets are at hand. It asks for two octets, and takes
-/// none. An error is the source's own.
+/// its header has two octets and all of its octets are at hand. No mode refuses it. It asks for two
+/// octets, and takes none. An error is the source's own.
 #[inline(always)]
-pub(crate) fn peek_whole<S: Source>(
-    source: &mut S,
-    mode: Mode,
-) -> Result<Option<(Tag, usize)>, S::Error>
-    ensures short { IfOk result (λ o. IfSome o (λ r.
-        Fronts mode (octets_header r.0 r.1) 2 (S.stream source.new))) }
+pub(crate) fn peek_whole<S: Source>(source: &mut S) -> Result<Option<(Tag, usize)>, S::Error>
+    ensures short { IfOk result (λ o. IfSome o (λ r. (mode : ModeValue)
+        → Fronts mode (octets_header r.0 r.1) 2 (S.stream source.new))) }
     ensures whole { IfOk result (λ o. IfSome o (λ r. 2 + r.1 ≤ (S.stream source.new).avail)) }
     ensures no_fault { OnOk result (SameFaults S.stream source) }
     ensures fault { OnErr result (MoreFaults S.stream source) }
@@ -263,20 +298,14 @@ pub(crate) fn peek_whole<S: Source>(
     ensures kept { SameKept S.stream source }
 {
     let found = source.request(2)?;
-    match look_short(mode, &Wanted::Any, &source.slice()[..found]) {
-        Some(Peeked::Front { header, .. }) => {
-            let form = header.form;
-            match form {
-                Form::Primitive(len) => {
-                    if found - 2 < len {
-                        return Ok(None);
-                    }
-                    Ok(Some((header.tag, len)))
-                }
-                Form::Constructed(_) => Ok(None),
+    match short_octets(&source.slice()[..found]) {
+        Some(octets) => {
+            if found - 2 < octets.1 {
+                return Ok(None);
             }
+            Ok(Some(octets))
         }
-        _ => Ok(None),
+        None => Ok(None),
     }
 }
 

@@ -386,7 +386,7 @@ impl<'a, S: Source> Constructed<'a, S> {
         if self.is_used_up() {
             return Ok(None);
         }
-        match peek_whole(self.source, self.mode) {
+        match peek_whole(self.source) {
             Ok(Some(found)) => {
                 self.pass(2);
                 Ok(Some(found))

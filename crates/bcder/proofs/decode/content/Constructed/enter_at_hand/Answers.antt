@@ -20,7 +20,7 @@ unfolding of_constructed
 returns-in-Ok-Some-clause-entered g c =
     let k = with_source c.args.self.now c.peek_whole.new.source in
     let s = resembles_with_source g.S.Source.stream c.args.self.now c.peek_whole.new.source c.peek_whole.ensures.rest c.peek_whole.ensures.kept in
-    let p = rw c.in-Ok-Some.field-0-is at c.in-Ok-Some.ensures.short in
+    let p = (rw c.in-Ok-Some.field-0-is at c.in-Ok-Some.ensures.short) c.args.self.now.mode in
     let w = rw c.in-Ok-Some.field-0-is at c.in-Ok-Some.ensures.whole in
     let l = (within k.source.now.limit (g.S.Source.stream k.source.now.source) (limited_stream g.S.Source.stream k.source.now).avail (g.met.S.Source.sound k.source.now.source) (omega arith)).1 in
     let i = within_constructed g.S.Source.stream g.met.S.Source.sound c.args.self.now in
