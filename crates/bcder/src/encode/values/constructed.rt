@@ -1,5 +1,7 @@
 //! Encoders of constructed values.
 ghost use Rattle.std.specs.Prelude.{◌≡◌, ◌<◌, [], length, true, IfOk};
+ghost use Rattle.bcder.specs.declared.length.Length.TheVariants.{Definite};
+ghost use Rattle.bcder.specs.declared.mode.Mode.TheVariants.{Cer};
 ghost use Rattle.bcder.specs.x690.Identifier.{sequence_tag, set_tag, identifier as identifier_of};
 ghost use Rattle.bcder.specs.x690.Octets.{fits_length, constructed_length, closing};
 ghost use Rattle.bcder.specs.calls.Meaning.{ValueMeans, constructed_meaning};
@@ -138,17 +140,6 @@ fn note_contents<V: Values>(inner: &V, mode: Mode, sizes: &mut Sizes) -> Result<
     }
 }
 
-/// What the length octets of a constructed value say (X.690, 9.1, 10.1).
-#[inline(always)]
-fn constructed_length(mode: Mode, len: usize) -> Length
-    ensures { result ≡ constructed_length mode len }
-{
-    match mode {
-        Mode::Cer => Length::Indefinite,
-        Mode::Ber | Mode::Der => Length::Definite(len),
-    }
-}
-
 /// The size that a value tells, which is the next one that is left. In CER none is told.
 #[inline(always)]
 fn next_size(mode: Mode, sizes: &mut SizesLeft<'_>) -> Option<usize>
@@ -160,18 +151,54 @@ fn next_size(mode: Mode, sizes: &mut SizesLeft<'_>) -> Option<usize>
     }
 }
 
-/// Writes the end-of-contents octets, if the mode has them behind its constructed values.
-#[inline(always)]
-fn put_closing<W: io::Write>(mode: Mode, target: &mut W, why: &mut WriteError) -> Result<(), Failed>
-    ensures { WroteOctets W.contents target (closing mode) (into_result result why.new) }
+/// Writes the value in CER, where its end is marked (X.690, 9.1).
+fn put_indefinite<V: Values, W: io::Write>(
+    value: &Constructed<V>,
+    sizes: &mut SizesLeft<'_>,
+    target: &mut W,
+    why: &mut WriteError,
+) -> Result<(), Failed>
+    requires can { V.can_encode value.now.inner }
+    requires known { HasEncoding (V.means value.now.inner Cer) }
+    requires sized { MayRead (V.reads value.now.inner Cer) sizes.old.sizes.now }
+    ensures written { WritesEnclosed W.contents target value.now.tag 0 Cer
+        (V.means value.now.inner Cer) (V.may_lack value.now.inner Cer)
+        (into_result result why.new) }
+    ensures left { IfOk result (λ _.
+        HasRead (V.reads value.now.inner Cer) sizes.old.sizes.now sizes.new.sizes.now) }
 {
-    match mode {
-        Mode::Cer => put_all(target, &[0x00, 0x00], why),
-        Mode::Ber | Mode::Der => put_all(target, &[], why),
-    }
+    put_header(target, value.tag, true, Length::Indefinite, why)?;
+    value.inner.write_known(Mode::Cer, sizes, target, why)?;
+    put_all(target, &[0x00, 0x00], why)
+}
+
+/// Writes the value in BER or DER, where its length is told (X.690, 10.1).
+fn put_definite<V: Values, W: io::Write>(
+    value: &Constructed<V>,
+    size: usize,
+    mode: Mode,
+    sizes: &mut SizesLeft<'_>,
+    target: &mut W,
+    why: &mut WriteError,
+) -> Result<(), Failed>
+    requires fits { fits_length (constructed_length mode size) ≡ true }
+    requires definite { constructed_length mode size ≡ Definite size }
+    requires closing { closing mode ≡ [] }
+    requires can { V.can_encode value.now.inner }
+    requires known { HasEncoding (V.means value.now.inner mode) }
+    requires sized { MayRead (V.reads value.now.inner mode) sizes.old.sizes.now }
+    ensures written { WritesEnclosed W.contents target value.now.tag size mode
+        (V.means value.now.inner mode) (V.may_lack value.now.inner mode)
+        (into_result result why.new) }
+    ensures left { IfOk result (λ _.
+        HasRead (V.reads value.now.inner mode) sizes.old.sizes.now sizes.new.sizes.now) }
+{
+    put_header(target, value.tag, true, Length::Definite(size), why)?;
+    value.inner.write_known(mode, sizes, target, why)
 }
 
 /// Writes the value with these values inside, which have `size` octets where that is told.
+#[inline(always)]
 fn put_enclosed<V: Values, W: io::Write>(
     value: &Constructed<V>,
     size: usize,
@@ -190,9 +217,10 @@ fn put_enclosed<V: Values, W: io::Write>(
     ensures left { IfOk result (λ _.
         HasRead (V.reads value.now.inner mode) sizes.old.sizes.now sizes.new.sizes.now) }
 {
-    put_header(target, value.tag, true, constructed_length(mode, size), why)?;
-    value.inner.write_known(mode, sizes, target, why)?;
-    put_closing(mode, target, why)
+    match mode {
+        Mode::Cer => put_indefinite(value, sizes, target, why),
+        Mode::Ber | Mode::Der => put_definite(value, size, mode, sizes, target, why),
+    }
 }
 
 /// Writes a value that is known to have an encoding, and whose size isn't noted: it is measured
