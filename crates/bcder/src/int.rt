@@ -99,6 +99,7 @@ impl Integer {
     /// Those of [`Constructed::take_primitive_if`]; where the contents octets are no integer's; and
     /// where there is no memory for them.
     #[tactic(auto, using(crate::specs::laws::Moved::untouched_is_moved))]
+    #[inline(always)]
     pub fn take_from<S: Source>(
         alloc: Global,
         cons: &mut Constructed<'_, S>,
@@ -119,6 +120,7 @@ impl Integer {
     ///
     /// Where they are no integer's, where fewer come than are owed, where the source fails, and
     /// where there is no memory for them. Then none is taken.
+    #[inline(always)]
     pub fn from_primitive<S: Source>(
         alloc: Global,
         octets: &mut Primitive<'_, S>,

@@ -113,6 +113,7 @@ impl Oid<Bytes> {
     ///
     /// Those of [`take_opt_from`](Self::take_opt_from), and `ContentError::ExpectedTag` where that
     /// answers `None`: the content then stays usable.
+    #[inline(always)]
     pub fn take_from<S: Source>(
         alloc: Global,
         cons: &mut Constructed<'_, S>,
@@ -130,6 +131,7 @@ impl Oid<Bytes> {
     /// # Errors
     ///
     /// Those of [`skip_opt_in`](Self::skip_opt_in), and where there is no memory for the octets.
+    #[inline(always)]
     pub fn take_opt_from<S: Source>(
         alloc: Global,
         cons: &mut Constructed<'_, S>,
@@ -163,6 +165,7 @@ impl Oid<Bytes> {
     ///
     /// Those of [`skip_primitive`](Self::skip_primitive), and where there is no memory for the
     /// octets. Then none is taken.
+    #[inline(always)]
     pub fn from_primitive<S: Source>(
         alloc: Global,
         octets: &mut Primitive<'_, S>,

@@ -166,6 +166,7 @@ impl Unsigned {
     /// Those of [`Constructed::take_primitive_if`]; where the contents octets are no such
     /// integer's; and where there is no memory for them.
     #[tactic(auto, using(crate::specs::laws::Moved::untouched_is_moved))]
+    #[inline(always)]
     pub fn take_from<S: Source>(
         alloc: Global,
         cons: &mut Constructed<'_, S>,
@@ -186,6 +187,7 @@ impl Unsigned {
     ///
     /// Where they are no such integer's, where fewer come than are owed, where the source fails,
     /// and where there is no memory for them. Then none is taken.
+    #[inline(always)]
     pub fn from_primitive<S: Source>(
         alloc: Global,
         octets: &mut Primitive<'_, S>,

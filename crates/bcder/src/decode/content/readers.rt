@@ -220,6 +220,7 @@ impl<'a, S: Source> Primitive<'a, S> {
     }
 
     /// Takes all octets where they are an integer's.
+    #[inline(always)]
     pub(crate) fn take_integer(&mut self, alloc: Global) -> Result<Bytes, DecodeError<S::Error>>
         ensures moves { MovedOctets S.stream self }
         ensures read { ReadBy S.stream self (λ w b. (b ≡ w) × IsSmallest w) NotSmallest result }
@@ -241,6 +242,7 @@ impl<'a, S: Source> Primitive<'a, S> {
     }
 
     /// Takes all octets where they are those of an integer that isn't negative.
+    #[inline(always)]
     pub(crate) fn take_unsigned(&mut self, alloc: Global) -> Result<Bytes, DecodeError<S::Error>>
         ensures moves { MovedOctets S.stream self }
         ensures read { ReadBy S.stream self

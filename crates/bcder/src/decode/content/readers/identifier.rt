@@ -15,6 +15,7 @@ use std::alloc::Global;
 #[tactic(auto, using(crate::proofs::moves, crate::proofs::Reading::refuses_missing))]
 impl<'a, S: Source> Primitive<'a, S> {
     /// Takes all octets where they end with a subidentifier.
+    #[inline(always)]
     pub(crate) fn take_identifier(&mut self, alloc: Global) -> Result<Bytes, DecodeError<S::Error>>
         ensures moves { MovedOctets S.stream self }
         ensures read { ReadBy S.stream self (λ w b. (b ≡ w) × IsComplete w) NoIdentifier result }
