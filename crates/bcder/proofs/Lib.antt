@@ -1,6 +1,6 @@
 pub use Rattle.std.proofs.lemmas.Bool.Decides.{nat_tests}
 pub use Rattle.bcder.proofs.Moving.{moves}
-pub use Rattle.bcder.proofs.SameBorrow.{moves_constructed_name, moves_octets_name, moves_content_name}
+pub use Rattle.bcder.proofs.SameBorrow.{moves_constructed_name}
 pub mod Lemmas
 mod worked
 pub mod ReadingSteps

@@ -10,7 +10,7 @@ use Rattle.bcder.specs.calls.Stream.{Stream, IsSound}
 use Rattle.bcder.specs.calls.Content.{Reading, octets, values, Octets, Moves, Resembles}
 use Rattle.bcder.specs.laws.Limits.{limited_sound, limit_told, first_kept}
 use Rattle.bcder.proofs.Entering.{Within}
-use Rattle.bcder.specs.calls.Views.{of_content, of_primitive, of_constructed, content_name, content_mark, limited_stream}
+use Rattle.bcder.specs.calls.Views.{of_content, of_primitive, of_constructed, content_name, limited_stream}
 
 pub moves_name : (c d : Reading) → Moves c d → d.name ≡ c.name
 unfolding Moves
@@ -21,22 +21,9 @@ unfolding of_primitive of_constructed
 name_of_content stream (content.Primitive p) = refl
 name_of_content stream (content.Constructed p) = refl
 
-pub moves_content_name : {S : Type 0} (stream : S → Stream) (a b : Content S) → Moves (of_content stream a) (of_content stream b) → content_name b ≡ content_name a
-unfolding Moves
-moves_content_name stream a b m = sym (name_of_content stream b) ∙ m.name ∙ name_of_content stream a
-
 pub moves_constructed_name : {S : Type 0} (stream : S → Stream) (a b : Constructed S) → Moves (of_constructed stream a) (of_constructed stream b) → b.source.ghost_name ≡ a.source.ghost_name
 unfolding of_constructed Moves
 moves_constructed_name stream a b m = m.name
-
-pub moves_octets_name : {S : Type 0} (stream : S → Stream) (a b : Primitive S) → Moves (of_primitive stream a) (of_primitive stream b) → b.source.ghost_name ≡ a.source.ghost_name
-unfolding of_primitive Moves
-moves_octets_name stream a b m = m.name
-
-pub mark_of_content : {S : Type 0} (stream : S → Stream) (a : Content S) → (of_content stream a).marked ≡ content_mark a
-unfolding of_primitive of_constructed
-mark_of_content stream (content.Primitive p) = refl
-mark_of_content stream (content.Constructed p) = refl
 
 take_within : (n : ℕ) (xs : List ℕ) → length (take n xs) ≤ n
 take_within n xs = grind (arith, common_steps)

@@ -1,6 +1,5 @@
 -- A step that stopped is an error for the same reason.
 use Rattle.std.proofs.Common.{◌≡◌}
-use Rattle.std.specs.Prelude.{Result, Ok, Err, IfErr, IsErrAnd, OnOk}
 use Rattle.bcder.specs.declared.decode.error.ContentError.{ContentError}
 use Rattle.bcder.specs.calls.Cause.{Cause, of_source, IsOfContent}
 use Rattle.bcder.specs.calls.Content.{Reading, Asked}
@@ -23,13 +22,3 @@ module _ {E F : Type 0} (stopped : E → Cause ContentError) (why : F → Cause 
   walk_stopped (walking.RefusesWalk.failed x o) = walking.RefusesWalk.failed x (own o)
   walk_stopped (walking.RefusesWalk.source k x) = walking.RefusesWalk.source (source k) x
   walk_stopped (walking.RefusesWalk.nothing s n f o) = walking.RefusesWalk.nothing s n f (own o)
-
--- the same of an answer
-pub end_answered : {T E F : Type 0} (stopped : E → Cause ContentError) (why : F → Cause ContentError) (s : E) (r : Result T F) (c d : Reading) → IsErrAnd r (λ e. (IsOfContent (stopped s) → IsOfContent (why e)) × (stopped s ≡ of_source → why e ≡ of_source)) → calls.RefusesEnd stopped c s d → IfErr r (λ e. calls.RefusesEnd why c e d)
-end_answered stopped why s (Err e) c d y h = end_stopped stopped why s e y.0 y.1 c d h
-end_answered stopped why s (Ok _) c d y h = tt
-
--- a refusal says nothing of a success
-pub not_ok : {T F : Type 0} (P : F → Type 0) (Q : Type 0) (r : Result T F) → IsErrAnd r P → OnOk r Q
-not_ok P Q (Err e) y = tt
-not_ok P Q (Ok _) y = elim y [ ]

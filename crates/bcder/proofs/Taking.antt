@@ -1,5 +1,5 @@
 -- A value is its header, and then its content.
-use Rattle.std.proofs.Common.{◌≡◌, ◌≢◌, ℕ, ◌+◌, ◌≤◌, Bool, true, false, List, ◌++◌, length, take, refl, ap, sym, ◌∙◌, arith, length-append, subst, inl}
+use Rattle.std.proofs.Common.{◌≡◌, ◌≢◌, ℕ, ◌+◌, ◌≤◌, Bool, true, false, List, ◌++◌, length, take, refl, ap, sym, ◌∙◌, arith, length-append, subst}
 use Rattle.std.proofs.lemmas.Grind.{common_steps}
 use Rattle.std.specs.Borrow.{MutBor}
 use Rattle.std.specs.Prelude.{Option, Some, None, Result, Ok, Err, ◌||◌, IfOk, IfErr, IsErrAnd}
@@ -17,7 +17,7 @@ use Rattle.bcder.specs.calls.Content as content
 use Rattle.bcder.specs.calls.Calls.{IsFormOf, ContentOf, Hands, Untagged, Answered, AnswersDone, RefusesContent, by_closure, unfinished, TakesContent, TakesValue, RefusesFront, RefusesValue, IsInside}
 use Rattle.bcder.specs.calls.Calls as calls
 use Rattle.bcder.specs.steps.Inside.{TakesBehind, of_form, refused, taken}
-use Rattle.bcder.specs.calls.Takes.{HasNone, HasRefusedForm, TellsNone, by_header, by_form, by_content, TakesNext, Takes}
+use Rattle.bcder.specs.calls.Takes.{HasNone, HasRefusedForm, by_header, by_form, by_content, TakesNext}
 use Rattle.bcder.specs.laws.Complete.{header_size}
 use Rattle.bcder.proofs.Moving.{moves_value, moves_failed, advances_trans, open_not_ended}
 use Rattle.bcder.proofs.Entering.{advances_to, header_entered}
@@ -189,11 +189,6 @@ module _ {C T X : Type 0} (view : C → Reading) (post : Tag → MutBor C → Re
 
     pub next_refused : (e : DecodeError X) → RefusesHeader cause_of asked c e d → d.marked ≡ c.marked → d.state ≡ Failed → TakesNext view post form asked c (Err e) d
     next_refused e h m f = record { value = tt; shorter = tt; none = tt; refused = by_header h m; failed = f; mode = mo }
-
--- there is no value, where one has to be
-pub one_none : {C T X : Type 0} (view : C → Reading) (post : Tag → MutBor C → Result T (DecodeError X) → MutBor C → Type 0) (form : Option Bool) (asked : Asked) (c d : Reading) → d.mode ≡ c.mode → HasNone asked c d → (r : Result T (DecodeError X)) → IsErrAnd r (TellsNone asked) → Takes view post form asked c r d
-one_none view post form asked c d mo n (Err e) y = record { value = tt; shorter = tt; refused = inl (n, y); mode = mo }
-one_none view post form asked c d mo n (Ok _) y = elim y [ ]
 
 -- no value stands there of the form that is refused
 pub of_either_form : {C T X : Type 0} (view : C → Reading) (post : Tag → MutBor C → Result T (DecodeError X) → MutBor C → Type 0) (form : Option Bool) (c : Reading) (h : Header) (r : Result (Option T) (DecodeError X)) (d : Reading) → (form ≡ Some h.form → ⊥) → TakesBehind view post form c h r d → TakesBehind view post None c h r d

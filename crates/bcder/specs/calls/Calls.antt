@@ -66,10 +66,6 @@ module _ {C : Type 0} (view : C → Reading) (Handed : Tag → Reading → Type 
   MayBeCalled pre = (t : Tag) (p : MutBor C) → Handed t (view p.now) → pre t p
 
 module _ {C : Type 0} (view : C → Reading) (Handed : Reading → Type 0) where
-  -- the same at one tag
-  abbrev pub MayBeCalledAt : Tag → (Tag → MutBor C → Type 0) → Type 0
-  MayBeCalledAt t pre = (p : MutBor C) → Handed (view p.now) → pre t p
-
   -- the same without a tag
   abbrev pub MayBeCalledOn : (MutBor C → Type 0) → Type 0
   MayBeCalledOn pre = (p : MutBor C) → Handed (view p.now) → pre p
@@ -80,9 +76,6 @@ module _ {C R : Type 0} (view : C → Reading) (Handed : Tag → Reading → Typ
   IsLawfulAtAny post = (t : Tag) (p : MutBor C) (r : R) (q : MutBor C) → Handed t (view p.now) → post t p r q → Moves (view p.now) (view q.now)
 
 module _ {C R : Type 0} (view : C → Reading) (Handed : Reading → Type 0) where
-  abbrev pub IsLawfulAt : Tag → (Tag → MutBor C → R → MutBor C → Type 0) → Type 0
-  IsLawfulAt t post = (p : MutBor C) (r : R) (q : MutBor C) → Handed (view p.now) → post t p r q → Moves (view p.now) (view q.now)
-
   abbrev pub IsLawfulOn : (MutBor C → R → MutBor C → Type 0) → Type 0
   IsLawfulOn post = (p : MutBor C) (r : R) (q : MutBor C) → Handed (view p.now) → post p r q → Moves (view p.now) (view q.now)
 

@@ -1,5 +1,5 @@
 -- The content that a value of the code stands for, by the stream of its source.
-use Rattle.std.specs.Prelude.{ℕ, Bool}
+use Rattle.std.specs.Prelude.{ℕ}
 use Rattle.std.specs.Borrow.{GName, MutBor}
 use Rattle.bcder.specs.declared.decode.source.limited.LimitedSource.{LimitedSource}
 use Rattle.bcder.specs.declared.decode.content.Primitive.{Primitive}
@@ -50,14 +50,6 @@ views = tt
 abbrev pub content_name : {S : Type 0} → Content S → GName
 content_name (content.Primitive p) = p.source.ghost_name
 content_name (content.Constructed c) = c.source.ghost_name
-
-abbrev pub content_source : {S : Type 0} → Content S → LimitedSource S
-content_source (content.Primitive p) = p.source.now
-content_source (content.Constructed c) = c.source.now
-
-abbrev pub content_mark : {S : Type 0} → Content S → Bool
-content_mark (content.Primitive p) = p.marked
-content_mark (content.Constructed c) = c.marked
 
 -- the position where the content begins
 abbrev pub content_start : {S : Type 0} → Content S → ℕ

@@ -7,7 +7,6 @@ use Rattle.bcder.specs.calls.Calls.{HasForm}
 use Rattle.bcder.specs.calls.Cause.{Cause, IsOfContent}
 use Rattle.bcder.specs.x690.Identifier.{Tag}
 use Rattle.bcder.specs.steps.Peek.{header_of, octets_header}
-use Rattle.bcder.specs.calls.Stream.{Grew}
 use Rattle.bcder.specs.calls.Content.{Reading, Asked, tagged, IsAsked, Enters, RefusesHeader}
 use Rattle.bcder.specs.calls.Takes.{HasNone}
 
@@ -27,10 +26,6 @@ module _ {E : Type 0} (c d : Reading) where
   -- where it succeeded, the source met no fault
   abbrev pub MeetsNoFault : {T : Type 0} → Result T E → Type 0
   MeetsNoFault r = OnOk r (d.stream.faults ≡ c.stream.faults)
-
-  -- where it didn't, the source failed
-  abbrev pub MeetsFault : {T : Type 0} → Result T E → Type 0
-  MeetsFault r = OnErr r (Grew c.stream.faults d.stream.faults)
 
 -- the header of a primitive value of the tag was passed, with so many contents octets; or there is none; or it was refused, as that of a constructed one is
 pub record EntersOctets {E : Type 0} (why : E → Cause ContentError) (t : Tag) (c : Reading) (r : Result (Option ℕ) E) (d : Reading) : Type 0 where

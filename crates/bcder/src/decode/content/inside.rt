@@ -13,6 +13,7 @@ ghost use Rattle.bcder.specs.steps.Peek.{header_of, len_of};
 ghost use Rattle.bcder.specs.calls.Views.{of_constructed, of_primitive, of_content, limited_stream};
 ghost use Rattle.bcder.specs.calls.Views.{content_name, before};
 ghost use Rattle.bcder.specs.calls.Views.{after};
+ghost use Rattle.bcder.specs.x690.Identifier.{Tag};
 
 use super::take::pop;
 use super::{Constructed, Content, Kind, Primitive, State};
@@ -21,7 +22,6 @@ use crate::decode::header::{Form, Header, Wanted};
 use crate::decode::source::{LimitedSource, Source};
 use crate::decode::stop::{Reason, Stop};
 use crate::length::Length;
-ghost use Rattle.bcder.specs.x690.Identifier.{Tag};
 
 /// Limits the source to the content behind a length, and answers how the end of that is known
 /// (X.690, 8.1.3.2).
@@ -126,7 +126,7 @@ impl<'a, S: Source> Inside for Constructed<'a, S> {
         }
         match self.finish_slow() {
             Ok(()) => Ok(()),
-            Err(stop) => self.answer_stop(stop),
+            Err(stop) => Err(self.stop_error(stop)),
         }
     }
 }

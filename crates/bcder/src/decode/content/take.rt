@@ -1,6 +1,6 @@
 //! Passing over the header of the next value.
 ghost use Rattle.std.specs.Prelude.{◌≡◌, ◌+◌, ◌≤◌, false, length, take, IsTrue, Some};
-ghost use Rattle.std.specs.Prelude.{IfOk, IfErr, IfSome, IfNone, IsErrAnd, OnOk, OnErr};
+ghost use Rattle.std.specs.Prelude.{IfOk, IfErr, IfSome, IsErrAnd, OnOk, OnErr};
 ghost use Rattle.bcder.specs.calls.Calls.{popped};
 ghost use Rattle.bcder.specs.calls.Changed.{SameFaults, MoreFaults, SameRest, SameKept};
 ghost use Rattle.bcder.specs.calls.Cause.{cause_of, of_source, of_memory, IsOfContent, IsRefusal};
@@ -9,10 +9,10 @@ ghost use Rattle.bcder.specs.calls.Cause.{NamesTag};
 ghost use Rattle.bcder.specs.calls.Content.{Moves, Advances, FitsOwed};
 ghost use Rattle.bcder.specs.calls.Content.{IsAsked, Enters, TakesMarker, NoFront, Resembles};
 ghost use Rattle.bcder.specs.steps.Entering.{EntersNext, EntersOctets, FindsNone, RefusesNext};
-ghost use Rattle.bcder.specs.steps.Entering.{MeetsNoFault, MeetsFault};
+ghost use Rattle.bcder.specs.steps.Entering.{MeetsNoFault};
 ghost use Rattle.bcder.specs.x690.Identifier.{AreOctets};
 ghost use Rattle.bcder.specs.steps.Peek.{header_of, len_of, octets_header, asked};
-ghost use Rattle.bcder.specs.steps.Peek.{Fronts, FrontsEnd, Peeks};
+ghost use Rattle.bcder.specs.steps.Peek.{Fronts, FrontsEnd};
 ghost use Rattle.bcder.specs.declared.mode.Mode.{Mode as ModeValue};
 ghost use Rattle.bcder.specs.calls.Views.{before, after, limited_stream};
 
@@ -129,14 +129,6 @@ impl<'a, S: Source> Constructed<'a, S> {
         ensures { NamesTag tag result }
     {
         self.source.content_err(ContentError::ExpectedTag(tag))
-    }
-
-    /// The same as an answer, where room for an error isn't cleared either.
-    #[inline(always)]
-    pub(super) fn answer_expected_tag<T>(&self, tag: Tag) -> Result<T, DecodeError<S::Error>>
-        ensures { IsErrAnd result (NamesTag tag) }
-    {
-        Err(self.expected_tag_error(tag))
     }
 
     /// Passes over octets that are at hand. The content has failed until the value that they begin

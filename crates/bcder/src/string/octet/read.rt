@@ -87,15 +87,9 @@ impl OctetString {
         match cons.next_header(Wanted::Tagged(tag)) {
             Ok(Some(header)) => {
                 if header.form.is_constructed() {
-                    cons.take_constructed_body(
-                        header,
-                        |values| from_constructed(alloc, values),
-                    )
+                    cons.take_constructed_body(header, |values| from_constructed(alloc, values))
                 } else {
-                    match cons.take_primitive_body(
-                        header,
-                        |octets| take_piece(alloc, octets),
-                    ) {
+                    match cons.take_primitive_body(header, |octets| take_piece(alloc, octets)) {
                         Ok(Some(octets)) => Ok(Some(OctetString::new(octets))),
                         Ok(None) => Ok(None),
                         Err(error) => Err(error),
