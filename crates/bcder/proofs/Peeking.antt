@@ -26,9 +26,9 @@ unheaded mode asked w t f x e i h n = (h, n, λ o. o.4 (subst (λ u. IsAsked ask
 pub end_asked : (mode : Mode) (asked : Asked) (w x : List ℕ) (t : Tag) (f : Bool) (y : List ℕ) → read_end mode w ≡ Some x → read_identifier w ≡ Some (t, f, y) → IsAsked asked t → IsAsked asked end_of_contents
 end_asked mode asked w x t f y e i a = let d = end_identified mode w x e in subst (λ u. IsAsked asked u) (ap (λ r. r.0) (some_inj _ _ (sym i ∙ d.1))) a
 
--- ---- two octets
+-- ---- a header that was read
 
--- a header that was read in two octets shows what is told of it
+-- it shows what is told of it
 pub front_shown : (mode : Mode) (asked : Asked) (w : List ℕ) (n : ℕ) (h : Header) (p : Peeked) → n ≤ length w → IsFrontOf mode asked n h p → ((x : List ℕ) → read_front mode (w ++ x) ≡ Some (h, drop n (w ++ x))) → Shows mode asked p w
 front_shown mode asked w n h peeked.Nothing l i r = absurd i
 front_shown mode asked w n h peeked.Other l i r = λ x. other_of_front mode asked (w ++ x) h (drop n (w ++ x)) (r x) i

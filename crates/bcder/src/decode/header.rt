@@ -159,10 +159,14 @@ fn wanted_tag(wanted: &Wanted, tag: Tag) -> Tag
 }
 
 /// What the octets at hand tell of the header at their front, whatever follows them. `None` is
-/// where it depends on what follows.
+/// where it depends on what follows. Headers of four octets are looked for first, since lengths of
+/// 256 and more are most of those that aren't short.
 fn look(mode: Mode, wanted: &Wanted, octets: &[u8]) -> Option<Peeked>
     ensures { Sees mode (asked wanted.now) result octets.now }
 {
+    if let Some(seen) = look_long(mode, wanted, octets) {
+        return Some(seen);
+    }
     if let Some((header, rest)) = header_at(mode, octets) {
         if !is_wanted(wanted, header.tag) {
             return Some(Peeked::Other);
@@ -215,13 +219,7 @@ fn short_octets(octets: &[u8]) -> Option<(Tag, usize)>
 
 /// What is told by the leading octet, which tells the tag alone, and a length, in so many octets.
 #[inline(always)]
-fn short_front(
-    mode: Mode,
-    wanted: &Wanted,
-    leading: u8,
-    len: Length,
-    size: usize,
-) -> Option<Peeked>
+fn short_front(mode: Mode, wanted: &Wanted, leading: u8, len: Length, size: usize) -> Option<Peeked>
     requires { leading % 32 < 31 }
     ensures { IfSome result (IsFrontOf mode (asked wanted.now) size (record {
       tag = record { class = class_of leading; number = leading % 32 };
@@ -246,37 +244,41 @@ fn short_front(
     }
 }
 
-/// What the first octets tell, if they are a header or end-of-contents octets: a tag that the
-/// leading octet tells alone, and a definite length below 128. Where headers of any tag are looked
-/// for a primitive value is told first, then end-of-contents octets, so that what they are is a
-/// constant; the length may be indefinite too, or have three octets where it needs them.
+/// What two octets tell, if they are a header or end-of-contents octets: a tag that the leading
+/// octet tells alone, and a definite length below 128. Where headers of any tag are looked for the
+/// length may be indefinite too, and end-of-contents octets are told first, so that what they are
+/// is a constant.
 #[inline(always)]
 fn look_short(mode: Mode, wanted: &Wanted, octets: &[u8]) -> Option<Peeked>
     ensures { IfSome result (λ p. Shows mode (asked wanted.now) p octets.now) }
 {
     let any = matches!(wanted, Wanted::Any);
-    if any {
-        if let Some(found) = short_octets(octets) {
-            return Some(Peeked::Front {
-                header: Header {
-                    tag: found.0,
-                    form: Form::Primitive(found.1),
-                },
-                size: 2,
-            });
-        }
-    }
     match octets {
         [leading, len, ..] if any && *len == 0 && *leading == 0 => Some(Peeked::End { size: 2 }),
         [leading, len, ..] if *leading % 32 < 31 && *len < 0x80 => {
-            short_front(mode, wanted, *leading, Length::Definite(usize::from(*len)), 2)
+            short_front(
+                mode,
+                wanted,
+                *leading,
+                Length::Definite(usize::from(*len)),
+                2,
+            )
         }
         [leading, len, ..] if any && *leading % 32 < 31 && *len == 0x80 => {
             short_front(mode, wanted, *leading, Length::Indefinite, 2)
         }
-        [leading, count, high, low, ..]
-            if any && *leading % 32 < 31 && *count == 0x82 && *high != 0 =>
-        {
+        _ => None,
+    }
+}
+
+/// What four octets tell, if they are a header: a tag that the leading octet tells alone, and a
+/// length that needs three octets.
+#[inline(always)]
+fn look_long(mode: Mode, wanted: &Wanted, octets: &[u8]) -> Option<Peeked>
+    ensures { IfSome result (λ p. Shows mode (asked wanted.now) p octets.now) }
+{
+    match octets {
+        [leading, count, high, low, ..] if *leading % 32 < 31 && *count == 0x82 && *high != 0 => {
             let len = usize::from(*high) * 0x100 + usize::from(*low);
             short_front(mode, wanted, *leading, Length::Definite(len), 4)
         }

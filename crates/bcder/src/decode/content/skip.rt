@@ -8,7 +8,7 @@ ghost use Rattle.bcder.specs.calls.Content.{FitsOwed, Moves, Resembles};
 ghost use Rattle.bcder.specs.steps.Inside.{kind_behind, limit_inside};
 ghost use Rattle.bcder.specs.steps.Peek.{header_of, octets_header, len_of};
 ghost use Rattle.bcder.specs.calls.Skipping.{ExactlyAll, ExactlySkipped, ExactlyValue, FoundMemory};
-ghost use Rattle.bcder.specs.steps.SkipSteps.{IsPast, MovedBehind, SkippedBehind};
+ghost use Rattle.bcder.specs.steps.SkipSteps.{IsPast};
 ghost use Rattle.bcder.specs.calls.Skipping.{SkippedAll, SkippedNext, SkippedOne, SkippedValue};
 ghost use Rattle.bcder.specs.steps.Stacked.{Counts, Gone, IsCounted, LeavesInnermost, Ran, RanOverSource};
 ghost use Rattle.bcder.specs.steps.Stacked.{TopIs};
@@ -309,58 +309,6 @@ impl<'a, S: Source> Constructed<'a, S> {
         }
     }
 
-    /// Passes over the contents octets of a primitive value whose header was passed over. That needs
-    /// no stack.
-    #[inline(always)]
-    fn skip_octets<F>(
-        &mut self,
-        tag: Tag,
-        len: usize,
-        op: &mut F,
-    ) -> Result<Option<()>, DecodeError<S::Error>>
-    where
-        F: FnMut(Tag, bool, usize) -> Result<(), ContentError>,
-        requires callable { F.IsAlwaysCallable op.old }
-        requires fits { FitsOwed (Length.Definite len) (limit_in self.old) }
-        ensures moves { MovedBehind S.stream self (octets_header tag len) }
-        ensures skipped { SkippedBehind S.stream F.step self (octets_header tag len) op result }
-    {
-        if let Err(error) = op(tag, false, 0) {
-            return Err(self.interrupt_error(Interrupt::Closure(error)));
-        }
-        match self.source.skip_owed(len) {
-            Ok(()) => {
-                self.state = State::Open;
-                Ok(Some(()))
-            }
-            Err(stop) => Err(self.interrupt_error(Interrupt::Stopped(stop))),
-        }
-    }
-
-    /// The same where all of the contents octets are at hand.
-    #[inline(always)]
-    fn skip_octets_at_hand<F>(
-        &mut self,
-        tag: Tag,
-        len: usize,
-        op: &mut F,
-    ) -> Result<Option<()>, DecodeError<S::Error>>
-    where
-        F: FnMut(Tag, bool, usize) -> Result<(), ContentError>,
-        requires callable { F.IsAlwaysCallable op.old }
-        requires fits { FitsOwed (Length.Definite len) (limit_in self.old) }
-        requires at_hand { len ≤ (source_of S.stream self.old).avail }
-        ensures moves { MovedBehind S.stream self (octets_header tag len) }
-        ensures skipped { SkippedBehind S.stream F.step self (octets_header tag len) op result }
-    {
-        if let Err(error) = op(tag, false, 0) {
-            return Err(self.interrupt_error(Interrupt::Closure(error)));
-        }
-        self.source.pass_owed(len);
-        self.state = State::Open;
-        Ok(Some(()))
-    }
-
     /// Passes over the header of the next value, if it is primitive, has a header of two octets,
     /// and all of its octets are at hand, and answers its tag and how many contents octets it has.
     /// Else nothing is taken. The source is asked once at most.
@@ -416,7 +364,16 @@ impl<'a, S: Source> Constructed<'a, S> {
             Ok(Some(header)) => {
                 let form = header.form;
                 if let Form::Primitive(len) = form {
-                    return self.skip_octets(header.tag, len, op);
+                    if let Err(error) = op(header.tag, false, 0) {
+                        return Err(self.interrupt_error(Interrupt::Closure(error)));
+                    }
+                    return match self.source.skip_owed(len) {
+                        Ok(()) => {
+                            self.state = State::Open;
+                            Ok(Some(()))
+                        }
+                        Err(stop) => Err(self.interrupt_error(Interrupt::Stopped(stop))),
+                    };
                 }
                 match skip_content(self.source, self.mode, alloc, header, op) {
                     Ok(()) => {
@@ -484,7 +441,14 @@ impl<'a, S: Source> Constructed<'a, S> {
         ensures exact { ExactlySkipped S.stream F.step self op result }
     {
         match self.enter_at_hand() {
-            Ok(Some(found)) => self.skip_octets_at_hand(found.0, found.1, op),
+            Ok(Some(found)) => {
+                if let Err(error) = op(found.0, false, 0) {
+                    return Err(self.interrupt_error(Interrupt::Closure(error)));
+                }
+                self.source.pass_owed(found.1);
+                self.state = State::Open;
+                Ok(Some(()))
+            }
             Ok(None) => self.skip_next_on(alloc, op),
             Err(stop) => Err(self.stop_error(stop)),
         }

@@ -123,8 +123,8 @@ impl<S: Source> LimitedSource<S> {
         ensures kept { SameKept (inside S.stream) self }
     {
         self.source.advance(len);
-        if let Some(owed) = self.limit {
-            self.limit = Some(owed - len);
+        if let Some(owed) = &mut self.limit {
+            *owed -= len;
         }
     }
 

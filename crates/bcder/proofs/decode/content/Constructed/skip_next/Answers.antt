@@ -1,7 +1,8 @@
 use Rattle.std.proofs.Common.{refl, subst}
+use Rattle.bcder.specs.declared.decode.content.skip.Interrupt.TheVariants as interrupt
 use Rattle.bcder.specs.calls.Cause.{cause_of}
 use Rattle.bcder.specs.steps.StopCause.{stop_cause}
-use Rattle.bcder.specs.steps.Peek.{header_of, len_of}
+use Rattle.bcder.specs.steps.Peek.{header_of, octets_header, len_of}
 use Rattle.bcder.specs.steps.Stacked.{source_of, limit_in}
 use Rattle.bcder.specs.calls.Content.{FitsOwed}
 use Rattle.bcder.specs.calls.Views.{of_constructed}
@@ -10,7 +11,8 @@ use Rattle.bcder.proofs.SameBorrow.{within_constructed}
 use Rattle.bcder.proofs.SkipCalls.{skipped_end, skipped_none, behind_moved, behind_passed, behind_stopped, behind_refused}
 use Rattle.bcder.proofs.ContentSteps.{next_refused}
 use Rattle.bcder.proofs.Stopping.{walk_stopped}
-use Rattle.bcder.proofs.RunSteps.{entered_fits}
+use Rattle.bcder.proofs.RunSteps.{entered_fits, octets_refused, octets_passed, octets_stopped}
+use Rattle.bcder.proofs.decode.content.Constructed.skip_next.Given.{F-step}
 use Rattle.bcder.proofs.decode.content.Constructed.skip_next.Goals as goal
 
 pub skip_content-requires-clause-fits : goal.skip_content-requires-clause-fits
@@ -19,55 +21,87 @@ skip_content-requires-clause-fits g c =
     let e = rw c.in-Ok-Some.field-0-is at c.in-Ok-Some.ensures.entered in
     entered_fits (of_constructed g.S.Source.stream c.args.self.now) (of_constructed g.S.Source.stream c.next_header.new.self) (header_of c.in-Ok-Some.header) _ refl e.1
 
-pub skip_octets-requires-clause-fits : goal.skip_octets-requires-clause-fits
+pub skip_owed-requires : goal.skip_owed-requires
 unfolding of_constructed
-skip_octets-requires-clause-fits g c =
+skip_owed-requires g c =
     let e = rw c.in-Ok-Some.field-0-is at c.in-Ok-Some.ensures.entered in
     subst (λ z. FitsOwed (len_of z) (limit_in c.next_header.new.self)) c.in-Primitive.is (entered_fits (of_constructed g.S.Source.stream c.args.self.now) (of_constructed g.S.Source.stream c.next_header.new.self) (header_of c.in-Ok-Some.header) _ refl e.1)
 
-pub returns-in-Primitive-clause-moves : goal.returns-in-Primitive-clause-moves
+pub returns-in-Err-op-clause-moves : goal.returns-in-Err-op-clause-moves
 unfolding of_constructed
-returns-in-Primitive-clause-moves g c =
+returns-in-Err-op-clause-moves g c =
     let e = rw c.in-Ok-Some.field-0-is at c.in-Ok-Some.ensures.entered in
     let w = within_constructed g.S.Source.stream g.met.S.Source.sound c.args.self.now in
     let p = primitive_entered (of_constructed g.S.Source.stream c.args.self.now) (of_constructed g.S.Source.stream c.next_header.new.self) _ c.in-Ok-Some.header refl e.1 c.in-Primitive.len c.in-Primitive.is in
-    c.skip_octets.ensures.moves (of_constructed g.S.Source.stream c.args.self.now) (record { enters = p; octets = w.octets; fits = w.fits })
+    behind_stopped (of_constructed g.S.Source.stream c.args.self.now) (of_constructed g.S.Source.stream c.next_header.new.self) _ (header_of (octets_header c.in-Ok-Some.header.tag c.in-Primitive.len)) c.next_header.new.self.mode (source_of g.S.Source.stream c.next_header.new.self) (source_of g.S.Source.stream c.next_header.new.self) (limit_in c.next_header.new.self) (limit_in c.next_header.new.self) (record { enters = p; octets = w.octets; fits = w.fits }) refl refl refl refl refl refl refl refl refl (F-step g) c.args.op.now c.op.new.self cause_of (interrupt.Closure c.in-Err-op.error) c.interrupt_error.result refl c.interrupt_error.ensures.content c.interrupt_error.ensures.source c.interrupt_error.ensures.memory c.interrupt_error.ensures.closure (octets_refused _ _ (header_of (octets_header c.in-Ok-Some.header.tag c.in-Primitive.len)) _ _ _ refl _ _ c.in-Err-op.ensures)
 
-pub returns-in-Primitive-clause-skipped : goal.returns-in-Primitive-clause-skipped
+pub returns-in-Err-op-clause-skipped : goal.returns-in-Err-op-clause-skipped
 unfolding of_constructed
-returns-in-Primitive-clause-skipped g c =
+returns-in-Err-op-clause-skipped g c =
     let e = rw c.in-Ok-Some.field-0-is at c.in-Ok-Some.ensures.entered in
     let w = within_constructed g.S.Source.stream g.met.S.Source.sound c.args.self.now in
     let p = primitive_entered (of_constructed g.S.Source.stream c.args.self.now) (of_constructed g.S.Source.stream c.next_header.new.self) _ c.in-Ok-Some.header refl e.1 c.in-Primitive.len c.in-Primitive.is in
-    c.skip_octets.ensures.skipped (of_constructed g.S.Source.stream c.args.self.now) (record { enters = p; octets = w.octets; fits = w.fits })
+    behind_refused (of_constructed g.S.Source.stream c.args.self.now) (of_constructed g.S.Source.stream c.next_header.new.self) _ (header_of (octets_header c.in-Ok-Some.header.tag c.in-Primitive.len)) c.next_header.new.self.mode (source_of g.S.Source.stream c.next_header.new.self) (source_of g.S.Source.stream c.next_header.new.self) (limit_in c.next_header.new.self) (limit_in c.next_header.new.self) (record { enters = p; octets = w.octets; fits = w.fits }) refl refl refl refl refl refl refl refl refl _ c.args.op.now c.op.new.self cause_of (interrupt.Closure c.in-Err-op.error) c.interrupt_error.result refl c.interrupt_error.ensures.content c.interrupt_error.ensures.source c.interrupt_error.ensures.memory c.interrupt_error.ensures.closure (octets_refused _ _ (header_of (octets_header c.in-Ok-Some.header.tag c.in-Primitive.len)) _ _ _ refl _ _ c.in-Err-op.ensures)
 
 pub returns-in-Ok-clause-moves : goal.returns-in-Ok-clause-moves
 unfolding of_constructed
 returns-in-Ok-clause-moves g c =
     let e = rw c.in-Ok-Some.field-0-is at c.in-Ok-Some.ensures.entered in
     let w = within_constructed g.S.Source.stream g.met.S.Source.sound c.args.self.now in
-    behind_moved (of_constructed g.S.Source.stream c.args.self.now) (of_constructed g.S.Source.stream c.next_header.new.self) _ (header_of c.in-Ok-Some.header) c.next_header.new.self.mode (source_of g.S.Source.stream c.next_header.new.self) (g.S.Source.stream c.skip_content.new.source.source) (limit_in c.next_header.new.self) c.skip_content.new.source.limit (record { enters = e.1; octets = w.octets; fits = w.fits }) refl refl refl refl refl refl refl refl refl _ c.args.op.now c.skip_content.new.op _ c.in-Ok.ensures refl
+    let p = primitive_entered (of_constructed g.S.Source.stream c.args.self.now) (of_constructed g.S.Source.stream c.next_header.new.self) _ c.in-Ok-Some.header refl e.1 c.in-Primitive.len c.in-Primitive.is in
+    behind_moved (of_constructed g.S.Source.stream c.args.self.now) (of_constructed g.S.Source.stream c.next_header.new.self) _ (header_of (octets_header c.in-Ok-Some.header.tag c.in-Primitive.len)) c.next_header.new.self.mode (source_of g.S.Source.stream c.next_header.new.self) (g.S.Source.stream c.skip_owed.new.self.source) (limit_in c.next_header.new.self) c.skip_owed.new.self.limit (record { enters = p; octets = w.octets; fits = w.fits }) refl refl refl refl refl refl refl refl refl (F-step g) c.args.op.now c.op.new.self _ (octets_passed {X = g.row.S-Error.Denot} _ _ (header_of (octets_header c.in-Ok-Some.header.tag c.in-Primitive.len)) _ _ _ refl _ _ _ c.in-Primitive.len refl c.in_default-op.ensures c.skip_owed.ensures.kept c.skip_owed.ensures.no_fewer p.fits c.in-Ok.ensures.enough c.in-Ok.ensures.rest c.in-Ok.ensures.limit c.in-Ok.ensures.no_fault) refl
 
 pub returns-in-Ok-clause-skipped : goal.returns-in-Ok-clause-skipped
 unfolding of_constructed
 returns-in-Ok-clause-skipped g c =
     let e = rw c.in-Ok-Some.field-0-is at c.in-Ok-Some.ensures.entered in
     let w = within_constructed g.S.Source.stream g.met.S.Source.sound c.args.self.now in
-    behind_passed (of_constructed g.S.Source.stream c.args.self.now) (of_constructed g.S.Source.stream c.next_header.new.self) _ (header_of c.in-Ok-Some.header) c.next_header.new.self.mode (source_of g.S.Source.stream c.next_header.new.self) (g.S.Source.stream c.skip_content.new.source.source) (limit_in c.next_header.new.self) c.skip_content.new.source.limit (record { enters = e.1; octets = w.octets; fits = w.fits }) refl refl refl refl refl refl refl refl refl _ c.args.op.now c.skip_content.new.op cause_of _ _ c.in-Ok.ensures refl
+    let p = primitive_entered (of_constructed g.S.Source.stream c.args.self.now) (of_constructed g.S.Source.stream c.next_header.new.self) _ c.in-Ok-Some.header refl e.1 c.in-Primitive.len c.in-Primitive.is in
+    behind_passed (of_constructed g.S.Source.stream c.args.self.now) (of_constructed g.S.Source.stream c.next_header.new.self) _ (header_of (octets_header c.in-Ok-Some.header.tag c.in-Primitive.len)) c.next_header.new.self.mode (source_of g.S.Source.stream c.next_header.new.self) (g.S.Source.stream c.skip_owed.new.self.source) (limit_in c.next_header.new.self) c.skip_owed.new.self.limit (record { enters = p; octets = w.octets; fits = w.fits }) refl refl refl refl refl refl refl refl refl _ c.args.op.now c.op.new.self cause_of _ _ (octets_passed {X = g.row.S-Error.Denot} _ _ (header_of (octets_header c.in-Ok-Some.header.tag c.in-Primitive.len)) _ _ _ refl _ _ _ c.in-Primitive.len refl c.in_default-op.ensures c.skip_owed.ensures.kept c.skip_owed.ensures.no_fewer p.fits c.in-Ok.ensures.enough c.in-Ok.ensures.rest c.in-Ok.ensures.limit c.in-Ok.ensures.no_fault) refl
+
+pub returns-in-Err-skip_owed-clause-moves : goal.returns-in-Err-skip_owed-clause-moves
+unfolding of_constructed
+returns-in-Err-skip_owed-clause-moves g c =
+    let e = rw c.in-Ok-Some.field-0-is at c.in-Ok-Some.ensures.entered in
+    let w = within_constructed g.S.Source.stream g.met.S.Source.sound c.args.self.now in
+    let p = primitive_entered (of_constructed g.S.Source.stream c.args.self.now) (of_constructed g.S.Source.stream c.next_header.new.self) _ c.in-Ok-Some.header refl e.1 c.in-Primitive.len c.in-Primitive.is in
+    behind_stopped (of_constructed g.S.Source.stream c.args.self.now) (of_constructed g.S.Source.stream c.next_header.new.self) _ (header_of (octets_header c.in-Ok-Some.header.tag c.in-Primitive.len)) c.next_header.new.self.mode (source_of g.S.Source.stream c.next_header.new.self) (g.S.Source.stream c.skip_owed.new.self.source) (limit_in c.next_header.new.self) c.skip_owed.new.self.limit (record { enters = p; octets = w.octets; fits = w.fits }) refl refl refl refl refl refl refl refl refl (F-step g) c.args.op.now c.op.new.self cause_of (interrupt.Stopped c.in-Err-skip_owed.stop) c.interrupt_error-in-Err-skip_owed.result refl c.interrupt_error-in-Err-skip_owed.ensures.content c.interrupt_error-in-Err-skip_owed.ensures.source c.interrupt_error-in-Err-skip_owed.ensures.memory c.interrupt_error-in-Err-skip_owed.ensures.closure (octets_stopped _ _ (header_of (octets_header c.in-Ok-Some.header.tag c.in-Primitive.len)) _ _ _ refl _ _ _ c.in-Primitive.len refl c.in_default-op.ensures c.skip_owed.ensures.kept c.skip_owed.ensures.no_fewer _ c.in-Err-skip_owed.ensures.cause c.in-Err-skip_owed.ensures.err c.in-Err-skip_owed.ensures.err_limit)
+
+pub returns-in-Err-skip_owed-clause-skipped : goal.returns-in-Err-skip_owed-clause-skipped
+unfolding of_constructed
+returns-in-Err-skip_owed-clause-skipped g c =
+    let e = rw c.in-Ok-Some.field-0-is at c.in-Ok-Some.ensures.entered in
+    let w = within_constructed g.S.Source.stream g.met.S.Source.sound c.args.self.now in
+    let p = primitive_entered (of_constructed g.S.Source.stream c.args.self.now) (of_constructed g.S.Source.stream c.next_header.new.self) _ c.in-Ok-Some.header refl e.1 c.in-Primitive.len c.in-Primitive.is in
+    behind_refused (of_constructed g.S.Source.stream c.args.self.now) (of_constructed g.S.Source.stream c.next_header.new.self) _ (header_of (octets_header c.in-Ok-Some.header.tag c.in-Primitive.len)) c.next_header.new.self.mode (source_of g.S.Source.stream c.next_header.new.self) (g.S.Source.stream c.skip_owed.new.self.source) (limit_in c.next_header.new.self) c.skip_owed.new.self.limit (record { enters = p; octets = w.octets; fits = w.fits }) refl refl refl refl refl refl refl refl refl _ c.args.op.now c.op.new.self cause_of (interrupt.Stopped c.in-Err-skip_owed.stop) c.interrupt_error-in-Err-skip_owed.result refl c.interrupt_error-in-Err-skip_owed.ensures.content c.interrupt_error-in-Err-skip_owed.ensures.source c.interrupt_error-in-Err-skip_owed.ensures.memory c.interrupt_error-in-Err-skip_owed.ensures.closure (octets_stopped _ _ (header_of (octets_header c.in-Ok-Some.header.tag c.in-Primitive.len)) _ _ _ refl _ _ _ c.in-Primitive.len refl c.in_default-op.ensures c.skip_owed.ensures.kept c.skip_owed.ensures.no_fewer _ c.in-Err-skip_owed.ensures.cause c.in-Err-skip_owed.ensures.err c.in-Err-skip_owed.ensures.err_limit)
+
+pub returns-in-Ok-skip_content-clause-moves : goal.returns-in-Ok-skip_content-clause-moves
+unfolding of_constructed
+returns-in-Ok-skip_content-clause-moves g c =
+    let e = rw c.in-Ok-Some.field-0-is at c.in-Ok-Some.ensures.entered in
+    let w = within_constructed g.S.Source.stream g.met.S.Source.sound c.args.self.now in
+    behind_moved (of_constructed g.S.Source.stream c.args.self.now) (of_constructed g.S.Source.stream c.next_header.new.self) _ (header_of c.in-Ok-Some.header) c.next_header.new.self.mode (source_of g.S.Source.stream c.next_header.new.self) (g.S.Source.stream c.skip_content.new.source.source) (limit_in c.next_header.new.self) c.skip_content.new.source.limit (record { enters = e.1; octets = w.octets; fits = w.fits }) refl refl refl refl refl refl refl refl refl _ c.args.op.now c.skip_content.new.op _ c.in-Ok-skip_content.ensures refl
+
+pub returns-in-Ok-skip_content-clause-skipped : goal.returns-in-Ok-skip_content-clause-skipped
+unfolding of_constructed
+returns-in-Ok-skip_content-clause-skipped g c =
+    let e = rw c.in-Ok-Some.field-0-is at c.in-Ok-Some.ensures.entered in
+    let w = within_constructed g.S.Source.stream g.met.S.Source.sound c.args.self.now in
+    behind_passed (of_constructed g.S.Source.stream c.args.self.now) (of_constructed g.S.Source.stream c.next_header.new.self) _ (header_of c.in-Ok-Some.header) c.next_header.new.self.mode (source_of g.S.Source.stream c.next_header.new.self) (g.S.Source.stream c.skip_content.new.source.source) (limit_in c.next_header.new.self) c.skip_content.new.source.limit (record { enters = e.1; octets = w.octets; fits = w.fits }) refl refl refl refl refl refl refl refl refl _ c.args.op.now c.skip_content.new.op cause_of _ _ c.in-Ok-skip_content.ensures refl
 
 pub returns-in-Err-skip_content-clause-moves : goal.returns-in-Err-skip_content-clause-moves
 unfolding of_constructed
 returns-in-Err-skip_content-clause-moves g c =
     let e = rw c.in-Ok-Some.field-0-is at c.in-Ok-Some.ensures.entered in
     let w = within_constructed g.S.Source.stream g.met.S.Source.sound c.args.self.now in
-    behind_stopped (of_constructed g.S.Source.stream c.args.self.now) (of_constructed g.S.Source.stream c.next_header.new.self) _ (header_of c.in-Ok-Some.header) c.next_header.new.self.mode (source_of g.S.Source.stream c.next_header.new.self) (g.S.Source.stream c.skip_content.new.source.source) (limit_in c.next_header.new.self) c.skip_content.new.source.limit (record { enters = e.1; octets = w.octets; fits = w.fits }) refl refl refl refl refl refl refl refl refl _ c.args.op.now c.skip_content.new.op cause_of c.in-Err-skip_content.interrupt c.interrupt_error.result refl c.interrupt_error.ensures.content c.interrupt_error.ensures.source c.interrupt_error.ensures.memory c.interrupt_error.ensures.closure c.in-Err-skip_content.ensures
+    behind_stopped (of_constructed g.S.Source.stream c.args.self.now) (of_constructed g.S.Source.stream c.next_header.new.self) _ (header_of c.in-Ok-Some.header) c.next_header.new.self.mode (source_of g.S.Source.stream c.next_header.new.self) (g.S.Source.stream c.skip_content.new.source.source) (limit_in c.next_header.new.self) c.skip_content.new.source.limit (record { enters = e.1; octets = w.octets; fits = w.fits }) refl refl refl refl refl refl refl refl refl _ c.args.op.now c.skip_content.new.op cause_of c.in-Err-skip_content.interrupt c.interrupt_error-in-Err-skip_content.result refl c.interrupt_error-in-Err-skip_content.ensures.content c.interrupt_error-in-Err-skip_content.ensures.source c.interrupt_error-in-Err-skip_content.ensures.memory c.interrupt_error-in-Err-skip_content.ensures.closure c.in-Err-skip_content.ensures
 
 pub returns-in-Err-skip_content-clause-skipped : goal.returns-in-Err-skip_content-clause-skipped
 unfolding of_constructed
 returns-in-Err-skip_content-clause-skipped g c =
     let e = rw c.in-Ok-Some.field-0-is at c.in-Ok-Some.ensures.entered in
     let w = within_constructed g.S.Source.stream g.met.S.Source.sound c.args.self.now in
-    behind_refused (of_constructed g.S.Source.stream c.args.self.now) (of_constructed g.S.Source.stream c.next_header.new.self) _ (header_of c.in-Ok-Some.header) c.next_header.new.self.mode (source_of g.S.Source.stream c.next_header.new.self) (g.S.Source.stream c.skip_content.new.source.source) (limit_in c.next_header.new.self) c.skip_content.new.source.limit (record { enters = e.1; octets = w.octets; fits = w.fits }) refl refl refl refl refl refl refl refl refl _ c.args.op.now c.skip_content.new.op cause_of c.in-Err-skip_content.interrupt c.interrupt_error.result refl c.interrupt_error.ensures.content c.interrupt_error.ensures.source c.interrupt_error.ensures.memory c.interrupt_error.ensures.closure c.in-Err-skip_content.ensures
+    behind_refused (of_constructed g.S.Source.stream c.args.self.now) (of_constructed g.S.Source.stream c.next_header.new.self) _ (header_of c.in-Ok-Some.header) c.next_header.new.self.mode (source_of g.S.Source.stream c.next_header.new.self) (g.S.Source.stream c.skip_content.new.source.source) (limit_in c.next_header.new.self) c.skip_content.new.source.limit (record { enters = e.1; octets = w.octets; fits = w.fits }) refl refl refl refl refl refl refl refl refl _ c.args.op.now c.skip_content.new.op cause_of c.in-Err-skip_content.interrupt c.interrupt_error-in-Err-skip_content.result refl c.interrupt_error-in-Err-skip_content.ensures.content c.interrupt_error-in-Err-skip_content.ensures.source c.interrupt_error-in-Err-skip_content.ensures.memory c.interrupt_error-in-Err-skip_content.ensures.closure c.in-Err-skip_content.ensures
 
 pub returns-in-Ok-None-clause-moves : goal.returns-in-Ok-None-clause-moves
 returns-in-Ok-None-clause-moves g c =
