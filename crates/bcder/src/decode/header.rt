@@ -159,14 +159,10 @@ fn wanted_tag(wanted: &Wanted, tag: Tag) -> Tag
 }
 
 /// What the octets at hand tell of the header at their front, whatever follows them. `None` is
-/// where it depends on what follows. Headers of four octets are looked for first, since lengths of
-/// 256 and more are most of those that aren't short.
+/// where it depends on what follows.
 fn look(mode: Mode, wanted: &Wanted, octets: &[u8]) -> Option<Peeked>
     ensures { Sees mode (asked wanted.now) result octets.now }
 {
-    if let Some(seen) = look_long(mode, wanted, octets) {
-        return Some(seen);
-    }
     if let Some((header, rest)) = header_at(mode, octets) {
         if !is_wanted(wanted, header.tag) {
             return Some(Peeked::Other);
@@ -334,7 +330,8 @@ pub(crate) fn peek<S: Source>(
     Ok(peeked)
 }
 
-/// The same, whatever size the header has.
+/// The same, whatever size the header has. One of four octets is looked for first, since most that
+/// aren't short have these.
 #[cold]
 #[inline(never)]
 fn peek_long<S: Source>(source: &mut S, mode: Mode, wanted: Wanted) -> Result<Peeked, S::Error>
@@ -348,7 +345,11 @@ fn peek_long<S: Source>(source: &mut S, mode: Mode, wanted: Wanted) -> Result<Pe
     let mut count = 2;
     loop {
         let found = source.request(count)?;
-        if let Some(seen) = look(mode, &wanted, &source.slice()[..found]) {
+        let octets = &source.slice()[..found];
+        if let Some(seen) = look_long(mode, &wanted, octets) {
+            return Ok(seen);
+        }
+        if let Some(seen) = look(mode, &wanted, octets) {
             return Ok(seen);
         }
         if found == 0 {

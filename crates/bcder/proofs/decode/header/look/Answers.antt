@@ -9,13 +9,13 @@ use Rattle.bcder.proofs.decode.header.look.Goals as goal
 pub returns-then-not-is_wanted : goal.returns-then-not-is_wanted
 returns-then-not-is_wanted c = λ x.
     let o : AreOctets c.args.octets.now = λ i. omega (arith, c.type_inv.octets i) in
-    let f = has_front c.args.mode c.args.octets.now (header_of c.in-Some-header_at.header) c.in-Some-header_at.rest.now o c.in-Some-header_at.ensures.read in
-    other_of_front c.args.mode (asked c.args.wanted.now) (c.args.octets.now ++ x) (header_of c.in-Some-header_at.header) _ (front_of_read c.args.mode (c.args.octets.now ++ x) (header_of c.in-Some-header_at.header) _ (f.read x)) (c.if-not-is_wanted.ensures.no refl)
+    let f = has_front c.args.mode c.args.octets.now (header_of c.in-Some.header) c.in-Some.rest.now o c.in-Some.ensures.read in
+    other_of_front c.args.mode (asked c.args.wanted.now) (c.args.octets.now ++ x) (header_of c.in-Some.header) _ (front_of_read c.args.mode (c.args.octets.now ++ x) (header_of c.in-Some.header) _ (f.read x)) (c.if-not-is_wanted.ensures.no refl)
 
-pub returns-in-Some-header_at : goal.returns-in-Some-header_at
-returns-in-Some-header_at c = λ x.
+pub returns-in-Some : goal.returns-in-Some
+returns-in-Some c = λ x.
     let o : AreOctets c.args.octets.now = λ i. omega (arith, c.type_inv.octets i) in
-    let f = has_front c.args.mode c.args.octets.now (header_of c.in-Some-header_at.header) c.in-Some-header_at.rest.now o c.in-Some-header_at.ensures.read in
+    let f = has_front c.args.mode c.args.octets.now (header_of c.in-Some.header) c.in-Some.rest.now o c.in-Some.ensures.read in
     ((omega arith, f.read x), c.if-not-is_wanted.ensures.yes refl)
 
 pub returns-then-may_begin_identifier : goal.returns-then-may_begin_identifier
@@ -50,7 +50,7 @@ returns-in-Some-length_at c = λ x.
     let s = length_stays c.args.mode c.in-Some-identifier_at.found.2.now x _ c.in-Some-length_at.ensures in (
       some_followed _ x i.some,
       unheaded _ _ _ _ _ _ (i.read x) (c.if-not-is_wanted-2.ensures.yes refl)
-          (stays_unread _ _ _ x _ _ o c.in-Some-identifier_at.ensures s c.in_default-header_at.ensures.read)
+          (stays_unread _ _ _ x _ _ o c.in-Some-identifier_at.ensures s c.in_default.ensures.read)
           (stays_unended _ _ _ x _ _ o c.in-Some-identifier_at.ensures s c.in_default-after_end.ensures),
     )
 
@@ -59,7 +59,7 @@ returns-then-may_begin_length c =
     let o : AreOctets c.args.octets.now = λ i. omega (arith, c.type_inv.octets i) in
     let i = has_identifier c.args.octets.now c.in-Some-identifier_at.found.0 c.in-Some-identifier_at.found.1 c.in-Some-identifier_at.found.2.now o c.in-Some-identifier_at.ensures in
     let l = c.if-may_begin_length.ensures.short refl in
-    (omega (arith, i.size), unheaded _ _ _ _ _ _ c.in-Some-identifier_at.ensures (c.if-not-is_wanted-2.ensures.yes refl) c.in_default-header_at.ensures.read c.in_default-after_end.ensures)
+    (omega (arith, i.size), unheaded _ _ _ _ _ _ c.in-Some-identifier_at.ensures (c.if-not-is_wanted-2.ensures.yes refl) c.in_default.ensures.read c.in_default-after_end.ensures)
 
 pub returns-else-may_begin_length : goal.returns-else-may_begin_length
 returns-else-may_begin_length c = λ x.
@@ -68,6 +68,6 @@ returns-else-may_begin_length c = λ x.
     let s = c.if-may_begin_length.ensures.refused refl c.args.mode x in (
       some_followed _ x i.some,
       unheaded _ _ _ _ _ _ (i.read x) (c.if-not-is_wanted-2.ensures.yes refl)
-          (stays_unread _ _ _ x _ _ o c.in-Some-identifier_at.ensures s c.in_default-header_at.ensures.read)
+          (stays_unread _ _ _ x _ _ o c.in-Some-identifier_at.ensures s c.in_default.ensures.read)
           (stays_unended _ _ _ x _ _ o c.in-Some-identifier_at.ensures s c.in_default-after_end.ensures),
     )
