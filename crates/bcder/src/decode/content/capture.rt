@@ -12,7 +12,6 @@ ghost use Rattle.bcder.specs.calls.Stream.{Grew};
 ghost use Rattle.bcder.specs.calls.Views.{of_constructed, limited_stream, Moved, before, after};
 
 use super::decode::run;
-use super::inside::either;
 use super::marker::strip_marker;
 use super::{Constructed, Kind, State};
 use crate::captured::Captured;
@@ -201,7 +200,7 @@ impl<'a, S: Source> Constructed<'a, S> {
             self.mode,
             op,
         );
-        self.marked = either(self.marked, marked);
+        self.marked |= marked;
         match result {
             Ok(octets) => {
                 let mode = label(self.mode, marked);

@@ -69,14 +69,6 @@ fn close<S>(source: &mut LimitedSource<S>, outer: Option<usize>, len: Length)
     }
 }
 
-/// Whether one of two marks is set.
-#[inline(always)]
-pub(super) fn either(one: bool, other: bool) -> bool
-    ensures { result ≡ (one || other) }
-{
-    one || other
-}
-
 /// What a closure is handed inside a value, and has to leave at its end.
 trait Inside {
     /// Why a request of the source failed.
@@ -265,13 +257,13 @@ impl<'a, S: Source> Constructed<'a, S> {
             Err(error) => {
                 let marked = octets.marked;
                 pop(source, outer, len);
-                self.marked = either(self.marked, marked);
+                self.marked |= marked;
                 return Err(error);
             }
         };
         let marked = octets.marked;
         close(source, outer, Length::Definite(len));
-        self.marked = either(self.marked, marked);
+        self.marked |= marked;
         self.state = State::Open;
         Ok(Some(value))
     }
@@ -314,13 +306,13 @@ impl<'a, S: Source> Constructed<'a, S> {
             Err(error) => {
                 let marked = values.marked;
                 go_outside(source, outer, len);
-                self.marked = either(self.marked, marked);
+                self.marked |= marked;
                 return Err(error);
             }
         };
         let marked = values.marked;
         close(source, outer, len);
-        self.marked = either(self.marked, marked);
+        self.marked |= marked;
         self.state = State::Open;
         Ok(Some(value))
     }
@@ -357,7 +349,7 @@ impl<'a, S: Source> Constructed<'a, S> {
                 });
                 let (result, marked, _back) = run_over(content, op);
                 pop(source, outer, len);
-                self.marked = either(self.marked, marked);
+                self.marked |= marked;
                 match result {
                     Ok(value) => {
                         self.state = State::Open;
@@ -380,7 +372,7 @@ impl<'a, S: Source> Constructed<'a, S> {
                 });
                 let (result, marked, _back) = run_over(content, op);
                 go_outside(source, outer, len);
-                self.marked = either(self.marked, marked);
+                self.marked |= marked;
                 match result {
                     Ok(value) => {
                         self.state = State::Open;

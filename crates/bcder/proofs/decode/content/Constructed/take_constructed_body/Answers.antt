@@ -1,4 +1,4 @@
-use Rattle.std.proofs.Common.{◌≡◌, false, refl, ap, sym, subst, rules}
+use Rattle.std.proofs.Common.{◌≡◌, false, refl, ap, sym, subst, rules, ◌||◌}
 use Rattle.std.specs.Prelude.{Some}
 use Rattle.bcder.specs.calls.Cause.{cause_of}
 use Rattle.bcder.specs.calls.Content.{Reading, values, FitsOwed}
@@ -17,7 +17,7 @@ unfolding of_constructed
 returns-in-Err g c =
     let limit : c.go_outside.new.source.limit ≡ limit_outside c.in-Constructed.len c.limit-outer.result c.run.new.inside.source.now.limit = search rules in
     let source : c.go_outside.new.source.source ≡ c.run.new.inside.source.now.source = search rules in
-    refused _ refl (values_taken cause_of (of_constructed g.S.Source.stream) _ (of_constructed g.S.Source.stream c.args.self.now) _ (header_of c.args.header) _ refl refl refl refl _ c.either-self.ensures
+    refused _ refl (values_taken cause_of (of_constructed g.S.Source.stream) _ (of_constructed g.S.Source.stream c.args.self.now) _ (header_of c.args.header) _ refl refl refl refl _ refl
     g.S.Source.stream c.in-Constructed.len c.args.self.now.source.now c.go_inside-kind.new.source c.run.new.inside.source.now c.go_outside.new.source c.limit-outer.result
     (ap len_of c.in-Constructed.is) refl refl c.limit-outer.ensures c.go_inside-kind.ensures.limit c.go_inside-kind.ensures.source limit source refl refl c.requires.fits (ap is_constructed c.in-Constructed.is) (record { handed = _; left = of_constructed g.S.Source.stream c.run.new.inside; runs = record { stream = refl; owed = refl; kind = ap values c.go_inside-kind.ensures.kind; state = refl; mode = refl; marked = refl; left_stream = refl; left_owed = refl; moves = c.run.ensures.moves }; marks = refl; answers = tt; refuses = c.in-Err.ensures.refused _ }))
 
@@ -34,7 +34,7 @@ returns g c =
     let limit : c.close.new.source.limit ≡ limit_outside c.in-Constructed.len c.limit-outer.result c.run.new.inside.source.now.limit = search rules in
     let source : c.close.new.source.source ≡ c.run.new.inside.source.now.source = search rules in
     let old = c.args.self.now in let new = c.close.new.source in
-    let m : Reading = record { stream = limited_stream g.S.Source.stream new; owed = new.limit; kind = values old.kind; state = old.state; mode = old.mode; marked = c.either-self-2.result; name = old.source.ghost_name } in
-    taken _ m refl (values_taken cause_of (of_constructed g.S.Source.stream) _ (of_constructed g.S.Source.stream c.args.self.now) m (header_of c.args.header) _ refl refl refl refl _ c.either-self-2.ensures
+    let m : Reading = record { stream = limited_stream g.S.Source.stream new; owed = new.limit; kind = values old.kind; state = old.state; mode = old.mode; marked = (old.marked || c.run.new.inside.marked); name = old.source.ghost_name } in
+    taken _ m refl (values_taken cause_of (of_constructed g.S.Source.stream) _ (of_constructed g.S.Source.stream c.args.self.now) m (header_of c.args.header) _ refl refl refl refl _ refl
     g.S.Source.stream c.in-Constructed.len c.args.self.now.source.now c.go_inside-kind.new.source c.run.new.inside.source.now c.close.new.source c.limit-outer.result
     (ap len_of c.in-Constructed.is) refl refl c.limit-outer.ensures c.go_inside-kind.ensures.limit c.go_inside-kind.ensures.source limit source refl refl c.requires.fits (ap is_constructed c.in-Constructed.is) (record { handed = _; left = of_constructed g.S.Source.stream c.run.new.inside; runs = record { stream = refl; owed = refl; kind = ap values c.go_inside-kind.ensures.kind; state = refl; mode = refl; marked = refl; left_stream = refl; left_owed = refl; moves = c.run.ensures.moves }; marks = refl; answers = c.in-Ok.ensures.ok _; refuses = tt })) refl
