@@ -240,33 +240,6 @@ fn short_front(mode: Mode, wanted: &Wanted, leading: u8, len: Length, size: usiz
     }
 }
 
-/// What two octets tell, if they are a header or end-of-contents octets: a tag that the leading
-/// octet tells alone, and a definite length below 128. Where headers of any tag are looked for the
-/// length may be indefinite too, and end-of-contents octets are told first, so that what they are
-/// is a constant.
-#[inline(always)]
-fn look_short(mode: Mode, wanted: &Wanted, octets: &[u8]) -> Option<Peeked>
-    ensures { IfSome result (λ p. Shows mode (asked wanted.now) p octets.now) }
-{
-    let any = matches!(wanted, Wanted::Any);
-    match octets {
-        [leading, len, ..] if any && *len == 0 && *leading == 0 => Some(Peeked::End { size: 2 }),
-        [leading, len, ..] if *leading % 32 < 31 && *len < 0x80 => {
-            short_front(
-                mode,
-                wanted,
-                *leading,
-                Length::Definite(usize::from(*len)),
-                2,
-            )
-        }
-        [leading, len, ..] if any && *leading % 32 < 31 && *len == 0x80 => {
-            short_front(mode, wanted, *leading, Length::Indefinite, 2)
-        }
-        _ => None,
-    }
-}
-
 /// What four octets tell, if they are a header: a tag that the leading octet tells alone, and a
 /// length that needs three octets.
 #[inline(always)]
@@ -310,6 +283,10 @@ pub(crate) fn peek_whole<S: Source>(source: &mut S) -> Result<Option<(Tag, usize
 /// What stands at the front of a source, where a header is looked for. It asks for no more octets
 /// than the header has, or than the identifier octets of another tag are, for two at least, and
 /// takes none. An error is the source's own.
+///
+/// Two octets are told first: a tag that the leading octet tells alone, and a definite length below
+/// 128. Where headers of any tag are looked for the length may be indefinite too, and
+/// end-of-contents octets are told before, so that what they are is a constant.
 #[inline(always)]
 pub(crate) fn peek<S: Source>(
     source: &mut S,
@@ -323,11 +300,26 @@ pub(crate) fn peek<S: Source>(
     ensures position { SamePosition S.stream source }
     ensures kept { SameKept S.stream source }
 {
+    let any = matches!(wanted, Wanted::Any);
     let found = source.request(2)?;
-    let Some(peeked) = look_short(mode, &wanted, &source.slice()[..found]) else {
-        return peek_on(source, mode, wanted);
-    };
-    Ok(peeked)
+    match &source.slice()[..found] {
+        [leading, len, ..] if any && *len == 0 && *leading == 0 => {
+            return Ok(Peeked::End { size: 2 });
+        }
+        [leading, len, ..] if *leading % 32 < 31 && *len < 0x80 => {
+            let len = Length::Definite(usize::from(*len));
+            if let Some(seen) = short_front(mode, &wanted, *leading, len, 2) {
+                return Ok(seen);
+            }
+        }
+        [leading, len, ..] if any && *leading % 32 < 31 && *len == 0x80 => {
+            if let Some(seen) = short_front(mode, &wanted, *leading, Length::Indefinite, 2) {
+                return Ok(seen);
+            }
+        }
+        _ => {}
+    }
+    peek_on(source, mode, wanted)
 }
 
 /// The same, whatever size the header has. One of four octets is looked for first, since most that
