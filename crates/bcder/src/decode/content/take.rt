@@ -24,22 +24,6 @@ use crate::decode::stop::{Reason, Stop};
 use crate::length::Length;
 use crate::tag::{Tag, leads_primitive};
 
-/// Whether the octets that a length promises are within what is owed.
-#[inline(always)]
-fn fits(form: Form, owed: Option<usize>) -> bool
-    ensures yes { IsTrue result → FitsOwed (len_of form) owed }
-    ensures no { result ≡ false → FitsOwed (len_of form) owed → ⊥ }
-{
-    let Some(owed) = owed else {
-        return true;
-    };
-    match form {
-        Form::Primitive(len) => len <= owed,
-        Form::Constructed(Length::Definite(len)) => len <= owed,
-        Form::Constructed(Length::Indefinite) => true,
-    }
-}
-
 /// The header of a primitive value with so many contents octets.
 #[inline(always)]
 pub(super) fn octets_header(tag: Tag, len: usize) -> Header
@@ -131,30 +115,8 @@ impl<'a, S: Source> Constructed<'a, S> {
         self.source.content_err(ContentError::ExpectedTag(tag))
     }
 
-    /// Passes over octets that are at hand. The content has failed until the value that they begin
-    /// is taken.
-    #[tactic(auto, unfolding(crate::specs::calls::Views::of_constructed))]
-    #[inline(always)]
-    pub(super) fn pass(&mut self, size: usize)
-        requires { size ≤ (limited_stream S.stream self.old.source.now).avail }
-        ensures advances { Advances (before S.stream self) (after S.stream self)
-            (take size (before S.stream self).stream.rest) }
-        ensures octets { AreOctets (before S.stream self).stream.rest }
-        ensures within { size ≤ length (before S.stream self).stream.rest }
-        ensures avail { (limited_stream S.stream self.new.source.now).avail + size
-            ≡ (limited_stream S.stream self.old.source.now).avail }
-        ensures no_fault { (after S.stream self).stream.faults
-            ≡ (before S.stream self).stream.faults }
-        ensures state { self.new.state ≡ State.Failed }
-        ensures kind { self.new.kind ≡ self.old.kind }
-        ensures mode { self.new.mode ≡ self.old.mode }
-        ensures marked { self.new.marked ≡ self.old.marked }
-    {
-        self.state = State::Failed;
-        self.source.advance(size);
-    }
-
-    /// Passes over the header of a value, whose octets have to be within what is owed.
+    /// Passes over the header of a value, whose octets have to be within what is owed. The content
+    /// has failed until the value is taken.
     #[tactic(auto, unfolding(crate::specs::calls::Views::of_constructed))]
     #[inline(always)]
     pub(super) fn enter(&mut self, header: Header, size: usize) -> Result<(), Stop<S::Error>>
@@ -171,12 +133,17 @@ impl<'a, S: Source> Constructed<'a, S> {
         ensures mode { self.new.mode ≡ self.old.mode }
         ensures marked { self.new.marked ≡ self.old.marked }
     {
-        self.pass(size);
-        let owed = self.source.limit();
-        if fits(header.form, owed) {
-            return Ok(());
+        self.state = State::Failed;
+        self.source.advance(size);
+        match header.form {
+            Form::Primitive(len) | Form::Constructed(Length::Definite(len)) => {
+                match self.source.limit() {
+                    Some(owed) if owed < len => Err(Stop::Refused(Reason::ValueHeader)),
+                    _ => Ok(()),
+                }
+            }
+            Form::Constructed(Length::Indefinite) => Ok(()),
         }
-        Err(Stop::Refused(Reason::ValueHeader))
     }
 
     /// Passes over end-of-contents octets, which have to end the content.
@@ -195,7 +162,8 @@ impl<'a, S: Source> Constructed<'a, S> {
         ensures mode { self.new.mode ≡ self.old.mode }
         ensures marked { self.new.marked ≡ self.old.marked }
     {
-        self.pass(size);
+        self.state = State::Failed;
+        self.source.advance(size);
         let Kind::Indefinite = self.kind else {
             return Err(Stop::Refused(Reason::ValueHeader));
         };
