@@ -34,13 +34,6 @@ pub(crate) struct Header {
     pub form: Form,
 }
 
-/// A header at the front of a source, and how many octets it has.
-#[derive(Clone, Copy)]
-pub(crate) struct Front {
-    pub header: Header,
-    pub size: usize,
-}
-
 /// Which headers are looked for.
 #[derive(Clone, Copy)]
 pub(crate) enum Wanted {
@@ -291,9 +284,9 @@ pub(crate) fn peek_whole<S: Source>(source: &mut S) -> Result<Option<(Tag, usize
 pub(crate) fn peek<S: Source>(
     source: &mut S,
     mode: Mode,
-    wanted: Wanted,
+    wanted: &Wanted,
 ) -> Result<Peeked, S::Error>
-    ensures peeked { IfOk result (λ p. Peeks mode (asked wanted) p (S.stream source.new)) }
+    ensures peeked { IfOk result (λ p. Peeks mode (asked wanted.now) p (S.stream source.new)) }
     ensures no_fault { OnOk result (SameFaults S.stream source) }
     ensures fault { OnErr result (MoreFaults S.stream source) }
     ensures rest { SameRest S.stream source }
@@ -308,18 +301,18 @@ pub(crate) fn peek<S: Source>(
         }
         [leading, len, ..] if *leading % 32 < 31 && *len < 0x80 => {
             let len = Length::Definite(usize::from(*len));
-            if let Some(seen) = short_front(mode, &wanted, *leading, len, 2) {
+            if let Some(seen) = short_front(mode, wanted, *leading, len, 2) {
                 return Ok(seen);
             }
         }
         [leading, len, ..] if any && *leading % 32 < 31 && *len == 0x80 => {
-            if let Some(seen) = short_front(mode, &wanted, *leading, Length::Indefinite, 2) {
+            if let Some(seen) = short_front(mode, wanted, *leading, Length::Indefinite, 2) {
                 return Ok(seen);
             }
         }
         _ => {}
     }
-    peek_on(source, mode, wanted)
+    peek_on(source, mode, *wanted)
 }
 
 /// The same, whatever size the header has. One of four octets is looked for first, since most that

@@ -11,7 +11,7 @@ use Rattle.bcder.proofs.decode.header.peek.Goals.{in-Any, in_default}
 pub returns-in-len2-up-clause-peeked : goal.returns-in-len2-up-clause-peeked
 returns-in-len2-up-clause-peeked g c =
     let enough : c.in_ok-found.found ≤ length c.slice.result.now = omega (arith, c.in_ok-found.ensures.ok.count, c.slice.ensures.enough) in
-    at_hand (IsPeeked c.args.mode (asked c.args.wanted) (peeked.End 2)) _ _ _ _ c.slice.ensures.front enough c.in_ok-found.ensures.ok.count
+    at_hand (IsPeeked c.args.mode (asked c.args.wanted.now) (peeked.End 2)) _ _ _ _ c.slice.ensures.front enough c.in_ok-found.ensures.ok.count
     (λ x. (
       (c.in-len2-up.len_at_least, end_stands c.args.mode _ x c.in-len2-up.len_at_least c.if-leading-eq0.true c.if-len-eq0.true),
       elim c.match-matches.branch [
@@ -23,13 +23,13 @@ returns-in-len2-up-clause-peeked g c =
 pub returns-in-Some-clause-peeked : goal.returns-in-Some-clause-peeked
 returns-in-Some-clause-peeked g c =
     let enough : c.in_ok-found.found ≤ length c.slice.result.now = omega (arith, c.in_ok-found.ensures.ok.count, c.slice.ensures.enough) in
-    at_hand (IsPeeked c.args.mode (asked c.args.wanted) c.in-Some.seen) _ _ _ _ c.slice.ensures.front enough c.in_ok-found.ensures.ok.count
-    (front_shown c.args.mode (asked c.args.wanted) _ 2 _ c.in-Some.seen c.in-len2-up.len_at_least c.in-Some.ensures
+    at_hand (IsPeeked c.args.mode (asked c.args.wanted.now) c.in-Some.seen) _ _ _ _ c.slice.ensures.front enough c.in_ok-found.ensures.ok.count
+    (front_shown c.args.mode (asked c.args.wanted.now) _ 2 _ c.in-Some.seen c.in-len2-up.len_at_least c.in-Some.ensures
     (λ x. short_stands c.args.mode _ x _ _ _ c.in-len2-up.len_at_least c.if-leading-lt31.true c.if-len-lt128.true refl refl c.from.ensures))
 
 pub returns-in-Some-short_front-clause-peeked : goal.returns-in-Some-short_front-clause-peeked
 returns-in-Some-short_front-clause-peeked g c =
     let enough : c.in_ok-found.found ≤ length c.slice.result.now = omega (arith, c.in_ok-found.ensures.ok.count, c.slice.ensures.enough) in
-    at_hand (IsPeeked c.args.mode (asked c.args.wanted) c.in-Some-short_front.seen) _ _ _ _ c.slice.ensures.front enough c.in_ok-found.ensures.ok.count
-    (front_shown c.args.mode (asked c.args.wanted) _ 2 _ c.in-Some-short_front.seen c.in-len2-up.len_at_least c.in-Some-short_front.ensures
+    at_hand (IsPeeked c.args.mode (asked c.args.wanted.now) c.in-Some-short_front.seen) _ _ _ _ c.slice.ensures.front enough c.in_ok-found.ensures.ok.count
+    (front_shown c.args.mode (asked c.args.wanted.now) _ 2 _ c.in-Some-short_front.seen c.in-len2-up.len_at_least c.in-Some-short_front.ensures
     (λ x. indefinite_stands c.args.mode _ x _ _ c.in-len2-up.len_at_least c.if-leading-lt31-2.true c.if-len.true refl refl))

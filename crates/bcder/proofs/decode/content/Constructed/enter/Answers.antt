@@ -31,27 +31,26 @@ unfolding of_constructed
 returns-in-Constructed-Indefinite-clause-entered g c =
     let o = octets_behind g.S.Source.stream g.met.S.Source.sound c.args.self.now c.advance.new.self c.args.size c.requires.read.0 in
     let a = advances_behind g.S.Source.stream g.met.S.Source.sound c.args.self.now c.advance.new.self c.args.size c.requires.read.0 c.advance.ensures.rest c.advance.ensures.faults c.advance.ensures.kept in
-    let f = fits_indefinite (len_of c.args.header.form) c.advance.new.self.limit (ap len_of c.in-Constructed-Indefinite.is ∙ rw c.in-Constructed-Indefinite.is at c.in-Constructed-Indefinite.field-0-is) in
-    enters (of_constructed g.S.Source.stream c.args.self.now) _ c.args.size a o.0 o.1 c.requires.usable (header_of c.args.header) c.requires.read.1 f c.advance.ensures.faults refl refl
+    let f = fits_indefinite (len_of c.args.header.now.form) c.advance.new.self.limit (ap len_of c.in-Constructed-Indefinite.is ∙ rw c.in-Constructed-Indefinite.is at c.in-Constructed-Indefinite.field-0-is) in
+    enters (of_constructed g.S.Source.stream c.args.self.now) _ c.args.size a o.0 o.1 c.requires.usable (header_of c.args.header.now) c.requires.read.1 f c.advance.ensures.faults refl refl
 
 pub returns-in_default-clause-entered : goal.returns-in_default-clause-entered
 unfolding of_constructed
 returns-in_default-clause-entered g c =
     let o = octets_behind g.S.Source.stream g.met.S.Source.sound c.args.self.now c.advance.new.self c.args.size c.requires.read.0 in
     let a = advances_behind g.S.Source.stream g.met.S.Source.sound c.args.self.now c.advance.new.self c.args.size c.requires.read.0 c.advance.ensures.rest c.advance.ensures.faults c.advance.ensures.kept in
-    let f : FitsOwed (len_of c.args.header.form) c.limit.result = elim c.in_default.branch [
+    let f : FitsOwed (len_of c.args.header.now.form) c.limit.result = elim c.in_default.branch [
       | in_default-via-in-Some+else-owed-len w ↦ fits_within _ _ _ _ w.if-owed-len.false (search rules) w.in-Some.is
       | in_default-via-in_default w ↦ fits_unlimited _ _ w.in_default.is
     ] in
-    enters (of_constructed g.S.Source.stream c.args.self.now) _ c.args.size a o.0 o.1 c.requires.usable (header_of c.args.header) c.requires.read.1 (subst (FitsOwed (len_of c.args.header.form)) c.limit.ensures f) c.advance.ensures.faults refl refl
+    enters (of_constructed g.S.Source.stream c.args.self.now) _ c.args.size a o.0 o.1 c.requires.usable (header_of c.args.header.now) c.requires.read.1 (subst (FitsOwed (len_of c.args.header.now.form)) c.limit.ensures f) c.advance.ensures.faults refl refl
 
 pub returns-in-Some-clause-refused : goal.returns-in-Some-clause-refused
 unfolding of_constructed
 returns-in-Some-clause-refused g c =
     let o = octets_behind g.S.Source.stream g.met.S.Source.sound c.args.self.now c.advance.new.self c.args.size c.requires.read.0 in
-    let a = advances_behind g.S.Source.stream g.met.S.Source.sound c.args.self.now c.advance.new.self c.args.size c.requires.read.0 c.advance.ensures.rest c.advance.ensures.faults c.advance.ensures.kept in
-    (
+    let a = advances_behind g.S.Source.stream g.met.S.Source.sound c.args.self.now c.advance.new.self c.args.size c.requires.read.0 c.advance.ensures.rest c.advance.ensures.faults c.advance.ensures.kept in (
       tt,
-      no_front (of_constructed g.S.Source.stream c.args.self.now) _ c.args.size a o.0 o.1 c.requires.usable (header_of c.args.header) c.requires.read.1
-          (fits_not (len_of c.args.header.form) _ _ _ c.if-owed-len.true (search rules) (sym c.limit.ensures ∙ c.in-Some.is)),
+      no_front (of_constructed g.S.Source.stream c.args.self.now) _ c.args.size a o.0 o.1 c.requires.usable (header_of c.args.header.now) c.requires.read.1
+          (fits_not (len_of c.args.header.now.form) _ _ _ c.if-owed-len.true (search rules) (sym c.limit.ensures ∙ c.in-Some.is)),
     )
