@@ -1,8 +1,10 @@
 -- What follows from passing over a header.
-use Rattle.std.proofs.Common.{◌≡◌, ◌≢◌, ℕ, ◌-◌, ◌≤◌, List, [], ◌∷◌, ◌++◌, length, take, drop, Option, Some, None, refl, ap, sym, ◌∙◌, arith, subst, inl, inr}
+use Rattle.std.proofs.Common.{◌≡◌, ◌≢◌, ℕ, ◌-◌, ◌<◌, ◌≤◌, List, [], ◌∷◌, ◌++◌, length, take, drop, Option, Some, None, refl, ap, sym, ◌∙◌, arith, subst, inl, inr}
 use Rattle.std.proofs.lemmas.List.{take-append-drop, length-take-le, take_at}
 use Rattle.std.proofs.lemmas.Grind.{common_steps}
 use Rattle.bcder.specs.declared.mode.Mode.{Mode}
+use Rattle.bcder.specs.declared.length.Length.{Length}
+use Rattle.bcder.specs.declared.length.Length.TheVariants.{Definite, Indefinite}
 use Rattle.bcder.specs.declared.decode.content.Kind.{Kind}
 use Rattle.bcder.specs.declared.decode.content.State.TheVariants.{Open, Ended, Failed}
 use Rattle.bcder.specs.x690.Identifier.{AreOctets, Tag, end_of_contents}
@@ -333,3 +335,19 @@ pub end_refused : {E : Type 0} (why : E → Cause ContentError) (c d : Reading) 
 end_refused why c d e (failed s o) = left_failed s o
 end_refused why c d e (source k g) = source_failed k g
 end_refused why c d e (nothing n o) = left_open (record { none = n.absent }) o
+
+-- ---- whether the octets that a length promises are within what is owed
+
+pub fits_indefinite : (l : Length) (o : Option ℕ) → l ≡ Indefinite → FitsOwed l o
+fits_indefinite l None e = rw e refl
+fits_indefinite l (Some m) e = rw e refl
+
+pub fits_unlimited : (l : Length) (o : Option ℕ) → o ≡ None → FitsOwed l o
+fits_unlimited (Definite n) o e = rw e refl
+fits_unlimited Indefinite o e = rw e refl
+
+pub fits_within : (l : Length) (n m : ℕ) (o : Option ℕ) → n ≤ m → l ≡ Definite n → o ≡ Some m → FitsOwed l o
+fits_within l n m o h e f = rw (e, f) h
+
+pub fits_not : (l : Length) (n m : ℕ) (o : Option ℕ) → m < n → l ≡ Definite n → o ≡ Some m → FitsOwed l o → ⊥
+fits_not l n m o h e f x = (let y : n ≤ m = rw (e, f) at x in omega arith)

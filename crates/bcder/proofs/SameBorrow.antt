@@ -1,15 +1,17 @@
 -- content that moved still holds the same borrow
-use Rattle.std.proofs.Common.{◌≡◌, ◌≢◌, ℕ, ◌≤◌, List, length, take, refl, sym, ◌∙◌, arith}
+use Rattle.std.proofs.Common.{◌≡◌, ◌≢◌, ℕ, ◌≤◌, List, length, take, drop, refl, sym, ◌∙◌, arith}
 use Rattle.std.proofs.lemmas.Grind.{common_steps}
 use Rattle.bcder.specs.declared.decode.content.Constructed.{Constructed}
 use Rattle.bcder.specs.declared.decode.content.Content.{Content}
 use Rattle.bcder.specs.declared.decode.content.Content.TheVariants as content
 use Rattle.bcder.specs.declared.decode.content.Primitive.{Primitive}
+use Rattle.bcder.specs.declared.decode.content.State.TheVariants.{Failed}
 use Rattle.bcder.specs.declared.decode.source.limited.LimitedSource.{LimitedSource}
+use Rattle.bcder.specs.x690.Identifier.{AreOctets}
 use Rattle.bcder.specs.calls.Stream.{Stream, IsSound}
-use Rattle.bcder.specs.calls.Content.{Reading, octets, values, Octets, Moves, Resembles}
+use Rattle.bcder.specs.calls.Content.{Reading, octets, values, Octets, Moves, Advances, Resembles}
 use Rattle.bcder.specs.laws.Limits.{limited_sound, limit_told, first_kept}
-use Rattle.bcder.proofs.Entering.{Within}
+use Rattle.bcder.proofs.Entering.{Within, advances_by, within}
 use Rattle.bcder.specs.calls.Views.{of_content, of_primitive, of_constructed, content_name, limited_stream}
 
 pub moves_name : (c d : Reading) → Moves c d → d.name ≡ c.name
@@ -58,3 +60,16 @@ resembles_with_source stream c x r k = record {
   marked = refl;
   name = refl;
 }
+
+-- content that failed, behind octets that were passed over
+abbrev pub failed_behind : {S : Type 0} → Constructed S → LimitedSource S → Constructed S
+failed_behind c x = record { source = record { ref_ptr = c.source.ref_ptr; ghost_name = c.source.ghost_name; now = x }; kind = c.kind; state = Failed; mode = c.mode; marked = c.marked; start = c.start }
+
+module _ {S : Type 0} (stream : S → Stream) (sound : (x : S) → IsSound (stream x)) (c : Constructed S) (x : LimitedSource S) (n : ℕ) (a : n ≤ (limited_stream stream c.source.now).avail) where
+  pub advances_behind : (limited_stream stream x).rest ≡ drop n (limited_stream stream c.source.now).rest → (limited_stream stream x).faults ≡ (limited_stream stream c.source.now).faults → (limited_stream stream x).kept ≡ (limited_stream stream c.source.now).kept → Advances (of_constructed stream c) (of_constructed stream (failed_behind c x)) (take n (of_constructed stream c).stream.rest)
+  unfolding of_constructed
+  advances_behind r f k = advances_by _ _ (stream c.source.now.source) (stream x.source) c.source.now.limit x.limit n refl refl refl refl (sound c.source.now.source) r f k a refl refl refl
+
+  pub octets_behind : (AreOctets (of_constructed stream c).stream.rest) × (n ≤ length (of_constructed stream c).stream.rest)
+  unfolding of_constructed
+  octets_behind = within c.source.now.limit (stream c.source.now.source) n (sound c.source.now.source) a

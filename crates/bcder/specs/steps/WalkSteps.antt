@@ -1,6 +1,6 @@
 -- What private steps of walking over values answer and leave.
 use Rattle.std.specs.Borrow.{MutBor}
-use Rattle.std.specs.Prelude.{◌≡◌, ℕ, ◌+◌, ◌≤◌, Bool, false, length, take, Option, Result, IfOk, IfErr, OnOk, OnErr, IsTrue}
+use Rattle.std.specs.Prelude.{◌≡◌, ℕ, ◌≤◌, Bool, false, length, take, Option, Result, IfOk, IfErr, OnOk, OnErr, IsTrue}
 use denote.Triple.Both.{Both}
 use Rattle.bcder.specs.declared.decode.content.State.TheVariants.{Failed}
 use Rattle.bcder.specs.x690.Identifier.{Tag, AreOctets}
@@ -13,18 +13,9 @@ use Rattle.bcder.specs.declared.decode.header.Header.{Header as CodeHeader}
 use Rattle.bcder.specs.declared.decode.content.Constructed.{Constructed}
 use Rattle.bcder.specs.calls.Views.{of_constructed}
 use Rattle.bcder.specs.calls.Calls.{TakesContent}
-use Rattle.bcder.specs.declared.length.Length.TheVariants.{Definite}
-use Rattle.bcder.specs.x690.Encoding.{Header}
 use Rattle.bcder.specs.steps.Peek.{header_of}
 use Rattle.bcder.specs.calls.Content.{Reading, Moves, IsDone, Advances, Resembles}
 use Rattle.bcder.specs.calls.Walking.{PassesValue, PassedBy, RefusesWalk, RefusesValues, AllBy, Between}
-
--- a header of so many octets is that of a primitive value of n octets in all
-pub record IsPrimitive (h : Header) (size n : ℕ) : Type 0 where
-  pub form : h.form ≡ false
-  pub len : ℕ
-  pub tells : h.len ≡ Definite len
-  pub all : n ≡ size + len
 
 -- the first n octets were passed, and nothing else changed
 pub record PassesOver (c : Reading) (n : ℕ) (d : Reading) : Type 0 where

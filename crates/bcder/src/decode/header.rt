@@ -34,13 +34,6 @@ pub(crate) struct Header {
     pub form: Form,
 }
 
-/// A header at the front of a source, and how many octets it has.
-#[derive(Clone, Copy)]
-pub(crate) struct Front {
-    pub header: Header,
-    pub size: usize,
-}
-
 /// Which headers are looked for.
 #[derive(Clone, Copy)]
 pub(crate) enum Wanted {
@@ -240,33 +233,6 @@ fn short_front(mode: Mode, wanted: &Wanted, leading: u8, len: Length, size: usiz
     }
 }
 
-/// What two octets tell, if they are a header or end-of-contents octets: a tag that the leading
-/// octet tells alone, and a definite length below 128. Where headers of any tag are looked for the
-/// length may be indefinite too, and end-of-contents octets are told first, so that what they are
-/// is a constant.
-#[inline(always)]
-fn look_short(mode: Mode, wanted: &Wanted, octets: &[u8]) -> Option<Peeked>
-    ensures { IfSome result (λ p. Shows mode (asked wanted.now) p octets.now) }
-{
-    let any = matches!(wanted, Wanted::Any);
-    match octets {
-        [leading, len, ..] if any && *len == 0 && *leading == 0 => Some(Peeked::End { size: 2 }),
-        [leading, len, ..] if *leading % 32 < 31 && *len < 0x80 => {
-            short_front(
-                mode,
-                wanted,
-                *leading,
-                Length::Definite(usize::from(*len)),
-                2,
-            )
-        }
-        [leading, len, ..] if any && *leading % 32 < 31 && *len == 0x80 => {
-            short_front(mode, wanted, *leading, Length::Indefinite, 2)
-        }
-        _ => None,
-    }
-}
-
 /// What four octets tell, if they are a header: a tag that the leading octet tells alone, and a
 /// length that needs three octets.
 #[inline(always)]
@@ -310,24 +276,43 @@ pub(crate) fn peek_whole<S: Source>(source: &mut S) -> Result<Option<(Tag, usize
 /// What stands at the front of a source, where a header is looked for. It asks for no more octets
 /// than the header has, or than the identifier octets of another tag are, for two at least, and
 /// takes none. An error is the source's own.
+///
+/// Two octets are told first: a tag that the leading octet tells alone, and a definite length below
+/// 128. Where headers of any tag are looked for the length may be indefinite too, and
+/// end-of-contents octets are told before, so that what they are is a constant.
 #[inline(always)]
 pub(crate) fn peek<S: Source>(
     source: &mut S,
     mode: Mode,
-    wanted: Wanted,
+    wanted: &Wanted,
 ) -> Result<Peeked, S::Error>
-    ensures peeked { IfOk result (λ p. Peeks mode (asked wanted) p (S.stream source.new)) }
+    ensures peeked { IfOk result (λ p. Peeks mode (asked wanted.now) p (S.stream source.new)) }
     ensures no_fault { OnOk result (SameFaults S.stream source) }
     ensures fault { OnErr result (MoreFaults S.stream source) }
     ensures rest { SameRest S.stream source }
     ensures position { SamePosition S.stream source }
     ensures kept { SameKept S.stream source }
 {
+    let any = matches!(wanted, Wanted::Any);
     let found = source.request(2)?;
-    let Some(peeked) = look_short(mode, &wanted, &source.slice()[..found]) else {
-        return peek_on(source, mode, wanted);
-    };
-    Ok(peeked)
+    match &source.slice()[..found] {
+        [leading, len, ..] if any && *len == 0 && *leading == 0 => {
+            return Ok(Peeked::End { size: 2 });
+        }
+        [leading, len, ..] if *leading % 32 < 31 && *len < 0x80 => {
+            let len = Length::Definite(usize::from(*len));
+            if let Some(seen) = short_front(mode, wanted, *leading, len, 2) {
+                return Ok(seen);
+            }
+        }
+        [leading, len, ..] if any && *leading % 32 < 31 && *len == 0x80 => {
+            if let Some(seen) = short_front(mode, wanted, *leading, Length::Indefinite, 2) {
+                return Ok(seen);
+            }
+        }
+        _ => {}
+    }
+    peek_on(source, mode, *wanted)
 }
 
 /// The same, whatever size the header has. One of four octets is looked for first, since most that

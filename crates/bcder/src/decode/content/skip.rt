@@ -336,7 +336,8 @@ impl<'a, S: Source> Constructed<'a, S> {
         }
         match peek_whole(self.source) {
             Ok(Some(found)) => {
-                self.pass(2);
+                self.state = State::Failed;
+                self.source.advance(2);
                 Ok(Some(found))
             }
             Ok(None) => Ok(None),

@@ -1,44 +1,26 @@
 //! Passing over the header of the next value.
-ghost use Rattle.std.specs.Prelude.{◌≡◌, ◌+◌, ◌≤◌, false, length, take, IsTrue, Some};
+ghost use Rattle.std.specs.Prelude.{◌≡◌, false, IsTrue, Some};
 ghost use Rattle.std.specs.Prelude.{IfOk, IfErr, IfSome, IsErrAnd, OnOk, OnErr};
 ghost use Rattle.bcder.specs.calls.Calls.{popped};
 ghost use Rattle.bcder.specs.calls.Changed.{SameFaults, MoreFaults, SameRest, SameKept};
 ghost use Rattle.bcder.specs.calls.Cause.{cause_of, of_source, of_memory, IsOfContent, IsRefusal};
 ghost use Rattle.bcder.specs.steps.StopCause.{stop_cause};
 ghost use Rattle.bcder.specs.calls.Cause.{NamesTag};
-ghost use Rattle.bcder.specs.calls.Content.{Moves, Advances, FitsOwed};
-ghost use Rattle.bcder.specs.calls.Content.{IsAsked, Enters, TakesMarker, NoFront, Resembles};
+ghost use Rattle.bcder.specs.calls.Content.{Moves, Enters, TakesMarker, NoFront};
 ghost use Rattle.bcder.specs.steps.Entering.{EntersNext, EntersOctets, FindsNone, RefusesNext};
 ghost use Rattle.bcder.specs.steps.Entering.{MeetsNoFault};
-ghost use Rattle.bcder.specs.x690.Identifier.{AreOctets};
-ghost use Rattle.bcder.specs.steps.Peek.{header_of, len_of, octets_header, asked};
+ghost use Rattle.bcder.specs.steps.Peek.{header_of, octets_header, asked};
 ghost use Rattle.bcder.specs.steps.Peek.{Fronts, FrontsEnd};
 ghost use Rattle.bcder.specs.declared.mode.Mode.{Mode as ModeValue};
 ghost use Rattle.bcder.specs.calls.Views.{before, after, limited_stream};
 
 use super::{Constructed, Kind, Primitive, State};
 use crate::decode::error::{ContentError, DecodeError};
-use crate::decode::header::{Form, Front, Header, Peeked, Wanted, peek};
+use crate::decode::header::{Form, Header, Peeked, Wanted, peek};
 use crate::decode::source::{LimitedSource, Source};
 use crate::decode::stop::{Reason, Stop};
 use crate::length::Length;
 use crate::tag::{Tag, leads_primitive};
-
-/// Whether the octets that a length promises are within what is owed.
-#[inline(always)]
-fn fits(form: Form, owed: Option<usize>) -> bool
-    ensures yes { IsTrue result → FitsOwed (len_of form) owed }
-    ensures no { result ≡ false → FitsOwed (len_of form) owed → ⊥ }
-{
-    let Some(owed) = owed else {
-        return true;
-    };
-    match form {
-        Form::Primitive(len) => len <= owed,
-        Form::Constructed(Length::Definite(len)) => len <= owed,
-        Form::Constructed(Length::Indefinite) => true,
-    }
-}
 
 /// The header of a primitive value with so many contents octets.
 #[inline(always)]
@@ -131,39 +113,17 @@ impl<'a, S: Source> Constructed<'a, S> {
         self.source.content_err(ContentError::ExpectedTag(tag))
     }
 
-    /// Passes over octets that are at hand. The content has failed until the value that they begin
-    /// is taken.
+    /// Passes over the header of a value, whose octets have to be within what is owed. The content
+    /// has failed until the value is taken.
     #[tactic(auto, unfolding(crate::specs::calls::Views::of_constructed))]
     #[inline(always)]
-    pub(super) fn pass(&mut self, size: usize)
-        requires { size ≤ (limited_stream S.stream self.old.source.now).avail }
-        ensures advances { Advances (before S.stream self) (after S.stream self)
-            (take size (before S.stream self).stream.rest) }
-        ensures octets { AreOctets (before S.stream self).stream.rest }
-        ensures within { size ≤ length (before S.stream self).stream.rest }
-        ensures avail { (limited_stream S.stream self.new.source.now).avail + size
-            ≡ (limited_stream S.stream self.old.source.now).avail }
-        ensures no_fault { (after S.stream self).stream.faults
-            ≡ (before S.stream self).stream.faults }
-        ensures state { self.new.state ≡ State.Failed }
-        ensures kind { self.new.kind ≡ self.old.kind }
-        ensures mode { self.new.mode ≡ self.old.mode }
-        ensures marked { self.new.marked ≡ self.old.marked }
-    {
-        self.state = State::Failed;
-        self.source.advance(size);
-    }
-
-    /// Passes over the header of a value, whose octets have to be within what is owed.
-    #[tactic(auto, unfolding(crate::specs::calls::Views::of_constructed))]
-    #[inline(always)]
-    pub(super) fn enter(&mut self, header: Header, size: usize) -> Result<(), Stop<S::Error>>
-        requires read { Fronts self.old.mode header size
+    fn enter(&mut self, header: &Header, size: usize) -> Result<(), Stop<S::Error>>
+        requires read { Fronts self.old.mode header.now size
             (limited_stream S.stream self.old.source.now) }
         requires usable { self.old.state ≡ State.Open }
         ensures moves { Moves (before S.stream self) (after S.stream self) }
         ensures entered { OnOk result
-            (Enters (before S.stream self) (header_of header) (after S.stream self)) }
+            (Enters (before S.stream self) (header_of header.now) (after S.stream self)) }
         ensures refused { IfErr result (λ e.
             IsOfContent (stop_cause e) × NoFront (before S.stream self)) }
         ensures no_fault { MeetsNoFault (before S.stream self) (after S.stream self) result }
@@ -171,12 +131,17 @@ impl<'a, S: Source> Constructed<'a, S> {
         ensures mode { self.new.mode ≡ self.old.mode }
         ensures marked { self.new.marked ≡ self.old.marked }
     {
-        self.pass(size);
-        let owed = self.source.limit();
-        if fits(header.form, owed) {
-            return Ok(());
+        self.state = State::Failed;
+        self.source.advance(size);
+        match header.form {
+            Form::Primitive(len) | Form::Constructed(Length::Definite(len)) => {
+                match self.source.limit() {
+                    Some(owed) if owed < len => Err(Stop::Refused(Reason::ValueHeader)),
+                    _ => Ok(()),
+                }
+            }
+            Form::Constructed(Length::Indefinite) => Ok(()),
         }
-        Err(Stop::Refused(Reason::ValueHeader))
     }
 
     /// Passes over end-of-contents octets, which have to end the content.
@@ -195,7 +160,8 @@ impl<'a, S: Source> Constructed<'a, S> {
         ensures mode { self.new.mode ≡ self.old.mode }
         ensures marked { self.new.marked ≡ self.old.marked }
     {
-        self.pass(size);
+        self.state = State::Failed;
+        self.source.advance(size);
         let Kind::Indefinite = self.kind else {
             return Err(Stop::Refused(Reason::ValueHeader));
         };
@@ -220,26 +186,20 @@ impl<'a, S: Source> Constructed<'a, S> {
         }
     }
 
-    /// Looks at the next header, if it is one of those that are looked for, and takes nothing.
-    /// `None` is for another tag, and for the end of the content, whose marker is taken where any
-    /// header is looked for.
+    /// Passes over the next header, if it is one of those that are looked for. `None` is for
+    /// another tag, and for the end of the content, whose marker is taken where any header is
+    /// looked for. After a header the content has failed until the value is taken.
     #[tactic(auto, using(crate::specs::laws::Moved::untouched_is_moved), unfolding(crate::specs::calls::Views::views))]
     #[inline(always)]
-    pub(super) fn front(&mut self, wanted: &Wanted) -> Result<Option<Front>, Stop<S::Error>>
+    pub(crate) fn next_header(&mut self, wanted: Wanted) -> Result<Option<Header>, Stop<S::Error>>
         ensures moves { Moves (before S.stream self) (after S.stream self) }
-        ensures same { IfOk result (λ o. IfSome o (λ _.
-            Resembles (before S.stream self) (after S.stream self))) }
-        ensures usable { IfOk result (λ o. IfSome o (λ _. self.new.state ≡ State.Open)) }
-        ensures peeked { IfOk result (λ o. IfSome o (λ f.
-            Fronts self.new.mode f.header f.size
-            (limited_stream S.stream self.new.source.now))) }
-        ensures wanted { IfOk result (λ o. IfSome o (λ f.
-            IsAsked (asked wanted.now) f.header.tag)) }
-        ensures no_fault { MeetsNoFault (before S.stream self) (after S.stream self) result }
+        ensures entered { EntersNext (before S.stream self) (after S.stream self)
+            (asked wanted) result }
         ensures none { FindsNone (before S.stream self) (after S.stream self)
-            (asked wanted.now) result }
+            (asked wanted) result }
         ensures refused { RefusesNext (before S.stream self) (after S.stream self)
-            stop_cause (asked wanted.now) result }
+            stop_cause (asked wanted) result }
+        ensures no_fault { MeetsNoFault (before S.stream self) (after S.stream self) result }
         ensures failed { OnErr result (self.new.state ≡ State.Failed) }
         ensures mode { self.new.mode ≡ self.old.mode }
         ensures marked { self.new.marked ≡ self.old.marked }
@@ -252,15 +212,18 @@ impl<'a, S: Source> Constructed<'a, S> {
         if self.is_used_up() {
             return Ok(None);
         }
-        match peek(self.source, self.mode, *wanted) {
-            Ok(Peeked::Front { header, size }) => Ok(Some(Front { header, size })),
+        match peek(self.source, self.mode, &wanted) {
+            Ok(Peeked::Front { header, size }) => match self.enter(&header, size) {
+                Ok(()) => Ok(Some(header)),
+                Err(stop) => Err(stop),
+            },
             Ok(Peeked::Other) => Ok(None),
             Ok(Peeked::End { size }) => match self.take_end(size) {
                 Ok(()) => Ok(None),
                 Err(stop) => Err(stop),
             },
             Ok(Peeked::Nothing) => {
-                match wanted {
+                match &wanted {
                     Wanted::Tagged(_) => return Ok(None),
                     Wanted::Any => {}
                 }
@@ -281,34 +244,6 @@ impl<'a, S: Source> Constructed<'a, S> {
         }
     }
 
-    /// Passes over the next header, if it is one of those that are looked for. `None` is for
-    /// another tag, and for the end of the content, whose marker is taken where any header is
-    /// looked for. After a header the content has failed until the value is taken.
-    #[tactic(auto, using(crate::specs::laws::Moved::untouched_is_moved), unfolding(crate::specs::calls::Views::views))]
-    #[inline(always)]
-    pub(crate) fn next_header(&mut self, wanted: Wanted) -> Result<Option<Header>, Stop<S::Error>>
-        ensures moves { Moves (before S.stream self) (after S.stream self) }
-        ensures entered { EntersNext (before S.stream self) (after S.stream self)
-            (asked wanted) result }
-        ensures none { FindsNone (before S.stream self) (after S.stream self)
-            (asked wanted) result }
-        ensures refused { RefusesNext (before S.stream self) (after S.stream self)
-            stop_cause (asked wanted) result }
-        ensures no_fault { MeetsNoFault (before S.stream self) (after S.stream self) result }
-        ensures failed { OnErr result (self.new.state ≡ State.Failed) }
-        ensures mode { self.new.mode ≡ self.old.mode }
-        ensures marked { self.new.marked ≡ self.old.marked }
-    {
-        match self.front(&wanted) {
-            Ok(Some(front)) => match self.enter(front.header, front.size) {
-                Ok(()) => Ok(Some(front.header)),
-                Err(stop) => Err(stop),
-            },
-            Ok(None) => Ok(None),
-            Err(stop) => Err(stop),
-        }
-    }
-
     /// Passes over the header of a primitive value that has two octets.
     #[inline(always)]
     fn enter_octets(&mut self, tag: Tag, len: usize) -> Result<Option<usize>, Stop<S::Error>>
@@ -319,7 +254,7 @@ impl<'a, S: Source> Constructed<'a, S> {
         ensures entered { EntersOctets stop_cause tag
             (before S.stream self) result (after S.stream self) }
     {
-        match self.enter(octets_header(tag, len), 2) {
+        match self.enter(&octets_header(tag, len), 2) {
             Ok(()) => Ok(Some(len)),
             Err(stop) => Err(stop),
         }

@@ -1,9 +1,9 @@
 //! Walking over values, which looks at every header inside them.
-ghost use Rattle.std.specs.Prelude.{◌≡◌, ◌≢◌, ◌≤◌, false, IsTrue, IfOk, IfSome, OnOk, OnErr};
+ghost use Rattle.std.specs.Prelude.{◌≡◌, ◌≤◌, false, IfOk, IfSome, OnOk, OnErr};
 ghost use Rattle.bcder.specs.steps.StopCause.{stop_cause};
-ghost use Rattle.bcder.specs.calls.Stream.{Grew, Provides};
+ghost use Rattle.bcder.specs.calls.Stream.{Grew};
 ghost use Rattle.bcder.specs.x690.Identifier.{Tag as TagValue};
-ghost use Rattle.bcder.specs.steps.Peek.{header_of, len_of, Fronts};
+ghost use Rattle.bcder.specs.steps.Peek.{len_of};
 ghost use Rattle.bcder.specs.calls.Content.{Moves, FitsOwed, values, Resembles};
 ghost use Rattle.bcder.specs.calls.Calls.{RanOver};
 ghost use Rattle.bcder.specs.calls.Walking.{Between, PassedNext, ExactlyNext};
@@ -11,7 +11,7 @@ ghost use Rattle.bcder.specs.steps.WalkSteps.{NoFault, Fault, PassedStep};
 ghost use Rattle.bcder.specs.steps.WalkSteps.{PassedOver, PassedAtOnce};
 ghost use Rattle.bcder.specs.steps.WalkSteps.{PassedAll, WalkedOver};
 ghost use Rattle.bcder.specs.x690.Grammar.{BeginsWhole};
-ghost use Rattle.bcder.specs.steps.WalkSteps.{IsPrimitive, itself, walked};
+ghost use Rattle.bcder.specs.steps.WalkSteps.{itself, walked};
 ghost use Rattle.bcder.specs.calls.Views.{Moved, of_constructed, limited_stream};
 
 use super::take::{pop, push};
@@ -49,17 +49,6 @@ pub fn walk<S: Source>(cons: &mut Constructed<'_, S>) -> Result<Option<()>, Deco
             Err(stop) => Err(cons.stop_error(stop)),
         },
         Err(stop) => Err(cons.stop_error(stop)),
-    }
-}
-
-/// How many octets a primitive value has in all, with those of its header.
-#[inline(always)]
-fn primitive_size(header: Header, size: usize) -> Option<usize>
-    ensures { IfSome result (λ n. IsPrimitive (header_of header) size n) }
-{
-    match header.form {
-        Form::Primitive(len) => size.checked_add(len),
-        Form::Constructed(_) => None,
     }
 }
 
@@ -108,19 +97,6 @@ fn size_ahead<S: Source>(
 }
 
 impl<'a, S: Source> Constructed<'a, S> {
-    /// Asks the source for so many octets, and takes none.
-    #[tactic(auto, unfolding(crate::specs::calls::Views::of_constructed))]
-    #[inline(always)]
-    fn ask(&mut self, size: usize) -> Result<usize, S::Error>
-        ensures same { Between S.stream self Resembles }
-        ensures found { IfOk result (λ n.
-            Provides size n (limited_stream S.stream self.new.source.now)) }
-        ensures no_fault { OnOk result (NoFault S.stream self) }
-        ensures fault { OnErr result (Fault S.stream self) }
-    {
-        self.source.request(size)
-    }
-
     /// Passes over octets that are at hand.
     #[tactic(auto, unfolding(crate::specs::calls::Views::of_constructed))]
     #[inline(always)]
@@ -201,37 +177,6 @@ impl<'a, S: Source> Constructed<'a, S> {
     {
         self.pass_at_hand(Lookahead::Shallow)
     }
-
-    /// Passes over a primitive value in one step where all of its octets come, and says whether it
-    /// did.
-    #[tactic(auto, unfolding(crate::specs::calls::Views::of_constructed))]
-    #[inline(always)]
-    fn pass_primitive(&mut self, header: Header, size: usize) -> Result<bool, Stop<S::Error>>
-        requires read { Fronts self.old.mode header size
-            (limited_stream S.stream self.old.source.now) }
-        requires usable { self.old.state ≡ State.Open }
-        ensures moves { Between S.stream self Moves }
-        ensures passed { PassedAtOnce S.stream self result }
-        ensures read { IfOk result (λ b. b ≡ false → Fronts self.new.mode header size
-            (limited_stream S.stream self.new.source.now)) }
-    {
-        let Some(all) = primitive_size(header, size) else {
-            return Ok(false);
-        };
-        match self.ask(all) {
-            Ok(found) => {
-                if found < all {
-                    return Ok(false);
-                }
-                self.pass_over(all);
-                Ok(true)
-            }
-            Err(error) => {
-                self.state = State::Failed;
-                Err(Stop::Source(error))
-            }
-        }
-    }
 }
 
 /// As `walk`, whatever stands in front, with a stop in the place of an error. It lends a copy of
@@ -278,7 +223,7 @@ fn walk_any<S: Source>(cons: &mut Constructed<'_, S>) -> Result<Option<()>, Stop
     }
 }
 
-/// The same, header by header: a primitive value is passed in one step where its octets come.
+/// The same, header by header.
 #[cycle(walk)]
 #[tactic(auto, unfolding(crate::specs::calls::Views::of_constructed))]
 #[inline(always)]
@@ -286,19 +231,12 @@ fn step<S: Source>(cons: &mut Constructed<'_, S>) -> Result<Option<()>, Stop<S::
     ensures moves { Between S.stream cons Moves }
     ensures passed { PassedStep S.stream cons result }
 {
-    match cons.front(&Wanted::Any) {
-        Ok(Some(front)) => match cons.pass_primitive(front.header, front.size) {
-            Ok(true) => Ok(Some(())),
-            Ok(false) => match cons.enter(front.header, front.size) {
-                Ok(()) => match pass_content(cons, front.header) {
-                    Ok(()) => {
-                        cons.state = State::Open;
-                        Ok(Some(()))
-                    }
-                    Err(stop) => Err(stop),
-                },
-                Err(stop) => Err(stop),
-            },
+    match cons.next_header(Wanted::Any) {
+        Ok(Some(header)) => match pass_content(cons, header) {
+            Ok(()) => {
+                cons.state = State::Open;
+                Ok(Some(()))
+            }
             Err(stop) => Err(stop),
         },
         Ok(None) => Ok(None),

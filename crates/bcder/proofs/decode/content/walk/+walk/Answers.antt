@@ -2,17 +2,14 @@ use Rattle.std.proofs.Common.{rules, false, ◌≡◌, ◌∙◌, ◌+◌, ◌�
 use Rattle.std.specs.Prelude.{Ok, Some}
 use Rattle.bcder.specs.declared.length.Length.TheVariants.{Definite, Indefinite}
 use Rattle.bcder.specs.steps.StopCause.{stop_cause}
-use Rattle.bcder.specs.calls.Content.{any, nothing, EndsAt, FitsOwed, IsDone, values}
+use Rattle.bcder.specs.calls.Content.{any, EndsAt, FitsOwed, IsDone, values}
 use Rattle.bcder.specs.calls.Calls.{content}
 use Rattle.bcder.specs.steps.Peek.{is_constructed, len_of, header_of}
-use Rattle.bcder.specs.calls.Stream.{Grew}
-use Rattle.bcder.specs.calls.Walking.{source, PassesValue, RefusesValues}
+use Rattle.bcder.specs.calls.Walking.{PassesValue, RefusesValues}
 use Rattle.bcder.specs.steps.WalkSteps.{itself, walked}
 use Rattle.bcder.specs.calls.Views.{of_constructed, limited_stream}
 use Rattle.bcder.specs.laws.Moved.{moved_twice_is_moved, moved_is_no_longer}
 use Rattle.bcder.proofs.SameBorrow.{within_constructed, constructed_form, moves_constructed_name}
-use Rattle.bcder.proofs.Entering.{looked_front, front_nothing, no_fewer}
-use Rattle.bcder.proofs.Passing.{looked_at_last}
 use Rattle.bcder.proofs.Refusing.{if_err}
 use Rattle.bcder.proofs.Inner.{takes_values, takes_marked}
 use Rattle.bcder.proofs.Taking.{taken_value, taken_moves, refused_front, refused_moves}
@@ -24,40 +21,40 @@ use Rattle.bcder.proofs.decode.content.walk.+walk.Goals as goal
 pub step-pass_content-requires : goal.step-pass_content-requires
 unfolding of_constructed
 step-pass_content-requires g t c κs within =
-    let e = looked_at_last (of_constructed g.S.Source.stream c.args.cons.now) (of_constructed g.S.Source.stream c.front.new.self) (of_constructed g.S.Source.stream c.pass_primitive.new.self) (of_constructed g.S.Source.stream c.enter.new.self) (header_of c.in-Ok-Some.front.header) (rw c.in-Ok-Some.field-0-is at c.in-Ok-Some.ensures.same) c.in-Ok-Some.ensures.no_fault (c.in-Ok-false.ensures.passed.same c.in-Ok-false.field-0-test) c.in-Ok-false.ensures.passed.no_fault c.in-Ok.ensures.entered in
-    let f = e.fits in let h : length (of_constructed g.S.Source.stream c.enter.new.self).stream.rest + 2 ≤ length (of_constructed g.S.Source.stream c.args.cons.now).stream.rest = entered_shorter _ _ _ e in search rules
+    let e = (rw c.in-Ok-Some.field-0-is at c.in-Ok-Some.ensures.entered).1 in
+    let f = e.fits in let h : length (of_constructed g.S.Source.stream c.next_header.new.self).stream.rest + 2 ≤ length (of_constructed g.S.Source.stream c.args.cons.now).stream.rest = entered_shorter _ _ _ e in search rules
 
-pub step-returns-in-Ok-pass_content-clause-moves : goal.step-returns-in-Ok-pass_content-clause-moves
+pub step-returns-in-Ok-clause-moves : goal.step-returns-in-Ok-clause-moves
 unfolding of_constructed
-step-returns-in-Ok-pass_content-clause-moves g t c =
-    let e = looked_at_last (of_constructed g.S.Source.stream c.args.cons.now) (of_constructed g.S.Source.stream c.front.new.self) (of_constructed g.S.Source.stream c.pass_primitive.new.self) (of_constructed g.S.Source.stream c.enter.new.self) (header_of c.in-Ok-Some.front.header) (rw c.in-Ok-Some.field-0-is at c.in-Ok-Some.ensures.same) c.in-Ok-Some.ensures.no_fault (c.in-Ok-false.ensures.passed.same c.in-Ok-false.field-0-test) c.in-Ok-false.ensures.passed.no_fault c.in-Ok.ensures.entered in
-    taken_moves (of_constructed g.S.Source.stream c.args.cons.now) (of_constructed g.S.Source.stream c.enter.new.self) (of_constructed g.S.Source.stream c.pass_content.new.cons) (header_of c.in-Ok-Some.front.header) any refl e stop_cause itself (walked stop_cause) _ refl refl refl _ c.in-Ok-pass_content.ensures.taken refl refl refl refl
+step-returns-in-Ok-clause-moves g t c =
+    let e = (rw c.in-Ok-Some.field-0-is at c.in-Ok-Some.ensures.entered).1 in
+    taken_moves (of_constructed g.S.Source.stream c.args.cons.now) (of_constructed g.S.Source.stream c.next_header.new.self) (of_constructed g.S.Source.stream c.pass_content.new.cons) (header_of c.in-Ok-Some.header) any refl e stop_cause itself (walked stop_cause) _ refl refl refl _ c.in-Ok.ensures.taken refl refl refl refl
 
-pub step-returns-in-Ok-pass_content-clause-passed : goal.step-returns-in-Ok-pass_content-clause-passed
+pub step-returns-in-Ok-clause-passed : goal.step-returns-in-Ok-clause-passed
 unfolding of_constructed
-step-returns-in-Ok-pass_content-clause-passed g t c =
-    let e = looked_at_last (of_constructed g.S.Source.stream c.args.cons.now) (of_constructed g.S.Source.stream c.front.new.self) (of_constructed g.S.Source.stream c.pass_primitive.new.self) (of_constructed g.S.Source.stream c.enter.new.self) (header_of c.in-Ok-Some.front.header) (rw c.in-Ok-Some.field-0-is at c.in-Ok-Some.ensures.same) c.in-Ok-Some.ensures.no_fault (c.in-Ok-false.ensures.passed.same c.in-Ok-false.field-0-test) c.in-Ok-false.ensures.passed.no_fault c.in-Ok.ensures.entered in
+step-returns-in-Ok-clause-passed g t c =
+    let e = (rw c.in-Ok-Some.field-0-is at c.in-Ok-Some.ensures.entered).1 in
     record {
-      value = walks_one stop_cause itself (walked stop_cause) (λ t p r q x. x) (of_constructed g.S.Source.stream c.args.cons.now) _ (Ok (Some _)) (taken_value (of_constructed g.S.Source.stream c.args.cons.now) (of_constructed g.S.Source.stream c.enter.new.self) (of_constructed g.S.Source.stream c.pass_content.new.cons) (header_of c.in-Ok-Some.front.header) any refl e stop_cause itself (walked stop_cause) _ refl refl refl _ c.in-Ok-pass_content.ensures.taken);
+      value = walks_one stop_cause itself (walked stop_cause) (λ t p r q x. x) (of_constructed g.S.Source.stream c.args.cons.now) _ (Ok (Some _)) (taken_value (of_constructed g.S.Source.stream c.args.cons.now) (of_constructed g.S.Source.stream c.next_header.new.self) (of_constructed g.S.Source.stream c.pass_content.new.cons) (header_of c.in-Ok-Some.header) any refl e stop_cause itself (walked stop_cause) _ refl refl refl _ c.in-Ok.ensures.taken);
       end = tt;
       done = tt;
-      no_fault = c.in-Ok-pass_content.ensures.no_fault ∙ c.in-Ok.ensures.no_fault ∙ c.in-Ok-false.ensures.passed.no_fault ∙ c.in-Ok-Some.ensures.no_fault;
+      no_fault = c.in-Ok.ensures.no_fault ∙ c.in-Ok-Some.ensures.no_fault;
       refused = tt;
       failed = tt;
-      mode = c.pass_content.ensures.mode ∙ c.enter.ensures.mode ∙ c.pass_primitive.ensures.passed.mode ∙ c.front.ensures.mode;
-      marked = c.pass_content.ensures.marked ∙ c.enter.ensures.marked ∙ c.pass_primitive.ensures.passed.marked ∙ c.front.ensures.marked;
+      mode = c.pass_content.ensures.mode ∙ c.next_header.ensures.mode;
+      marked = c.pass_content.ensures.marked ∙ c.next_header.ensures.marked;
     }
 
 pub step-returns-in-Err-pass_content-clause-moves : goal.step-returns-in-Err-pass_content-clause-moves
 unfolding of_constructed
 step-returns-in-Err-pass_content-clause-moves g t c =
-    let e = looked_at_last (of_constructed g.S.Source.stream c.args.cons.now) (of_constructed g.S.Source.stream c.front.new.self) (of_constructed g.S.Source.stream c.pass_primitive.new.self) (of_constructed g.S.Source.stream c.enter.new.self) (header_of c.in-Ok-Some.front.header) (rw c.in-Ok-Some.field-0-is at c.in-Ok-Some.ensures.same) c.in-Ok-Some.ensures.no_fault (c.in-Ok-false.ensures.passed.same c.in-Ok-false.field-0-test) c.in-Ok-false.ensures.passed.no_fault c.in-Ok.ensures.entered in
-    refused_moves (of_constructed g.S.Source.stream c.args.cons.now) (of_constructed g.S.Source.stream c.enter.new.self) (of_constructed g.S.Source.stream c.pass_content.new.cons) (header_of c.in-Ok-Some.front.header) any refl e stop_cause itself (walked stop_cause) _ c.in-Err-pass_content.ensures.taken
+    let e = (rw c.in-Ok-Some.field-0-is at c.in-Ok-Some.ensures.entered).1 in
+    refused_moves (of_constructed g.S.Source.stream c.args.cons.now) (of_constructed g.S.Source.stream c.next_header.new.self) (of_constructed g.S.Source.stream c.pass_content.new.cons) (header_of c.in-Ok-Some.header) any refl e stop_cause itself (walked stop_cause) _ c.in-Err-pass_content.ensures.taken
 
 pub step-returns-in-Err-pass_content-clause-passed : goal.step-returns-in-Err-pass_content-clause-passed
 unfolding of_constructed
 step-returns-in-Err-pass_content-clause-passed g t c =
-    let e = looked_at_last (of_constructed g.S.Source.stream c.args.cons.now) (of_constructed g.S.Source.stream c.front.new.self) (of_constructed g.S.Source.stream c.pass_primitive.new.self) (of_constructed g.S.Source.stream c.enter.new.self) (header_of c.in-Ok-Some.front.header) (rw c.in-Ok-Some.field-0-is at c.in-Ok-Some.ensures.same) c.in-Ok-Some.ensures.no_fault (c.in-Ok-false.ensures.passed.same c.in-Ok-false.field-0-test) c.in-Ok-false.ensures.passed.no_fault c.in-Ok.ensures.entered in
+    let e = (rw c.in-Ok-Some.field-0-is at c.in-Ok-Some.ensures.entered).1 in
     record {
       value = tt;
       end = tt;
@@ -65,56 +62,10 @@ step-returns-in-Err-pass_content-clause-passed g t c =
       no_fault = tt;
       refused =
           step_refused stop_cause (of_constructed g.S.Source.stream c.args.cons.now) (of_constructed g.S.Source.stream c.pass_content.new.cons) _ (within_constructed g.S.Source.stream g.met.S.Source.sound c.args.cons.now)
-          (content (refused_front (of_constructed g.S.Source.stream c.args.cons.now) (of_constructed g.S.Source.stream c.enter.new.self) (of_constructed g.S.Source.stream c.pass_content.new.cons) (header_of c.in-Ok-Some.front.header) any refl e stop_cause itself (walked stop_cause) _ c.in-Err-pass_content.ensures.taken));
+          (content (refused_front (of_constructed g.S.Source.stream c.args.cons.now) (of_constructed g.S.Source.stream c.next_header.new.self) (of_constructed g.S.Source.stream c.pass_content.new.cons) (header_of c.in-Ok-Some.header) any refl e stop_cause itself (walked stop_cause) _ c.in-Err-pass_content.ensures.taken));
       failed = c.pass_content.ensures.state ∙ e.opened;
-      mode = c.pass_content.ensures.mode ∙ c.enter.ensures.mode ∙ c.pass_primitive.ensures.passed.mode ∙ c.front.ensures.mode;
-      marked = c.pass_content.ensures.marked ∙ c.enter.ensures.marked ∙ c.pass_primitive.ensures.passed.marked ∙ c.front.ensures.marked;
-    }
-
-pub step-returns-in-Ok-true-clause-moves : goal.step-returns-in-Ok-true-clause-moves
-step-returns-in-Ok-true-clause-moves g t c = moved_twice_is_moved _ _ _ c.front.ensures.moves c.pass_primitive.ensures.moves
-
-pub step-returns-in-Err-enter-clause-moves : goal.step-returns-in-Err-enter-clause-moves
-step-returns-in-Err-enter-clause-moves g t c = moved_twice_is_moved _ _ _ c.front.ensures.moves (moved_twice_is_moved _ _ _ c.pass_primitive.ensures.moves c.enter.ensures.moves)
-
-pub step-returns-in-Err-enter-clause-passed : goal.step-returns-in-Err-enter-clause-passed
-unfolding of_constructed
-step-returns-in-Err-enter-clause-passed g t c =
-    let i = of_constructed g.S.Source.stream c.args.cons.now in
-    let j = of_constructed g.S.Source.stream c.front.new.self in
-    let s = rw c.in-Ok-Some.field-0-is at c.in-Ok-Some.ensures.same in
-    let u = rw c.in-Ok-Some.field-0-is at c.in-Ok-Some.ensures.usable in
-    let p = c.in-Ok-false.ensures.passed.same c.in-Ok-false.field-0-test in
-    let q = c.in-Ok-false.ensures.passed.no_fault in
-    let h = c.in-Err-enter.ensures.refused in
-    let w = within_constructed g.S.Source.stream g.met.S.Source.sound c.args.cons.now in
-    record {
-      value = tt;
-      end = tt;
-      done = tt;
-      no_fault = tt;
-      refused = next_refused stop_cause i (of_constructed g.S.Source.stream c.enter.new.self) _ w (nothing (front_nothing i w (constructed_form g.S.Source.stream c.args.cons.now) (sym s.state ∙ u) (looked_front i j s (no_fewer _ _ c.in-Ok-Some.ensures.no_fault) (looked_front j _ p (no_fewer _ _ q) h.1))) h.0);
-      failed = c.in-Err-enter.ensures.failed;
-      mode = c.enter.ensures.mode ∙ c.pass_primitive.ensures.passed.mode ∙ c.front.ensures.mode;
-      marked = c.enter.ensures.marked ∙ c.pass_primitive.ensures.passed.marked ∙ c.front.ensures.marked;
-    }
-
-pub step-returns-in-Err-pass_primitive-clause-moves : goal.step-returns-in-Err-pass_primitive-clause-moves
-step-returns-in-Err-pass_primitive-clause-moves g t c = moved_twice_is_moved _ _ _ c.front.ensures.moves c.pass_primitive.ensures.moves
-
-pub step-returns-in-Err-pass_primitive-clause-passed : goal.step-returns-in-Err-pass_primitive-clause-passed
-unfolding of_constructed
-step-returns-in-Err-pass_primitive-clause-passed g t c =
-    let f = c.in-Err-pass_primitive.ensures.passed in
-    record {
-      value = tt;
-      end = tt;
-      done = tt;
-      no_fault = tt;
-      refused = source f.fault.0 (subst (λ z. Grew z (of_constructed g.S.Source.stream c.pass_primitive.new.self).stream.faults) c.in-Ok-Some.ensures.no_fault f.fault.1);
-      failed = f.failed;
-      mode = f.mode ∙ c.front.ensures.mode;
-      marked = f.marked ∙ c.front.ensures.marked;
+      mode = c.pass_content.ensures.mode ∙ c.next_header.ensures.mode;
+      marked = c.pass_content.ensures.marked ∙ c.next_header.ensures.marked;
     }
 
 pub step-returns-in-Err-clause-passed : goal.step-returns-in-Err-clause-passed
@@ -124,10 +75,10 @@ step-returns-in-Err-clause-passed g t c = record {
   end = tt;
   done = tt;
   no_fault = tt;
-  refused = next_refused stop_cause (of_constructed g.S.Source.stream c.args.cons.now) (of_constructed g.S.Source.stream c.front.new.self) _ (within_constructed g.S.Source.stream g.met.S.Source.sound c.args.cons.now) c.in-Err.ensures.refused;
+  refused = next_refused stop_cause (of_constructed g.S.Source.stream c.args.cons.now) (of_constructed g.S.Source.stream c.next_header.new.self) _ (within_constructed g.S.Source.stream g.met.S.Source.sound c.args.cons.now) c.in-Err.ensures.refused;
   failed = c.in-Err.ensures.failed;
-  mode = c.front.ensures.mode;
-  marked = c.front.ensures.marked;
+  mode = c.next_header.ensures.mode;
+  marked = c.next_header.ensures.marked;
 }
 
 pub pass_content-returns-in-Constructed-Definite-clause-taken : goal.pass_content-returns-in-Constructed-Definite-clause-taken
