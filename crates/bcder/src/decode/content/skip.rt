@@ -83,6 +83,7 @@ fn limit_around(behind: Option<usize>, left: Option<usize>) -> Option<usize>
 fn open<S>(cons: &mut Constructed<'_, S>, opened: &mut OpenValues<'_>, len: Length) -> bool
     requires counted { IsCounted opened.old }
     requires few { opened.old.depth + 1 < 2 ^ 64 }
+    requires fits { FitsOwed len (limit_in cons.old) }
     ensures counted { IsCounted opened.new }
     ensures entries { result ≡ true
         → entries opened.new ≡ entry_of len (limit_in cons.old) ∷ entries opened.old }
@@ -100,7 +101,7 @@ fn open<S>(cons: &mut Constructed<'_, S>, opened: &mut OpenValues<'_>, len: Leng
     match len {
         Length::Definite(len) => {
             let behind = match cons.source.limit() {
-                Some(owed) => Some(owed.saturating_sub(len)),
+                Some(owed) => Some(owed - len),
                 None => None,
             };
             let frame = Frame {
