@@ -86,6 +86,10 @@ trait Inside {
         ensures end { OnOk result (EndsAt (view self.old) (view self.new)) }
         ensures refused { IfErr result (λ e.
             RefusesEnd cause_of (view self.old) e (view self.new)) };
+
+    /// Drops what a closure answered, where this isn't at its end.
+    #[inline(always)]
+    fn let_go<T: Drop>(_value: T) {}
 }
 
 impl<'a, S: Source> Inside for Primitive<'a, S> {
@@ -121,6 +125,12 @@ impl<'a, S: Source> Inside for Constructed<'a, S> {
             Err(stop) => Err(self.stop_error(stop)),
         }
     }
+
+    /// The same out of line, so that a large answer needs no place in memory where it isn't
+    /// dropped.
+    #[cold]
+    #[inline(never)]
+    fn let_go<T: Drop>(_value: T) {}
 }
 
 impl<'a, S: Source> Inside for Content<'a, S> {
@@ -183,7 +193,10 @@ where
     };
     match inside.finish() {
         Ok(()) => Ok(value),
-        Err(error) => Err(error),
+        Err(error) => {
+            C::let_go(value);
+            Err(error)
+        }
     }
 }
 
