@@ -115,8 +115,8 @@ impl<'a, S: Source> Inside for Constructed<'a, S> {
     #[tactic(auto, using(crate::specs::laws::Moved::untouched_is_moved), unfolding(crate::specs::calls::Views::views))]
     #[inline(always)]
     fn finish(&mut self) -> Result<(), DecodeError<S::Error>> {
-        if let State::Open = self.state {
-            if self.is_used_up() {
+        if let (State::Open, Kind::Definite) = (self.state, self.kind) {
+            if let Some(0) = self.source.limit() {
                 return Ok(());
             }
         }

@@ -332,8 +332,10 @@ impl<'a, S: Source> Constructed<'a, S> {
         let State::Open = self.state else {
             return Ok(None);
         };
-        if self.is_used_up() {
-            return Ok(None);
+        if let Kind::Definite = self.kind {
+            if let Some(0) = self.source.limit() {
+                return Ok(None);
+            }
         }
         match peek_whole(self.source) {
             Ok(Some(found)) => {

@@ -1,5 +1,5 @@
 //! Passing over the header of the next value.
-ghost use Rattle.std.specs.Prelude.{◌≡◌, false, IsTrue, Some};
+ghost use Rattle.std.specs.Prelude.{◌≡◌, Some};
 ghost use Rattle.std.specs.Prelude.{IfOk, IfErr, IfSome, IsErrAnd, OnOk, OnErr};
 ghost use Rattle.bcder.specs.calls.Calls.{popped};
 ghost use Rattle.bcder.specs.calls.Changed.{SameFaults, MoreFaults, SameRest, SameKept};
@@ -169,23 +169,6 @@ impl<'a, S: Source> Constructed<'a, S> {
         Ok(())
     }
 
-    /// Whether the promised octets are used up.
-    #[inline(always)]
-    pub(super) fn is_used_up(&self) -> bool
-        ensures yes { IsTrue result
-            → (self.now.kind ≡ Kind.Definite) × (self.now.source.now.limit ≡ Some 0) }
-        ensures no { result ≡ false
-            → self.now.kind ≡ Kind.Definite → self.now.source.now.limit ≡ Some 0 → ⊥ }
-    {
-        match self.kind {
-            Kind::Definite => match self.source.limit() {
-                Some(0) => true,
-                _ => false,
-            },
-            _ => false,
-        }
-    }
-
     /// Passes over the next header, if it is one of those that are looked for. `None` is for
     /// another tag, and for the end of the content, whose marker is taken where any header is
     /// looked for. After a header the content has failed until the value is taken.
@@ -209,8 +192,10 @@ impl<'a, S: Source> Constructed<'a, S> {
             State::Ended => return Ok(None),
             State::Open => {}
         }
-        if self.is_used_up() {
-            return Ok(None);
+        if let Kind::Definite = self.kind {
+            if let Some(0) = self.source.limit() {
+                return Ok(None);
+            }
         }
         match peek(self.source, self.mode, &wanted) {
             Ok(Peeked::Front { header, size }) => match self.enter(&header, size) {
@@ -295,8 +280,10 @@ impl<'a, S: Source> Constructed<'a, S> {
             State::Ended => return Ok(None),
             State::Open => {}
         }
-        if self.is_used_up() {
-            return Ok(None);
+        if let Kind::Definite = self.kind {
+            if let Some(0) = self.source.limit() {
+                return Ok(None);
+            }
         }
         match peek_short(self.source, tag) {
             Ok(Some(len)) => self.enter_octets(tag, len),

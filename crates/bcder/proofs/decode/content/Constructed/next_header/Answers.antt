@@ -1,4 +1,6 @@
-use Rattle.std.proofs.Common.{◌∙◌, refl}
+use Rattle.std.proofs.Common.{◌≡◌, ◌∙◌, refl, rules}
+use Rattle.std.specs.Prelude.{Some}
+use Rattle.bcder.specs.declared.decode.content.Kind.TheVariants as kind
 use Rattle.bcder.specs.calls.Content.{nothing}
 use Rattle.bcder.specs.steps.Peek.{header_of}
 use Rattle.bcder.specs.calls.Views.{of_constructed}
@@ -79,15 +81,15 @@ returns-in-Err-take_end-clause-refused g c =
     let h = c.in-Err-take_end.ensures.refused in
     nothing (end_nothing i j (resembles_with_source g.S.Source.stream c.args.self.now c.peek.new.source c.peek.ensures.rest c.peek.ensures.kept) c.in-Open.is c.args.wanted (within_constructed g.S.Source.stream g.met.S.Source.sound c.args.self.now) (constructed_form g.S.Source.stream c.args.self.now) (looked_front i j (resembles_with_source g.S.Source.stream c.args.self.now c.peek.new.source c.peek.ensures.rest c.peek.ensures.kept) (no_fewer _ _ c.in-Ok-End.ensures.no_fault) h.1) _ p.0.1 p.1) h.0
 
-pub returns-in_default-clause-moves : goal.returns-in_default-clause-moves
+pub returns-in_default-kind-clause-moves : goal.returns-in_default-kind-clause-moves
 unfolding of_constructed
-returns-in_default-clause-moves g c = looked_failed _ _ (resembles_with_source g.S.Source.stream c.args.self.now c.peek.new.source c.peek.ensures.rest c.peek.ensures.kept) (no_fewer _ _ c.in-Ok-Nothing.ensures.no_fault) _ c.in-Open.is refl refl refl refl refl refl refl
+returns-in_default-kind-clause-moves g c = looked_failed _ _ (resembles_with_source g.S.Source.stream c.args.self.now c.peek.new.source c.peek.ensures.rest c.peek.ensures.kept) (no_fewer _ _ c.in-Ok-Nothing.ensures.no_fault) _ c.in-Open.is refl refl refl refl refl refl refl
 
-pub returns-in_default-clause-refused : goal.returns-in_default-clause-refused
+pub returns-in_default-kind-clause-refused : goal.returns-in_default-kind-clause-refused
 unfolding of_constructed
-returns-in_default-clause-refused g c =
+returns-in_default-kind-clause-refused g c =
     let i = of_constructed g.S.Source.stream c.args.self.now in
-    nothing (none_nothing i (of_constructed g.S.Source.stream (with_source c.args.self.now c.peek.new.source)) (resembles_with_source g.S.Source.stream c.args.self.now c.peek.new.source c.peek.ensures.rest c.peek.ensures.kept) c.in-Open.is c.args.wanted c.in-Any.is (constructed_form g.S.Source.stream c.args.self.now) (λ k o. c.is_used_up.ensures.no c.if-is_used_up.false (kind_of _ _ k) o) (λ k. c.in_default.not-Unbounded (kind_of _ _ ((resembles_with_source g.S.Source.stream c.args.self.now c.peek.new.source c.peek.ensures.rest c.peek.ensures.kept).kind ∙ k))) (rw c.in-Ok-Nothing.field-0-is at c.in-Ok-Nothing.ensures.peeked)) tt
+    nothing (none_nothing i (of_constructed g.S.Source.stream (with_source c.args.self.now c.peek.new.source)) (resembles_with_source g.S.Source.stream c.args.self.now c.peek.new.source c.peek.ensures.rest c.peek.ensures.kept) c.in-Open.is c.args.wanted c.in-Any.is (constructed_form g.S.Source.stream c.args.self.now) (λ k o. let q : c.args.self.now.kind ≡ kind.Definite = kind_of _ _ k in let r : c.args.self.now.source.now.limit ≡ Some 0 = o in search rules) (λ k. c.in_default-kind.not-Unbounded (kind_of _ _ ((resembles_with_source g.S.Source.stream c.args.self.now c.peek.new.source c.peek.ensures.rest c.peek.ensures.kept).kind ∙ k))) (rw c.in-Ok-Nothing.field-0-is at c.in-Ok-Nothing.ensures.peeked)) tt
 
 pub returns-in-Ok-Refused-clause-moves : goal.returns-in-Ok-Refused-clause-moves
 unfolding of_constructed

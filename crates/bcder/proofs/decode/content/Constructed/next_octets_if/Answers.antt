@@ -16,9 +16,9 @@ pub returns-in-Ended-clause-entered : goal.returns-in-Ended-clause-entered
 unfolding of_constructed
 returns-in-Ended-clause-entered g c = record { entered = tt; none = search rules; refused = tt; failed = tt; mode = refl; marked = refl }
 
-pub returns-then-is_used_up-clause-entered : goal.returns-then-is_used_up-clause-entered
+pub returns-in-Some-eq0-clause-entered : goal.returns-in-Some-eq0-clause-entered
 unfolding of_constructed
-returns-then-is_used_up-clause-entered g c = record { entered = tt; none = search rules; refused = tt; failed = tt; mode = refl; marked = refl }
+returns-in-Some-eq0-clause-entered g c = record { entered = tt; none = search rules; refused = tt; failed = tt; mode = refl; marked = refl }
 
 pub returns-in-Ok-Some-clause-moves : goal.returns-in-Ok-Some-clause-moves
 unfolding of_constructed
