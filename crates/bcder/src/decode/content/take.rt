@@ -296,18 +296,6 @@ impl<'a, S: Source> Constructed<'a, S> {
     }
 }
 
-/// Limits the source to the content of a value, and answers the limit of the content around it.
-#[inline(always)]
-pub(super) fn push<S>(source: &mut LimitedSource<S>, len: usize) -> Option<usize>
-    ensures outer { result ≡ source.old.limit }
-    ensures limit { source.new.limit ≡ Some len }
-    ensures source { source.new.source ≡ source.old.source }
-{
-    let outer = source.limit();
-    source.set_limit(Some(len));
-    outer
-}
-
 /// Gives the source the limit of the content around a value back, less what was passed over.
 #[inline(always)]
 pub(super) fn pop<S>(source: &mut LimitedSource<S>, outer: Option<usize>, len: usize)

@@ -14,7 +14,7 @@ ghost use Rattle.bcder.specs.x690.Grammar.{BeginsWhole};
 ghost use Rattle.bcder.specs.steps.WalkSteps.{itself, walked};
 ghost use Rattle.bcder.specs.calls.Views.{Moved, of_constructed, limited_stream};
 
-use super::take::{pop, push};
+use super::take::pop;
 use super::{Constructed, Kind, State};
 use crate::decode::error::DecodeError;
 use crate::decode::header::{Form, Header, Wanted};
@@ -262,7 +262,8 @@ fn pass_content<S: Source>(
     match header.form {
         Form::Primitive(len) => cons.source.skip_owed(len),
         Form::Constructed(Length::Definite(len)) => {
-            let outer = push(cons.source, len);
+            let outer = cons.source.limit();
+            cons.source.set_limit(Some(len));
             let result = walk_over(cons.source, Kind::Definite, cons.mode);
             pop(cons.source, outer, len);
             result

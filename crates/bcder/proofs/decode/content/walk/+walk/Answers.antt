@@ -86,8 +86,8 @@ unfolding of_constructed
 pass_content-returns-in-Constructed-Definite-clause-taken g t c =
     let e : c.in-Constructed-Definite.field-0 ≡ Definite c.in-Constructed-Definite.len = rw c.in-Constructed-Definite.is at c.in-Constructed-Definite.field-0-is in
     takes_values stop_cause itself (walked stop_cause) (of_constructed g.S.Source.stream c.args.cons.now) _ (header_of c.args.header) _ refl refl refl refl false (or_none _ _ refl)
-    g.S.Source.stream c.in-Constructed-Definite.len c.args.cons.now.source.now c.push-outer.new.source c.walk_over-result.new.source c.pop.new.source c.push-outer.result (ap len_of c.in-Constructed-Definite.is ∙ e)
-    refl refl c.push-outer.ensures.outer c.push-outer.ensures.limit c.push-outer.ensures.source c.pop.ensures.limit c.pop.ensures.source refl refl c.requires (ap is_constructed c.in-Constructed-Definite.is) (c.walk_over-result.ensures.ran c.args.header.tag)
+    g.S.Source.stream c.in-Constructed-Definite.len c.args.cons.now.source.now c.set_limit.new.self c.walk_over-result.new.source c.pop.new.source c.limit-outer.result (ap len_of c.in-Constructed-Definite.is ∙ e)
+    refl refl c.limit-outer.ensures c.set_limit.ensures.limit c.set_limit.ensures.source c.pop.ensures.limit c.pop.ensures.source refl refl c.requires (ap is_constructed c.in-Constructed-Definite.is) (c.walk_over-result.ensures.ran c.args.header.tag)
 
 pub pass_content-returns-in-Primitive-clause-taken : goal.pass_content-returns-in-Primitive-clause-taken
 unfolding of_constructed
