@@ -1,4 +1,4 @@
-use Rattle.std.proofs.Common.{rules, false, ◌≡◌, ◌∙◌, ◌+◌, ◌≤◌, length, arith, refl, ap, sym, subst}
+use Rattle.std.proofs.Common.{rules, false, ◌≡◌, ◌∙◌, ◌+◌, ◌≤◌, length, arith, refl, ap, subst}
 use Rattle.std.specs.Prelude.{Ok, Some}
 use Rattle.bcder.specs.declared.length.Length.TheVariants.{Definite, Indefinite}
 use Rattle.bcder.specs.steps.StopCause.{stop_cause}
