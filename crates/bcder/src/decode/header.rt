@@ -139,18 +139,6 @@ fn is_wanted(wanted: &Wanted, tag: Tag) -> bool
     }
 }
 
-/// The same tag: where the one that is looked for is a constant, so is what is asked of it.
-#[inline(always)]
-fn wanted_tag(wanted: &Wanted, tag: Tag) -> Tag
-    requires { IsAsked (asked wanted.now) tag }
-    ensures { result ≡ tag }
-{
-    match wanted {
-        Wanted::Tagged(wanted) => *wanted,
-        Wanted::Any => tag,
-    }
-}
-
 /// What the octets at hand tell of the header at their front, whatever follows them. `None` is
 /// where it depends on what follows.
 fn look(mode: Mode, wanted: &Wanted, octets: &[u8]) -> Option<Peeked>
@@ -207,6 +195,7 @@ fn short_octets(octets: &[u8]) -> Option<(Tag, usize)>
 }
 
 /// What is told by the leading octet, which tells the tag alone, and a length, in so many octets.
+/// The tag in the header is the one that is looked for, so that it is a constant where that is.
 #[inline(always)]
 fn short_front(mode: Mode, wanted: &Wanted, leading: u8, len: Length, size: usize) -> Option<Peeked>
     requires { leading % 32 < 31 }
@@ -217,10 +206,11 @@ fn short_front(mode: Mode, wanted: &Wanted, leading: u8, len: Length, size: usiz
     })) }
 {
     let tag = tag_of_leading(leading);
-    if !is_wanted(wanted, tag) {
-        return Some(Peeked::Other);
-    }
-    let tag = wanted_tag(wanted, tag);
+    let tag = match wanted {
+        Wanted::Any => tag,
+        Wanted::Tagged(wanted) if tag == *wanted => *wanted,
+        Wanted::Tagged(_) => return Some(Peeked::Other),
+    };
     if !tag.is_value() {
         return None;
     }

@@ -147,7 +147,11 @@ impl<'a, S: Source> Constructed<'a, S> {
         ensures took { TookValues S.stream self (tagged sequence_tag) (Untagged
             (F.post op)) result }
     {
-        self.take_constructed_if(Tag::SEQUENCE, op)
+        match self.take_opt_constructed_if(Tag::SEQUENCE, op) {
+            Ok(Some(value)) => Ok(value),
+            Ok(None) => Err(self.expected_tag_error(Tag::SEQUENCE)),
+            Err(error) => Err(error),
+        }
     }
 
     /// Takes the next value if it is a SEQUENCE (X.690, 8.9, 8.10), or answers `None`.
@@ -190,7 +194,11 @@ impl<'a, S: Source> Constructed<'a, S> {
         ensures moves { Moved S.stream self }
         ensures took { TookValues S.stream self (tagged set_tag) (Untagged (F.post op)) result }
     {
-        self.take_constructed_if(Tag::SET, op)
+        match self.take_opt_constructed_if(Tag::SET, op) {
+            Ok(Some(value)) => Ok(value),
+            Ok(None) => Err(self.expected_tag_error(Tag::SET)),
+            Err(error) => Err(error),
+        }
     }
 
     /// Takes the next value if it is a SET (X.690, 8.11, 8.12), or answers `None`.
