@@ -205,11 +205,14 @@ fn short_front(mode: Mode, wanted: &Wanted, leading: u8, len: Length, size: usiz
       len = len;
     })) }
 {
-    let tag = tag_of_leading(leading);
     let tag = match wanted {
-        Wanted::Any => tag,
-        Wanted::Tagged(wanted) if tag == *wanted => *wanted,
-        Wanted::Tagged(_) => return Some(Peeked::Other),
+        Wanted::Tagged(wanted) => {
+            if tag_of_leading(leading) != *wanted {
+                return Some(Peeked::Other);
+            }
+            *wanted
+        }
+        Wanted::Any => tag_of_leading(leading),
     };
     if !tag.is_value() {
         return None;

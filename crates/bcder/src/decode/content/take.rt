@@ -133,15 +133,18 @@ impl<'a, S: Source> Constructed<'a, S> {
     {
         self.state = State::Failed;
         self.source.advance(size);
-        match header.form {
-            Form::Primitive(len) | Form::Constructed(Length::Definite(len)) => {
-                match self.source.limit() {
-                    Some(owed) if owed < len => Err(Stop::Refused(Reason::ValueHeader)),
-                    _ => Ok(()),
-                }
-            }
-            Form::Constructed(Length::Indefinite) => Ok(()),
+        let Some(owed) = self.source.limit() else {
+            return Ok(());
+        };
+        let fits = match header.form {
+            Form::Primitive(len) => len <= owed,
+            Form::Constructed(Length::Definite(len)) => len <= owed,
+            Form::Constructed(Length::Indefinite) => true,
+        };
+        if fits {
+            return Ok(());
         }
+        Err(Stop::Refused(Reason::ValueHeader))
     }
 
     /// Passes over end-of-contents octets, which have to end the content.
