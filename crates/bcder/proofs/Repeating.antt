@@ -32,6 +32,9 @@ module _ {F C T E : Type 0} (view : C → Reading) (step : F → MutBor C → An
   abbrev Once : F → Reading → Answer T E → F → Reading → Type 0
   Once g d a h e = (t : Turn C) × AnswersTurn view step (record { closure = g; content = d }) t a (record { closure = h; content = e })
 
+  pub once : (g : F) (p : MutBor C) (a : Answer T E) (q : MutBor C) (h : F) → step g p a q h → Once g (view p.now) a h (view q.now)
+  once g p a q h s = (record { handed = p; left = q }, record { handed_is = refl; left_is = refl; called = s })
+
   -- by a lawful closure
   abbrev Lawful : Reading → Type 0
   Lawful c = (f : F) (p : MutBor C) (a : Answer T E) (q : MutBor C) (g : F) → Moves c (view p.now) → step f p a q g → Moves (view p.now) (view q.now)

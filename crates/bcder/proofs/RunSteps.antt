@@ -1,5 +1,5 @@
 -- What a run over the values of a value did, step by step.
-use Rattle.std.proofs.Common.{◌≡◌, ◌⊎◌, inl, inr, ℕ, zero, suc, ◌+◌, ◌*◌, ◌<◌, ◌≤◌, false, List, [], ◌∷◌, ◌++◌, length, drop, Option, Some, None, Ok, Err, IfSome, refl, sym, ap, subst, ◌∙◌, arith, length-append}
+use Rattle.std.proofs.Common.{◌≡◌, ◌⊎◌, inl, inr, ℕ, zero, suc, ◌+◌, ◌*◌, ◌<◌, ◌≤◌, false, List, [], ◌∷◌, ◌++◌, length, drop, Option, Some, None, Result, Ok, Err, IfSome, refl, sym, ap, subst, ◌∙◌, arith, length-append}
 use Rattle.std.specs.Prelude.{◌^◌}
 use Rattle.std.proofs.lemmas.List.{length-drop}
 use Rattle.bcder.specs.declared.decode.content.skip.OpenValues.{OpenValues}
@@ -119,6 +119,10 @@ module _ {F : Type 0} (step : Steps F ContentError) (mode : Mode) (h : Header) (
     under = first_gone mode h s t o p fs w (subst (λ z. GoesInto h z s o fs t p) e v.goes);
     no_fault = v.no_fault;
   }
+
+  -- the same of a source that stands there
+  pub left_here : {X : Type 0} → (r : Result (Unit {0}) (Interrupt X)) (g : F) (t t' : Stream) (p p' : Option ℕ) → t' ≡ t → p' ≡ p → RanBy step {T = Unit {0}} mode h s o f r g t p → RanBy step {T = Unit {0}} mode h s o f r g t' p'
+  left_here r g t t' p p' a b x = subst (λ z. RanBy step {T = Unit {0}} mode h s o f r g z p') (sym a) (subst (λ z. RanBy step {T = Unit {0}} mode h s o f r g t z) (sym b) x)
 
   pub not_begun : {X : Type 0} → (e : Interrupt X) (g : F) (es fs : List Entry) (t : Stream) (p : Option ℕ) → es ≡ [] → VisitedBy step {T = Unit {0}} h es s o f (Err e) g fs t p → RanBy step {T = Unit {0}} mode h s o f (Err e) g t p
   not_begun e g es fs t p i v = record { whole = tt; no_fault = tt; breaks = go v.stays; faults = v.faults }

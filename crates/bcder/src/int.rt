@@ -17,7 +17,6 @@ pub(crate) mod number;
 pub(crate) mod octets;
 mod unsigned;
 
-use crate::decode::source::see_octets;
 use crate::decode::{Constructed, DecodeError, Primitive, Source};
 use crate::int::number::{Number, number_at};
 use crate::tag::Tag;
@@ -88,7 +87,8 @@ impl Integer {
         requires { IsSmallest octets }
         ensures { AreInteger result octets }
     {
-        see_octets(octets.as_slice());
+        let slice = octets.as_slice();
+        let _slice = slice;
         Integer { octets }
     }
 

@@ -100,10 +100,6 @@ MayRepeat {S} {F} stream c pre = (f : F) (p : MutBor (Constructed S)) → Moves 
 abbrev pub RepeatsLawfully : {S F T E : Type 0} → (S → Stream) → MutBor (Constructed S) → (F → MutBor (Constructed S) → Answer T E → MutBor (Constructed S) → F → Type 0) → Type 0
 RepeatsLawfully {S} {F} {T} {E} stream c step = (f : F) (p : MutBor (Constructed S)) (a : Answer T E) (q : MutBor (Constructed S)) (g : F) → Moves (of_constructed stream c.now) (of_constructed stream p.now) → step f p a q g → Moves (of_constructed stream p.now) (of_constructed stream q.now)
 
--- one call of a closure on content: as f it answered so, and was left as g
-abbrev pub AnswersOnce : {S F T X : Type 0} → (S → Stream) → Both (MutBor (Constructed S)) (MutBor (Constructed S)) → (F → MutBor (Constructed S) → Answer T (DecodeError X) → MutBor (Constructed S) → F → Type 0) → F → Answer T (DecodeError X) → F → Type 0
-AnswersOnce {S} stream c step f a g = (t : Turn (Constructed S)) × AnswersTurn (of_constructed stream) step (record { closure = f; content = of_constructed stream c.entry.now }) t a (record { closure = g; content = of_constructed stream c.exit.now })
-
 -- the closure f was called over content until it answered `None`, refused, or took nothing
 abbrev pub Repeated : {S F X : Type 0} → (S → Stream) → Both (MutBor (Constructed S)) (MutBor (Constructed S)) → (F → MutBor (Constructed S) → Answer (Unit {0}) (DecodeError X) → MutBor (Constructed S) → F → Type 0) → F → Result (Unit {0}) (DecodeError X) → Type 0
 Repeated stream c step f r = Repeats cause_of (of_constructed stream) step f (of_constructed stream c.entry.now) r (of_constructed stream c.exit.now)

@@ -267,8 +267,5 @@ module _ {S : Type 0} (stream : S → Stream) where
   Gone c es h r = GoneBy (header_of h) (entries es.entry.now) (source_of stream c.entry.now) (limit_in c.entry.now) r (entries es.exit.now) (source_of stream c.exit.now) (limit_in c.exit.now)
 
 module _ {S F : Type 0} (stream : S → Stream) (step : Steps F ContentError) where
-  abbrev pub Ran : {T X : Type 0} → Both (MutBor (Constructed S)) (MutBor (Constructed S)) → CodeHeader → Both (MutBor F) (MutBor F) → Result T (Interrupt X) → Type 0
-  Ran c h op r = RanBy step c.entry.now.mode (header_of h) (source_of stream c.entry.now) (limit_in c.entry.now) op.entry.now r op.exit.now (source_of stream c.exit.now) (limit_in c.exit.now)
-
   abbrev pub RanOverSource : {T X : Type 0} → Both (MutBor (LimitedSource S)) (MutBor (LimitedSource S)) → Mode → CodeHeader → Both (MutBor F) (MutBor F) → Result T (Interrupt X) → Type 0
   RanOverSource c mode h op r = RanBy step mode (header_of h) (stream c.entry.now.source) c.entry.now.limit op.entry.now r op.exit.now (stream c.exit.now.source) c.exit.now.limit

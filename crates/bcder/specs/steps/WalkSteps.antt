@@ -15,7 +15,7 @@ use Rattle.bcder.specs.calls.Views.{of_constructed}
 use Rattle.bcder.specs.calls.Calls.{TakesContent}
 use Rattle.bcder.specs.steps.Peek.{header_of}
 use Rattle.bcder.specs.calls.Content.{Reading, Moves, IsDone, Advances, Resembles}
-use Rattle.bcder.specs.calls.Walking.{PassesValue, PassedBy, RefusesWalk, RefusesValues, AllBy, Between}
+use Rattle.bcder.specs.calls.Walking.{PassesValue, PassedBy, RefusesWalk, RefusesValues, Between}
 
 -- the first n octets were passed, and nothing else changed
 pub record PassesOver (c : Reading) (n : ℕ) (d : Reading) : Type 0 where
@@ -68,9 +68,6 @@ module _ {S : Type 0} (stream : S → Stream) (c : Both (MutBor (Constructed S))
 
   abbrev pub PassedAtOnce : {X : Type 0} → Result Bool (Stop X) → Type 0
   PassedAtOnce r = AtOnceBy stop_cause (of_constructed stream c.entry.now) r (of_constructed stream c.exit.now)
-
-  abbrev pub PassedAll : {T X : Type 0} → Result T (Stop X) → Type 0
-  PassedAll r = AllBy (RefusesValues stop_cause) (of_constructed stream c.entry.now) r (of_constructed stream c.exit.now)
 
   -- the content of a header was walked over
   abbrev pub WalkedOver : {T X : Type 0} → CodeHeader → Result T (Stop X) → Type 0

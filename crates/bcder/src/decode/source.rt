@@ -17,7 +17,6 @@ use crate::NoMemory;
 use crate::decode::error::{ContentError, DecodeError};
 use bytes::Bytes;
 pub use bytes_source::BytesSource;
-pub(crate) use bytes_source::see_octets;
 pub use capture::CaptureSource;
 pub use into::IntoSource;
 pub use limited::LimitedSource;

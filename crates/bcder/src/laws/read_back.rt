@@ -10,7 +10,6 @@ ghost use Rattle.bcder.specs.x690.ObjectIdentifier.{IsComplete};
 ghost use Rattle.bcder.specs.calls.ReadBack.{IsReadBack, AreReadBack};
 ghost use Rattle.bcder.specs.calls.Readers.{IsSigned, IsUnsigned, IsTruth, IsNull};
 
-use crate::decode::source::see_octets;
 use crate::encode::PrimitiveContent;
 use crate::int::{Integer, Unsigned};
 use crate::mode::Mode;
@@ -80,7 +79,8 @@ pub fn an_identifier_is_read_back<T: AsSlice<u8>>(x: &Oid<T>, mode: Mode)
     ensures { IsReadBack (⟦<Oid<T> as PrimitiveContent>⟧.means x.now mode)
         (λ w v. (v ≡ w) × IsComplete w) (T.items x.now.0) }
 {
-    see_octets(x.0.as_slice());
+    let slice = x.0.as_slice();
+    let _slice = slice;
     let _mode = mode;
 }
 

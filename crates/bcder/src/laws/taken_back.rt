@@ -17,7 +17,6 @@ ghost use Rattle.bcder.specs.calls.TakenBack.{AreTakenBack, IsTakenBack, IsTaken
 ghost use Rattle.bcder.specs.calls.TakenBack.{SourceFailed};
 ghost use Rattle.bcder.specs.calls.TakenBack.{SourceFailedOrNoMemory};
 
-use crate::decode::source::see_octets;
 use crate::encode::{Primitive, Values};
 use crate::int::{Integer, Unsigned};
 use crate::mode::Mode;
@@ -94,7 +93,8 @@ pub fn an_identifier_is_taken_back<E>(x: &Oid<Bytes>, mode: Mode)
         (⟦<Primitive<Oid<Bytes>> as Values>⟧.means
         (record { tag = identifier_tag; prim = x.now }) mode) x.now }
 {
-    see_octets(x.0.as_slice());
+    let slice = x.0.as_slice();
+    let _slice = slice;
     let _mode = mode;
 }
 
@@ -127,7 +127,8 @@ pub fn a_slice_of_bits_is_taken_back<T: AsSlice<u8>, E>(value: &T, unused: u8, m
         (record { slice = value.now; unused = unused; tag = bit_string_tag }) mode)
         (as_written mode (record { unused = unused; octets = T.items value.now })) }
 {
-    see_octets(value.as_slice());
+    let slice = value.as_slice();
+    let _slice = slice;
     let _unused = unused;
     let _mode = mode;
 }

@@ -17,7 +17,6 @@ mod encode;
 mod write;
 
 use crate::NoMemory;
-use crate::decode::source::see_octets;
 use crate::decode::{Constructed, Content, DecodeError, Source};
 use crate::tag::Tag;
 use bytes::Bytes;
@@ -132,7 +131,8 @@ impl BitString {
         ensures octets { AreOctets self.now.octets }
     {
         let _unused = self.unused;
-        see_octets(self.octets.as_slice());
+        let slice = self.octets.as_slice();
+        let _slice = slice;
     }
 
     /// An encoder of the bits of these octets but the last `unused`, as a BIT STRING. The condition

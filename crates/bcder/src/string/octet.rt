@@ -16,7 +16,6 @@ mod wrapped;
 mod write;
 
 use crate::captured::Captured;
-use crate::decode::source::see_octets;
 use bytes::Bytes;
 pub use encode::OctetStringEncoder;
 pub use iter::{OctetStringIter, OctetStringOctets};
@@ -110,7 +109,7 @@ impl OctetString {
         match &self.octets {
             Octets::Whole(octets) => octets.len(),
             Octets::Cut(captured, _) => {
-                see_octets(captured.as_slice());
+                let _octets = captured.as_slice();
                 let mut len = 0;
                 for part in self {
                     len += part.len();

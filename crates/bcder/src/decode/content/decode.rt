@@ -1,14 +1,12 @@
 //! Decoding the values of a source.
-ghost use Rattle.std.specs.Prelude.{◌≡◌, ◌≢◌, ◌≤◌, ◌++◌, ℕ, List, Ok, None, IfErr, IfOk, OnOk};
+ghost use Rattle.std.specs.Prelude.{◌≡◌, ◌≢◌, ◌≤◌, ◌++◌, ℕ, List, Ok, IfErr, IfOk, OnOk};
 ghost use Rattle.bcder.specs.calls.Calls.{Answered, MayBeCalledOn, IsLawfulOn, IsOver};
 ghost use Rattle.bcder.specs.calls.Cause.{cause_of};
 ghost use Rattle.bcder.specs.calls.Content.{Moves, UnboundedValues};
-ghost use Rattle.bcder.specs.calls.Decoding.{RefusesOn, RanOn, Decodes};
-ghost use Rattle.bcder.specs.calls.Decoding.{RefusesDecode, CallableOnAll, LawfulOnAll};
-ghost use Rattle.bcder.specs.calls.Decoding.{CallableOnLent};
-ghost use Rattle.bcder.specs.calls.Decoding.{LawfulOnLent, DecodesAll, RefusesAll, DecodesLent};
-ghost use Rattle.bcder.specs.calls.Decoding.{RefusesLent};
-ghost use Rattle.bcder.specs.calls.Views.{of_constructed, limited_stream, lent, before, after};
+ghost use Rattle.bcder.specs.calls.Decoding.{RefusesOn, RanOn, CallableOnAll, LawfulOnAll};
+ghost use Rattle.bcder.specs.calls.Decoding.{CallableOnLent, LawfulOnLent, DecodesAll, RefusesAll};
+ghost use Rattle.bcder.specs.calls.Decoding.{DecodesLent, RefusesLent};
+ghost use Rattle.bcder.specs.calls.Views.{of_constructed, limited_stream, before, after};
 
 use super::{Constructed, Kind, State};
 use crate::decode::error::DecodeError;
@@ -79,36 +77,6 @@ where
     run(&mut cons, op)
 }
 
-/// The same over a borrowed source, whose borrow stays the same.
-fn run_lent<S: Source, F, T: Drop>(
-    limited: &mut LimitedSource<&mut S>,
-    mode: Mode,
-    op: F,
-) -> Result<T, DecodeError<S::Error>>
-where
-    F: FnOnce(&mut Constructed<'_, &mut S>) -> Result<T, DecodeError<S::Error>>,
-    requires unlimited { limited.old.limit ≡ None }
-    requires callable { CallableOnAll (lent S.stream)
-        (lent S.stream limited.old.source) mode (F.pre op) }
-    requires lawful { LawfulOnAll (lent S.stream)
-        (lent S.stream limited.old.source) mode (F.post op) }
-    ensures name { limited.new.source.ghost_name ≡ limited.old.source.ghost_name }
-    ensures passed { (passed : List ℕ)
-        × ((S.stream limited.old.source.now).rest
-        ≡ passed ++ (S.stream limited.new.source.now).rest) }
-    ensures faults { (S.stream limited.old.source.now).faults
-        ≤ (S.stream limited.new.source.now).faults }
-    ensures kept { (S.stream limited.new.source.now).kept ≡ (S.stream limited.old.source.now).kept }
-    ensures ok { IfOk result (λ x.
-        Decodes (of_constructed (lent S.stream)) (F.post op)
-        (lent S.stream limited.old.source) mode x (lent S.stream limited.new.source)) }
-    ensures refused { IfErr result (λ e.
-        RefusesDecode cause_of (of_constructed (lent S.stream)) (F.post op)
-        (lent S.stream limited.old.source) mode e (lent S.stream limited.new.source)) }
-{
-    run_over(limited, mode, op)
-}
-
 impl<'a, S: Source + Drop> Constructed<'a, S> {
     /// Decodes the values at the front of a source, in a mode.
     ///
@@ -162,7 +130,7 @@ impl<'a, S: Source> Constructed<'a, S> {
         ensures kept { (S.stream source.new).kept ≡ (S.stream source.old).kept }
     {
         let mut limited = LimitedSource::new(&mut *source);
-        let result = run_lent(&mut limited, mode, op);
+        let result = run_over(&mut limited, mode, op);
         let _back = limited.unwrap();
         result
     }

@@ -1,6 +1,6 @@
 //! Loops over content.
 ghost use Rattle.std.specs.Prelude.{◌≡◌, IsTrue, ◌↔◌};
-ghost use Rattle.bcder.specs.calls.Repeating.{AnswersOnce, Collected, MayRepeat, OwesAsBefore};
+ghost use Rattle.bcder.specs.calls.Repeating.{Collected, MayRepeat, OwesAsBefore};
 ghost use Rattle.bcder.specs.calls.Repeating.{Repeated, RepeatsLawfully};
 ghost use Rattle.bcder.specs.calls.Views.{Moved, of_constructed};
 
@@ -20,20 +20,6 @@ fn owes_as_before(before: Option<usize>, after: Option<usize>) -> bool
         },
         None => false,
     }
-}
-
-/// One call of the closure.
-#[inline(always)]
-fn call<S: Source, T, F>(
-    cons: &mut Constructed<'_, S>,
-    op: &mut F,
-) -> Result<Option<T>, DecodeError<S::Error>>
-where
-    F: FnMut(&mut Constructed<'_, S>) -> Result<Option<T>, DecodeError<S::Error>>,
-    requires { (p : _) → p.now ≡ cons.old → F.pre op.old p }
-    ensures { AnswersOnce S.stream cons F.step op.old result op.new }
-{
-    op(cons)
 }
 
 impl<'a, S: Source> Constructed<'a, S> {
@@ -76,7 +62,7 @@ impl<'a, S: Source> Constructed<'a, S> {
     {
         for turn in 0..u64::MAX {
             let owed = self.owed();
-            match call(self, &mut op) {
+            match op(self) {
                 Ok(Some(())) => {}
                 Ok(None) => return Ok(()),
                 Err(error) => return Err(error),
@@ -117,7 +103,7 @@ impl<'a, S: Source> Constructed<'a, S> {
         let mut all = Vec::new(alloc);
         loop {
             let owed = self.owed();
-            let value = match call(self, &mut op) {
+            let value = match op(self) {
                 Ok(Some(value)) => value,
                 Ok(None) => return Ok(all),
                 Err(error) => return Err(error),

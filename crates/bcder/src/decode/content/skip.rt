@@ -10,7 +10,7 @@ ghost use Rattle.bcder.specs.steps.Peek.{header_of, octets_header, len_of};
 ghost use Rattle.bcder.specs.calls.Skipping.{ExactlyAll, ExactlySkipped, ExactlyValue, FoundMemory};
 ghost use Rattle.bcder.specs.steps.SkipSteps.{IsPast};
 ghost use Rattle.bcder.specs.calls.Skipping.{SkippedAll, SkippedNext, SkippedOne, SkippedValue};
-ghost use Rattle.bcder.specs.steps.Stacked.{Counts, Gone, IsCounted, LeavesInnermost, Ran, RanOverSource};
+ghost use Rattle.bcder.specs.steps.Stacked.{Counts, Gone, IsCounted, LeavesInnermost, RanOverSource};
 ghost use Rattle.bcder.specs.steps.Stacked.{TopIs};
 ghost use Rattle.bcder.specs.steps.Stacked.{entries, entry_of, framed, interrupt_cause, limit_around};
 ghost use Rattle.bcder.specs.steps.Stacked.{limit_in};
@@ -152,18 +152,6 @@ fn leave<S>(cons: &mut Constructed<'_, S>, opened: &mut OpenValues<'_>)
     cons.state = State::Open;
 }
 
-/// How many octets are owed, if there is a limit.
-#[inline(always)]
-fn owed<S>(source: &LimitedSource<S>) -> Option<usize>
-    ensures value { result ≡ source.now.limit }
-    ensures range { IfSome result (λ n. n < 2 ^ 64) }
-{
-    match source.limit() {
-        Some(owed) => Some(owed),
-        None => None,
-    }
-}
-
 /// Gives the limit back that was there before the open values were entered, of which those of
 /// definite length are these.
 #[inline(never)]
@@ -219,9 +207,10 @@ fn go_into<S: Source>(
 }
 
 /// Passes over the content of a value whose header was passed over.
-#[inline(always)]
-fn run<S: Source, F>(
-    cons: &mut Constructed<'_, S>,
+#[inline(never)]
+fn skip_content<S: Source, F>(
+    source: &mut LimitedSource<S>,
+    mode: Mode,
     alloc: Global,
     outermost: Header,
     op: &mut F,
@@ -229,60 +218,10 @@ fn run<S: Source, F>(
 where
     F: FnMut(Tag, bool, usize) -> Result<(), ContentError>,
     requires callable { F.IsAlwaysCallable op.old }
-    requires fits { FitsOwed (len_of outermost.form) (limit_in cons.old) }
-    ensures ran { Ran S.stream F.step cons outermost op result }
-    ensures name { cons.new.source.ghost_name ≡ cons.old.source.ghost_name }
+    requires fits { FitsOwed (len_of outermost.form) source.old.limit }
+    ensures { RanOverSource S.stream F.step source mode outermost op result }
 {
-    let outer = owed(cons.source);
-    let mut frames = SmallVec::new(alloc);
-    let mut opened = OpenValues {
-        depth: 0,
-        indefinite: 0,
-        frames: &mut frames,
-    };
-    if let Err(error) = op(outermost.tag, outermost.form.is_constructed(), 0) {
-        return Err(Interrupt::Closure(error));
-    }
-    if let Err(stop) = go_into(cons, &mut opened, outermost) {
-        return Err(Interrupt::Stopped(stop));
-    }
-    while opened.depth > 0 {
-        match cons.next_header(Wanted::Any) {
-            Ok(Some(header)) => {
-                if let Err(error) = op(header.tag, header.form.is_constructed(), opened.depth) {
-                    unwind(cons.source, opened.frames, outer);
-                    return Err(Interrupt::Closure(error));
-                }
-                if let Err(stop) = go_into(cons, &mut opened, header) {
-                    unwind(cons.source, opened.frames, outer);
-                    return Err(Interrupt::Stopped(stop));
-                }
-            }
-            Ok(None) => leave(cons, &mut opened),
-            Err(stop) => {
-                unwind(cons.source, opened.frames, outer);
-                return Err(Interrupt::Stopped(stop));
-            }
-        }
-    }
-    Ok(())
-}
-
-/// The same over a source.
-#[inline(never)]
-fn skip_content<S: Source, F>(
-    source: &mut LimitedSource<S>,
-    mode: Mode,
-    alloc: Global,
-    header: Header,
-    op: &mut F,
-) -> Result<(), Interrupt<S::Error>>
-where
-    F: FnMut(Tag, bool, usize) -> Result<(), ContentError>,
-    requires callable { F.IsAlwaysCallable op.old }
-    requires fits { FitsOwed (len_of header.form) source.old.limit }
-    ensures { RanOverSource S.stream F.step source mode header op result }
-{
+    let outer = source.limit();
     let start = source.pos();
     let mut cons = Constructed {
         source: &mut *source,
@@ -292,7 +231,38 @@ where
         marked: false,
         start,
     };
-    run(&mut cons, alloc, header, op)
+    let mut frames = SmallVec::new(alloc);
+    let mut opened = OpenValues {
+        depth: 0,
+        indefinite: 0,
+        frames: &mut frames,
+    };
+    if let Err(error) = op(outermost.tag, outermost.form.is_constructed(), 0) {
+        return Err(Interrupt::Closure(error));
+    }
+    if let Err(stop) = go_into(&mut cons, &mut opened, outermost) {
+        return Err(Interrupt::Stopped(stop));
+    }
+    while opened.depth > 0 {
+        match cons.next_header(Wanted::Any) {
+            Ok(Some(header)) => {
+                if let Err(error) = op(header.tag, header.form.is_constructed(), opened.depth) {
+                    unwind(cons.source, opened.frames, outer);
+                    return Err(Interrupt::Closure(error));
+                }
+                if let Err(stop) = go_into(&mut cons, &mut opened, header) {
+                    unwind(cons.source, opened.frames, outer);
+                    return Err(Interrupt::Stopped(stop));
+                }
+            }
+            Ok(None) => leave(&mut cons, &mut opened),
+            Err(stop) => {
+                unwind(cons.source, opened.frames, outer);
+                return Err(Interrupt::Stopped(stop));
+            }
+        }
+    }
+    Ok(())
 }
 
 impl<'a, S: Source> Constructed<'a, S> {

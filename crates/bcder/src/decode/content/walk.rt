@@ -8,8 +8,7 @@ ghost use Rattle.bcder.specs.calls.Content.{Moves, FitsOwed, values, Resembles};
 ghost use Rattle.bcder.specs.calls.Calls.{RanOver};
 ghost use Rattle.bcder.specs.calls.Walking.{Between, PassedNext, ExactlyNext};
 ghost use Rattle.bcder.specs.steps.WalkSteps.{NoFault, Fault, PassedStep};
-ghost use Rattle.bcder.specs.steps.WalkSteps.{PassedOver, PassedAtOnce};
-ghost use Rattle.bcder.specs.steps.WalkSteps.{PassedAll, WalkedOver};
+ghost use Rattle.bcder.specs.steps.WalkSteps.{PassedOver, PassedAtOnce, WalkedOver};
 ghost use Rattle.bcder.specs.x690.Grammar.{BeginsWhole};
 ghost use Rattle.bcder.specs.steps.WalkSteps.{itself, walked};
 ghost use Rattle.bcder.specs.calls.Views.{Moved, of_constructed, limited_stream};
@@ -274,7 +273,7 @@ fn pass_content<S: Source>(
     }
 }
 
-/// Passes over the values inside a value.
+/// Passes over all values inside a value, up to its end, whose marker it takes.
 #[cycle(walk)]
 #[tactic(auto, unfolding(crate::specs::calls::Views::of_constructed))]
 #[inline(never)]
@@ -299,16 +298,6 @@ fn walk_over<S: Source>(
         marked: false,
         start,
     };
-    walk_all(&mut cons)
-}
-
-/// Passes over all values up to the end of the content, whose marker it takes.
-#[cycle(walk)]
-fn walk_all<S: Source>(cons: &mut Constructed<'_, S>) -> Result<(), Stop<S::Error>>
-    ensures moves { Between S.stream cons Moves }
-    ensures passed { PassedAll S.stream cons result }
-    ensures name { cons.new.source.ghost_name ≡ cons.old.source.ghost_name }
-{
-    while step(cons)?.is_some() {}
+    while step(&mut cons)?.is_some() {}
     Ok(())
 }

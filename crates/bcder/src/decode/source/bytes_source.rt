@@ -10,15 +10,6 @@ use bytes::Bytes;
 use std::alloc::{AllocError, Global};
 use std::convert::Infallible;
 
-// What a slice's type says of its items, for the proof alone.
-#[inline(always)]
-pub(crate) fn see_octets(octets: &[u8])
-    ensures are_octets { AreOctets octets.now }
-    ensures fit { length octets.now < 2 ^ 64 }
-{
-    let _count = octets.len();
-}
-
 /// A source over shared octets, all of which are available. It never fails, and `bytes` shares the
 /// octets.
 #[derive(Debug, Drop)]
@@ -59,7 +50,8 @@ impl BytesSource {
         ensures octets { shared_rest result ≡ octets }
         ensures start { shared_start result ≡ offset }
     {
-        see_octets(octets.as_slice());
+        let slice = octets.as_slice();
+        let _slice = slice;
         BytesSource {
             octets,
             pos: offset,

@@ -10,7 +10,6 @@ ghost use Rattle.bcder.specs.laws.StringMeanings.{StringMeans_lawful};
 
 use super::write::{octets_len, put_octets, put_string, string_len};
 use super::{OctetString, Octets};
-use crate::decode::source::see_octets;
 use crate::encode::sizes::{Sizes, SizesLeft};
 use crate::encode::slot::{into_result, slot};
 use crate::encode::{Constructed, EncodeError, Failed, Values, WriteError};
@@ -65,7 +64,10 @@ pub(crate) fn see_string(string: &OctetString)
     ensures { IsMadeUp string.now }
 {
     match &string.octets {
-        Octets::Whole(octets) => see_octets(octets.as_slice()),
+        Octets::Whole(octets) => {
+            let slice = octets.as_slice();
+            let _slice = slice;
+        }
         Octets::Cut(..) => {}
     }
 }

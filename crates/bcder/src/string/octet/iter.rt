@@ -6,7 +6,6 @@ ghost use Rattle.bcder.specs.steps.SegmentTable.{segment_at};
 ghost use Rattle.bcder.specs.steps.SegmentTable.{AreWithin, segments_at};
 
 use super::{OctetString, Octets, Segment};
-use crate::decode::source::see_octets;
 use std::alloc::AllocError;
 use std::marker::Model;
 
@@ -263,8 +262,8 @@ impl Iterator for OctetStringOctets<'_> {
     fn next(&mut self) -> Option<u8> {
         loop {
             if self.given < self.part.len() {
-                see_octets(self.part);
-                let octet = self.part[self.given];
+                let part = self.part;
+                let octet = part[self.given];
                 self.given += 1;
                 return Some(octet);
             }

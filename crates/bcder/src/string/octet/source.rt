@@ -12,7 +12,6 @@ mod front;
 use super::{OctetString, OctetStringIter, Octets, Segment};
 use crate::NoMemory;
 use crate::captured::Captured;
-use crate::decode::source::see_octets;
 use crate::decode::{IntoSource, Pos, Source};
 use bytes::Bytes;
 use front::Front;
@@ -190,8 +189,8 @@ impl OctetStringSource {
     fn of_piece(octets: Bytes) -> OctetStringSource
         ensures { source_stream result ≡ string_stream (whole octets) }
     {
-        see_octets(octets.as_slice());
-        let reached = octets.len();
+        let slice = octets.as_slice();
+        let reached = slice.len();
         OctetStringSource {
             front: Front::of_block(octets),
             behind: None,
@@ -206,7 +205,7 @@ impl OctetStringSource {
         ensures { source_stream result
             ≡ string_stream (cut captured (segments_at captured.octets segments.items)) }
     {
-        see_octets(captured.as_slice());
+        let _octets = captured.as_slice();
         let behind = Behind::new(captured.into_bytes(), segments);
         OctetStringSource {
             front: Front::of_block(Bytes::new()),

@@ -1,20 +1,20 @@
-use Rattle.std.proofs.Common.{rules, false, ◌≡◌, ◌∙◌, ◌+◌, ◌≤◌, length, arith, refl, ap, subst}
+use Rattle.std.proofs.Common.{rules, false, ◌≡◌, ◌∙◌, ◌+◌, ◌≤◌, length, arith, refl, ap, sym, subst}
 use Rattle.std.specs.Prelude.{Ok, Some}
 use Rattle.bcder.specs.declared.length.Length.TheVariants.{Definite, Indefinite}
 use Rattle.bcder.specs.steps.StopCause.{stop_cause}
-use Rattle.bcder.specs.calls.Content.{any, EndsAt, FitsOwed, IsDone, values}
+use Rattle.bcder.specs.calls.Content.{any, FitsOwed, IsDone, octets, values}
 use Rattle.bcder.specs.calls.Calls.{content}
 use Rattle.bcder.specs.steps.Peek.{is_constructed, len_of, header_of}
 use Rattle.bcder.specs.calls.Walking.{PassesValue, RefusesValues}
 use Rattle.bcder.specs.steps.WalkSteps.{itself, walked}
 use Rattle.bcder.specs.calls.Views.{of_constructed, limited_stream}
 use Rattle.bcder.specs.laws.Moved.{moved_twice_is_moved, moved_is_no_longer}
-use Rattle.bcder.proofs.SameBorrow.{within_constructed, constructed_form, moves_constructed_name}
+use Rattle.bcder.proofs.SameBorrow.{within_constructed, moves_constructed_name}
 use Rattle.bcder.proofs.Refusing.{if_err}
 use Rattle.bcder.proofs.Inner.{takes_values, takes_marked}
 use Rattle.bcder.proofs.Taking.{taken_value, taken_moves, refused_front, refused_moves}
 use Rattle.bcder.proofs.ContentSteps.{step_refused, next_refused, entered_shorter, stop_reason, or_none, ran_values, skips}
-use Rattle.bcder.proofs.WalkSteps.{walks_refl, walks_value, walks_refused, all_refused, walks_all, value_shorter}
+use Rattle.bcder.proofs.WalkSteps.{walks_refl, walks_value, walks_refused, all_refused, value_shorter}
 use Rattle.bcder.proofs.WalkCalls.{walks_one, some_value, none_value}
 use Rattle.bcder.proofs.decode.content.walk.+walk.Goals as goal
 
@@ -104,72 +104,55 @@ pass_content-returns-in-Constructed-Indefinite-clause-taken g t c =
     let e : c.in-Constructed-Indefinite.field-0 ≡ Indefinite = rw c.in-Constructed-Indefinite.is at c.in-Constructed-Indefinite.field-0-is in
     takes_marked stop_cause itself (walked stop_cause) (of_constructed g.S.Source.stream c.args.cons.now) _ (header_of c.args.header) _ refl refl refl refl false (or_none _ _ refl) (ap len_of c.in-Constructed-Indefinite.is ∙ e) (c.walk_over.ensures.ran c.args.header.tag)
 
-pub walk_over-returns-clause-ran : goal.walk_over-returns-clause-ran
+pub walk_over-loop-init : goal.walk_over-loop-init
+walk_over-loop-init g t c = record { walks = walks_refl _; no_fault = refl; name = refl }
+
+pub walk_over-step-requires : goal.walk_over-step-requires
 unfolding of_constructed
-walk_over-returns-clause-ran g t c u =
-    let same : c.walk_all.new.cons.source.now ≡ c.source-2-1.given.0 = search rules in
-    ran_values stop_cause _ (of_constructed g.S.Source.stream c.walk_all.new.cons) c.walk_all.result c.walk_all.ensures.moves c.walk_all.ensures.passed.marked c.walk_all.ensures.passed.done c.walk_all.ensures.passed.refused
-    (limited_stream g.S.Source.stream c.args.source.now) (limited_stream g.S.Source.stream c.source-2-1.given.0) c.args.source.now.limit c.source-2-1.given.0.limit (values c.args.kind) c.args.mode u refl refl refl refl refl refl (ap (limited_stream g.S.Source.stream) same) (ap (λ z. z.limit) same)
+walk_over-step-requires g t c κs within =
+    let h : length (of_constructed g.S.Source.stream c.loop.cons).stream.rest ≤ length (limited_stream g.S.Source.stream c.args.source.now).rest = moved_is_no_longer _ _ c.loop.invariant.walks.moves in search rules
 
-pub walk_all-loop-init : goal.walk_all-loop-init
-walk_all-loop-init g t c = record { walks = walks_refl _; no_fault = refl }
-
-pub walk_all-step-requires : goal.walk_all-step-requires
-walk_all-step-requires g t c κs within =
-    let h : length (of_constructed g.S.Source.stream c.loop.cons).stream.rest ≤ length (of_constructed g.S.Source.stream c.args.cons.now).stream.rest = moved_is_no_longer _ _ c.loop.invariant.walks.moves in search rules
-
-pub walk_all-returns-in_err-step-clause-moves : goal.walk_all-returns-in_err-step-clause-moves
-walk_all-returns-in_err-step-clause-moves g t c = moved_twice_is_moved _ _ _ c.loop.invariant.walks.moves c.in_err-step.ensures.moves
-
-pub walk_all-returns-in_err-step-clause-passed : goal.walk_all-returns-in_err-step-clause-passed
-walk_all-returns-in_err-step-clause-passed g t c =
-    let i = of_constructed g.S.Source.stream c.args.cons.now in
+pub walk_over-returns-in_err-step-clause-ran : goal.walk_over-returns-in_err-step-clause-ran
+unfolding of_constructed
+walk_over-returns-in_err-step-clause-ran g t c u =
     let j = of_constructed g.S.Source.stream c.loop.cons in
     let k = of_constructed g.S.Source.stream c.step.new.cons in
-    all_refused (RefusesValues stop_cause) i k c.from_residual.result _ c.from_residual.ensures.1
-    (walks_refused stop_cause _ i j k (constructed_form g.S.Source.stream c.args.cons.now) c.loop.invariant.walks c.in_err-step.ensures.passed.refused)
-    c.in_err-step.ensures.passed.failed
-    (c.in_err-step.ensures.passed.mode ∙ c.loop.invariant.walks.mode)
-    (c.in_err-step.ensures.passed.marked ∙ c.loop.invariant.walks.marked)
+    let name = moves_constructed_name g.S.Source.stream c.loop.cons c.step.new.cons c.step.ensures.moves in
+    let r = walks_refused stop_cause _ _ j k (λ e. (let x : values c.args.kind ≡ octets = e in cc)) c.loop.invariant.walks c.in_err-step.ensures.passed.refused in
+    let p = all_refused (RefusesValues stop_cause) _ k c.from_residual.result _ c.from_residual.ensures.1 r c.in_err-step.ensures.passed.failed (c.in_err-step.ensures.passed.mode ∙ c.loop.invariant.walks.mode) (c.in_err-step.ensures.passed.marked ∙ c.loop.invariant.walks.marked) in
+    ran_values stop_cause _ k c.from_residual.result (moved_twice_is_moved _ j k c.loop.invariant.walks.moves c.in_err-step.ensures.moves) p.marked p.done p.refused
+    (limited_stream g.S.Source.stream c.args.source.now) _ c.args.source.now.limit _ (values c.args.kind) c.args.mode u refl refl refl refl refl refl (search rules) (search rules)
 
-pub walk_all-loop-smaller : goal.walk_all-loop-smaller
-walk_all-loop-smaller g t c =
+pub walk_over-loop-smaller : goal.walk_over-loop-smaller
+walk_over-loop-smaller g t c =
     let j = of_constructed g.S.Source.stream c.loop.cons in
     let k = of_constructed g.S.Source.stream c.step.new.cons in
     let h = value_shorter j k (some_value (PassesValue j k) _ c.if-is_some.ensures c.in_ok-step.ensures.passed.value) in omega (arith, h)
 
-pub walk_all-loop-preserved : goal.walk_all-loop-preserved
-walk_all-loop-preserved g t c =
-    let i = of_constructed g.S.Source.stream c.args.cons.now in
+pub walk_over-loop-preserved : goal.walk_over-loop-preserved
+walk_over-loop-preserved g t c =
     let j = of_constructed g.S.Source.stream c.loop.cons in
     let k = of_constructed g.S.Source.stream c.step.new.cons in
     record {
       walks =
-          walks_value i j k (within_constructed g.S.Source.stream g.met.S.Source.sound c.loop.cons) c.loop.invariant.walks c.in_ok-step.ensures.moves c.in_ok-step.ensures.passed.mode c.in_ok-step.ensures.passed.marked
+          walks_value _ j k (within_constructed g.S.Source.stream g.met.S.Source.sound c.loop.cons) c.loop.invariant.walks c.in_ok-step.ensures.moves c.in_ok-step.ensures.passed.mode c.in_ok-step.ensures.passed.marked
           (some_value (PassesValue j k) _ c.if-is_some.ensures c.in_ok-step.ensures.passed.value);
       no_fault = c.in_ok-step.ensures.passed.no_fault ∙ c.loop.invariant.no_fault;
+      name = moves_constructed_name g.S.Source.stream c.loop.cons c.step.new.cons c.step.ensures.moves ∙ c.loop.invariant.name;
     }
 
-pub walk_all-returns-clause-moves : goal.walk_all-returns-clause-moves
-walk_all-returns-clause-moves g t c = moved_twice_is_moved _ _ _ c.loop.invariant.walks.moves c.in_ok-step.ensures.moves
-
-pub walk_all-returns-clause-passed : goal.walk_all-returns-clause-passed
-walk_all-returns-clause-passed g t c =
-    let i = of_constructed g.S.Source.stream c.args.cons.now in
+pub walk_over-returns-clause-ran : goal.walk_over-returns-clause-ran
+unfolding of_constructed
+walk_over-returns-clause-ran g t c u =
     let j = of_constructed g.S.Source.stream c.loop.cons in
     let k = of_constructed g.S.Source.stream c.step.new.cons in
-    record {
-      all = λ s. walks_all i j k (constructed_form g.S.Source.stream c.args.cons.now) c.loop.invariant.walks (none_value (EndsAt j k) _ c.if-is_some.ensures c.in_ok-step.ensures.passed.end) s;
-      done = none_value (IsDone k) _ c.if-is_some.ensures c.in_ok-step.ensures.passed.done;
-      no_fault = c.in_ok-step.ensures.passed.no_fault ∙ c.loop.invariant.no_fault;
-      refused = tt;
-      failed = tt;
-      mode = c.in_ok-step.ensures.passed.mode ∙ c.loop.invariant.walks.mode;
-      marked = c.in_ok-step.ensures.passed.marked ∙ c.loop.invariant.walks.marked;
-    }
+    let name = moves_constructed_name g.S.Source.stream c.loop.cons c.step.new.cons c.step.ensures.moves in
+    ran_values stop_cause _ k _ (moved_twice_is_moved _ j k c.loop.invariant.walks.moves c.in_ok-step.ensures.moves) (c.in_ok-step.ensures.passed.marked ∙ c.loop.invariant.walks.marked) (none_value (IsDone k) _ c.if-is_some.ensures c.in_ok-step.ensures.passed.done) tt
+    (limited_stream g.S.Source.stream c.args.source.now) _ c.args.source.now.limit _ (values c.args.kind) c.args.mode u refl refl refl refl refl refl (search rules) (search rules)
 
-pub walk_all-returns-in_err-step-clause-name : goal.walk_all-returns-in_err-step-clause-name
-walk_all-returns-in_err-step-clause-name g t c = moves_constructed_name g.S.Source.stream c.args.cons.now c.step.new.cons (moved_twice_is_moved _ _ _ c.loop.invariant.walks.moves c.in_err-step.ensures.moves)
-
-pub walk_all-returns-clause-name : goal.walk_all-returns-clause-name
-walk_all-returns-clause-name g t c = moves_constructed_name g.S.Source.stream c.args.cons.now c.step.new.cons (moved_twice_is_moved _ _ _ c.loop.invariant.walks.moves c.in_ok-step.ensures.moves)
+pub walk_over-returns-clause-no_fault : goal.walk_over-returns-clause-no_fault
+unfolding of_constructed
+walk_over-returns-clause-no_fault g t c =
+    let name = moves_constructed_name g.S.Source.stream c.loop.cons c.step.new.cons c.step.ensures.moves in
+    let same : c.step.new.cons.source.now ≡ c.source-else-is_some-1.given.0 = search rules in
+    ap (λ z. (limited_stream g.S.Source.stream z).faults) (sym same) ∙ c.in_ok-step.ensures.passed.no_fault ∙ c.loop.invariant.no_fault

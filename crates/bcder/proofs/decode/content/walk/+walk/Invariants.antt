@@ -12,14 +12,12 @@ decreases-pass_content g l = 4 * length (of_constructed g.S.Source.stream l.cons
 abbrev pub decreases-walk_over : goal.decreases-walk_over
 decreases-walk_over g l = 4 * length (limited_stream g.S.Source.stream l.source.now).rest + 2
 
-abbrev pub decreases-walk_all : goal.decreases-walk_all
-decreases-walk_all g l = 4 * length (of_constructed g.S.Source.stream l.cons.now).stream.rest + 1
-
-abbrev pub invariant-walk_all-loop : goal.invariant-walk_all-loop
-invariant-walk_all-loop g l = record {
-  walks : Walks (of_constructed g.S.Source.stream l.fn.cons) (of_constructed g.S.Source.stream l.cons);
-  no_fault : (of_constructed g.S.Source.stream l.cons).stream.faults ≡ (of_constructed g.S.Source.stream l.fn.cons).stream.faults;
+abbrev pub invariant-walk_over-loop : goal.invariant-walk_over-loop
+invariant-walk_over-loop g l = record {
+  walks : Walks (of_constructed g.S.Source.stream l.initial.cons) (of_constructed g.S.Source.stream l.cons);
+  no_fault : (of_constructed g.S.Source.stream l.cons).stream.faults ≡ (of_constructed g.S.Source.stream l.initial.cons).stream.faults;
+  name : l.cons.source.ghost_name ≡ l.initial.cons.source.ghost_name;
 }
 
-abbrev pub decreases-walk_all-loop : goal.decreases-walk_all-loop
-decreases-walk_all-loop g l = length (of_constructed g.S.Source.stream l.cons).stream.rest
+abbrev pub decreases-walk_over-loop : goal.decreases-walk_over-loop
+decreases-walk_over-loop g l = length (of_constructed g.S.Source.stream l.cons).stream.rest

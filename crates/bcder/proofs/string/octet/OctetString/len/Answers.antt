@@ -11,5 +11,5 @@ overflow_add-len c =
     let shorter = parts_shorter _ _ _ table.segmented in
     let all = ap (λ (s : StringOctets). length (octets_of s)) is_self in
     let counted = counted_on _ _ _ _ _ c.loop-part.invariant (c.in-Some.ensures).steps in
-    let captured = ap length c.as_slice.ensures.value in
-    omega (arith, shorter, all, counted, captured, c.see_octets.ensures.fit)
+    let captured = ap length c.as_slice-octets.ensures.value in
+    omega (arith, shorter, all, counted, captured, c.as_slice-octets.type_inv.0)

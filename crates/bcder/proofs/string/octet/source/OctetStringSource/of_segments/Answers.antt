@@ -18,7 +18,7 @@ invariant_of-result c =
     let all : concat ps ≡ concat behind.parts = sym (ap concat are) in
     let same : concat ps ≡ front.octets ++ concat behind.parts = all ∙ sym (ap (λ w. w ++ concat behind.parts) none) in
     let shorter = parts_shorter kept.mode kept.octets ps c.requires.segmented in
-    let fit : length (concat ps) < 2 ^ 64 = omega (arith, shorter, c.see_octets.ensures.fit, ap length c.as_slice.ensures.value) in
+    let fit : length (concat ps) < 2 ^ 64 = omega (arith, shorter, c.as_slice-octets.type_inv.0, ap length c.as_slice-octets.ensures.value) in
     record {
       stands = λ t. (let f : IsTrue false = subst IsTrue (ap (λ (f : InBlock). f.is_shared) c.of_block.ensures) t in cc);
       are_octets = subst AreOctets same (parts_octets kept.mode kept.octets ps c.requires.segmented);
