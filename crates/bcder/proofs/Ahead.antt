@@ -10,7 +10,7 @@ use Rattle.bcder.specs.declared.decode.content.State.TheVariants.{Failed}
 use Rattle.bcder.specs.declared.decode.error.DecodeError.{DecodeError}
 use Rattle.bcder.specs.declared.decode.error.ContentError.{ContentError}
 use Rattle.bcder.specs.calls.Calls.{HasForm}
-use Rattle.bcder.specs.calls.Cause.{Cause, cause_of, of_source, IsOfContent, IsRefusal}
+use Rattle.bcder.specs.calls.Cause.{Cause, cause_of, of_source, of_memory, IsOfContent, IsRefusal}
 use Rattle.bcder.specs.x690.Encoding.{IsHeader}
 use Rattle.bcder.specs.x690.Identifier.{Tag}
 use Rattle.bcder.specs.steps.Peek.{is_constructed, len_of, header_of, octets_header}
@@ -98,6 +98,10 @@ module _ (c d : Reading) (t : Tag) (h : CodeHeader) (e : h.tag ≡ t) (x : Enter
   pub constructed_there : (l : Length) → h.form ≡ form.Constructed l → HasForm true (tagged t) c
   constructed_there l f = record { usable = x.usable; after = d.stream.rest; front = header_entered c (header_of h) d (tagged t) e x; is = ap is_constructed f }
 
+-- an error is for the cause that a stop has
+abbrev IsOfCause : {X : Type 0} → Cause ContentError → DecodeError X → Type 0
+IsOfCause s e = (IsOfContent s → IsRefusal e) × (s ≡ of_source → cause_of e ≡ of_source) × (s ≡ of_memory → cause_of e ≡ of_memory)
+
 -- what a take says where no header was passed
 module _ {C T X S : Type 0} (view : C → Reading) (post : Tag → MutBor C → Result T (DecodeError X) → MutBor C → Type 0) (c d : Reading) (mode : d.mode ≡ c.mode) (t : Tag) where
   pub next_stopped : (stopped : S → Cause ContentError) (s : S) (e : DecodeError X) → (IsOfContent (stopped s) → IsRefusal e) → (stopped s ≡ of_source → cause_of e ≡ of_source) → d.marked ≡ c.marked → d.state ≡ Failed → RefusesHeader stopped (tagged t) c s d ⊎ HasForm true (tagged t) c × IsOfContent (stopped s) → TakesNext view post (Some true) (tagged t) c (Err e) d
@@ -105,12 +109,12 @@ module _ {C T X S : Type 0} (view : C → Reading) (post : Tag → MutBor C → 
   next_stopped stopped s e own lost m f (inr x) = record { value = tt; shorter = tt; none = tt; refused = by_form x.0 (own x.1) m; failed = f; mode = mode }
 
   -- the same of an answer
-  pub next_stops : (stopped : S → Cause ContentError) (s : S) (r : Result (Option T) (DecodeError X)) → IsErrAnd r (λ e. (IsOfContent (stopped s) → IsRefusal e) × (stopped s ≡ of_source → cause_of e ≡ of_source)) → d.marked ≡ c.marked → d.state ≡ Failed → RefusesHeader stopped (tagged t) c s d ⊎ HasForm true (tagged t) c × IsOfContent (stopped s) → TakesNext view post (Some true) (tagged t) c r d
+  pub next_stops : (stopped : S → Cause ContentError) (s : S) (r : Result (Option T) (DecodeError X)) → IsErrAnd r (IsOfCause (stopped s)) → d.marked ≡ c.marked → d.state ≡ Failed → RefusesHeader stopped (tagged t) c s d ⊎ HasForm true (tagged t) c × IsOfContent (stopped s) → TakesNext view post (Some true) (tagged t) c r d
   next_stops stopped s (Err e) y m f h = next_stopped stopped s e y.0 y.1 m f h
   next_stops stopped s (Ok _) y m f h = elim y [ ]
 
 -- the same of a value of any form
 module _ {C T X S : Type 0} (view : C → Reading) (post : Tag → MutBor C → Result T (DecodeError X) → MutBor C → Type 0) (form : Option Bool) (asked : Asked) (c d : Reading) (mode : d.mode ≡ c.mode) where
-  pub next_answered : (stopped : S → Cause ContentError) (s : S) (r : Result (Option T) (DecodeError X)) → IsErrAnd r (λ e. (IsOfContent (stopped s) → IsRefusal e) × (stopped s ≡ of_source → cause_of e ≡ of_source)) → d.marked ≡ c.marked → d.state ≡ Failed → RefusesHeader stopped asked c s d → TakesNext view post form asked c r d
+  pub next_answered : (stopped : S → Cause ContentError) (s : S) (r : Result (Option T) (DecodeError X)) → IsErrAnd r (IsOfCause (stopped s)) → d.marked ≡ c.marked → d.state ≡ Failed → RefusesHeader stopped asked c s d → TakesNext view post form asked c r d
   next_answered stopped s (Err e) y m f h = next_refused view post form asked c d mode e (header_stopped stopped cause_of s e y.0 y.1 c d asked h) m f
   next_answered stopped s (Ok _) y m f h = elim y [ ]

@@ -1,5 +1,5 @@
 -- What follows from passing over a header.
-use Rattle.std.proofs.Common.{◌≡◌, ◌≢◌, ℕ, ◌-◌, ◌<◌, ◌≤◌, List, [], ◌∷◌, ◌++◌, length, take, drop, Option, Some, None, refl, ap, sym, ◌∙◌, arith, subst, inl, inr}
+use Rattle.std.proofs.Common.{◌≡◌, ◌≢◌, ◌↔◌, ℕ, ◌-◌, ◌≤◌, List, [], ◌∷◌, ◌++◌, length, take, drop, Option, Some, None, refl, ap, sym, ◌∙◌, arith, subst, inl, inr}
 use Rattle.std.proofs.lemmas.List.{take-append-drop, length-take-le, take_at}
 use Rattle.std.proofs.lemmas.Grind.{common_steps}
 use Rattle.bcder.specs.declared.mode.Mode.{Mode}
@@ -338,16 +338,7 @@ end_refused why c d e (nothing n o) = left_open (record { none = n.absent }) o
 
 -- ---- whether the octets that a length promises are within what is owed
 
-pub fits_indefinite : (l : Length) (o : Option ℕ) → l ≡ Indefinite → FitsOwed l o
-fits_indefinite l None e = rw e refl
-fits_indefinite l (Some m) e = rw e refl
-
-pub fits_unlimited : (l : Length) (o : Option ℕ) → o ≡ None → FitsOwed l o
-fits_unlimited (Definite n) o e = rw e refl
-fits_unlimited Indefinite o e = rw e refl
-
-pub fits_within : (l : Length) (n m : ℕ) (o : Option ℕ) → n ≤ m → l ≡ Definite n → o ≡ Some m → FitsOwed l o
-fits_within l n m o h e f = rw (e, f) h
-
-pub fits_not : (l : Length) (n m : ℕ) (o : Option ℕ) → m < n → l ≡ Definite n → o ≡ Some m → FitsOwed l o → ⊥
-fits_not l n m o h e f x = (let y : n ≤ m = rw (e, f) at x in omega arith)
+pub fits_owed : (l : Length) (o : Option ℕ) → FitsOwed l o ↔ ((n m : ℕ) → l ≡ Definite n → o ≡ Some m → n ≤ m)
+fits_owed (Definite n) (Some m) = (λ h k j e f. let x : n ≡ k = cc in let y : m ≡ j = cc in omega (arith, h, x, y), λ h. h n m refl refl)
+fits_owed (Definite n) None = (λ h k j e f. absurd cc, λ h. refl)
+fits_owed Indefinite o = (λ h k j e f. absurd cc, λ h. refl)

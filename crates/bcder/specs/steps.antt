@@ -14,7 +14,7 @@ pub mod Enclosing
 pub mod Growing
 pub mod SkipSteps
 pub mod Stacked
-pub mod Front
+pub mod Buffer
 pub mod Segmenting
 pub mod StringSources
 pub mod Utf8Leads

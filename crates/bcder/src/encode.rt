@@ -1,6 +1,6 @@
 //! Encoding: what has an encoding, and writing it.
+pub(crate) mod buffer;
 mod error;
-pub(crate) mod front;
 mod gather;
 pub(crate) mod header;
 pub(crate) mod primitive;

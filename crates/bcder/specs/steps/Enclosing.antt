@@ -4,10 +4,11 @@ use Rattle.std.specs.Borrow.{MutBor}
 use denote.Triple.Both.{Both}
 use Rattle.bcder.specs.declared.encode.error.EncodeError.{EncodeError}
 use Rattle.bcder.specs.declared.encode.error.WriteError.{WriteError}
+use Rattle.bcder.specs.declared.length.Length.TheVariants.{Definite}
 use Rattle.bcder.specs.declared.mode.Mode.{Mode}
 use Rattle.bcder.specs.declared.mode.Mode.TheVariants.{Cer}
 use Rattle.bcder.specs.x690.Identifier.{Tag, IsValueTag}
-use Rattle.bcder.specs.x690.Octets.{constructed_length, enclosed, enclosed_size}
+use Rattle.bcder.specs.x690.Octets.{fits_length, constructed_length, closing, enclosed, enclosed_size}
 use Rattle.bcder.specs.calls.Meaning.{Encoded, Meaning, ContentsMeaning, ValueMeans, primitive_meaning, constructed_meaning, fits_enclosed, enclosed_refusal}
 use Rattle.bcder.specs.calls.Encoders.{RefusesBy, WroteOf}
 
@@ -25,6 +26,10 @@ EnclosedSize mode t n (Err e) = (e ≡ enclosed_refusal mode) × (fits_enclosed 
 abbrev pub MeasuredInside : Tag → Mode → (Meaning → Type 0) → Type 0 → Result ℕ EncodeError → Type 0
 MeasuredInside t mode M lacks (Ok n) = (x : Encoded) × M (Ok x) × (n ≡ length x.octets) × (fits_enclosed mode t n ≡ true) × (IsValueTag t)
 MeasuredInside t mode M lacks (Err e) = RefusesBy (ValueMeans t (constructed_meaning t mode) M) lacks e
+
+-- a constructed value with so many contents octets can tell their number, and then nothing stands behind them (10.1)
+abbrev pub TellsLength : Mode → ℕ → Type 0
+TellsLength mode n = (constructed_length mode n ≡ Definite n) × (fits_length (Definite n) ≡ true) × (closing mode ≡ [])
 
 -- how a writing of the value that tells this size went
 abbrev pub WritesEnclosed : {W : Type 0} → (W → Option (List ℕ)) → Both (MutBor W) (MutBor W) → Tag → ℕ → Mode → (Meaning → Type 0) → Type 0 → Result (Unit {0}) WriteError → Type 0

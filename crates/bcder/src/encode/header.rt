@@ -7,7 +7,7 @@ ghost use Rattle.bcder.specs.x690.Octets.{header, fits_length};
 ghost use Rattle.bcder.specs.calls.Encoders.{MayHaveHeader, RefusesValueHeader, HeaderMeans};
 ghost use Rattle.bcder.specs.calls.Encoders.{WroteOctets, WritesContents, into_result};
 
-use crate::encode::front::Front;
+use crate::encode::buffer::Buffer;
 use crate::encode::slot::{Failed, into_result, slot};
 use crate::encode::target::put_all;
 use crate::encode::{EncodeError, WriteError};
@@ -78,10 +78,10 @@ fn put_any_header<W: io::Write>(
             return put_all(target, &[identifier, 0x81, size as u8], why);
         }
     }
-    let mut front = Front::new();
-    tag.spell(constructed, &mut front);
-    len.spell(&mut front);
-    put_all(target, front.as_slice(), why)
+    let mut buffer = Buffer::new();
+    tag.spell(constructed, &mut buffer);
+    len.spell(&mut buffer);
+    put_all(target, buffer.as_slice(), why)
 }
 
 /// Writes a header with a length that four octets tell, by one call of the target's `write` where
@@ -120,9 +120,9 @@ pub(crate) fn put_header_and<W: io::Write>(
     ensures { WroteOctets W.contents target (header tag false (Definite len) ++ first ∷ [])
         (into_result result why.new) }
 {
-    let mut front = Front::new();
-    tag.spell(false, &mut front);
-    Length::Definite(len).spell(&mut front);
-    front.add(&[first]);
-    put_all(target, front.as_slice(), why)
+    let mut buffer = Buffer::new();
+    tag.spell(false, &mut buffer);
+    Length::Definite(len).spell(&mut buffer);
+    buffer.add(&[first]);
+    put_all(target, buffer.as_slice(), why)
 }

@@ -16,7 +16,7 @@ mod integers;
 mod numbers;
 pub(crate) mod plain;
 
-use crate::encode::front::Front;
+use crate::encode::buffer::Buffer;
 use crate::encode::gather::gather_contents;
 use crate::encode::header::put_header;
 use crate::encode::sizes::{Sizes, SizesLeft};
@@ -94,11 +94,11 @@ pub trait PrimitiveContent: Sized {
             put_header(target, tag, false, Length::Definite(len), why)?;
             return store(self.write_encoded(mode, target), why);
         }
-        let mut front = Front::new();
-        tag.spell(false, &mut front);
-        Length::Definite(len).spell(&mut front);
-        store(self.write_encoded(mode, &mut front), why)?;
-        put_all(target, front.as_slice(), why)
+        let mut buffer = Buffer::new();
+        tag.spell(false, &mut buffer);
+        Length::Definite(len).spell(&mut buffer);
+        store(self.write_encoded(mode, &mut buffer), why)?;
+        put_all(target, buffer.as_slice(), why)
     }
 
     /// There is one meaning at most, and it is a refusal or octets.

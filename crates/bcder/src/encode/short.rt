@@ -5,7 +5,7 @@ ghost use Rattle.bcder.specs.x690.Octets.{definite};
 ghost use Rattle.bcder.specs.calls.Encoders.{WroteOctets, into_result};
 
 use crate::encode::WriteError;
-use crate::encode::front::Front;
+use crate::encode::buffer::Buffer;
 use crate::encode::header::put_header;
 use crate::encode::slot::{Failed, slot};
 use crate::encode::target::put_all;
@@ -26,11 +26,11 @@ fn put_any_few<W: io::Write>(
     ensures { WroteOctets W.contents target (definite tag false contents.now)
         (into_result result why.new) }
 {
-    let mut front = Front::new();
-    tag.spell(false, &mut front);
-    Length::Definite(contents.len()).spell(&mut front);
-    front.add(contents);
-    put_all(target, front.as_slice(), why)
+    let mut buffer = Buffer::new();
+    tag.spell(false, &mut buffer);
+    Length::Definite(contents.len()).spell(&mut buffer);
+    buffer.add(contents);
+    put_all(target, buffer.as_slice(), why)
 }
 
 /// Writes a primitive value, its header first.
@@ -123,10 +123,10 @@ fn put_together<W: io::Write>(
     ensures { WroteOctets W.contents target (identifier ∷ length contents.now ∷ contents.now)
         (into_result result why.new) }
 {
-    let mut front = Front::new();
-    front.add(&[identifier, contents.len() as u8]);
-    front.add(contents);
-    put_all(target, front.as_slice(), why)
+    let mut buffer = Buffer::new();
+    buffer.add(&[identifier, contents.len() as u8]);
+    buffer.add(contents);
+    put_all(target, buffer.as_slice(), why)
 }
 
 /// Writes a primitive value from its contents octets: of up to 64, where its identifier is one

@@ -1,12 +1,12 @@
 //! Writing length octets (X.690, 8.1.3, 10.1).
 ghost use Rattle.std.specs.Prelude.{◌≡◌, ◌<◌, ◌++◌, length, true, IfOk, IfSome, ◌+◌, ◌∷◌, []};
 ghost use Rattle.bcder.specs.calls.Encoders.{LengthMeans, SizeOfContents};
-ghost use Rattle.bcder.specs.steps.Front.{front_of};
+ghost use Rattle.bcder.specs.steps.Buffer.{buffered};
 ghost use Rattle.bcder.specs.x690.Octets.{length_octets, fits_length};
 
 use super::Length;
 use crate::encode::EncodeError;
-use crate::encode::front::Front;
+use crate::encode::buffer::Buffer;
 
 impl Length {
     /// Whether four octets tell it.
@@ -77,31 +77,31 @@ impl Length {
     /// (10.1).
     #[tactic(auto, unfolding(crate::specs::x690::Octets::definite_length))]
     #[inline(always)]
-    pub(crate) fn spell(self, front: &mut Front)
+    pub(crate) fn spell(self, buffer: &mut Buffer)
         requires fits { fits_length self ≡ true }
-        requires room { front.old.len < 5 }
-        ensures octets { front_of front.new ≡ front_of front.old ++ length_octets self }
-        ensures limit { front.new.len < front.old.len + 6 }
+        requires room { buffer.old.len < 5 }
+        ensures octets { buffered buffer.new ≡ buffered buffer.old ++ length_octets self }
+        ensures limit { buffer.new.len < buffer.old.len + 6 }
     {
         let len = match self {
             Length::Definite(len) => len,
-            Length::Indefinite => return front.add(&[0x80]),
+            Length::Indefinite => return buffer.add(&[0x80]),
         };
         if len < 0x80 {
-            front.add(&[len as u8])
+            buffer.add(&[len as u8])
         } else if len < 0x100 {
-            front.add(&[0x81, len as u8])
+            buffer.add(&[0x81, len as u8])
         } else if len < 0x1_0000 {
-            front.add(&[0x82, (len / 0x100) as u8, (len % 0x100) as u8])
+            buffer.add(&[0x82, (len / 0x100) as u8, (len % 0x100) as u8])
         } else if len < 0x100_0000 {
-            front.add(&[
+            buffer.add(&[
                 0x83,
                 (len / 0x1_0000) as u8,
                 (len / 0x100 % 0x100) as u8,
                 (len % 0x100) as u8,
             ])
         } else {
-            front.add(&[
+            buffer.add(&[
                 0x84,
                 (len / 0x100_0000) as u8,
                 (len / 0x1_0000 % 0x100) as u8,

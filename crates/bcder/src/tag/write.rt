@@ -4,13 +4,13 @@
 ghost use Rattle.std.specs.Prelude.{◌≡◌, ◌<◌, ◌+◌, ◌++◌, Bool, length, OnOk, OnErr};
 ghost use Rattle.std.specs.Prelude.{IfSome, IfNone, [], ◌∷◌};
 ghost use Rattle.bcder.specs.calls.Classes.{class_meant};
-ghost use Rattle.bcder.specs.steps.Front.{front_of};
+ghost use Rattle.bcder.specs.steps.Buffer.{buffered};
 ghost use Rattle.bcder.specs.x690.Identifier.{class_bits, form_bit, identifier};
 ghost use Rattle.bcder.specs.x690.Identifier.{IsValueTag, end_of_contents};
 ghost use Rattle.bcder.specs.calls.Target.{Appended, AppendedShorter};
 
 use super::{Class, Tag};
-use crate::encode::front::Front;
+use crate::encode::buffer::Buffer;
 use crate::encode::target::write_octets;
 use std::io;
 
@@ -98,29 +98,29 @@ impl Tag {
         ensures refused { OnErr result
             (AppendedShorter W.contents target (identifier self constructed)) }
     {
-        let mut front = Front::new();
-        self.spell(constructed, &mut front);
-        write_octets(target, front.as_slice())
+        let mut buffer = Buffer::new();
+        self.spell(constructed, &mut buffer);
+        write_octets(target, buffer.as_slice())
     }
 
     /// Adds the identifier octets to those of a header.
     #[inline(always)]
-    pub(crate) fn spell(self, constructed: bool, front: &mut Front)
-        requires { front.old.len < 5 }
-        ensures octets { front_of front.new ≡ front_of front.old ++ identifier self constructed }
-        ensures limit { front.new.len < front.old.len + 5 }
+    pub(crate) fn spell(self, constructed: bool, buffer: &mut Buffer)
+        requires { buffer.old.len < 5 }
+        ensures octets { buffered buffer.new ≡ buffered buffer.old ++ identifier self constructed }
+        ensures limit { buffer.new.len < buffer.old.len + 5 }
     {
         let number = self.number;
         if number < 31 {
-            return front.add(&[self.leading(constructed, number as u8)]);
+            return buffer.add(&[self.leading(constructed, number as u8)]);
         }
         let leading = self.leading(constructed, 31);
         if number < 128 {
-            front.add(&[leading, number as u8])
+            buffer.add(&[leading, number as u8])
         } else if number < 16384 {
-            front.add(&[leading, (128 + number / 128) as u8, (number % 128) as u8])
+            buffer.add(&[leading, (128 + number / 128) as u8, (number % 128) as u8])
         } else {
-            front.add(&[
+            buffer.add(&[
                 leading,
                 (128 + number / 16384) as u8,
                 (128 + number / 128 % 128) as u8,

@@ -100,7 +100,8 @@ impl<'a, S: Source> Constructed<'a, S> {
     #[inline(always)]
     pub(super) fn answer_stop<T>(&self, stop: Stop<S::Error>) -> Result<T, DecodeError<S::Error>>
         ensures { IsErrAnd result (λ e. (IsOfContent (stop_cause stop) → IsRefusal e)
-            × (stop_cause stop ≡ of_source → cause_of e ≡ of_source)) }
+            × (stop_cause stop ≡ of_source → cause_of e ≡ of_source)
+            × (stop_cause stop ≡ of_memory → cause_of e ≡ of_memory)) }
     {
         Err(self.stop_error(stop))
     }

@@ -1,15 +1,14 @@
 //! Encoders of constructed values.
 ghost use Rattle.std.specs.Prelude.{◌≡◌, ◌<◌, [], length, true, IfOk};
-ghost use Rattle.bcder.specs.declared.length.Length.TheVariants.{Definite};
 ghost use Rattle.bcder.specs.declared.mode.Mode.TheVariants.{Cer};
 ghost use Rattle.bcder.specs.x690.Identifier.{sequence_tag, set_tag, identifier as identifier_of};
-ghost use Rattle.bcder.specs.x690.Octets.{fits_length, constructed_length, closing};
+ghost use Rattle.bcder.specs.x690.Octets.{fits_length, constructed_length};
 ghost use Rattle.bcder.specs.calls.Meaning.{ValueMeans, constructed_meaning};
 ghost use Rattle.bcder.specs.calls.Encoders.{HasEncoding, SizeOfValues, WroteOctets, WritesKnown};
 ghost use Rattle.bcder.specs.calls.Encoders.{into_result};
 ghost use Rattle.bcder.specs.calls.Noted.{noted, ReadsContents, Notes, MayRead, HasRead};
 ghost use Rattle.bcder.specs.steps.Enclosing.{EnclosedSize, MeasuredInside, TakesContents};
-ghost use Rattle.bcder.specs.steps.Enclosing.{WritesEnclosed};
+ghost use Rattle.bcder.specs.steps.Enclosing.{TellsLength, WritesEnclosed};
 ghost use Rattle.bcder.specs.laws.Meanings.{constructed_lawful};
 
 use crate::encode::header::put_header;
@@ -181,9 +180,7 @@ fn put_definite<V: Values, W: io::Write>(
     target: &mut W,
     why: &mut WriteError,
 ) -> Result<(), Failed>
-    requires fits { fits_length (constructed_length mode size) ≡ true }
-    requires definite { constructed_length mode size ≡ Definite size }
-    requires closing { closing mode ≡ [] }
+    requires told { TellsLength mode size }
     requires can { V.can_encode value.now.inner }
     requires known { HasEncoding (V.means value.now.inner mode) }
     requires sized { MayRead (V.reads value.now.inner mode) sizes.old.sizes.now }

@@ -6,7 +6,7 @@ ghost use Rattle.bcder.specs.declared.encode.error.EncodeError.TheVariants.{NoMe
 ghost use Rattle.bcder.specs.x690.BitString.{as_written, contents_octets};
 ghost use Rattle.bcder.specs.calls.Encoders.{HasContents, SizeOfContents, WritesContents};
 ghost use Rattle.bcder.specs.calls.Encoders.{WritesPrimitive, WroteOctets, into_result};
-ghost use Rattle.bcder.specs.steps.Front.{front_of};
+ghost use Rattle.bcder.specs.steps.Buffer.{buffered};
 ghost use Rattle.bcder.specs.x690.Identifier.{universal};
 ghost use Rattle.bcder.specs.calls.Meaning.{BitsMean};
 ghost use Rattle.bcder.specs.x690.Octets.{definite};
@@ -14,7 +14,7 @@ ghost use Rattle.bcder.specs.laws.Meanings.{BitsMean_lawful};
 
 use super::BitString;
 use super::contents::cleared_octet;
-use crate::encode::front::Front;
+use crate::encode::buffer::Buffer;
 use crate::encode::header::put_header_and;
 use crate::encode::primitive::plain::fits_primitive;
 use crate::encode::slot::{Failed, into_result, slot, store_refusal};
@@ -135,14 +135,14 @@ fn put_contents<W: io::Write>(
 }
 
 /// Adds the octets with the bits to those of a value.
-fn add_octets(unused: u8, octets: &[u8], mode: Mode, front: &mut Front)
-    requires { front.old.len + length octets.now ≤ 73 }
-    ensures { front_of front.new ≡ front_of front.old
+fn add_octets(unused: u8, octets: &[u8], mode: Mode, buffer: &mut Buffer)
+    requires { buffer.old.len + length octets.now ≤ 73 }
+    ensures { buffered buffer.new ≡ buffered buffer.old
         ++ (as_written mode (record { unused = unused; octets = octets.now })).octets }
 {
     if let [before @ .., last] = octets {
-        front.add(before);
-        front.add(&[written_octet(mode, unused, *last)]);
+        buffer.add(before);
+        buffer.add(&[written_octet(mode, unused, *last)]);
     }
 }
 
@@ -161,12 +161,12 @@ fn put_few<W: io::Write>(
         (contents_octets (as_written mode (record { unused = unused; octets = octets.now }))))
         (into_result result why.new) }
 {
-    let mut front = Front::new();
-    tag.spell(false, &mut front);
-    Length::Definite(octets.len() + 1).spell(&mut front);
-    front.add(&[unused]);
-    add_octets(unused, octets, mode, &mut front);
-    put_all(target, front.as_slice(), why)
+    let mut buffer = Buffer::new();
+    tag.spell(false, &mut buffer);
+    Length::Definite(octets.len() + 1).spell(&mut buffer);
+    buffer.add(&[unused]);
+    add_octets(unused, octets, mode, &mut buffer);
+    put_all(target, buffer.as_slice(), why)
 }
 
 /// Writes a bit string as a primitive value, by one call of the target's `write` or by two or

@@ -7,14 +7,14 @@ ghost use Rattle.bcder.specs.calls.StringOctets.{whole, cut};
 ghost use Rattle.bcder.specs.steps.SegmentTable.{AreWithin, segment_at, segments_at, IsTable};
 ghost use Rattle.bcder.specs.calls.StringSource.{SharesBlock, all_behind, string_stream, IsJoined};
 
-mod front;
+mod chunk;
 
 use super::{OctetString, OctetStringIter, Octets, Segment};
 use crate::NoMemory;
 use crate::captured::Captured;
 use crate::decode::{IntoSource, Pos, Source};
 use bytes::Bytes;
-use front::Front;
+use chunk::Chunk;
 use std::alloc::Global;
 use std::marker::Model;
 
@@ -122,7 +122,7 @@ impl Behind {
 
 /// Has the next segment stand in front, where nothing does and the block is that of the segments.
 #[inline(always)]
-fn move_on(front: &mut Front, behind: &mut Behind)
+fn move_on(front: &mut Chunk, behind: &mut Behind)
     requires { SharesBlock front.old (Some behind.old) }
     ensures stands { SharesBlock front.new (Some behind.new) }
     ensures same { front.new.octets ++ concat behind.new.parts
@@ -138,7 +138,7 @@ fn move_on(front: &mut Front, behind: &mut Behind)
 
 /// Makes at least `len` octets stand in front, or all that there are.
 #[inline(never)]
-fn refill(front: &mut Front, behind: &mut Behind, len: usize) -> Result<(), NoMemory>
+fn refill(front: &mut Chunk, behind: &mut Behind, len: usize) -> Result<(), NoMemory>
     requires { SharesBlock front.old (Some behind.old) }
     ensures stands { SharesBlock front.new (Some behind.new) }
     ensures same { front.new.octets ++ concat behind.new.parts
@@ -147,7 +147,7 @@ fn refill(front: &mut Front, behind: &mut Behind, len: usize) -> Result<(), NoMe
     ensures enough { OnOk result ((len ≤ length front.new.octets) ⊎ (behind.new.parts ≡ [])) }
 {
     if front.is_empty() && !front.is_shared() {
-        *front = Front::before_segments(behind.share()?);
+        *front = Chunk::before_segments(behind.share()?);
     }
     while front.is_empty() {
         match behind.next() {
@@ -157,7 +157,7 @@ fn refill(front: &mut Front, behind: &mut Behind, len: usize) -> Result<(), NoMe
     }
     if front.len() < len {
         let (block, count) = behind.join(front.as_slice(), len)?;
-        *front = Front::of_block(block);
+        *front = Chunk::of_block(block);
         behind.pass(count);
     }
     Ok(())
@@ -169,7 +169,7 @@ fn refill(front: &mut Front, behind: &mut Behind, len: usize) -> Result<(), NoMe
 /// one part holds. Only that can fail, for want of memory.
 #[derive(Debug, Drop)]
 pub struct OctetStringSource {
-    front: Front,
+    front: Chunk,
     behind: Option<Behind>,
 
     /// How many octets of the string there are up to the end of those in front.
@@ -192,7 +192,7 @@ impl OctetStringSource {
         let slice = octets.as_slice();
         let reached = slice.len();
         OctetStringSource {
-            front: Front::of_block(octets),
+            front: Chunk::of_block(octets),
             behind: None,
             reached,
             faults: 0,
@@ -208,7 +208,7 @@ impl OctetStringSource {
         let _octets = captured.as_slice();
         let behind = Behind::new(captured.into_bytes(), segments);
         OctetStringSource {
-            front: Front::of_block(Bytes::new()),
+            front: Chunk::of_block(Bytes::new()),
             behind: Some(behind),
             reached: 0,
             faults: 0,

@@ -10,7 +10,7 @@ ghost use Rattle.bcder.specs.laws.StringMeanings.{WrappedMeans_lawful};
 
 use super::OctetString;
 use super::write::{is_cut, put_octets, string_len};
-use crate::encode::front::Front;
+use crate::encode::buffer::Buffer;
 use crate::encode::header::put_header;
 use crate::encode::sizes::{Sizes, SizesLeft};
 use crate::encode::slot::{Failed, into_result, slot, store_refusal};
@@ -104,11 +104,11 @@ fn put_straight<V: Values, W: io::Write>(
         put_header(target, Tag::OCTET_STRING, false, Length::Definite(len), why)?;
         return values.write_known(inner, sizes, target, why);
     }
-    let mut front = Front::new();
-    Tag::OCTET_STRING.spell(false, &mut front);
-    Length::Definite(len).spell(&mut front);
-    values.write_known(inner, sizes, &mut front, why)?;
-    put_all(target, front.as_slice(), why)
+    let mut buffer = Buffer::new();
+    Tag::OCTET_STRING.spell(false, &mut buffer);
+    Length::Definite(len).spell(&mut buffer);
+    values.write_known(inner, sizes, &mut buffer, why)?;
+    put_all(target, buffer.as_slice(), why)
 }
 
 /// Writes the string from octets that are gathered first.

@@ -6,14 +6,14 @@ ghost use Rattle.bcder.specs.x690.Octets.{definite, enclosed};
 ghost use Rattle.bcder.specs.declared.mode.Mode.TheVariants.{Cer};
 ghost use Rattle.bcder.specs.calls.Encoders.{HasEncoding, SizeOfValues, WritesValues, WritesParts};
 ghost use Rattle.bcder.specs.calls.Encoders.{WroteOctets, into_result};
-ghost use Rattle.bcder.specs.steps.Front.{front_of};
+ghost use Rattle.bcder.specs.steps.Buffer.{buffered};
 ghost use Rattle.bcder.specs.calls.Joined.{IsSum};
 ghost use Rattle.bcder.specs.calls.StringMeaning.{is_cut, OctetsMean, segments_in_cer};
 ghost use Rattle.bcder.specs.steps.Segmenting.{BeginsSegment, CutSize, segments_size, WritesPart};
 
 use super::OctetStringIter;
 use super::segments::FULL;
-use crate::encode::front::Front;
+use crate::encode::buffer::Buffer;
 use crate::encode::header::put_header;
 use crate::encode::slot::{Failed, into_result, slot};
 use crate::encode::target::put_all;
@@ -189,12 +189,12 @@ fn put_parts<W: io::Write>(
 }
 
 /// Adds the octets of the parts to those of a value.
-fn add_parts(parts: OctetStringIter<'_>, front: &mut Front)
-    requires { front.old.len + length (concat parts) ≤ 73 }
-    ensures { front_of front.new ≡ front_of front.old ++ concat parts.entry }
+fn add_parts(parts: OctetStringIter<'_>, buffer: &mut Buffer)
+    requires { buffer.old.len + length (concat parts) ≤ 73 }
+    ensures { buffered buffer.new ≡ buffered buffer.old ++ concat parts.entry }
 {
     for part in parts {
-        front.add(part);
+        buffer.add(part);
     }
 }
 
@@ -212,11 +212,11 @@ fn put_few<W: io::Write>(
     ensures { WroteOctets W.contents target (definite tag false (concat parts.entry))
         (into_result result why.new) }
 {
-    let mut front = Front::new();
-    tag.spell(false, &mut front);
-    Length::Definite(len).spell(&mut front);
-    add_parts(parts, &mut front);
-    put_all(target, front.as_slice(), why)
+    let mut buffer = Buffer::new();
+    tag.spell(false, &mut buffer);
+    Length::Definite(len).spell(&mut buffer);
+    add_parts(parts, &mut buffer);
+    put_all(target, buffer.as_slice(), why)
 }
 
 /// Writes a primitive value: one of more than 64 contents octets each part by itself.

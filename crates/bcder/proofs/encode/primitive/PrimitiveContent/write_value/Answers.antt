@@ -29,7 +29,7 @@ pub returns : goal.returns
 returns g c = λ one w meant.
     let (v, m, len_is) = c.requires.contents in
     let len_of = len_is ∙ ap length (same_ok _ one.same v w m meant) in
-    let tag = c.spell.ensures.octets ∙ ap (λ l. l ++ identifier c.args.tag false) c.new-front.ensures.none in
+    let tag = c.spell.ensures.octets ∙ ap (λ l. l ++ identifier c.args.tag false) c.new-buffer.ensures.none in
     let head = c.spell-2.ensures.octets ∙ ap (λ l. l ++ length_octets (Definite c.args.len)) tag in
     let told = head ∙ ap (λ n. header c.args.tag false (Definite n)) len_of in
     let wrote = same_answer c.in_ok-store.ensures (wrote_what _ one.same (λ x. x) _ w _ _ _ meant c.write_encoded-2.ensures) in

@@ -11,7 +11,7 @@ pub returns : goal.returns
 returns g c =
     let x : Bits = record { unused = c.args.unused; octets = c.args.octets.now } in
     let n = length x.octets + 1 in
-    let tag = c.spell.ensures.octets ∙ ap (λ l. l ++ identifier c.args.tag false) c.new-front.ensures.none in
+    let tag = c.spell.ensures.octets ∙ ap (λ l. l ++ identifier c.args.tag false) c.new-buffer.ensures.none in
     let header = c.spell-2.ensures.octets ∙ ap (λ l. l ++ length_octets (Definite n)) tag in
     let first = c.add.ensures.octets ∙ ap (λ l. l ++ x.unused ∷ []) header in
     let all = c.as_slice.ensures ∙ c.add_octets.ensures ∙ ap (λ l. l ++ (as_written c.args.mode x).octets) first in

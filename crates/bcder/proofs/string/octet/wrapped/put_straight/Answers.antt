@@ -26,7 +26,7 @@ returns-in_err-write_known-clause-written g c = λ e meant.
 pub returns-clause-written : goal.returns-clause-written
 returns-clause-written g c = λ e meant.
     let one = (g.met.V.Values.lawful c.args.values.now c.args.inner c.requires.can).one in
-    let tag = c.spell.ensures.octets ∙ ap (λ l. l ++ identifier octet_string_tag false) c.new-front.ensures.none in
+    let tag = c.spell.ensures.octets ∙ ap (λ l. l ++ identifier octet_string_tag false) c.new-buffer.ensures.none in
     let head = c.spell-2.ensures.octets ∙ ap (λ l. l ++ length_octets (Definite c.args.len)) tag in
     let told = head ∙ ap (λ n. header octet_string_tag false (Definite n)) (c.requires.size e meant) in
     let all = c.as_slice.ensures ∙ (c.in_ok-write_known.ensures.written one e meant).done ∙ ap (λ l. l ++ e.octets) told in

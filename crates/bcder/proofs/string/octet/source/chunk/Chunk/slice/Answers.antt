@@ -2,7 +2,7 @@ use Rattle.std.proofs.Common.{◌≤◌, ◌≡◌, ◌+◌, length, slice_range
 use Rattle.bytes.proofs.Ranges.{slice_range-slice_range}
 use Rattle.bcder.specs.calls.StringSource.{InBlock}
 use Rattle.bcder.proofs.StringSources.{range_length}
-use Rattle.bcder.proofs.string.octet.source.front.Front.slice.Goals as goal
+use Rattle.bcder.proofs.string.octet.source.chunk.Chunk.slice.Goals as goal
 
 pub overflow_add-self-inside : goal.overflow_add-self-inside
 overflow_add-self-inside c =

@@ -7,22 +7,22 @@ use std::io::Write;
 
 /// The first octets of a value: of its header, which has at most nine, and up to 64 more.
 #[derive(Clone, Copy)]
-pub(crate) struct Front {
+pub(crate) struct Buffer {
     octets: [u8; 73],
     len: usize,
     ghost within: { len ≤ 73 },
 }
 
-impl Front {
-    ghost use Rattle.bcder.specs.steps.Front.{front_of};
+impl Buffer {
+    ghost use Rattle.bcder.specs.steps.Buffer.{buffered};
 
     /// None yet.
     #[inline(always)]
-    pub(crate) fn new() -> Front
-        ensures none { front_of result ≡ [] }
+    pub(crate) fn new() -> Buffer
+        ensures none { buffered result ≡ [] }
         ensures len { result.len ≡ 0 }
     {
-        Front {
+        Buffer {
             octets: [0; 73],
             len: 0,
         }
@@ -32,7 +32,7 @@ impl Front {
     #[inline(always)]
     pub(crate) fn add(&mut self, octets: &[u8])
         requires { self.old.len + length octets.now ≤ 73 }
-        ensures octets { front_of self.new ≡ front_of self.old ++ octets.now }
+        ensures octets { buffered self.new ≡ buffered self.old ++ octets.now }
         ensures len { self.new.len ≡ self.old.len + length octets.now }
     {
         let start = self.len;
@@ -44,17 +44,17 @@ impl Front {
     /// All of them.
     #[inline(always)]
     pub(crate) fn as_slice(&self) -> &[u8]
-        ensures { result.now ≡ front_of self.now }
+        ensures { result.now ≡ buffered self.now }
     {
         &self.octets[..self.len]
     }
 }
 
 /// What is written is added while there is room.
-impl Write for Front {
-    ghost use Rattle.bcder.specs.steps.Front.{front_of};
+impl Write for Buffer {
+    ghost use Rattle.bcder.specs.steps.Buffer.{buffered};
 
-    ghost contents = { λ front. Some (front_of front) };
+    ghost contents = { λ buffer. Some (buffered buffer) };
 
     fn write(&mut self, octets: &[u8]) -> io::Result<usize> {
         let count = octets.len().min(73 - self.len);

@@ -11,7 +11,7 @@ use std::marker::Model;
 /// Octets that stand in a block. Those that are passed over stay there, so that a step over one is
 /// a step of one number.
 #[derive(Debug, Drop)]
-pub(super) struct Front {
+pub(super) struct Chunk {
     block: Bytes,
 
     /// Where they stand in it.
@@ -23,7 +23,7 @@ pub(super) struct Front {
 }
 
 /// The clauses see the octets, and the block.
-impl Model for Front {
+impl Model for Chunk {
     ghost use Rattle.std.specs.Prelude.{length, slice_range, ◌≤◌};
     ghost use Rattle.bcder.specs.calls.StringSource.{InBlock};
 
@@ -38,13 +38,13 @@ impl Model for Front {
     ghost invariant = { λ f. (f.start ≤ f.end) × (f.end ≤ length f.block) };
 }
 
-impl Front {
+impl Chunk {
     /// All octets of a block of their own.
-    pub(super) fn of_block(block: Bytes) -> Front
+    pub(super) fn of_block(block: Bytes) -> Chunk
         ensures { result ≡ record { block = block; octets = block; is_shared = false } }
     {
         let end = block.len();
-        Front {
+        Chunk {
             block,
             start: 0,
             end,
@@ -53,10 +53,10 @@ impl Front {
     }
 
     /// None of the octets that segments stand in.
-    pub(super) fn before_segments(block: Bytes) -> Front
+    pub(super) fn before_segments(block: Bytes) -> Chunk
         ensures { result ≡ record { block = block; octets = []; is_shared = true } }
     {
-        Front {
+        Chunk {
             block,
             start: 0,
             end: 0,

@@ -2,7 +2,7 @@ use Rattle.std.proofs.Common.{◌≤◌, ◌+◌, length, drop, sym, ap, ◌∙�
 use Rattle.bytes.proofs.Ranges.{drop-slice_range}
 use Rattle.bcder.specs.calls.StringSource.{InBlock}
 use Rattle.bcder.proofs.StringSources.{range_length}
-use Rattle.bcder.proofs.string.octet.source.front.Front.advance.Goals as goal
+use Rattle.bcder.proofs.string.octet.source.chunk.Chunk.advance.Goals as goal
 
 pub returns : goal.returns
 returns c =
