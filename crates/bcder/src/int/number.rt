@@ -12,6 +12,9 @@ ghost use Rattle.bcder.specs.laws.Numbers.{i128_magnitude};
 
 /// A type of Rust's integers.
 pub(crate) trait Number: Sized {
+    /// Whether the type holds negative numbers too.
+    const SIGNED: bool;
+
     /// The number that a value is.
     ghost value: { Self → ℤ };
 
@@ -154,7 +157,8 @@ pub(crate) fn number_at<N: Number>(octets: &[u8]) -> Option<N>
     if let [first] = octets {
         return small(*first);
     }
-    if octets.len() <= 8 {
+    // not of a signed type, whose two loops make a reader's closure too large to be inlined
+    if !N::SIGNED && octets.len() <= 8 {
         return short_number(octets);
     }
     // taken apart, so that few octets keep to their own paths
@@ -183,6 +187,9 @@ fn any_number<N: Number>(octets: &[u8]) -> Option<N>
     ensures some { IfSome result (IsNumber N.value N.in_range octets.now) }
     ensures none { IfNone result (IsNoNumber N.in_range octets.now) }
 {
+    if octets.len() <= 8 {
+        return short_number(octets);
+    }
     match parts_of(octets) {
         Some((negative, magnitude)) => N::of(negative, magnitude),
         None => None,
@@ -190,6 +197,8 @@ fn any_number<N: Number>(octets: &[u8]) -> Option<N>
 }
 
 impl Number for u8 {
+    const SIGNED: bool = false;
+
     ghost value = { λ x. pos x };
 
     ghost in_range = { FitsUnsignedBits 8 };
@@ -209,6 +218,8 @@ impl Number for u8 {
 }
 
 impl Number for u16 {
+    const SIGNED: bool = false;
+
     ghost value = { λ x. pos x };
 
     ghost in_range = { FitsUnsignedBits 16 };
@@ -228,6 +239,8 @@ impl Number for u16 {
 }
 
 impl Number for u32 {
+    const SIGNED: bool = false;
+
     ghost value = { λ x. pos x };
 
     ghost in_range = { FitsUnsignedBits 32 };
@@ -247,6 +260,8 @@ impl Number for u32 {
 }
 
 impl Number for u64 {
+    const SIGNED: bool = false;
+
     ghost value = { λ x. pos x };
 
     ghost in_range = { FitsUnsignedBits 64 };
@@ -266,6 +281,8 @@ impl Number for u64 {
 }
 
 impl Number for u128 {
+    const SIGNED: bool = false;
+
     ghost value = { λ x. pos x };
 
     ghost in_range = { FitsUnsignedBits 128 };
@@ -279,6 +296,8 @@ impl Number for u128 {
 }
 
 impl Number for i8 {
+    const SIGNED: bool = true;
+
     ghost value = { λ x. x };
 
     ghost in_range = { FitsSigned w8 };
@@ -298,6 +317,8 @@ impl Number for i8 {
 }
 
 impl Number for i16 {
+    const SIGNED: bool = true;
+
     ghost value = { λ x. x };
 
     ghost in_range = { FitsSigned w16 };
@@ -317,6 +338,8 @@ impl Number for i16 {
 }
 
 impl Number for i32 {
+    const SIGNED: bool = true;
+
     ghost value = { λ x. x };
 
     ghost in_range = { FitsSigned w32 };
@@ -336,6 +359,8 @@ impl Number for i32 {
 }
 
 impl Number for i64 {
+    const SIGNED: bool = true;
+
     ghost value = { λ x. x };
 
     ghost in_range = { FitsSigned w64 };
@@ -355,6 +380,8 @@ impl Number for i64 {
 }
 
 impl Number for i128 {
+    const SIGNED: bool = true;
+
     ghost value = { λ x. x };
 
     ghost in_range = { FitsSigned w128 };
