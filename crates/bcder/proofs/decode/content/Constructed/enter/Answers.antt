@@ -1,5 +1,5 @@
 use Rattle.std.proofs.Common.{◌≡◌, ◌∙◌, refl, ap, arith, rules, sym, subst, take}
-use Rattle.bcder.specs.declared.length.Length.TheVariants.{Definite, Indefinite}
+use Rattle.bcder.specs.declared.length.Length.TheVariants.{Definite}
 use Rattle.bcder.specs.calls.Content.{FitsOwed, Advances, Moves, Enters}
 use Rattle.bcder.specs.steps.Peek.{header_of, len_of}
 use Rattle.bcder.specs.calls.Views.{of_constructed}
