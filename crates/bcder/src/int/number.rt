@@ -155,7 +155,10 @@ pub(crate) fn number_at<N: Number>(octets: &[u8]) -> Option<N>
     ensures none { IfNone result (IsNoNumber N.in_range octets.now) }
 {
     if let [first] = octets {
-        return small(*first);
+        // a sign that an unsigned type refuses is told below, so that this way has one answer there
+        if N::SIGNED || *first < 0x80 {
+            return small(*first);
+        }
     }
     // not of a signed type, whose two loops make a reader's closure too large to be inlined
     if !N::SIGNED && octets.len() <= 8 {
