@@ -87,6 +87,7 @@ impl Integer {
         requires { IsSmallest octets }
         ensures { AreInteger result octets }
     {
+        // for the proof: the items of a slice that is read are octets
         let slice = octets.as_slice();
         let _slice = slice;
         Integer { octets }

@@ -109,6 +109,7 @@ impl OctetString {
         match &self.octets {
             Octets::Whole(octets) => octets.len(),
             Octets::Cut(captured, _) => {
+                // for the proof: the length of a slice fits a `usize`
                 let _octets = captured.as_slice();
                 let mut len = 0;
                 for part in self {

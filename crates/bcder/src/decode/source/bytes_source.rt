@@ -50,6 +50,7 @@ impl BytesSource {
         ensures octets { shared_rest result ≡ octets }
         ensures start { shared_start result ≡ offset }
     {
+        // for the proof: the items of a slice that is read are octets
         let slice = octets.as_slice();
         let _slice = slice;
         BytesSource {

@@ -205,6 +205,7 @@ impl OctetStringSource {
         ensures { source_stream result
             ≡ string_stream (cut captured (segments_at captured.octets segments.items)) }
     {
+        // for the proof: the length of a slice fits a `usize`
         let _octets = captured.as_slice();
         let behind = Behind::new(captured.into_bytes(), segments);
         OctetStringSource {
