@@ -5,7 +5,7 @@ ghost use Rattle.std.specs.Cmp.Lexicographic.{pointwise, nat_list_eq_equiv};
 ghost use Rattle.std.specs.Cmp.{partial_equiv_from_equiv, on_per, on_equiv};
 ghost use Rattle.std.specs.Cmp.Rules.{hashing};
 ghost use Rattle.std.proofs.Common.{rules};
-ghost use Rattle.bcder.specs.x690.ObjectIdentifier.{identifier_tag, IsComplete};
+ghost use Rattle.bcder.specs.x690.ObjectIdentifier.{identifier_tag, IsComplete, IsMinimal};
 ghost use Rattle.bcder.specs.calls.Components.{component_parts};
 ghost use Rattle.bcder.specs.calls.Components.{parts_left};
 ghost use Rattle.bcder.specs.calls.IdentifierText.{text_of, IsTextOf, RefusesText};
@@ -30,12 +30,16 @@ pub use text::OidError;
 
 /// An object identifier, as its contents octets (8.19).
 ///
+/// A subidentifier may begin with the octet 80, which the standard forbids (8.19.2), since the
+/// readers take that: `2A 80 01` is shown as `1.2.1`, as `2A 01` is, and is another identifier.
+/// [`is_minimal`](Self::is_minimal) tells such identifiers apart.
+///
 /// Octets that don't end with a subidentifier may be held too. What stands after the last complete
 /// subidentifier is then part of no component.
-#[derive(Clone, Debug, Drop)]
+#[derive(Clone, Copy, Debug, Drop)]
 pub struct Oid<T: AsSlice<u8> = Bytes>(pub T);
 
-/// An object identifier that is known when the program is compiled.
+/// An object identifier that is known when the program is compiled. It is `Copy`.
 pub type ConstOid = Oid<&'static [u8]>;
 
 impl<T: AsSlice<u8>> Oid<T> {
@@ -64,6 +68,21 @@ impl<T: AsSlice<u8>> Oid<T> {
         ensures { parts_left result ≡ component_parts (T.items self.now.0) }
     {
         Iter::new(self.0.as_slice())
+    }
+
+    /// Whether each subidentifier is in the fewest octets, as the standard has it (8.19.2): none
+    /// begins with the octet 80. The readers take those that do.
+    ///
+    /// ```text
+    /// let oid = Oid::take_from(alloc, cons)?;
+    /// if !oid.is_minimal() {
+    ///     return Err(cons.content_err(ContentError::from_static("subidentifier begins with 80")));
+    /// }
+    /// ```
+    pub fn is_minimal(&self) -> bool
+        ensures { IsTrue result ↔ IsMinimal (T.items self.now.0) }
+    {
+        components::is_minimal(self.0.as_slice())
     }
 
     /// Whether the octets are those of another identifier, which may be kept in another way.

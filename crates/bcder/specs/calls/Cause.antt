@@ -34,6 +34,12 @@ is_memory_cause of_source = false
 is_memory_cause (of_content e) = false
 is_memory_cause of_memory = true
 
+-- the same cause, where the source fails for want of memory alone
+abbrev pub memory_for_source : {E : Type 0} → Cause E → Cause E
+memory_for_source of_source = of_memory
+memory_for_source (of_content e) = of_content e
+memory_for_source of_memory = of_memory
+
 -- no content error
 abbrev pub IsContentless : {E : Type 0} → Cause E → Type 0
 IsContentless of_source = Unit {0}

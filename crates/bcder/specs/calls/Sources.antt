@@ -1,6 +1,6 @@
 -- The parts of the sources.
 use Rattle.std.specs.Prelude.{ℕ, Option, List, drop}
-use Rattle.bcder.specs.calls.Stream.{Stream, limit_or, ahead}
+use Rattle.bcder.specs.calls.Stream.{Stream, limit_or, ahead, pos_after}
 use Rattle.bcder.specs.declared.decode.source.limited.LimitedSource.{LimitedSource}
 use Rattle.bcder.specs.declared.decode.source.slice.SliceSource.{SliceSource}
 use Rattle.bcder.specs.declared.decode.source.bytes_source.BytesSource.{BytesSource}
@@ -43,7 +43,7 @@ shared_rest s = s.octets
 
 -- and where they begin
 abbrev pub slice_start : SliceSource → ℕ
-slice_start s = s.passed
+slice_start s = pos_after s.offset s.passed
 
 abbrev pub shared_start : BytesSource → ℕ
 shared_start s = s.pos

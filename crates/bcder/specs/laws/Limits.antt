@@ -63,8 +63,8 @@ pub ahead_sound : (name n : ℕ) (s : Stream) → IsSound s → IsSound (ahead n
 ahead_sound name n s h = record { octets = AreOctets-drop n s.rest h.octets; size = grind (arith, common_steps, h.size); at_hand = grind (arith, common_steps, h.at_hand) }
 
 -- and so are octets that are all at hand, after the first ones
-pub left_sound : (n : ℕ) (w : List ℕ) → AreOctets w → length w < 2 ^ 64 → IsSound (record { rest = drop n w; avail = length (drop n w); faults = 0; position = n; kept = [] })
-left_sound n w h f = record { octets = AreOctets-drop n w h; size = grind (arith, common_steps, f); at_hand = at_most_itself (length (drop n w)) }
+pub left_sound : (n p : ℕ) (w : List ℕ) → AreOctets w → length w < 2 ^ 64 → IsSound (record { rest = drop n w; avail = length (drop n w); faults = 0; position = p; kept = [] })
+left_sound n p w h f = record { octets = AreOctets-drop n w h; size = grind (arith, common_steps, f); at_hand = at_most_itself (length (drop n w)) }
 
 -- and so is a borrowed source
 pub borrowed_sound : (name : ℕ) (s : Stream) → IsSound s → IsSound (borrowed name s)

@@ -31,11 +31,15 @@ IsWhole [] = ⊥
 IsWhole (b ∷ []) = b < 0x80
 IsWhole (b ∷ c ∷ w) = (0x80 ≤ b) × (b < 0x100) × IsWhole (c ∷ w)
 
--- the octets of one subidentifier: the fewest that it can have, so the first is not 80
+-- the fewest octets that a subidentifier can have: the first is not 80
+abbrev pub IsFewest : List ℕ → Type 0
+IsFewest w = slice_index w 0 ≢ 0x80
+
+-- the octets of one subidentifier
 pub record IsSubidentifier (n : ℕ) (w : List ℕ) : Type 0 where
   pub whole : IsWhole w
   pub value : subidentifier_number w ≡ n
-  pub fewest : slice_index w 0 ≢ 0x80
+  pub fewest : IsFewest w
 
 -- the octets of one subidentifier after the other
 abbrev pub AreSubidentifiers : List ℕ → List ℕ → Type 0
@@ -47,6 +51,15 @@ abbrev pub IsComplete : List ℕ → Type 0
 IsComplete [] = ⊥
 IsComplete (b ∷ []) = b < 0x80
 IsComplete (b ∷ c ∷ w) = IsComplete (c ∷ w)
+
+-- each is in the fewest octets
+abbrev pub AreFewest : List (List ℕ) → Type 0
+AreFewest [] = Unit {0}
+AreFewest (w ∷ ws) = IsFewest w × AreFewest ws
+
+-- octets in which each subidentifier is in the fewest
+abbrev pub IsMinimal : List ℕ → Type 0
+IsMinimal w = AreFewest (subidentifiers w)
 
 -- ---- 8.19.4: the first subidentifier holds the first two components
 

@@ -1,7 +1,7 @@
 //! Errors: why decoding failed.
 ghost use Rattle.std.specs.Prelude.{◌≡◌, ℕ, List, Some, IfSome, IsNone, IfOk, IfErr};
 ghost use Rattle.bcder.specs.calls.Cause.{Cause, of_source, of_content, of_memory, cause_of};
-ghost use Rattle.bcder.specs.calls.Cause.{position_of};
+ghost use Rattle.bcder.specs.calls.Cause.{position_of, memory_for_source};
 ghost use Rattle.bcder.specs.calls.Cause.{is_source_cause, is_memory_cause, IsContentless, IsBoxed};
 ghost use Rattle.bcder.specs.calls.Cause.{content_text, decode_text};
 
@@ -206,6 +206,29 @@ impl DecodeError<Infallible> {
             DecodeError::Source(never) => match never {},
             DecodeError::Content { error, .. } => Ok(error),
             DecodeError::NoMemory => Err(NoMemory),
+        }
+    }
+}
+
+impl DecodeError<NoMemory> {
+    /// The same error for a source that can fail in other ways, as that of an octet string that is
+    /// decoded inside another source: at the same position, and a failure of the source is want of
+    /// memory.
+    ///
+    /// ```text
+    /// match Mode::Der.decode(string, |cons| cons.take_u8()) {
+    ///     Ok(number) => Ok(number),
+    ///     Err(error) => Err(error.convert()),
+    /// }
+    /// ```
+    pub fn convert<S>(self) -> DecodeError<S>
+        ensures cause { cause_of result ≡ memory_for_source (cause_of self) }
+        ensures position { position_of result ≡ position_of self }
+    {
+        match self {
+            DecodeError::Source(NoMemory) => DecodeError::NoMemory,
+            DecodeError::Content { error, pos } => DecodeError::Content { error, pos },
+            DecodeError::NoMemory => DecodeError::NoMemory,
         }
     }
 }

@@ -1,5 +1,6 @@
 //! Errors: why a value has no encoding, and why one was not written.
 use crate::NoMemory;
+use std::alloc::{AllocError, AllocFailed};
 use std::error::Error;
 use std::{fmt, io};
 
@@ -74,6 +75,28 @@ impl From<NoMemory> for EncodeError {
     }
 }
 
+impl From<AllocError> for EncodeError {
+    ghost use Rattle.std.specs.Prelude.{◌≡◌};
+    ghost use Rattle.bcder.specs.declared.encode.error.EncodeError.TheVariants.{NoMemory};
+
+    ghost from_gives = { λ _ e. e ≡ NoMemory };
+
+    fn from(_error: AllocError) -> EncodeError {
+        EncodeError::NoMemory
+    }
+}
+
+impl<T: Drop> From<AllocFailed<T>> for EncodeError {
+    ghost use Rattle.std.specs.Prelude.{◌≡◌};
+    ghost use Rattle.bcder.specs.declared.encode.error.EncodeError.TheVariants.{NoMemory};
+
+    ghost from_gives = { λ _ e. e ≡ NoMemory };
+
+    fn from(_error: AllocFailed<T>) -> EncodeError {
+        EncodeError::NoMemory
+    }
+}
+
 /// Why values were not written.
 #[derive(Debug, Drop)]
 pub enum WriteError {
@@ -121,5 +144,41 @@ impl From<io::Error> for WriteError {
 
     fn from(error: io::Error) -> WriteError {
         WriteError::Target(error)
+    }
+}
+
+impl From<NoMemory> for WriteError {
+    ghost use Rattle.std.specs.Prelude.{◌≡◌};
+    ghost use Rattle.bcder.specs.declared.encode.error.EncodeError.TheVariants.{NoMemory};
+    ghost use Rattle.bcder.specs.declared.encode.error.WriteError.TheVariants.{Refused};
+
+    ghost from_gives = { λ _ e. e ≡ Refused NoMemory };
+
+    fn from(_error: NoMemory) -> WriteError {
+        WriteError::Refused(EncodeError::NoMemory)
+    }
+}
+
+impl From<AllocError> for WriteError {
+    ghost use Rattle.std.specs.Prelude.{◌≡◌};
+    ghost use Rattle.bcder.specs.declared.encode.error.EncodeError.TheVariants.{NoMemory};
+    ghost use Rattle.bcder.specs.declared.encode.error.WriteError.TheVariants.{Refused};
+
+    ghost from_gives = { λ _ e. e ≡ Refused NoMemory };
+
+    fn from(_error: AllocError) -> WriteError {
+        WriteError::Refused(EncodeError::NoMemory)
+    }
+}
+
+impl<T: Drop> From<AllocFailed<T>> for WriteError {
+    ghost use Rattle.std.specs.Prelude.{◌≡◌};
+    ghost use Rattle.bcder.specs.declared.encode.error.EncodeError.TheVariants.{NoMemory};
+    ghost use Rattle.bcder.specs.declared.encode.error.WriteError.TheVariants.{Refused};
+
+    ghost from_gives = { λ _ e. e ≡ Refused NoMemory };
+
+    fn from(_error: AllocFailed<T>) -> WriteError {
+        WriteError::Refused(EncodeError::NoMemory)
     }
 }

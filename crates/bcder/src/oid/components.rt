@@ -2,7 +2,7 @@
 ghost use Rattle.std.specs.Prelude.{◌≡◌, ℕ, ◌^◌, [], ◌∷◌, Some, MatchOption, min, ◌↔◌, IsTrue};
 ghost use Rattle.bcder.specs.x690.ObjectIdentifier.{subidentifier_number, subidentifiers};
 ghost use Rattle.bcder.specs.calls.Components.{component_parts, part_value};
-ghost use Rattle.bcder.specs.x690.ObjectIdentifier.{IsComplete};
+ghost use Rattle.bcder.specs.x690.ObjectIdentifier.{IsComplete, IsMinimal};
 ghost use Rattle.bcder.specs.calls.Components.{part_of, parts_left, in_32_bits};
 ghost use Rattle.bcder.specs.calls.IdentifierText.{shown};
 
@@ -102,6 +102,20 @@ fn split_subidentifier(octets: &[u8]) -> Option<(&[u8], &[u8])>
         }
     }
     None
+}
+
+/// Whether each subidentifier is in the fewest octets: none begins with the octet 80.
+pub(super) fn is_minimal(octets: &[u8]) -> bool
+    ensures { IsTrue result ↔ IsMinimal octets.now }
+{
+    let mut rest = octets;
+    while let Some((subidentifier, behind)) = split_subidentifier(rest) {
+        if let [0x80, ..] = subidentifier {
+            return false;
+        }
+        rest = behind;
+    }
+    true
 }
 
 impl<'a> Iter<'a> {

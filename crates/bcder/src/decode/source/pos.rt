@@ -29,6 +29,15 @@ impl From<usize> for Pos {
     }
 }
 
+/// Its number.
+impl From<Pos> for usize {
+    ghost from_gives = { λ p n. n ≡ p };
+
+    fn from(pos: Pos) -> usize {
+        pos.0
+    }
+}
+
 /// The position so much further on, or `usize::MAX` where that is less.
 impl Add for Pos {
     type Output = Pos;

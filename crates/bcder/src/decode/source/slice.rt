@@ -15,6 +15,7 @@ use std::convert::Infallible;
 pub struct SliceSource<'a> {
     octets: &'a [u8],
     passed: usize,
+    offset: Pos,
     ghost are_octets: { AreOctets octets.now },
     ghost fit: { length octets.now < 2 ^ 64 },
     ghost within: { passed ≤ length octets.now },
@@ -28,7 +29,19 @@ impl<'a> SliceSource<'a> {
         ensures octets { slice_rest result ≡ octets.now }
         ensures start { slice_start result ≡ 0 }
     {
-        SliceSource { octets, passed: 0 }
+        SliceSource::with_offset(octets, Pos::default())
+    }
+
+    /// A source over `octets`, at position `offset`.
+    pub fn with_offset(octets: &'a [u8], offset: Pos) -> SliceSource<'a>
+        ensures octets { slice_rest result ≡ octets.now }
+        ensures start { slice_start result ≡ offset }
+    {
+        SliceSource {
+            octets,
+            passed: 0,
+            offset,
+        }
     }
 
     /// How many octets are left.
@@ -67,16 +80,17 @@ impl<'a> Source for SliceSource<'a> {
       rest = drop s.passed s.octets.now;
       avail = length (drop s.passed s.octets.now);
       faults = 0;
-      position = s.passed;
+      position = pos_after s.offset s.passed;
       kept = [];
     } };
 
     ghost use Rattle.bcder.specs.laws.Limits.{left_sound};
 
-    ghost sound = { λ s. left_sound s.passed s.octets.now s.are_octets s.fit };
+    ghost sound = { λ s. left_sound s.passed (pos_after s.offset s.passed) s.octets.now
+        s.are_octets s.fit };
 
     fn pos(&self) -> Pos {
-        Pos::from(self.passed)
+        self.offset + Pos::from(self.passed)
     }
 
     fn request(&mut self, _len: usize) -> Result<usize, Infallible> {
