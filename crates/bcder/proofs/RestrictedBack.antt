@@ -36,7 +36,7 @@ module _ (step : Step) (X : Type 0) (t : Tag) (mode : Mode) (w : List ℕ) (e : 
   refused_there : (f : DecodeError X) (d : Reading) → RefusesTree t (MeansRestricted step c.mode) c f d → RefusesTree t (MeansString c.mode) c f d
   refused_there f d (failed h i) = failed h i
   refused_there f d (source h g) = source h g
-  refused_there f d (memory h) = memory h
+  refused_there f d (memory h there) = memory h there
   refused_there f d (broken b i) = broken (record { usable = b.usable; value = λ v u rest x h m. b.value v u rest x h (m, accepted_there v u rest x h m); absent = b.absent }) i
 
   one_there : (r : Result StringOctets (DecodeError X)) (d : Reading) → TakesOneTree t (MeansRestricted step c.mode) c r d → TakesOneTree t (MeansString c.mode) c r d

@@ -149,7 +149,7 @@ module _ {X : Type 0} (Means : Mode → Tree → StringOctets → Type 0) (in_on
       of_piece : RefusesTree {T = List ℕ} tag (λ t w. Means c.mode t (whole w)) c e d → RefusesTree tag (Means c.mode) c e d
       of_piece (valued.RefusesTree.failed s i) = valued.RefusesTree.failed s i
       of_piece (valued.RefusesTree.source s g) = valued.RefusesTree.source s g
-      of_piece (valued.RefusesTree.memory s) = valued.RefusesTree.memory s
+      of_piece (valued.RefusesTree.memory s h) = valued.RefusesTree.memory s h
       of_piece (valued.RefusesTree.broken n i) = valued.RefusesTree.broken (record { usable = n.usable; value = none n; absent = n.absent }) i
 
 -- a primitive octet string

@@ -192,9 +192,9 @@ skipped_taken {X} n mode h =
     (λ c e d r. elim r [ inl another ↦ absurd (another.2 (back.no_other another.0 another.1)) | inr none ↦ absurd (none.0 n back.read) ])
 
 -- where a reader wants memory
-or_memory : {T X : Type 0} (Means : List ℕ → T → Type 0) (w : List ℕ) (x : T) → Means w x → (c : Reading) (e : DecodeError X) (d : Reading) → MeanNothing Means w e ⊎ (cause_of e ≡ of_memory) → SourceFailedOrNoMemory c e d
+or_memory : {T X B : Type 0} (Means : List ℕ → T → Type 0) (w : List ℕ) (x : T) → Means w x → (c : Reading) (e : DecodeError X) (d : Reading) → MeanNothing Means w e ⊎ (cause_of e ≡ of_memory) × B → SourceFailedOrNoMemory c e d
 or_memory Means w x m c e d (inl none) = absurd (none.0 x m)
-or_memory Means w x m c e d (inr memory) = inr memory
+or_memory Means w x m c e d (inr memory) = inr memory.0
 
 pub integer_taken : {X : Type 0} (z : ℤ) (mode : Mode) → length (integer_octets z) < 2 ^ 32 → IsTakenBackBy {X = X} SourceFailedOrNoMemory integer_tag (λ w y. AreInteger y w) NoInteger mode (ValueMeans integer_tag (primitive_meaning integer_tag) (Exactly (integer_octets z))) z
 integer_taken {X} z mode short =
@@ -219,7 +219,7 @@ identifier_taken {X} y mode complete short octets =
     let back = octets_read {T = Oid (List ℕ)} y.0 holds_octets y octets (refl, complete) (λ z p. same_identifier z y p.0) in
     taken_back_by {T = Oid (List ℕ)} {X = X} SourceFailedOrNoMemory identifier_tag holds_octets NoIdentifier mode y (λ c e d f. inl f) (ExactlyOctets y.0) (universal_value 6 (omega arith) (omega arith)) (ExactlyOctets_lawful y.0) back (omega (arith, short, ap length (back.only y.0 (refl, octets)))) (λ c e d r. elim r [
       | inl none ↦ absurd (none.0 (back.read.1))
-      | inr memory ↦ inr memory
+      | inr memory ↦ inr memory.0
     ])
 
 -- ---- bit strings
@@ -233,7 +233,7 @@ module _ {X : Type 0} (refusal : EncodeError) (mode : Mode) (x : Bits) (is : IsB
       let back = bit_string_read refusal mode x is octets fits in
       taken_back_by {T = Bits} {X = X} SourceFailedOrNoMemory bit_string_tag (IsBitString mode) (NoBits mode) mode (as_written mode x) (λ c e d f. inl f) (BitsMean refusal mode x) (universal_value 3 (omega arith) (omega arith)) (BitsMean_lawful refusal mode x) back (few_written refusal mode x back.contents back.written short) (λ c e d r. elim r [
         | inl none ↦ absurd (none.0 back.read.1)
-        | inr memory ↦ inr memory
+        | inr memory ↦ inr memory.0
       ])
 
   pub bits_skipped : IsTakenBack {T = Unit {0}} X bit_string_tag (HoldBits mode) mode (ValueMeans bit_string_tag (primitive_meaning bit_string_tag) (BitsMean refusal mode x)) tt

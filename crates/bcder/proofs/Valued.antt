@@ -236,7 +236,7 @@ module _ {C T X : Type 0} (view : C → Reading) (post : Tag → MutBor C → Re
     refused_read : RefusesToRead f.front.tag (Means c.mode) f.handed e f.left → RefusesTree tag (Means c.mode) c e d
     refused_read (valued.RefusesToRead.failed s a) = absurd (open_not_failed f.handed.state f.hands.state s)
     refused_read (valued.RefusesToRead.source s g) = valued.RefusesTree.source s (grew_between _ _ _ _ (no_fewer _ _ f.faults_handed) g f.faults_left)
-    refused_read (valued.RefusesToRead.memory s) = valued.RefusesTree.memory s
+    refused_read (valued.RefusesToRead.memory s) = valued.RefusesTree.memory s (f.after, f.front)
     refused_read (valued.RefusesToRead.nothing n a) = valued.RefusesTree.broken (record { usable = f.usable; value = λ t v rest x h m. n t x (held_there t v rest h) m; absent = λ rest. header_not_absent tag c f.after rest f.usable f.front }) a
 
     refused_end : (l : Reading) → IsDone l → l.stream.faults ≡ f.handed.stream.faults → RefusesEnd cause_of l e f.left → RefusesTree tag (Means c.mode) c e d

@@ -11,7 +11,7 @@ use Rattle.bcder.specs.calls.ContentsLen.{length_of}
 use Rattle.berdump.specs.declared.heading.Heading.{Heading}
 use Rattle.berdump.specs.declared.opened.Open.{Open}
 use Rattle.berdump.specs.declared.opened.Open.TheVariants as level
-use Rattle.berdump.specs.Lines.{IsLine, AreLines}
+use Rattle.berdump.specs.Lines.{IsInOneLine, IsLine, AreLines}
 use Rattle.berdump.specs.Listing.{heading, IsList, Holds, HoldsNone, IsListed, AreListed}
 use Rattle.berdump.specs.Opened.{behind_all, Completes, Goes, Fits, GoesOn}
 use Rattle.berdump.specs.declared.list.ListError.{ListError}
@@ -198,8 +198,8 @@ within deep mode octets w a b es at s = let o = s.offset in omega (arith, ap len
 
 -- ---- the text of a line
 
-pub line_text : (old new text note end : List ℕ) → old ≡ [] → new ≡ old ++ (text ++ (note ++ end)) → (x : List ℕ) × (new ≡ (text ++ x) ++ end)
-line_text old new text note end n e = (note, e ∙ ap (λ z. z ++ (text ++ (note ++ end))) n ∙ sym (append_assoc text note end))
+pub line_text : (old new text note end : List ℕ) → IsInOneLine note → old ≡ [] → new ≡ old ++ (text ++ (note ++ end)) → (x : List ℕ) × IsInOneLine x × (new ≡ (text ++ x) ++ end)
+line_text old new text note end o n e = (note, o, e ∙ ap (λ z. z ++ (text ++ (note ++ end))) n ∙ sym (append_assoc text note end))
 
 -- ---- lines that weren't written
 

@@ -1,6 +1,7 @@
 -- The lines that show values.
-use Rattle.std.specs.Prelude.{◌≡◌, ℕ, ◌^◌, ◌-◌, Bool, true, false, List, [], ◌∷◌, ◌++◌, Option, Some, None, codes, decimal, min}
+use Rattle.std.specs.Prelude.{◌≡◌, ℕ, ◌^◌, ◌-◌, Bool, true, false, List, [], ◌∷◌, ◌++◌, Option, Some, None, codes, decimal, min, nat_eq}
 use Rattle.std.specs.Fmt.{format_spec, padded_integral, styled_text}
+use Rattle.std.specs.List.{list_any}
 use Rattle.bcder.specs.calls.TagText.{tag_text}
 use Rattle.berdump.specs.declared.heading.Heading.{Heading}
 
@@ -33,9 +34,13 @@ name_text h = codes "l=" ++ length_text h.len ++ codes " " ++ form_text h.constr
 abbrev pub heading_text : Heading → List ℕ
 heading_text h = place_text h ++ codes " " ++ name_text h
 
+-- no newline stands in a text
+abbrev pub IsInOneLine : List ℕ → Type 0
+IsInOneLine w = list_any (λ c. nat_eq c 10) w ≡ false
+
 -- a line of a heading: its text, what may be said of the contents, and a newline
 abbrev pub IsLine : Heading → List ℕ → Type 0
-IsLine h w = (note : List ℕ) × (w ≡ heading_text h ++ note ++ codes "\n")
+IsLine h w = (note : List ℕ) × IsInOneLine note × (w ≡ heading_text h ++ note ++ codes "\n")
 
 -- a line for each heading
 abbrev pub AreLines : List Heading → List ℕ → Type 0

@@ -2,7 +2,7 @@
 ghost use Rattle.std.specs.Prelude.{◌≡◌, ◌≢◌, ◌+◌, ◌<◌, ◌^◌, [], ◌∷◌, length};
 ghost use Rattle.std.specs.Prelude.{IfOk, OnOk, IfErr, string_bytes};
 ghost use Rattle.berdump.specs.Answers.{IsUnlisted, IsUnwritten, Listed, Written};
-ghost use Rattle.berdump.specs.Lines.{IsLine};
+ghost use Rattle.berdump.specs.Lines.{IsInOneLine, IsLine};
 ghost use Rattle.berdump.specs.Opened.{GoesOn};
 ghost use Rattle.berdump.specs.Walk.{PassesContents, Meets, Stops, left};
 
@@ -74,12 +74,17 @@ fn note_of(
     heading: Heading,
     contents: &[u8],
     holds: bool,
-) -> Result<String, NoMemory> {
-    let mut note = String::new(alloc);
+) -> Result<String, NoMemory>
+    ensures { IfOk result (λ note. IsInOneLine (string_bytes note)) }
+{
     if heading.constructed {
-        return Ok(note);
+        return Ok(String::new(alloc));
     }
+    let mut note = String::new(alloc);
     add_note(alloc, &mut note, mode, heading.tag, contents, holds)?;
+    if note.as_bytes().contains(&b'\n') {
+        return Ok(String::new(alloc));
+    }
     Ok(note)
 }
 

@@ -11,4 +11,4 @@ HoldBits mode w x = BitShape mode w
 
 -- the octets are no bit string's in the mode, or there was no memory for them
 abbrev pub NoBits : {X : Type 0} → Mode → List ℕ → DecodeError X → Type 0
-NoBits mode w e = (BitShape mode w → ⊥) × IsRefusal e ⊎ (cause_of e ≡ of_memory)
+NoBits mode w e = (BitShape mode w → ⊥) × IsRefusal e ⊎ (cause_of e ≡ of_memory) × BitShape mode w

@@ -14,4 +14,4 @@ IsSame v w x = w ≡ v
 
 -- the octets don't end with a subidentifier, or there was no memory for them
 abbrev pub NoIdentifier : {X : Type 0} → List ℕ → DecodeError X → Type 0
-NoIdentifier w e = (IsComplete w → ⊥) × IsRefusal e ⊎ (cause_of e ≡ of_memory)
+NoIdentifier w e = (IsComplete w → ⊥) × IsRefusal e ⊎ (cause_of e ≡ of_memory) × IsComplete w

@@ -58,15 +58,15 @@ MeanNothing Means w e = ((x : _) → Means w x → ⊥) × IsRefusal e
 
 -- they are no integer's, or there was no memory for them
 abbrev pub NoInteger : {X : Type 0} → List ℕ → DecodeError X → Type 0
-NoInteger w e = MeanNothing (λ v z. AreInteger z v) w e ⊎ (cause_of e ≡ of_memory)
+NoInteger w e = MeanNothing (λ v z. AreInteger z v) w e ⊎ (cause_of e ≡ of_memory) × ((z : ℤ) × AreInteger z w)
 
 -- they are not the smallest of their number, or there was no memory for them
 abbrev pub NotSmallest : {X : Type 0} → List ℕ → DecodeError X → Type 0
-NotSmallest w e = (IsSmallest w → ⊥) × IsRefusal e ⊎ (cause_of e ≡ of_memory)
+NotSmallest w e = (IsSmallest w → ⊥) × IsRefusal e ⊎ (cause_of e ≡ of_memory) × IsSmallest w
 
 -- the same of an integer that isn't negative
 abbrev pub NoUnsigned : {X : Type 0} → List ℕ → DecodeError X → Type 0
-NoUnsigned w e = MeanNothing (λ v n. AreInteger (pos n) v) w e ⊎ (cause_of e ≡ of_memory)
+NoUnsigned w e = MeanNothing (λ v n. AreInteger (pos n) v) w e ⊎ (cause_of e ≡ of_memory) × ((n : ℕ) × AreInteger (pos n) w)
 
 -- they mean another number of a `u8`, or none
 abbrev pub MeanAnother : {X : Type 0} → ℕ → List ℕ → DecodeError X → Type 0

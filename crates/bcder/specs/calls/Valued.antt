@@ -11,7 +11,7 @@ use Rattle.bcder.specs.calls.Cause.{cause_of, of_source, of_memory, IsRefusal, N
 use Rattle.bcder.specs.x690.Identifier.{Tag}
 use Rattle.bcder.specs.x690.Tree.{Tree, primitive, constructed, Trees, no_trees}
 use Rattle.bcder.specs.calls.Stream.{Stream, Grew}
-use Rattle.bcder.specs.calls.Content.{Reading, Octets, tagged, IsAbsent, IsDone}
+use Rattle.bcder.specs.calls.Content.{Reading, Octets, tagged, IsAbsent, IsDone, HasHeader}
 use Rattle.bcder.specs.calls.Walking.{HasValue, HasValues}
 use Rattle.bcder.specs.calls.Takes.{HasNone}
 use Rattle.bcder.specs.calls.Views.{before, after, content_before, content_after}
@@ -98,7 +98,7 @@ module _ {T : Type 0} (tag : Tag) (Means : Tree → T → Type 0) where
     pub data RefusesTree (c : Reading) (e : DecodeError X) (d : Reading) : Type 0 where
       failed : c.state ≡ Failed → IsRefusal e → RefusesTree c e d
       source : cause_of e ≡ of_source → Grew c.stream.faults d.stream.faults → RefusesTree c e d
-      memory : cause_of e ≡ of_memory → RefusesTree c e d
+      memory : cause_of e ≡ of_memory → (after : List ℕ) × HasHeader (tagged tag) c after → RefusesTree c e d
       broken : HasNoTree c → IsRefusal e → RefusesTree c e d
 
     -- what a call did that answers the value, or that there is none with the tag

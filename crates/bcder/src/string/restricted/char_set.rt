@@ -58,12 +58,22 @@ impl fmt::Display for StringError {
 impl Error for StringError {}
 
 impl From<CharSetError> for StringError {
+    ghost use Rattle.std.specs.Prelude.{◌≡◌};
+    ghost use Rattle.bcder.specs.declared.string.restricted.char_set.StringError.TheVariants.{CharSet};
+
+    ghost from_gives = { λ _ e. e ≡ CharSet };
+
     fn from(_error: CharSetError) -> StringError {
         StringError::CharSet
     }
 }
 
 impl From<NoMemory> for StringError {
+    ghost use Rattle.std.specs.Prelude.{◌≡◌};
+    ghost use Rattle.bcder.specs.declared.string.restricted.char_set.StringError.TheVariants.{NoMemory};
+
+    ghost from_gives = { λ _ e. e ≡ NoMemory };
+
     fn from(_error: NoMemory) -> StringError {
         StringError::NoMemory
     }
