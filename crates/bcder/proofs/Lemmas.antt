@@ -25,6 +25,10 @@ pub use Rattle.bcder.proofs.WalkSteps.{walks_refl as walks_nothing, walks_value 
 pub use Rattle.bcder.proofs.WalkSteps.{values_before as values_with_one_more, values_before_trees as trees_with_one_more}
 -- at the end no values remain
 pub use Rattle.bcder.proofs.WalkSteps.{none_left as no_values_at_the_end, none_left_trees as no_trees_at_the_end}
+-- ---- typed takes of one's own
+
+-- a take whose closure reads what contents octets mean takes a value as that
+pub use Rattle.bcder.proofs.Typed.{reader_takes_one as takes_what_is_read, reader_takes_next as takes_what_is_read_if_there}
 -- ---- what was written, and is read back
 
 -- a writer of one constructed value

@@ -110,7 +110,7 @@ follow_some (t ∷ₜ (u ∷ₜ us)) h =
     let k = full t h.0 in
     omega (arith, s, ap length (joined_with t (u ∷ₜ us) k.0 k.1.0), length-append k.0 (joined (u ∷ₜ us)))
 
-over_1000 : (ts : Trees) → AreSegmentsIn Cer ts → 1000 < length (concat (segments_of ts))
+pub over_1000 : (ts : Trees) → AreSegmentsIn Cer ts → 1000 < length (concat (segments_of ts))
 unfolding joined
 over_1000 no_trees h = absurd h
 over_1000 (t ∷ₜ ts) h =

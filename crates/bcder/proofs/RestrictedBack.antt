@@ -12,6 +12,7 @@ use Rattle.bcder.specs.x690.OctetString.{flat}
 use Rattle.bcder.specs.x690.CharSet.{Step, IsOfSet}
 use Rattle.bcder.specs.calls.RestrictedString.{MeansRestricted}
 use Rattle.bcder.specs.calls.Meaning.{Encoded}
+use Rattle.bcder.specs.calls.StringMeaning.{StringMeans}
 use Rattle.bcder.specs.calls.TakenBack.{StandsIn}
 use Rattle.bcder.specs.calls.Valued.{HasTagged, TakesTree, RefusesTree, TakesNextTree, TakesOneTree, failed, source, memory, broken}
 use Rattle.bcder.specs.calls.WrittenStrings.{IsWrittenString}
@@ -58,8 +59,8 @@ restricted_taken {X} step t mode w e accepted written =
 
 -- ---- what is read is written back
 
-pub written_as_read_of : (step : Step) → WrittenAsReadOf step
-written_as_read_of step mode ne t s w e m k h = written_as_read mode ne t s w e m.0 k h
+pub written_as_read_of : (step : Step) (s : StringOctets) → WrittenAsReadOf step s (λ tag. StringMeans tag s)
+written_as_read_of step s mode ne t w m k = written_as_read s mode ne t w m.0 k
 
 pub one_restricted : (step : Step) → OneRestricted step
 one_restricted step mode ne t u r s m n tags octets =

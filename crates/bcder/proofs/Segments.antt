@@ -1,6 +1,6 @@
 -- Values whose headers are passed one by one: what is left of them, and of the segments that they are.
 use Rattle.std.proofs.Common.{◌≡◌, ℕ, suc, ◌+◌, ◌-◌, ◌*◌, ◌<◌, ◌≤◌, Bool, true, false, List, [], ◌∷◌, ◌++◌, length, get_or, take, drop, Option, Some, None, refl, sym, ap, subst, ◌∙◌, append_assoc, append-nil, arith, inl, inr}
-use Rattle.std.specs.Prelude.{nat_eq}
+use Rattle.std.specs.Prelude.{nat_eq, slice_range}
 use Rattle.std.proofs.lemmas.Bool.{lt-ltb, le-ltb}
 use Rattle.std.proofs.lemmas.Bool.Decides.{nat_tests}
 use Rattle.std.proofs.lemmas.List.{length-append, map-append, take_at, drop_at}
@@ -15,7 +15,7 @@ use Rattle.bcder.specs.x690.Encoding.{IsHeader, IsDefinite, IsFramed, IsEncoding
 use Rattle.bcder.specs.steps.Reading.{class_of, is_marked, read_identifier, read_header, read_length}
 use Rattle.bcder.specs.calls.Captured.{AreWhole}
 use Rattle.bcder.specs.x690.OctetString.{octet_string_tag, segments, segments_of, IsSegment, AreSegments, IsPiece, IsFull, IsLast, FollowFull, AreSegmentsIn, AreCut}
-use Rattle.bcder.specs.steps.SegmentTable.{segment_at, segments_at, AreWithin, IsTable}
+use Rattle.bcder.specs.steps.SegmentTable.{segment_at, segments_at, AreWithin, FollowsHeader, AreInOrder, IsTable}
 use Rattle.bcder.specs.declared.string.octet.Segment.{Segment}
 use Rattle.bcder.specs.steps.Segments.{is_octet_string, behind_header, read_segment}
 use Rattle.bcder.specs.laws.Complete.{header_complete, header_size, two_octets, one_list}
@@ -129,7 +129,7 @@ contents_there contents x = rw (le-ltb (length (contents ++ x)) (length contents
 
 -- at a value: a primitive segment; a constructed one, whose values stand behind the header; or no segment
 pub data Front (mode : Mode) (t : Tree) (w others : List ℕ) : Type 0 where
-  piece : (contents header : List ℕ) → t ≡ primitive octet_string_tag contents → w ≡ header ++ (contents ++ others) → 2 ≤ length header → read_segment mode w ≡ Some (Some (length contents), others) → Front mode t w others
+  piece : (contents header : List ℕ) → t ≡ primitive octet_string_tag contents → w ≡ header ++ (contents ++ others) → IsHeader mode octet_string_tag false (Definite (length contents)) header → read_segment mode w ≡ Some (Some (length contents), others) → Front mode t w others
   definite : (ts : Trees) (header contents : List ℕ) → t ≡ constructed octet_string_tag ts → AreEncodings mode ts contents → w ≡ header ++ (contents ++ others) → 2 ≤ length header → read_segment mode w ≡ Some (None, contents ++ others) → Front mode t w others
   indefinite : (ts : Trees) (header contents end : List ℕ) → t ≡ constructed octet_string_tag ts → AreEncodings mode ts contents → IsEndOfContents mode end → w ≡ header ++ (contents ++ (end ++ others)) → 2 ≤ length header → read_segment mode w ≡ Some (None, contents ++ (end ++ others)) → Front mode t w others
   other : read_segment mode w ≡ None → (IsSegment t → ⊥) → Front mode t w others
@@ -147,7 +147,7 @@ front_primitive mode t contents w x d = by_tag (is_octet_string t) refl
     there = header_before d.header contents x w d.is
 
     by_tag : (b : Bool) → is_octet_string t ≡ b → Front mode (primitive t contents) (w ++ x) x
-    by_tag true e = piece contents d.header (ap (λ z. primitive z contents) (is_tag t e)) there (header_size mode t false _ d.header d.is_header) (ap (read_segment mode) there ∙ segment_at_header mode t false _ d.header (contents ++ x) d.is_header e ∙ contents_there contents x)
+    by_tag true e = piece contents d.header (ap (λ z. primitive z contents) (is_tag t e)) there (subst (λ z. IsHeader mode z false (Definite (length contents)) d.header) (is_tag t e) d.is_header) (ap (read_segment mode) there ∙ segment_at_header mode t false _ d.header (contents ++ x) d.is_header e ∙ contents_there contents x)
     by_tag false e = other (ap (read_segment mode) there ∙ other_at_header mode t false _ d.header (contents ++ x) d.is_header e) (is_other t e)
 
 front_constructed : (mode : Mode) (t : Tag) (ts : Trees) (contents w x : List ℕ) → AreEncodings mode ts contents → IsFramed mode t contents w → Front mode (constructed t ts) (w ++ x) x
@@ -174,7 +174,7 @@ front mode (constructed t ts) w x h = front_constructed mode t ts h.0 w x h.1 h.
 
 -- at items: a primitive segment is passed; or a header or an end is, behind which the same segments are held; or they hold others than segments
 pub data Turn (mode : Mode) (is : Items) (w : List ℕ) : Type 0 where
-  passes : (contents header others : List ℕ) (more : Items) → is ≡ value (primitive octet_string_tag contents) more → w ≡ header ++ (contents ++ others) → 2 ≤ length header → AreItems mode more others → read_segment mode w ≡ Some (Some (length contents), others) → Turn mode is w
+  passes : (contents header others : List ℕ) (more : Items) → is ≡ value (primitive octet_string_tag contents) more → w ≡ header ++ (contents ++ others) → IsHeader mode octet_string_tag false (Definite (length contents)) header → AreItems mode more others → read_segment mode w ≡ Some (Some (length contents), others) → Turn mode is w
   goes : (header others : List ℕ) (more : Items) → parts_of is ≡ parts_of more → (HoldSegments is → HoldSegments more) → (HoldSegments more → HoldSegments is) → w ≡ header ++ others → 2 ≤ length header → AreItems mode more others → read_segment mode w ≡ Some (None, others) → Turn mode is w
   stops : read_segment mode w ≡ None → (HoldSegments is → ⊥) → Turn mode is w
 
@@ -256,7 +256,7 @@ pub passed_shorter : (mode : Mode) (is : Items) (w after : List ℕ) (found : Op
 passed_shorter mode is w after found h some r = of_turn (turn mode is w h some)
   where
     of_turn : Turn mode is w → length after + 2 ≤ length w
-    of_turn (passes contents header others more e split two k q) = subst (λ z. length z + 2 ≤ length w) (some_pair _ _ _ _ (sym q ∙ r)).1 (shorter_by header contents w others split two)
+    of_turn (passes contents header others more e split two k q) = subst (λ z. length z + 2 ≤ length w) (some_pair _ _ _ _ (sym q ∙ r)).1 (shorter_by header contents w others split (header_size _ _ _ _ _ two))
     of_turn (goes header others more e f g split two k q) = subst (λ z. length z + 2 ≤ length w) (some_pair _ _ _ _ (sym q ∙ r)).1 (shorter header w others split two)
     of_turn (stops q n) = absurd (none_pair found after (sym q ∙ r))
 
@@ -290,7 +290,7 @@ counts_piece w rest after count n c some r = of_turn (turn Ber c.left rest c.ite
     of_turn : Turn Ber c.left rest → Counts w after (count + 1)
     of_turn (passes contents header others more e split two k q) =
         let p = some_pair _ _ _ _ (sym q ∙ r) in
-        let s = shorter_by header contents rest others split two in
+        let s = shorter_by header contents rest others split (header_size _ _ _ _ _ two) in
         let b = c.bound in
         record {
           values = c.values;
@@ -527,14 +527,33 @@ within_more w [] s h k = (k, tt)
 within_more w (r ∷ ss) s h k = (h.0, within_more w ss s h.1 k)
 
 -- where contents octets stand
-contents_at : (w passed header contents after : List ℕ) (s : Segment) → w ≡ passed ++ (header ++ (contents ++ after)) → s.len ≡ length contents → s.start ≡ length w - length after - s.len → (segment_at w s ≡ contents) × (s.start + s.len ≤ length w)
+contents_at : (w passed header contents after : List ℕ) (s : Segment) → w ≡ passed ++ (header ++ (contents ++ after)) → s.len ≡ length contents → s.start ≡ length w - length after - s.len → (segment_at w s ≡ contents) × (s.start + s.len ≤ length w) × (s.start ≡ length passed + length header)
 contents_at w passed header contents after s e l b =
     let is : w ≡ (passed ++ header) ++ (contents ++ after) = e ∙ sym (append_assoc passed header (contents ++ after)) in
     let size : length w ≡ length (passed ++ header) + (length contents + length after) = ap length is ∙ length-append (passed ++ header) (contents ++ after) ∙ ap (λ z. length (passed ++ header) + z) (length-append contents after) in
     let at : length (passed ++ header) ≡ s.start = omega (arith, size, l, b) in
     let n : length contents ≡ s.start + s.len - s.start = omega (arith, l) in
     let d : drop s.start w ≡ contents ++ after = ap (drop s.start) is ∙ drop_at (passed ++ header) (contents ++ after) s.start at in
-    (ap (take (s.start + s.len - s.start)) d ∙ take_at contents after (s.start + s.len - s.start) n, omega (arith, size, l, at))
+    (ap (take (s.start + s.len - s.start)) d ∙ take_at contents after (s.start + s.len - s.start) n, omega (arith, size, l, at), omega (arith, at, length-append passed header))
+
+-- and the header in front of them
+header_at : (w passed header behind : List ℕ) (start : ℕ) → w ≡ passed ++ (header ++ behind) → start ≡ length passed + length header → slice_range w (length passed) start ≡ header
+header_at w passed header behind start e at =
+    let d : drop (length passed) w ≡ header ++ behind = ap (drop (length passed)) e ∙ drop_at passed (header ++ behind) (length passed) refl in
+    ap (take (start - length passed)) d ∙ take_at header behind (start - length passed) (omega (arith, at))
+
+-- where the last of the segments ends, or else n
+abbrev pub end_of : ℕ → List Segment → ℕ
+end_of n [] = n
+end_of n (s ∷ ss) = end_of (s.start + s.len) ss
+
+end_at_last : (n : ℕ) (ss : List Segment) (s : Segment) → end_of n (ss ++ s ∷ []) ≡ s.start + s.len
+end_at_last n [] s = refl
+end_at_last n (r ∷ ss) s = end_at_last (r.start + r.len) ss s
+
+ordered_more : (mode : Mode) (w : List ℕ) (n : ℕ) (ss : List Segment) (s : Segment) → AreInOrder mode w n ss → FollowsHeader mode w (end_of n ss) s → AreInOrder mode w n (ss ++ s ∷ [])
+ordered_more mode w n [] s h k = (k, tt)
+ordered_more mode w n (r ∷ ss) s h k = (h.0, ordered_more mode w (r.start + r.len) ss s h.1 k)
 
 -- the table of the segments that were passed, and what is left behind them
 pub record Fills (mode : Mode) (w rest : List ℕ) (table : List Segment) : Type 0 where
@@ -548,6 +567,8 @@ pub record Fills (mode : Mode) (w rest : List ℕ) (table : List Segment) : Type
   pub split : w ≡ passed ++ rest
   pub parts : segments_of values ≡ segments_at w table ++ parts_of left
   pub within : AreWithin w table
+  pub ordered : AreInOrder mode w 0 table
+  pub reached : end_of 0 table ≤ length passed
 
 pub fills_all : (mode : Mode) (w : List ℕ) → AreCut mode w → Fills mode w w []
 fills_all mode w h = record {
@@ -561,6 +582,8 @@ fills_all mode w h = record {
   split = refl;
   parts = sym (all_parts h.1.values);
   within = tt;
+  ordered = tt;
+  reached = omega arith;
 }
 
 pub fills_shorter : (mode : Mode) (w rest after : List ℕ) (table : List Segment) (found : Option ℕ) → Fills mode w rest table → 1 ≤ length rest → read_segment mode rest ≡ Some (found, after) → length after + 2 ≤ length rest
@@ -606,6 +629,8 @@ fills_goes mode w rest after table c some r = of_turn (turn mode c.left rest c.i
           split = c.split ∙ ap (λ z. c.passed ++ z) (split ∙ ap (λ z. header ++ z) p.1) ∙ sym (append_assoc c.passed header after);
           parts = c.parts ∙ ap (λ z. segments_at w table ++ z) e;
           within = c.within;
+          ordered = c.ordered;
+          reached = omega (arith, c.reached, length-append c.passed header);
         }
     of_turn (stops q x) = absurd (none_pair _ _ (sym q ∙ r))
 
@@ -613,11 +638,13 @@ pub fills_piece : (mode : Mode) (w rest after : List ℕ) (table : List Segment)
 fills_piece mode w rest after table s c some r b = of_turn (turn mode c.left rest c.items some)
   where
     of_turn : Turn mode c.left rest → Fills mode w after (table ++ s ∷ [])
-    of_turn (passes contents header others more e split two k q) =
+    of_turn (passes contents header others more e split h k q) =
         let p = some_pair _ _ _ _ (sym q ∙ r) in
         let n : length contents ≡ s.len = number_is _ _ p.0 in
         let is : rest ≡ header ++ (contents ++ after) = split ∙ ap (λ z. header ++ (contents ++ z)) p.1 in
-        let at = contents_at w c.passed header contents after s (c.split ∙ ap (λ z. c.passed ++ z) is) (sym n) b in
+        let there : w ≡ c.passed ++ (header ++ (contents ++ after)) = c.split ∙ ap (λ z. c.passed ++ z) is in
+        let at = contents_at w c.passed header contents after s there (sym n) b in
+        let own : IsHeader mode octet_string_tag false (Definite s.len) header = subst (λ z. IsHeader mode octet_string_tag false (Definite z) header) n h in
         let t : segments_at w (table ++ s ∷ []) ≡ segments_at w table ++ contents ∷ [] = map-append (segment_at w) table (s ∷ []) ∙ ap (λ z. segments_at w table ++ z ∷ []) at.0 in
         record {
           values = c.values;
@@ -630,6 +657,12 @@ fills_piece mode w rest after table s c some r b = of_turn (turn mode c.left res
           split = c.split ∙ ap (λ z. c.passed ++ z) (is ∙ sym (append_assoc header contents after)) ∙ sym (append_assoc c.passed (header ++ contents) after);
           parts = c.parts ∙ ap (λ z. segments_at w table ++ parts_of z) e ∙ sym (append_assoc (segments_at w table) (contents ∷ []) (parts_of more)) ∙ ap (λ z. z ++ parts_of more) (sym t);
           within = within_more w table s c.within at.1;
+          ordered = ordered_more mode w 0 table s c.ordered (record {
+            begins = length c.passed;
+            behind = c.reached;
+            header = subst (IsHeader mode octet_string_tag false (Definite s.len)) (sym (header_at w c.passed header (contents ++ after) s.start there at.2)) own;
+          });
+          reached = omega (arith, end_at_last 0 table s, at.2, n, length-append c.passed (header ++ contents), length-append header contents);
         }
     of_turn (goes header others more e f g split two k q) = absurd (let p = some_pair _ _ _ _ (sym r ∙ q) in not_none _ p.0)
     of_turn (stops q x) = absurd (none_pair _ _ (sym q ∙ r))
@@ -637,4 +670,4 @@ fills_piece mode w rest after table s c some r b = of_turn (turn mode c.left res
 pub fills_table : (mode : Mode) (w rest : List ℕ) (table : List Segment) → Fills mode w rest table → length rest ≡ 0 → IsTable mode w table
 fills_table mode w rest table c e =
     let z = none_left mode c.left rest c.items e in
-    record { within = c.within; segmented = record { values = c.values; encode = c.encode; shape = c.shape; hold = c.parts ∙ ap (λ x. segments_at w table ++ parts_of x) z ∙ append-nil (segments_at w table) } }
+    record { within = c.within; ordered = c.ordered; segmented = record { values = c.values; encode = c.encode; shape = c.shape; hold = c.parts ∙ ap (λ x. segments_at w table ++ parts_of x) z ∙ append-nil (segments_at w table) } }

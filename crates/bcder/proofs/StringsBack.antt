@@ -1,5 +1,7 @@
 -- A string that was written is taken back.
-use Rattle.std.proofs.Common.{◌≡◌, ◌≤◌, ℕ, Bool, true, false, List, ◌++◌, length, Option, Some, None, refl, ap, sym, ◌∙◌, arith, length-append, append_assoc, subst, inl, inr}
+use Rattle.std.proofs.Common.{◌≡◌, ◌≢◌, ◌≤◌, ◌<◌, ◌^◌, ℕ, zero, suc, Bool, true, false, List, [], ◌++◌, length, Option, Some, None, refl, ap, sym, ◌∙◌, arith, length-append, append_assoc, append-nil, subst, inl, inr}
+use Rattle.std.specs.List.{concat}
+use Rattle.std.proofs.lemmas.Bool.{lt-ltb, le-ltb}
 use Rattle.std.specs.Prelude.{Result, Ok, Err}
 use Rattle.std.proofs.lemmas.List.{append_cancel_left}
 use Rattle.bcder.specs.declared.mode.Mode.{Mode}
@@ -7,25 +9,34 @@ use Rattle.bcder.specs.declared.length.Length.{Length}
 use Rattle.bcder.specs.declared.length.Length.TheVariants.{Definite, Indefinite}
 use Rattle.bcder.specs.declared.decode.content.State.TheVariants.{Open}
 use Rattle.bcder.specs.declared.decode.error.DecodeError.{DecodeError}
-use Rattle.bcder.specs.x690.Identifier.{Tag}
-use Rattle.bcder.specs.x690.Tree.{Tree, primitive, constructed}
-use Rattle.bcder.specs.x690.Encoding.{IsHeader, IsEncoding, AreEncodings}
+use Rattle.bcder.specs.declared.mode.Mode.TheVariants.{Ber, Cer, Der}
+use Rattle.bcder.specs.x690.Identifier.{Tag, AreOctets, IsValueTag}
+use Rattle.bcder.specs.x690.Octets.{definite, enclosed, enclosed_size}
+use Rattle.bcder.specs.x690.Tree.{Tree, primitive, constructed, Trees}
+use Rattle.bcder.specs.x690.Encoding.{IsHeader, IsFramed, IsEncoding, AreEncodings}
 use Rattle.bcder.specs.calls.Captured.{Kept}
 use Rattle.bcder.specs.calls.StringOctets.{StringOctets, whole, cut, octets_of, MeansString}
-use Rattle.bcder.specs.x690.OctetString.{segments_of, flat, IsOctetString, AreSegmented, AreSegmentsIn}
-use Rattle.bcder.specs.calls.Meaning.{Encoded}
+use Rattle.bcder.specs.x690.OctetString.{segments_of, flat, MayBeWhole, IsOctetString, AreSegmented, AreSegmentsIn}
+use Rattle.bcder.specs.calls.Meaning.{Encoded, Meaning, fits_enclosed}
+use Rattle.bcder.specs.calls.StringMeaning.{full_segments, segments_in_cer, is_cut, OctetsMean, StringMeans}
 use Rattle.bcder.specs.calls.Content.{Reading, tagged, IsAbsent, IsElsewhere, none_left, other, marker}
 use Rattle.bcder.specs.calls.Walking.{HasValue}
 use Rattle.bcder.specs.calls.Takes.{HasNone}
 use Rattle.bcder.specs.calls.Valued.{tag_of, HasTagged, TakesTree, RefusesTree, TakesNextTree, TakesOneTree}
 use Rattle.bcder.specs.calls.Valued as valued
 use Rattle.bcder.specs.calls.TakenBack.{StandsIn, SourceFailedOrNoMemory}
-use Rattle.bcder.specs.calls.WrittenStrings.{IsWrittenString, HasOctets, HasSomeOctets, AnswersSuch, IsTakenString, IsMadeUp, WrittenAsRead}
+use Rattle.bcder.specs.calls.WrittenStrings.{IsWrittenString, HasOctets, HasSomeOctets, AnswersSuch, IsTakenString, IsMadeUp, one_encoded, WrittenAsRead}
+use Rattle.bcder.specs.laws.Canonical.{big_endian-lt, one_spelling}
 use Rattle.bcder.specs.laws.Complete.{only_at_front, two_octets}
+use Rattle.bcder.specs.laws.Lengths.{IsLengthForm-from_length}
+use Rattle.bcder.specs.laws.StringMeanings.{segments_encode, StringMeans_lawful}
+use Rattle.bcder.specs.laws.Written.{primitive_written, cer_written}
+use Rattle.bcder.proofs.Enclosing.{enclosed-length}
 use Rattle.bcder.proofs.Headers.{front_of_header, no_other_front}
 use Rattle.bcder.proofs.Moving.{open_not_ended, open_not_failed}
-use Rattle.bcder.proofs.OneString.{means_flat, one_string_encoding}
-use Rattle.bcder.proofs.WrittenStrings.{string_written}
+use Rattle.bcder.proofs.OneString.{means_flat, one_string, one_string_encoding, over_1000}
+use Rattle.bcder.proofs.Segmenting.{by_octets, parts_octets}
+use Rattle.bcder.proofs.WrittenStrings.{segments_hold, segments_shape, meant_whole, meant_cut, not_ber, string_written}
 
 -- ---- what stands in front
 
@@ -116,7 +127,67 @@ made_up mode (constructed t ts) s w m k =
     } in
     subst IsMadeUp (sym m.1.3) parts
 
-pub written_as_read : WrittenAsRead
-written_as_read mode ne t s w e m k h =
-    let v = string_written (tag_of t) mode s (made_up mode t s w m k) e h in
-    one_string_encoding mode ne v.value t e.octets w v.shape m.0 v.tag (v.octets ∙ means_flat mode t s m.1) v.encodes k
+four_octets : (k : ℕ) → k ≤ 4 → 256 ^ k ≤ 2 ^ 32
+four_octets zero h = omega arith
+four_octets (suc zero) h = omega arith
+four_octets (suc (suc zero)) h = omega arith
+four_octets (suc (suc (suc zero))) h = omega arith
+four_octets (suc (suc (suc (suc zero)))) h = omega arith
+four_octets (suc (suc (suc (suc (suc k))))) h = absurd (omega arith)
+
+-- a header that was read tells fewer than 2^32 contents octets
+told_length : (mode : Mode) (t : Tag) (form : Bool) (n : ℕ) (header : List ℕ) → IsHeader mode t form (Definite n) header → n < 2 ^ 32
+told_length mode t form n header h = elim (IsLengthForm-from_length mode n h.length_octets h.tells) [
+  | inl short ↦ omega (arith, short.0)
+  | inr long ↦ (let number = long.number in omega (arith, number, big_endian-lt long.digits long.octets, four_octets (length long.digits) long.limit))
+]
+
+not_cut : (mode : Mode) (w : List ℕ) → MayBeWhole mode w → is_cut mode (length w) ≡ false
+not_cut Ber w h = refl
+not_cut Cer w h = le-ltb 1000 (length w) h
+not_cut Der w h = refl
+
+whole_as_read : (mode : Mode) → mode ≢ Ber → (t : Tag) (contents w : List ℕ) → MayBeWhole mode contents → IsEncoding mode (primitive t contents) w → OctetsMean t (contents ++ []) mode (Ok (one_encoded (primitive t contents) w))
+whole_as_read mode ne t contents w shape k =
+    let d = k.1.is_header in
+    let few = told_length mode t false (length contents) k.1.header d in
+    let same : w ≡ definite t false contents = one_spelling mode ne (primitive t contents) w (definite t false contents) k (primitive_written mode t contents d.is_value_tag k.0 few) in
+    let meant : OctetsMean t contents mode (Ok (one_encoded (primitive t contents) (definite t false contents))) = meant_whole t mode contents d.is_value_tag k.0 few (not_cut mode contents shape) in
+    subst (λ u. OctetsMean t u mode (Ok (one_encoded (primitive t contents) w))) (sym (append-nil contents)) (subst (λ u. OctetsMean t contents mode (Ok (one_encoded (primitive t contents) u))) (sym same) meant)
+
+framed_tag : (mode : Mode) (t : Tag) (contents w : List ℕ) → IsFramed mode t contents w → IsValueTag t
+framed_tag mode t contents w (inl d) = d.is_header.is_value_tag
+framed_tag mode t contents w (inr d) = d.is_header.is_value_tag
+
+cut_as_read : Cer ≢ Ber → (t : Tag) (ts : Trees) (w : List ℕ) → AreSegmentsIn Cer ts → IsEncoding Cer (constructed t ts) w → length w < 2 ^ 64 → OctetsMean t (concat (segments_of ts)) Cer (Ok (one_encoded (constructed t ts) w))
+cut_as_read ne t ts w shape k short =
+    let u : List ℕ = concat (segments_of ts) in
+    let inside : Encoded = segments_in_cer u in
+    let more : 1000 < length u = over_1000 ts shape in
+    let o : AreOctets u = parts_octets Cer k.0 (segments_of ts) (record { values = ts; encode = k.1; shape = shape; hold = refl }) in
+    let v : IsValueTag t = framed_tag Cer t k.0 w k.2 in
+    let spelled : IsEncoding Cer (constructed t inside.values) (enclosed Cer t inside.octets) = cer_written t inside.values inside.octets v (segments_encode (full_segments (length u)) u o (omega arith)) in
+    let one : constructed t inside.values ≡ constructed t ts = one_string Cer ne (constructed t inside.values) (constructed t ts) (segments_shape (full_segments (length u)) u (omega (arith, more)) (omega (arith, more)) (omega (arith, more))) shape refl (segments_hold (full_segments (length u)) u) in
+    let same : enclosed Cer t inside.octets ≡ w = one_spelling Cer ne (constructed t ts) (enclosed Cer t inside.octets) w (subst (λ z. IsEncoding Cer z (enclosed Cer t inside.octets)) one spelled) k in
+    let fits : fits_enclosed Cer t (length inside.octets) ≡ true = lt-ltb (enclosed_size Cer t (length inside.octets)) (2 ^ 64) (omega (arith, short, ap length same, enclosed-length Cer t inside.octets)) in
+    let meant : OctetsMean t u Cer (Ok (one_encoded (constructed t inside.values) (enclosed Cer t inside.octets))) = meant_cut t u v o (lt-ltb 1000 (length u) more) fits in
+    subst (λ z. OctetsMean t u Cer (Ok (one_encoded z w))) one (subst (λ z. OctetsMean t u Cer (Ok (one_encoded (constructed t inside.values) z))) same meant)
+
+-- the octets of a value that was read mean this value, with the octets that it was read from
+meant_as_read : (mode : Mode) → mode ≢ Ber → (t : Tree) (w : List ℕ) → IsOctetString mode t → IsEncoding mode t w → length w < 2 ^ 64 → OctetsMean (tag_of t) (flat t) mode (Ok (one_encoded t w))
+meant_as_read Ber ne t w shape k short = absurd (ne refl)
+meant_as_read Der ne (constructed t ts) w shape k short = absurd shape
+meant_as_read Der ne (primitive t contents) w shape k short = whole_as_read Der ne t contents w shape k
+meant_as_read Cer ne (primitive t contents) w shape k short = whole_as_read Cer ne t contents w shape k
+meant_as_read Cer ne (constructed t ts) w shape k short = cut_as_read ne t ts w shape k short
+
+pub written_as_read : (s : StringOctets) → WrittenAsRead s (λ tag. StringMeans tag s)
+written_as_read s mode ne t w m k =
+    let means : StringMeans (tag_of t) s mode ≡ OctetsMean (tag_of t) (flat t) mode = by_octets (tag_of t) s mode (not_ber mode ne) ∙ ap (λ u. OctetsMean (tag_of t) u mode) (means_flat mode t s m.1) in
+    let meant : length w < 2 ^ 64 → StringMeans (tag_of t) s mode (Ok (one_encoded t w)) = λ short. subst (λ (M : Meaning → Type 0). M (Ok (one_encoded t w))) (sym means) (meant_as_read mode ne t w m.0 k short) in
+    record {
+      meant = meant;
+      only = λ short n h. (StringMeans_lawful (tag_of t) s mode).one.same n (Ok (one_encoded t w)) h (meant short);
+      octets = λ e h. let v = string_written (tag_of t) mode s (made_up mode t s w m k) e h in
+          one_string_encoding mode ne v.value t e.octets w v.shape m.0 v.tag (v.octets ∙ means_flat mode t s m.1) v.encodes k;
+    }

@@ -7,7 +7,8 @@ use Rattle.bcder.specs.declared.mode.Mode.{Mode}
 use Rattle.bcder.specs.declared.length.Length.TheVariants.{Definite}
 use Rattle.bcder.specs.declared.decode.content.State.TheVariants.{Open}
 use Rattle.bcder.specs.declared.decode.error.DecodeError.{DecodeError}
-use Rattle.std.specs.Int.{FitsUnsignedBits}
+use Rattle.std.specs.Int.{Width, FitsUnsignedBits}
+use Rattle.std.specs.Int.RustNames.{FitsSigned}
 use Rattle.bcder.specs.x690.Identifier.{universal, Tag, IsValueTag, AreOctets, boolean_tag, integer_tag, null_tag}
 use Rattle.bcder.specs.calls.Cause.{cause_of, of_source, of_memory}
 use Rattle.bcder.specs.calls.Calls.{Answered}
@@ -31,7 +32,7 @@ use Rattle.bcder.specs.calls.ReadBits.{HoldBits, NoBits}
 use Rattle.bcder.specs.calls.ReadBack.{IsReadBack}
 use Rattle.bcder.specs.calls.Content.{Reading, tagged, IsAbsent, IsElsewhere, none_left, other, marker}
 use Rattle.bcder.specs.calls.Takes.{HasNone}
-use Rattle.bcder.specs.calls.Readers.{MeanNothing, MeanAnother, NoInteger, NoUnsigned, IsThis, IsUnsigned, IsTruth, IsNull}
+use Rattle.bcder.specs.calls.Readers.{MeanNothing, MeanAnother, NoInteger, NoUnsigned, IsThis, IsSigned, IsUnsigned, IsTruth, IsNull}
 use Rattle.bcder.specs.calls.Typed.{HasPrimitive, TakesAs, RefusesAs, TakesNextAs, PassesNextAs, TakesOneAs}
 use Rattle.bcder.specs.calls.Typed as typed
 use Rattle.bcder.specs.calls.TakenBack.{StandsIn, SourceFailed, SourceFailedOrNoMemory, AnswersLeaving, TakesBack, IsTakenBackBy, IsTakenBack}
@@ -42,7 +43,7 @@ use Rattle.bcder.specs.laws.Octets.{AreOctets-nil}
 use Rattle.bcder.specs.laws.Written.{primitive_written}
 use Rattle.bcder.proofs.Bits.{as_many_octets}
 use Rattle.bcder.proofs.WrittenBits.{bits_are, bit_string_read, bit_string_held}
-use Rattle.bcder.proofs.Contents.{unsigned_read, truth_read, integer_read, natural_read, octets_read}
+use Rattle.bcder.proofs.Contents.{unsigned_read, signed_read, truth_read, integer_read, natural_read, octets_read}
 use Rattle.bcder.proofs.Headers.{front_of_header, no_other_front}
 use Rattle.bcder.proofs.Moving.{open_not_ended, open_not_failed}
 
@@ -166,6 +167,9 @@ exactly_taken {T} {X} n Means mode x w some few octets short back =
 
 pub unsigned_taken : {X : Type 0} (bits n : ℕ) (mode : Mode) → FitsUnsignedBits bits (pos n) → n < 2 ^ 128 → IsTakenBack X integer_tag (IsUnsigned bits) mode (ValueMeans integer_tag (primitive_meaning integer_tag) (Exactly (integer_octets (pos n)))) n
 unsigned_taken {X} bits n mode h k = exactly_taken {X = X} 2 (IsUnsigned bits) mode n (integer_octets (pos n)) (omega arith) (omega arith) (integer_octets_are (pos n)) (short_integer (pos n) k) (unsigned_read bits n h)
+
+pub signed_taken : {X : Type 0} (w : Width) (z : ℤ) (mode : Mode) → FitsSigned w z → HasMagnitude z → IsTakenBack X integer_tag (IsSigned w) mode (ValueMeans integer_tag (primitive_meaning integer_tag) (Exactly (integer_octets z))) z
+signed_taken {X} w z mode h k = exactly_taken {X = X} 2 (IsSigned w) mode z (integer_octets z) (omega arith) (omega arith) (integer_octets_are z) (short_integer z k) (signed_read w z h)
 
 truth_short : (b : Bool) → length (truth_octets b) ≤ 17
 truth_short true = omega arith

@@ -11,13 +11,14 @@ use Rattle.bcder.specs.declared.decode.error.DecodeError.{DecodeError}
 use Rattle.bcder.specs.x690.Identifier.{AreOctets, Tag}
 use Rattle.bcder.specs.x690.Tree.{Tree, primitive}
 use Rattle.bcder.specs.x690.Encoding.{IsHeader, IsEncoding}
-use Rattle.bcder.specs.calls.Stream.{Stream}
+use Rattle.bcder.specs.calls.Stream.{Stream, IsSound}
 use Rattle.bcder.specs.declared.decode.content.Primitive.{Primitive}
-use Rattle.bcder.specs.calls.Views.{of_primitive}
+use Rattle.bcder.specs.declared.decode.content.Constructed.{Constructed}
+use Rattle.bcder.specs.calls.Views.{of_constructed, of_primitive}
 use Rattle.bcder.specs.calls.Cause.{cause_of}
 use Rattle.bcder.specs.calls.Content.{Reading, ContentForm, Octets, DefiniteValues, IndefiniteValues, any, tagged, label, HasHeader, IsAbsent, IsElsewhere, none_left, other, marker, of_octets}
 use Rattle.bcder.specs.calls.Content as content
-use Rattle.bcder.specs.calls.Calls.{Hands, IsFormOf, ContentOf, Answered, TakesValue, RefusesFront, RefusesContent, by_closure, unfinished, RefusesEnd, left_failed, source_failed, left_open, HasForm}
+use Rattle.bcder.specs.calls.Calls.{Hands, IsFormOf, ContentOf, Answered, TakesValue, RefusesFront, RefusesContent, by_closure, unfinished, RefusesEnd, left_failed, source_failed, left_open, HasForm, Untagged}
 use Rattle.bcder.specs.calls.Takes.{HasNone, TakesNext, Takes, RefusesTake, by_header, by_form, by_content}
 use Rattle.bcder.specs.calls.Walking.{IsShort}
 use Rattle.bcder.specs.calls.Readers.{HasAll, Reads, RefusesReading}
@@ -28,6 +29,7 @@ use Rattle.bcder.specs.laws.Complete.{one_header}
 use Rattle.bcder.specs.laws.Sound.{AreOctets-take}
 use Rattle.bcder.specs.laws.Stands.{AreOctets-after}
 use Rattle.bcder.proofs.Moving.{open_not_ended, open_not_failed}
+use Rattle.bcder.proofs.SameBorrow.{within_constructed}
 use Rattle.bcder.proofs.Headers.{Shape, is_primitive, is_definite, is_indefinite, front_of_header, no_header_empty, header_no_marker, no_other_front}
 use Rattle.bcder.proofs.Entering.{Within, no_fewer}
 use Rattle.bcder.proofs.WalkSteps.{owed_after, shape_in, short_front, grew_between}
@@ -221,3 +223,12 @@ module _ {C T X : Type 0} (view : C → Reading) (post : Tag → MutBor C → Re
 pub octets_form : {S : Type 0} (stream : S → Stream) (x : Primitive S) → ((of_primitive stream x).kind ≡ Octets) × ((of_primitive stream x).state ≡ Open)
 unfolding of_primitive
 octets_form stream x = (refl, refl)
+
+-- a take of a tag by a closure that reads what contents octets mean takes a value as that
+module _ {S T X : Type 0} (stream : S → Stream) (sound : (x : S) → IsSound (stream x)) (tag : Tag) (Means : List ℕ → T → Type 0) (Refuses : List ℕ → DecodeError X → Type 0) (post : MutBor (Primitive S) → Result T (DecodeError X) → MutBor (Primitive S) → Type 0)
+    (reads : (p : MutBor (Primitive S)) (r : Result T (DecodeError X)) (q : MutBor (Primitive S)) → post p r q → Reads Means Refuses (of_primitive stream p.now) r (of_primitive stream q.now)) (c d : Constructed S) where
+  pub reader_takes_one : (r : Result T (DecodeError X)) → Takes (of_primitive stream) (Untagged post) (Some true) (tagged tag) (of_constructed stream c) r (of_constructed stream d) → TakesOneAs tag Means Refuses (of_constructed stream c) r (of_constructed stream d)
+  reader_takes_one r h = one_as (of_primitive stream) (Untagged post) tag (λ _. Means) (λ _. Refuses) (octets_form stream) (λ t p s q x. reads p s q x) (of_constructed stream c) (of_constructed stream d) r (within_constructed stream sound c) h
+
+  pub reader_takes_next : (r : Result (Option T) (DecodeError X)) → TakesNext (of_primitive stream) (Untagged post) (Some true) (tagged tag) (of_constructed stream c) r (of_constructed stream d) → TakesNextAs tag Means Refuses (of_constructed stream c) r (of_constructed stream d)
+  reader_takes_next r h = next_as (of_primitive stream) (Untagged post) tag (λ _. Means) (λ _. Refuses) (octets_form stream) (λ t p s q x. reads p s q x) (of_constructed stream c) (of_constructed stream d) r (within_constructed stream sound c) h

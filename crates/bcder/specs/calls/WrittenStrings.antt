@@ -1,10 +1,10 @@
 -- What is written of an octet string is one: statements of laws, contracts of functions of `src/laws/written_strings.rt`.
-use Rattle.std.specs.Prelude.{◌≡◌, ◌≢◌, ℕ, List, Option, MatchOption, Result, Ok, IfOk, IfErr, OnOk}
+use Rattle.std.specs.Prelude.{◌≡◌, ◌≢◌, ℕ, ◌^◌, ◌<◌, List, length, Option, MatchOption, Result, Ok, IfOk, IfErr, OnOk}
 use Rattle.bcder.specs.declared.mode.Mode.{Mode}
 use Rattle.bcder.specs.declared.mode.Mode.TheVariants.{Ber}
 use Rattle.bcder.specs.declared.decode.content.State.TheVariants.{Open}
 use Rattle.bcder.specs.declared.decode.error.DecodeError.{DecodeError}
-use Rattle.bcder.specs.x690.Identifier.{Tag, AreOctets}
+use Rattle.bcder.specs.x690.Identifier.{Tag, IsValueTag, AreOctets}
 use Rattle.bcder.specs.calls.Content.{Reading}
 use Rattle.bcder.specs.calls.TakenBack.{StandsIn, SourceFailedOrNoMemory}
 use Rattle.bcder.specs.x690.Tree.{Tree, no_trees, ◌∷ₜ◌}
@@ -12,6 +12,7 @@ use Rattle.bcder.specs.x690.Encoding.{IsEncoding}
 use Rattle.bcder.specs.calls.StringOctets.{StringOctets, whole, cut, octets_of, MeansString}
 use Rattle.bcder.specs.x690.OctetString.{flat, IsOctetString, AreSegmented}
 use Rattle.bcder.specs.calls.Meaning.{Encoded, Meaning}
+use Rattle.bcder.specs.calls.Encoders.{HasEncoding}
 use Rattle.bcder.specs.calls.StringMeaning.{StringMeans}
 use Rattle.bcder.specs.calls.Valued.{tag_of, TakesOneTree, TakesNextTree}
 
@@ -27,6 +28,15 @@ pub record IsWrittenString (t : Tag) (mode : Mode) (w : List ℕ) (e : Encoded) 
 -- what M says is such a value
 abbrev pub WritesString : Tag → Mode → List ℕ → (Meaning → Type 0) → Type 0
 WritesString t mode w M = (e : Encoded) → M (Ok e) → IsWrittenString t mode w e
+
+-- how many contents octets a string has: in BER one that was cut is written with its segments as they came
+abbrev pub contents_count : Mode → StringOctets → ℕ
+contents_count Ber (cut kept ps) = length kept.octets
+contents_count mode s = length (octets_of s)
+
+-- what M says is an encoding, where a value may have the tag, for fewer than 2^32 contents octets
+abbrev pub WritesShort : Tag → ℕ → (Meaning → Type 0) → Type 0
+WritesShort t n M = IsValueTag t → n < 2 ^ 32 → HasEncoding M
 
 -- in CER and DER what is written is told by the octets alone
 abbrev pub WritesAlike : Tag → Mode → StringOctets → StringOctets → Type 0
@@ -61,6 +71,18 @@ pub record IsTakenString (X : Type 0) (t : Tag) (mode : Mode) (w : List ℕ) (e 
   pub one : (c : Reading) (after : List ℕ) → StandsIn mode e.octets after c → (r : Result StringOctets (DecodeError X)) (d : Reading) → TakesOneTree t (MeansString c.mode) c r d → AnswersSuch (HasOctets w) after c r d
   pub next : (c : Reading) (after : List ℕ) → StandsIn mode e.octets after c → (r : Result (Option StringOctets) (DecodeError X)) (d : Reading) → TakesNextTree t (MeansString c.mode) c r d → AnswersSuch (HasSomeOctets w) after c r d
 
--- in CER and DER a string that was read is written, under its tag, as it was read
-abbrev pub WrittenAsRead : Type 0
-WrittenAsRead = (mode : Mode) → mode ≢ Ber → (t : Tree) (s : StringOctets) (w : List ℕ) (e : Encoded) → MeansString mode t s → IsEncoding mode t w → StringMeans (tag_of t) s mode (Ok e) → e.octets ≡ w
+-- ---- written as it was read
+
+-- one value with these octets
+abbrev pub one_encoded : Tree → List ℕ → Encoded
+one_encoded t w = record { values = t ∷ₜ no_trees; octets = w }
+
+-- what M says is the value t with the octets w, and nothing else, where these are fewer than 2^64; and no other octets in any case
+pub record IsAsRead (t : Tree) (w : List ℕ) (M : Meaning → Type 0) : Type 0 where
+  pub meant : length w < 2 ^ 64 → M (Ok (one_encoded t w))
+  pub only : length w < 2 ^ 64 → (m : Meaning) → M m → m ≡ Ok (one_encoded t w)
+  pub octets : (e : Encoded) → M (Ok e) → e.octets ≡ w
+
+-- where the string s was read in CER or DER, an encoder of it writes, under its tag, what was read
+abbrev pub WrittenAsRead : StringOctets → (Tag → Mode → Meaning → Type 0) → Type 0
+WrittenAsRead s means = (mode : Mode) → mode ≢ Ber → (t : Tree) (w : List ℕ) → MeansString mode t s → IsEncoding mode t w → IsAsRead t w (means (tag_of t) mode)

@@ -76,7 +76,11 @@ primitive_allowed Der n = refl
 pub primitive_written : (mode : Mode) (t : Tag) (contents : List ℕ) → IsValueTag t → AreOctets contents → length contents < 2 ^ 32 → IsEncoding mode (primitive t contents) (definite t false contents)
 primitive_written mode t contents v o h = (o, definite_written mode t false contents v (primitive_allowed mode (length contents)) h)
 
+-- in CER of any number of contents octets
+pub cer_written : (t : Tag) (ts : Trees) (contents : List ℕ) → IsValueTag t → AreEncodings Cer ts contents → IsEncoding Cer (constructed t ts) (enclosed Cer t contents)
+cer_written t ts contents v e = (contents, e, inr (indefinite_written Cer t contents v refl))
+
 pub constructed_written : (mode : Mode) (t : Tag) (ts : Trees) (contents : List ℕ) → IsValueTag t → fits_enclosed mode t (length contents) ≡ true → AreEncodings mode ts contents → IsEncoding mode (constructed t ts) (enclosed mode t contents)
 constructed_written Ber t ts contents v h e = subst (IsEncoding Ber (constructed t ts)) (sym (append-nil (definite t true contents))) (contents, e, inl (definite_written Ber t true contents v refl (ltb-true _ _ h)))
-constructed_written Cer t ts contents v h e = (contents, e, inr (indefinite_written Cer t contents v refl))
+constructed_written Cer t ts contents v h e = cer_written t ts contents v e
 constructed_written Der t ts contents v h e = subst (IsEncoding Der (constructed t ts)) (sym (append-nil (definite t true contents))) (contents, e, inl (definite_written Der t true contents v refl (ltb-true _ _ h)))

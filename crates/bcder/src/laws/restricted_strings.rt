@@ -2,7 +2,8 @@
 //! 8.23, 9.2, 10.2).
 ghost use Rattle.bcder.specs.calls.Meaning.{Encoded};
 ghost use Rattle.bcder.specs.calls.StringOctets.{octets_of};
-ghost use Rattle.bcder.specs.calls.WrittenStrings.{WritesString, IsWrittenString};
+ghost use Rattle.bcder.specs.calls.WrittenStrings.{WritesString, WritesShort, IsWrittenString};
+ghost use Rattle.bcder.specs.calls.WrittenStrings.{contents_count};
 ghost use Rattle.bcder.specs.calls.WrittenRestricted.{IsTakenRestricted, WrittenAsReadOf};
 ghost use Rattle.bcder.specs.calls.WrittenRestricted.{OneRestricted};
 
@@ -13,7 +14,8 @@ use crate::string::{CharSet, OctetString, OctetStringEncoder, RestrictedString};
 use crate::tag::Tag;
 
 /// What the encoders of a string of a set write is one string in the mode, with the octets of the
-/// string. It is taken back by the set's `take_from` and `take_opt_from`, and by all that read as
+/// string. Something is written of each with fewer than 2^32 contents octets, under each tag but
+/// that of end-of-contents octets. It is taken back by the set's `take_from` and `take_opt_from`, and by all that read as
 /// these do, as an equal string, unless the source fails, whose errors are of type `E`, or memory
 /// lacks.
 pub fn a_string_is_taken_back<'a, L: CharSet, E>(
@@ -25,6 +27,12 @@ pub fn a_string_is_taken_back<'a, L: CharSet, E>(
         (⟦<OctetStringEncoder<OctetString> as Values>⟧.means
         (record { value = string.now; tag = tag }) mode) }
     ensures borrowed { WritesString tag mode (octets_of string.now)
+        (⟦<OctetStringEncoder<&'a OctetString> as Values>⟧.means
+        (record { value = string.entry; tag = tag }) mode) }
+    ensures owned_written { WritesShort tag (contents_count mode string.now)
+        (⟦<OctetStringEncoder<OctetString> as Values>⟧.means
+        (record { value = string.now; tag = tag }) mode) }
+    ensures borrowed_written { WritesShort tag (contents_count mode string.now)
         (⟦<OctetStringEncoder<&'a OctetString> as Values>⟧.means
         (record { value = string.entry; tag = tag }) mode) }
     ensures taken { (e : Encoded) → IsWrittenString tag mode (octets_of string.now) e
@@ -42,7 +50,15 @@ pub fn equal_strings_are_equal_octets<L: CharSet>()
 {}
 
 /// In CER and DER a string of a set is written, under the tag that it was read with, as it was read
-/// (9.2, 10.2).
-pub fn what_is_read_is_written_back<L: CharSet>()
-    ensures { WrittenAsReadOf L.step }
-{}
+/// (9.2, 10.2). If that was in fewer than 2^64 octets, header and all, it has an encoding, which is
+/// these octets; it never has one of other octets.
+pub fn what_is_read_is_written_back<'a, L: CharSet>(string: &'a RestrictedString<L>)
+    ensures owned { WrittenAsReadOf L.step string.now
+        (λ tag. ⟦<OctetStringEncoder<OctetString> as Values>⟧.means
+        (record { value = string.now; tag = tag })) }
+    ensures borrowed { WrittenAsReadOf L.step string.now
+        (λ tag. ⟦<OctetStringEncoder<&'a OctetString> as Values>⟧.means
+        (record { value = string.entry; tag = tag })) }
+{
+    let _string = string;
+}

@@ -1,15 +1,15 @@
 //! What is written is taken back as the same value: wherever the encoding that an encoder means
 //! stands in front of content in its mode, the typed takes answer this value, and leave what
 //! follows.
-ghost use Rattle.std.specs.Prelude.{◌≡◌, ⊤, true, pos, length, ◌+◌, ◌<◌, ◌^◌};
-ghost use Rattle.std.specs.Int.{FitsUnsignedBits};
+ghost use Rattle.std.specs.Prelude.{◌≡◌, ⊤, true, pos, length, ◌+◌, ◌<◌, ◌^◌, FitsSigned};
+ghost use Rattle.std.specs.Int.{w8, w16, w32, w64, w128, FitsUnsignedBits};
 ghost use Rattle.bcder.specs.x690.Identifier.{boolean_tag, integer_tag, null_tag};
 ghost use Rattle.bcder.specs.x690.BitString.{as_written, bit_string_tag, IsBits, IsBitString};
 ghost use Rattle.bcder.specs.x690.Integer.{AreInteger, integer_octets};
 ghost use Rattle.bcder.specs.calls.Meaning.{fits_primitive};
 ghost use Rattle.bcder.specs.calls.ReadBits.{HoldBits, NoBits};
-ghost use Rattle.bcder.specs.calls.Readers.{IsUnsigned, IsTruth, IsNull, IsThis, MeanAnother};
-ghost use Rattle.bcder.specs.calls.Readers.{NoInteger};
+ghost use Rattle.bcder.specs.calls.Readers.{IsSigned, IsUnsigned, IsTruth, IsNull, IsThis};
+ghost use Rattle.bcder.specs.calls.Readers.{MeanAnother, NoInteger};
 ghost use Rattle.bcder.specs.x690.ObjectIdentifier.{IsComplete, identifier_tag};
 ghost use Rattle.bcder.specs.calls.ReadIdentifiers.{NoIdentifier};
 ghost use Rattle.bcder.specs.calls.Readers.{NoUnsigned};
@@ -25,8 +25,9 @@ use crate::string::{BitSliceEncoder, BitString};
 use bytes::Bytes;
 use std::convert::AsSlice;
 
-/// The unsigned integers of Rust are taken back by `Constructed::take_u8` to `take_u64`, unless the
-/// source fails, whose errors are of type `E`.
+/// The unsigned integers of Rust are taken back by `Constructed::take_u8` to `take_u64`, a `u128`
+/// by `take_primitive_if` with a closure that calls `Primitive::to_u128`, and all by takes that read
+/// as these do, unless the source fails, whose errors are of type `E`.
 pub fn unsigned_integers_are_taken_back<E>()
     ensures of_8_bits { AreTakenBack E (λ n. FitsUnsignedBits 8 (pos n)) integer_tag
         (λ _. IsUnsigned 8) (λ x. ⟦<Primitive<u8> as Values>⟧.means
@@ -39,6 +40,29 @@ pub fn unsigned_integers_are_taken_back<E>()
         (record { tag = integer_tag; prim = x })) }
     ensures of_64_bits { AreTakenBack E (λ n. FitsUnsignedBits 64 (pos n)) integer_tag
         (λ _. IsUnsigned 64) (λ x. ⟦<Primitive<u64> as Values>⟧.means
+        (record { tag = integer_tag; prim = x })) }
+    ensures of_128_bits { AreTakenBack E (λ n. FitsUnsignedBits 128 (pos n)) integer_tag
+        (λ _. IsUnsigned 128) (λ x. ⟦<Primitive<u128> as Values>⟧.means
+        (record { tag = integer_tag; prim = x })) }
+{}
+
+/// The signed integers of Rust are taken back by `Constructed::take_primitive_if` with a closure
+/// that calls `Primitive::to_i8` to `to_i128`, and by all that read as this does.
+pub fn signed_integers_are_taken_back<E>()
+    ensures of_8_bits { AreTakenBack E (FitsSigned w8) integer_tag
+        (λ _. IsSigned w8) (λ x. ⟦<Primitive<i8> as Values>⟧.means
+        (record { tag = integer_tag; prim = x })) }
+    ensures of_16_bits { AreTakenBack E (FitsSigned w16) integer_tag
+        (λ _. IsSigned w16) (λ x. ⟦<Primitive<i16> as Values>⟧.means
+        (record { tag = integer_tag; prim = x })) }
+    ensures of_32_bits { AreTakenBack E (FitsSigned w32) integer_tag
+        (λ _. IsSigned w32) (λ x. ⟦<Primitive<i32> as Values>⟧.means
+        (record { tag = integer_tag; prim = x })) }
+    ensures of_64_bits { AreTakenBack E (FitsSigned w64) integer_tag
+        (λ _. IsSigned w64) (λ x. ⟦<Primitive<i64> as Values>⟧.means
+        (record { tag = integer_tag; prim = x })) }
+    ensures of_128_bits { AreTakenBack E (FitsSigned w128) integer_tag
+        (λ _. IsSigned w128) (λ x. ⟦<Primitive<i128> as Values>⟧.means
         (record { tag = integer_tag; prim = x })) }
 {}
 

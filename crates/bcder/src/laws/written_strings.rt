@@ -1,12 +1,14 @@
 //! What is written of an octet string is one: each value that its encoders mean is an octet string
 //! in the mode, and holds the octets (X.690, 8.7, 9.2, 10.2).
-ghost use Rattle.std.specs.Prelude.{ℕ, List, Ok};
+ghost use Rattle.std.specs.Prelude.{ℕ, ◌^◌, ◌<◌, List, length, Ok};
 ghost use Rattle.bcder.specs.declared.mode.Mode.{Mode};
 ghost use Rattle.bcder.specs.x690.Identifier.{Tag};
 ghost use Rattle.bcder.specs.calls.Meaning.{Encoded};
 ghost use Rattle.bcder.specs.calls.StringOctets.{StringOctets, octets_of};
 ghost use Rattle.bcder.specs.x690.OctetString.{octet_string_tag};
-ghost use Rattle.bcder.specs.calls.WrittenStrings.{WritesString, WritesAlike};
+ghost use Rattle.bcder.specs.calls.Encoders.{HasEncoding};
+ghost use Rattle.bcder.specs.calls.WrittenStrings.{WritesString, WritesShort, WritesAlike};
+ghost use Rattle.bcder.specs.calls.WrittenStrings.{contents_count};
 ghost use Rattle.bcder.specs.calls.WrittenStrings.{WrittenAsRead};
 ghost use Rattle.bcder.specs.calls.WrittenStrings.{IsWrittenString, IsTakenString};
 
@@ -20,12 +22,19 @@ use crate::tag::Tag;
 use std::convert::AsSlice;
 
 /// What is written of an octet string is one octet string in the mode, under the tag that is asked
-/// for, with the octets of the string.
+/// for, with the octets of the string. Something is written of each with fewer than 2^32 contents
+/// octets, under each tag but that of end-of-contents octets.
 pub fn a_string_is_written_as_one<'a>(string: &'a OctetString, tag: Tag, mode: Mode)
     ensures owned { WritesString tag mode (octets_of string.now)
         (⟦<OctetStringEncoder<OctetString> as Values>⟧.means
         (record { value = string.now; tag = tag }) mode) }
     ensures borrowed { WritesString tag mode (octets_of string.now)
+        (⟦<OctetStringEncoder<&'a OctetString> as Values>⟧.means
+        (record { value = string.entry; tag = tag }) mode) }
+    ensures owned_written { WritesShort tag (contents_count mode string.now)
+        (⟦<OctetStringEncoder<OctetString> as Values>⟧.means
+        (record { value = string.now; tag = tag }) mode) }
+    ensures borrowed_written { WritesShort tag (contents_count mode string.now)
         (⟦<OctetStringEncoder<&'a OctetString> as Values>⟧.means
         (record { value = string.entry; tag = tag }) mode) }
 {
@@ -41,10 +50,12 @@ pub fn equal_strings_are_written_alike()
 
 /// The same of the octets of a slice.
 pub fn a_slice_is_written_as_one<T: AsSlice<u8>>(encoder: &OctetSliceEncoder<T>, mode: Mode)
-    ensures { WritesString encoder.now.tag mode (T.items encoder.now.slice)
+    ensures one { WritesString encoder.now.tag mode (T.items encoder.now.slice)
+        (⟦<OctetSliceEncoder<T> as Values>⟧.means encoder.now mode) }
+    ensures written { WritesShort encoder.now.tag (length (T.items encoder.now.slice))
         (⟦<OctetSliceEncoder<T> as Values>⟧.means encoder.now mode) }
 {
-    let _encoder = encoder;
+    encoder.see();
     let _mode = mode;
 }
 
@@ -55,9 +66,12 @@ pub fn wrapped_values_are_written_as_one<V: Values>(
     mode: Mode,
 )
     requires { V.can_encode encoder.now.values }
-    ensures { (inner : Encoded) → V.means encoder.now.values encoder.now.mode (Ok inner)
+    ensures one { (inner : Encoded) → V.means encoder.now.values encoder.now.mode (Ok inner)
         → WritesString octet_string_tag mode inner.octets
         (⟦<WrappingOctetStringEncoder<V> as Values>⟧.means encoder.now mode) }
+    ensures written { (inner : Encoded) → V.means encoder.now.values encoder.now.mode (Ok inner)
+        → length inner.octets < 2 ^ 32
+        → HasEncoding (⟦<WrappingOctetStringEncoder<V> as Values>⟧.means encoder.now mode) }
 {
     let _encoder = encoder;
     let _mode = mode;
@@ -72,7 +86,15 @@ pub fn written_strings_are_taken_back<E>()
 {}
 
 /// In CER and DER an octet string is written, under the tag that it was read with, as it was read
-/// (9.2, 10.2).
-pub fn what_is_read_is_written_back()
-    ensures { WrittenAsRead }
-{}
+/// (9.2, 10.2). If that was in fewer than 2^64 octets, header and all, it has an encoding, which is
+/// these octets; it never has one of other octets.
+pub fn what_is_read_is_written_back<'a>(string: &'a OctetString)
+    ensures owned { WrittenAsRead string.now
+        (λ tag. ⟦<OctetStringEncoder<OctetString> as Values>⟧.means
+        (record { value = string.now; tag = tag })) }
+    ensures borrowed { WrittenAsRead string.now
+        (λ tag. ⟦<OctetStringEncoder<&'a OctetString> as Values>⟧.means
+        (record { value = string.entry; tag = tag })) }
+{
+    let _string = string;
+}

@@ -1,5 +1,6 @@
 //! Octets of a slice as an octet string (X.690, 8.7, 9.2, 10.2).
 ghost use Rattle.std.specs.Prelude.{◌≡◌};
+ghost use Rattle.bcder.specs.x690.Identifier.{AreOctets};
 ghost use Rattle.bcder.specs.x690.OctetString.{octet_string_tag};
 ghost use Rattle.bcder.specs.calls.Noted.{ReadsNone};
 ghost use Rattle.bcder.specs.calls.StringMeaning.{OctetsMean};
@@ -37,6 +38,16 @@ impl OctetString {
         ensures { result ≡ record { slice = value; tag = tag } }
     {
         OctetSliceEncoder { slice: value, tag }
+    }
+}
+
+impl<T: AsSlice<u8>> OctetSliceEncoder<T> {
+    // That it holds octets, for the proof alone.
+    pub(crate) fn see(&self)
+        ensures { AreOctets (T.items self.now.slice) }
+    {
+        let slice = self.slice.as_slice();
+        let _slice = slice;
     }
 }
 

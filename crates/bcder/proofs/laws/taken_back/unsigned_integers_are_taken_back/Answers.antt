@@ -13,3 +13,6 @@ returns-clause-of_32_bits g c = λ mode x h. unsigned_taken 32 x mode h (omega (
 
 pub returns-clause-of_64_bits : goal.returns-clause-of_64_bits
 returns-clause-of_64_bits g c = λ mode x h. unsigned_taken 64 x mode h (omega (arith, h))
+
+pub returns-clause-of_128_bits : goal.returns-clause-of_128_bits
+returns-clause-of_128_bits g c = λ mode x h. unsigned_taken 128 x mode h (omega (arith, h))

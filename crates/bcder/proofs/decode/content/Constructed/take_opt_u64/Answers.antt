@@ -1,10 +1,8 @@
 use Rattle.std.proofs.Common.{rules}
 use Rattle.bcder.specs.x690.Identifier.{integer_tag}
-use Rattle.bcder.specs.calls.Readers.{IsUnsigned, MeanNothing}
-use Rattle.bcder.specs.calls.Views.{of_constructed, of_primitive}
-use Rattle.bcder.proofs.SameBorrow.{within_constructed}
-use Rattle.bcder.proofs.Typed.{next_as, octets_form}
+use Rattle.bcder.specs.calls.Readers.{MeanNothing, IsUnsigned}
+use Rattle.bcder.proofs.Typed.{reader_takes_next}
 use Rattle.bcder.proofs.decode.content.Constructed.take_opt_u64.Goals as goal
 
 pub returns-clause-took : goal.returns-clause-took
-returns-clause-took g c = next_as (of_primitive g.S.Source.stream) _ integer_tag (λ _. IsUnsigned 64) (λ _. MeanNothing (IsUnsigned 64)) (octets_form g.S.Source.stream) (λ t p r q x. search rules) (of_constructed g.S.Source.stream c.args.self.now) (of_constructed g.S.Source.stream c.take_opt_primitive_if.new.self) c.take_opt_primitive_if.result (within_constructed g.S.Source.stream g.met.S.Source.sound c.args.self.now) c.take_opt_primitive_if.ensures.took
+returns-clause-took g c = reader_takes_next g.S.Source.stream g.met.S.Source.sound integer_tag (IsUnsigned 64) (MeanNothing (IsUnsigned 64)) _ (λ p r q x. search rules) c.args.self.now c.take_opt_primitive_if.new.self c.take_opt_primitive_if.result c.take_opt_primitive_if.ensures.took
