@@ -5,8 +5,8 @@ use Rattle.bcder.specs.steps.Segmenting.{InsideSize}
 use Rattle.bcder.specs.declared.encode.error.EncodeError.{EncodeError}
 use Rattle.bcder.specs.declared.mode.Mode.{Mode}
 use Rattle.bcder.specs.x690.Identifier.{AreOctets, Tag}
-use Rattle.bcder.specs.calls.Meaning.{Encoded, Meaning, IsOne, IsLawful}
-use Rattle.bcder.specs.calls.Encoders.{HasEncoding, RefusesBy, SizeOfValues}
+use Rattle.bcder.specs.calls.Meaning.{Encoded, Meaning, IsOne, IsLawful, encoded_octets}
+use Rattle.bcder.specs.calls.Encoders.{HasEncoding, MeansOctets, RefusesBy, SizeOfValues}
 use Rattle.bcder.specs.calls.StringMeaning.{string_meaning, contents_of, OctetsMean, WrappedMeans, is_cut, IsGathered}
 use Rattle.bcder.specs.laws.Octets.{AreOctets-encodings}
 
@@ -40,9 +40,10 @@ module _ (t : Tag) (mode : Mode) (M : Meaning → Type 0) where
   pub gathered_as : IsOne M → (e : Encoded) → M (Ok e) → AreOctets e.octets → (w : List ℕ) → w ≡ e.octets → (x : Encoded) → WrappedMeans t mode M (Ok x) → OctetsMean t w mode (Ok x)
   gathered_as one e meant o w same x h = subst (λ u. OctetsMean t u mode (Ok x)) (sym same) (wrapped_taken one e meant o (Ok x) h)
 
-pub either_way : {P Q : Type 0} → P ⊎ Q → Q ⊎ P
-either_way (inl p) = inr p
-either_way (inr q) = inl q
+-- where memory lacks to keep what is meant, there is an encoding, or memory may lack for it
+pub not_kept : {L : Type 0} (M : Meaning → Type 0) → MeansOctets encoded_octets M ⊎ L → L ⊎ HasEncoding M
+not_kept M (inl (e, m, some)) = inr (e, m)
+not_kept M (inr l) = inl l
 
 pub or_gathered : {L : Type 0} (mode : Mode) (M : Meaning → Type 0) (n : ℕ) → is_cut mode n ≡ true → ((e : Encoded) → M (Ok e) → n ≡ length e.octets) → L ⊎ HasEncoding M → L ⊎ IsGathered mode M
 or_gathered mode M n is sized (inl l) = inl l

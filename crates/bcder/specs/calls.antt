@@ -47,6 +47,7 @@ pub mod Gathered
 pub mod StringMeaning
 pub mod WrittenStrings
 pub mod StringSource
+pub mod StringStream
 pub mod Blocks
 pub mod CharSetCalls
 pub mod CharSetTexts

@@ -1,5 +1,5 @@
 -- What the calls of encoders answer, by what these mean.
-use Rattle.std.specs.Prelude.{◌≡◌, ◌≢◌, ℕ, Bool, true, false, List, length, Result, Ok, Err, Option, None, Some, ◌⊎◌, ◌^◌, ◌<◌, ◌≤◌}
+use Rattle.std.specs.Prelude.{◌≡◌, ◌≢◌, ℕ, Bool, true, false, List, [], length, Result, Ok, Err, Option, None, Some, ◌⊎◌, ◌^◌, ◌<◌, ◌≤◌}
 use Rattle.std.specs.Borrow.{MutBor}
 use Rattle.std.specs.Io.KnownBytes.{Appends, Keeps}
 use denote.Triple.Both.{Both}
@@ -108,14 +108,18 @@ module _ {W : Type 0} (contents : W → Option (List ℕ)) (target : Both (MutBo
 
 -- ---- in memory
 
--- e is the refusal that is meant; or want of memory, for what is meant or where memory may lack to tell it
-abbrev pub RefusesToKeep : {A : Type 0} → (Result A EncodeError → Type 0) → Type 0 → EncodeError → Type 0
-RefusesToKeep M lacks e = RefusesBy M (((a : _) × M (Ok a)) ⊎ lacks) e
+-- octets are meant, one at least
+abbrev pub MeansOctets : {A : Type 0} → (A → List ℕ) → (Result A EncodeError → Type 0) → Type 0
+MeansOctets octets M = (a : _) × M (Ok a) × (octets a ≢ [])
+
+-- e is the refusal that is meant; or want of memory, for octets that are meant or where memory may lack to tell them
+abbrev pub RefusesToKeep : {A : Type 0} → (A → List ℕ) → (Result A EncodeError → Type 0) → Type 0 → EncodeError → Type 0
+RefusesToKeep octets M lacks e = RefusesBy M (MeansOctets octets M ⊎ lacks) e
 
 -- r is what is meant, or says why it isn't kept
 abbrev pub GathersContents : (ContentsMeaning → Type 0) → Type 0 → Result (List ℕ) EncodeError → Type 0
 GathersContents M lacks (Ok w) = M (Ok w)
-GathersContents M lacks (Err e) = RefusesToKeep M lacks e
+GathersContents M lacks (Err e) = RefusesToKeep (λ w. w) M lacks e
 
 -- ---- lengths and headers alone
 

@@ -1,5 +1,5 @@
 //! Values that are put one behind the other, as their octets.
-ghost use Rattle.std.specs.Prelude.{◌≡◌, IfOk, OnErr};
+ghost use Rattle.std.specs.Prelude.{◌≡◌, ◌≢◌, [], IfOk, OnErr};
 ghost use Rattle.bcder.specs.calls.Captured.{AreWhole};
 ghost use Rattle.bcder.specs.calls.Gathered.{none_kept, kept_from_start, ExtendsBy};
 
@@ -105,9 +105,10 @@ impl CapturedBuilder {
     ///
     /// # Errors
     ///
-    /// Where there is no memory to share the octets.
+    /// Where there are octets and no memory to share them.
     pub fn freeze(self) -> Result<Captured, NoMemory>
-        ensures { IfOk result (λ c. c ≡ self) }
+        ensures captured { IfOk result (λ c. c ≡ self) }
+        ensures memory { OnErr result (self.octets ≢ []) }
     {
         match Bytes::from_vec(self.octets) {
             Ok(octets) => Ok(Captured::new(octets, self.mode, Pos::default())),

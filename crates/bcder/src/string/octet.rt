@@ -124,12 +124,7 @@ impl OctetString {
     pub fn is_empty(&self) -> bool
         ensures { IsTrue result ↔ (octets_of self.now ≡ []) }
     {
-        for part in self {
-            if !part.is_empty() {
-                return false;
-            }
-        }
-        true
+        self.iter().is_empty()
     }
 }
 

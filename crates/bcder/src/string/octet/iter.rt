@@ -1,5 +1,6 @@
 //! The parts of an octet string, and its octets.
-ghost use Rattle.std.specs.Prelude.{◌≡◌, ◌+◌, ◌<◌, ◌≤◌, [], ◌++◌, length, IfSome, MatchOption};
+ghost use Rattle.std.specs.Prelude.{◌≡◌, ◌+◌, ◌<◌, ◌≤◌, ◌↔◌, [], ◌++◌, length, IsTrue, IfSome};
+ghost use Rattle.std.specs.Prelude.{⊤, MatchOption};
 ghost use Rattle.std.specs.List.{concat};
 ghost use Rattle.bcder.specs.calls.StringOctets.{piece, parts, octets_of};
 ghost use Rattle.bcder.specs.steps.SegmentTable.{segment_at};
@@ -55,6 +56,18 @@ impl<'a> OctetStringIter<'a> {
             octets: &[],
             segments: &[],
         }
+    }
+
+    /// Whether there is no octet in any part.
+    pub(super) fn is_empty(self) -> bool
+        ensures { IsTrue result ↔ (concat self.entry ≡ []) }
+    {
+        for part in self {
+            if !part.is_empty() {
+                return false;
+            }
+        }
+        true
     }
 
     /// Segments that stand in octets.
@@ -113,9 +126,11 @@ impl<'a> IntoIterator for &'a OctetString {
     }
 }
 
-/// The clone has the same parts to come.
+/// The clone has the same parts to come, and takes no memory.
 impl Clone for OctetStringIter<'_> {
     ghost is_clone = { λ i copy. copy ≡ i };
+
+    ghost is_infallible = { λ _. ⊤ };
 
     fn clone(&self) -> Result<Self, AllocError> {
         Ok(OctetStringIter {
@@ -236,9 +251,11 @@ impl<'a> OctetStringOctets<'a> {
     }
 }
 
-/// The clone has the same octets to come.
+/// The clone has the same octets to come, and takes no memory.
 impl Clone for OctetStringOctets<'_> {
     ghost is_clone = { λ o copy. copy ≡ o };
+
+    ghost is_infallible = { λ _. ⊤ };
 
     fn clone(&self) -> Result<Self, AllocError> {
         Ok(OctetStringOctets {

@@ -1,6 +1,6 @@
 //! The octets of an octet string in one piece.
-ghost use Rattle.std.specs.Prelude.{◌≡◌, IfOk};
-ghost use Rattle.bcder.specs.calls.StringOctets.{octets_of};
+ghost use Rattle.std.specs.Prelude.{◌≡◌, IfOk, OnErr};
+ghost use Rattle.bcder.specs.calls.StringOctets.{octets_of, IsCut};
 
 use super::{OctetString, Octets};
 use crate::NoMemory;
@@ -37,9 +37,10 @@ impl OctetString {
     ///
     /// # Errors
     ///
-    /// Where there is no memory for a copy. The string is then dropped.
+    /// Where the string was cut and there is no memory for a copy. The string is then dropped.
     pub fn into_bytes(self, alloc: Global) -> Result<Bytes, NoMemory>
-        ensures { IfOk result (λ octets. octets ≡ octets_of self) }
+        ensures octets { IfOk result (λ octets. octets ≡ octets_of self) }
+        ensures memory { OnErr result (IsCut self) }
     {
         match self.octets {
             Octets::Whole(octets) => Ok(octets),

@@ -1,6 +1,7 @@
 //! The octets of an octet string as a source.
-ghost use Rattle.std.specs.Prelude.{◌≡◌, ℕ, ◌+◌, ◌-◌, ◌^◌, ◌<◌, ◌≤◌, ◌⊎◌, List, [], ◌∷◌, ◌++◌};
-ghost use Rattle.std.specs.Prelude.{length, drop, Some, None, Ok, IfOk, OnOk, OnErr, MatchOption};
+ghost use Rattle.std.specs.Prelude.{◌≡◌, ◌≢◌, ℕ, ◌+◌, ◌-◌, ◌^◌, ◌<◌, ◌≤◌, ◌⊎◌, ◌↔◌, List, [], ◌∷◌};
+ghost use Rattle.std.specs.Prelude.{◌++◌, length, drop, Some, None, Ok, IsTrue, IfOk, OnOk, OnErr};
+ghost use Rattle.std.specs.Prelude.{MatchOption};
 ghost use Rattle.std.specs.List.{concat};
 ghost use Rattle.bcder.specs.x690.Identifier.{AreOctets};
 ghost use Rattle.bcder.specs.calls.StringOctets.{whole, cut};
@@ -65,6 +66,13 @@ impl Behind {
         ensures { result ≡ self.now.parts }
     {
         OctetStringIter::of_segments(self.octets.as_slice(), &self.segments[self.next..])
+    }
+
+    /// Whether there is no octet left in any of them.
+    fn is_empty(&self) -> bool
+        ensures { IsTrue result ↔ (concat self.now.parts ≡ []) }
+    {
+        self.iter().is_empty()
     }
 
     /// The octets that they stand in, shared.
@@ -136,16 +144,23 @@ fn move_on(front: &mut Chunk, behind: &mut Behind)
     }
 }
 
-/// Makes at least `len` octets stand in front, or all that there are.
+/// Makes at least `len` octets stand in front, or all that there are. It takes no memory where none
+/// are behind.
 #[inline(never)]
 fn refill(front: &mut Chunk, behind: &mut Behind, len: usize) -> Result<(), NoMemory>
-    requires { SharesBlock front.old (Some behind.old) }
+    requires shares { SharesBlock front.old (Some behind.old) }
+    requires fewer { length front.old.octets < len }
     ensures stands { SharesBlock front.new (Some behind.new) }
     ensures same { front.new.octets ++ concat behind.new.parts
         ≡ front.old.octets ++ concat behind.old.parts }
     ensures no_fewer { length front.old.octets ≤ length front.new.octets }
-    ensures enough { OnOk result ((len ≤ length front.new.octets) ⊎ (behind.new.parts ≡ [])) }
+    ensures enough { OnOk result
+        ((len ≤ length front.new.octets) ⊎ (concat behind.new.parts ≡ [])) }
+    ensures memory { OnErr result (concat behind.old.parts ≢ []) }
 {
+    if behind.is_empty() {
+        return Ok(());
+    }
     if front.is_empty() && !front.is_shared() {
         *front = Chunk::before_segments(behind.share()?);
     }
@@ -155,7 +170,7 @@ fn refill(front: &mut Chunk, behind: &mut Behind, len: usize) -> Result<(), NoMe
             None => return Ok(()),
         }
     }
-    if front.len() < len {
+    if front.len() < len && !behind.is_empty() {
         let (block, count) = behind.join(front.as_slice(), len)?;
         *front = Chunk::of_block(block);
         behind.pass(count);
@@ -183,7 +198,8 @@ pub struct OctetStringSource {
 }
 
 impl OctetStringSource {
-    ghost use Rattle.bcder.specs.steps.StringSources.{source_stream, FillsFront};
+    ghost use Rattle.bcder.specs.calls.StringStream.{source_stream};
+    ghost use Rattle.bcder.specs.steps.StringSources.{FillsFront};
 
     /// A source over octets in one piece.
     fn of_piece(octets: Bytes) -> OctetStringSource
@@ -242,8 +258,9 @@ impl OctetStringSource {
 impl Source for OctetStringSource {
     type Error = NoMemory;
 
+    ghost use Rattle.bcder.specs.calls.Stream.{Provides, Grew};
+    ghost use Rattle.bcder.specs.calls.StringStream.{source_stream, HasMoreFor};
     ghost use Rattle.bcder.specs.laws.Limits.{within_front};
-    ghost use Rattle.bcder.specs.steps.StringSources.{source_stream};
 
     ghost stream = { source_stream };
 
@@ -257,8 +274,21 @@ impl Source for OctetStringSource {
         Pos::from(self.reached - self.front.len())
     }
 
+    /// It fails only where fewer than `len` octets are at hand and others are to come. So it never
+    /// fails over octets in one piece.
     #[inline(always)]
-    fn request(&mut self, len: usize) -> Result<usize, NoMemory> {
+    fn request(&mut self, len: usize) -> Result<usize, NoMemory>
+        ensures ok { IfOk result (λ k. Provides len k (source_stream self.new)) }
+        ensures no_fault { OnOk result (self.new.faults ≡ self.old.faults) }
+        ensures fault { OnErr result (Grew self.old.faults self.new.faults) }
+        ensures no_fewer { OnErr result
+            ((source_stream self.old).avail ≤ (source_stream self.new).avail) }
+        ensures memory { OnErr result (HasMoreFor len (source_stream self.old)) }
+        ensures rest { (source_stream self.new).rest ≡ (source_stream self.old).rest }
+        ensures position { (source_stream self.new).position
+            ≡ (source_stream self.old).position }
+        ensures kept { (source_stream self.new).kept ≡ (source_stream self.old).kept }
+    {
         let found = self.front.len();
         if len <= found {
             return Ok(found);

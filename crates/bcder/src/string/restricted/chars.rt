@@ -1,5 +1,5 @@
 //! The characters of a restricted string.
-ghost use Rattle.std.specs.Prelude.{◌≡◌};
+ghost use Rattle.std.specs.Prelude.{◌≡◌, ⊤};
 ghost use Rattle.bcder.specs.x690.CharSet.{Spells};
 ghost use Rattle.bcder.specs.x690.Characters.{characters};
 ghost use Rattle.bcder.specs.calls.StringOctets.{octets_of};
@@ -51,9 +51,11 @@ impl<L: CharSet> RestrictedString<L> {
     }
 }
 
-/// The clone has the same characters to come.
+/// The clone has the same characters to come, and takes no memory.
 impl<L: CharSet> Clone for RestrictedStringChars<'_, L> {
     ghost is_clone = { λ i copy. copy ≡ i };
+
+    ghost is_infallible = { λ _. ⊤ };
 
     fn clone(&self) -> Result<Self, AllocError> {
         Ok(RestrictedStringChars {

@@ -1,5 +1,5 @@
 //! Restricted strings and texts.
-ghost use Rattle.std.specs.Prelude.{◌≡◌, IfOk, MatchOption, string_bytes};
+ghost use Rattle.std.specs.Prelude.{◌≡◌, IfOk, OnErr, MatchOption, string_bytes};
 ghost use Rattle.std.specs.Str.{chars};
 ghost use Rattle.bcder.specs.calls.RestrictedString.{MakesText};
 ghost use Rattle.bcder.specs.x690.CharSet.{IsOfSet, Spells};
@@ -72,9 +72,10 @@ impl<L: CharSet> RestrictedString<L> {
     ///
     /// # Errors
     ///
-    /// Where there is no memory for a copy. The string is then dropped.
+    /// Where the string was cut and there is no memory for a copy. The string is then dropped.
     pub fn into_bytes(self, alloc: Global) -> Result<Bytes, NoMemory>
-        ensures { IfOk result (λ octets. octets ≡ octets_of self) }
+        ensures octets { IfOk result (λ octets. octets ≡ octets_of self) }
+        ensures memory { OnErr result (IsCut self) }
     {
         self.octets.into_bytes(alloc)
     }

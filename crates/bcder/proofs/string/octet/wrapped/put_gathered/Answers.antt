@@ -2,7 +2,7 @@ use Rattle.std.proofs.Common.{ap, ◌∙◌, Err}
 use Rattle.bcder.specs.x690.OctetString.{octet_string_tag}
 use Rattle.bcder.specs.calls.Captured.{Kept}
 use Rattle.bcder.proofs.Writing.{lacks_more, lacked, same_answer}
-use Rattle.bcder.proofs.Wrapping.{lawful_octets, gathered_as, wrapped_inside, either_way}
+use Rattle.bcder.proofs.Wrapping.{lawful_octets, gathered_as, wrapped_inside, not_kept}
 use Rattle.bcder.proofs.string.octet.wrapped.put_gathered.Goals as goal
 
 pub put_octets-requires : goal.put_octets-requires
@@ -25,4 +25,4 @@ pub returns-in-Err : goal.returns-in-Err
 returns-in-Err g c = λ x meant.
     let lawful = g.met.V.Values.lawful c.args.values.now c.args.inner c.requires.can in
     let inside = wrapped_inside octet_string_tag c.args.mode _ x meant in
-    same_answer (ap Err c.store_refusal.ensures) (lacks_more _ either_way (lacked _ lawful.one.same inside.0 x.octets inside.1 c.in-Err.ensures))
+    same_answer (ap Err c.store_refusal.ensures) (lacks_more _ (not_kept (g.V.Values.means c.args.values.now c.args.inner)) (lacked _ lawful.one.same inside.0 x.octets inside.1 c.in-Err.ensures))
