@@ -27,6 +27,7 @@ use Rattle.bcder.proofs.Moving.{open_not_ended, open_not_failed}
 use Rattle.bcder.proofs.Entering.{Within, no_fewer}
 use Rattle.bcder.proofs.WalkSteps.{owed_after, done_here, grew_between}
 use Rattle.bcder.proofs.Typed.{header_not_absent, or_false}
+use Rattle.bcder.proofs.Naming.{of_violation}
 
 -- ---- content is that of one value at most
 
@@ -172,7 +173,7 @@ primitive_in_front tag c after f p t ts v rest h = of_shaped (shaped c.mode f.ta
 refused_header : {T X : Type 0} (tag : Tag) (Means : Tree → T → Type 0) (c d : Reading) → Within c → (e : DecodeError X) → RefusesHeader cause_of (tagged tag) c e d → RefusesTree tag Means c e d
 refused_header tag Means c d w e (content.RefusesHeader.failed s a) = valued.RefusesTree.failed s a
 refused_header tag Means c d w e (content.RefusesHeader.source s g) = valued.RefusesTree.source s g
-refused_header tag Means c d w e (content.RefusesHeader.nothing n a) = valued.RefusesTree.broken (record { usable = n.usable; value = λ t v rest x h k. (let y = tagged_header c w tag t v rest h in n.header y.0 y.1); absent = n.absent }) a
+refused_header tag Means c d w e (content.RefusesHeader.nothing n a) = valued.RefusesTree.broken (record { usable = n.usable; value = λ t v rest x h k. (let y = tagged_header c w tag t v rest h in n.header y.0 y.1); absent = n.absent }) (of_violation c (cause_of e) a)
 
 -- what the calls say where none was
 module _ {T X : Type 0} (tag : Tag) (Means : Tree → T → Type 0) (c d : Reading) where

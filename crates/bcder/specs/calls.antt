@@ -11,6 +11,7 @@ pub mod Classes
 pub mod Stream
 pub mod Sources
 pub mod Cause
+pub mod Violations
 pub mod ContentsLen
 pub mod Content
 pub mod Views
