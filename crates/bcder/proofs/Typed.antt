@@ -80,7 +80,7 @@ some_is m n e = cc
 
 -- contents octets that were handed behind a header of the tag, all of which came
 module _ (tag : Tag) (c i : Reading) (w : Within c) (after : List ℕ) (f : HasHeader (tagged tag) c after) (g : Hands c.mode f.form f.len f.owed after i) (k : i.kind ≡ Octets) where
-  handed_form : (n : ℕ) × (f.form ≡ false) × (f.len ≡ Definite n)
+  pub handed_form : (n : ℕ) × (f.form ≡ false) × (f.len ≡ Definite n)
   handed_form = form_is f.form f.len i.kind g.form k
 
   handed_octets : (i.owed ≡ Some handed_form.0) × (i.stream.rest ≡ take handed_form.0 after)
@@ -99,11 +99,11 @@ module _ (tag : Tag) (c i : Reading) (w : Within c) (after : List ℕ) (f : HasH
       (o, record { header = f.octets; is_header = h; is = refl })
 
   -- the value stands in front
-  handed_value : c.state ≡ Open → HasAll (length i.stream.rest) i → (rest : List ℕ) → after ≡ i.stream.rest ++ rest → HasPrimitive tag c i.stream.rest (f.octets ++ i.stream.rest) rest
+  pub handed_value : c.state ≡ Open → HasAll (length i.stream.rest) i → (rest : List ℕ) → after ≡ i.stream.rest ++ rest → HasPrimitive tag c i.stream.rest (f.octets ++ i.stream.rest) rest
   handed_value o a rest e = record { usable = o; encodes = handed_encoded a; rest = f.rest ∙ ap (λ z. f.octets ++ z) e ∙ sym (append_assoc f.octets i.stream.rest rest) }
 
   -- before what is behind the octets that were handed
-  handed_before : HasAll (length i.stream.rest) i → after ≡ i.stream.rest ++ drop handed_form.0 after
+  pub handed_before : HasAll (length i.stream.rest) i → after ≡ i.stream.rest ++ drop handed_form.0 after
   handed_before a = sym (take-append-drop handed_form.0 after) ∙ ap (λ z. z ++ drop handed_form.0 after) (sym handed_octets.1)
 
   -- or before the rest of a whole value

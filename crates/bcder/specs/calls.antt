@@ -24,6 +24,7 @@ pub mod Valued
 pub mod OctetStrings
 pub mod ReadIdentifiers
 pub mod ReadBits
+pub mod ReadCharacters
 pub mod Decoding
 pub mod Begins
 pub mod Changed
