@@ -16,13 +16,13 @@ pub returns-in-Ok-check-clause-read : goal.returns-in-Ok-check-clause-read
 returns-in-Ok-check-clause-read g c =
     let i = of_primitive g.S.Source.stream c.args.octets.now in
     let j = of_primitive g.S.Source.stream c.take_piece.new.octets in
-    let is = c.new.ensures ∙ c.as_slice.ensures in
+    let is = c.new.ensures.octets ∙ c.as_slice.ensures in
     read_accepted whole g.L.CharSet.step i j c.in-Ok.piece c.in-Ok.piece refl (subst (IsOfSet g.L.CharSet.step) is c.in-Ok-check.ensures) c.in-Ok.ensures.read
 
 pub returns-in-Err-check-clause-read : goal.returns-in-Err-check-clause-read
 returns-in-Err-check-clause-read g c =
     let i = of_primitive g.S.Source.stream c.args.octets.now in
     let j = of_primitive g.S.Source.stream c.take_piece.new.octets in
-    let is = c.new.ensures ∙ c.as_slice.ensures in
+    let is = c.new.ensures.octets ∙ c.as_slice.ensures in
     let refusal : IsRefusal c.content_err.result = search rules in
     read_not_accepted whole g.L.CharSet.step i j c.in-Ok.piece c.content_err.result refusal (λ a. c.in-Err-check.ensures (subst (IsOfSet g.L.CharSet.step) (sym is) a)) c.in-Ok.ensures.read
