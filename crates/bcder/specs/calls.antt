@@ -24,6 +24,7 @@ pub mod OctetStrings
 pub mod ReadIdentifiers
 pub mod ReadBits
 pub mod Decoding
+pub mod DecodingAll
 pub mod Begins
 pub mod Changed
 pub mod Repeating

@@ -14,6 +14,7 @@ ghost use Rattle.bcder.specs.calls.Views.{of_primitive, octets_before, octets_af
 
 mod bits;
 mod identifier;
+mod lent;
 mod octets;
 
 use super::Primitive;
