@@ -26,6 +26,7 @@ pub mod ReadIdentifiers
 pub mod ReadBits
 pub mod ReadCharacters
 pub mod Decoding
+pub mod DecodingAll
 pub mod Begins
 pub mod Changed
 pub mod Repeating

@@ -9,5 +9,7 @@ pub(crate) mod violation;
 pub use content::walk::walk;
 pub use content::{Constructed, Content, Primitive};
 pub use error::{ContentError, DecodeError, Message};
-pub use source::{BytesSource, CaptureSource, IntoSource, LimitedSource, Pos, SliceSource, Source};
+pub use source::{
+    BytesSource, CaptureSource, IntoSource, LendingSource, LimitedSource, Pos, SliceSource, Source,
+};
 pub use violation::Violation;

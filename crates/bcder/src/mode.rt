@@ -1,8 +1,10 @@
 //! The three sets of encoding rules.
-ghost use Rattle.std.specs.Prelude.{◌≡◌, ◌↔◌, ◌≤◌, ◌++◌, ℕ, List, IsTrue};
+ghost use Rattle.std.specs.Prelude.{◌≡◌, ◌↔◌, ◌≤◌, ◌++◌, ℕ, List, IsTrue, IfOk, IfErr};
 ghost use Rattle.bcder.specs.calls.Decoding.{CallableOnAll, LawfulOnAll, CallableOnLent};
 ghost use Rattle.bcder.specs.calls.Decoding.{LawfulOnLent};
 ghost use Rattle.bcder.specs.calls.Decoding.{DecodesAll, RefusesAll, DecodesLent, RefusesLent};
+ghost use Rattle.bcder.specs.calls.DecodingAll.{DecodesWhole, RefusesWhole};
+ghost use Rattle.bcder.specs.calls.Views.{of_constructed};
 
 use crate::decode::{Constructed, DecodeError, IntoSource, Source};
 
@@ -44,6 +46,32 @@ impl Mode {
         ensures refused { RefusesAll I.Source.stream (F.post op) (I.gives source) self result }
     {
         Constructed::decode(source, self, op)
+    }
+
+    /// Decodes all values of a source in this mode, as [`Constructed::decode_all`] does: octets
+    /// behind those that the closure takes are refused.
+    ///
+    /// # Errors
+    ///
+    /// Those of `Constructed::decode_all`.
+    pub fn decode_all<I: IntoSource, F, T: Drop>(
+        self,
+        source: I,
+        op: F,
+    ) -> Result<T, DecodeError<<I::Source as Source>::Error>>
+    where
+        I::Source: Drop,
+        F: FnOnce(
+            &mut Constructed<'_, I::Source>,
+        ) -> Result<T, DecodeError<<I::Source as Source>::Error>>,
+        requires callable { CallableOnAll I.Source.stream (I.gives source) self (F.pre op) }
+        requires lawful { LawfulOnAll I.Source.stream (I.gives source) self (F.post op) }
+        ensures ok { IfOk result (λ x.
+            DecodesWhole (of_constructed I.Source.stream) (F.post op) (I.gives source) self x) }
+        ensures refused { IfErr result (λ e.
+            RefusesWhole (of_constructed I.Source.stream) (F.post op) (I.gives source) self e) }
+    {
+        Constructed::decode_all(source, self, op)
     }
 
     /// Decodes the values at the front of a borrowed source in this mode, as

@@ -76,6 +76,10 @@ MeanAnother n w e = ((m : ℕ) × IsUnsigned 8 w m × (m ≢ n) × (cause_of e �
 abbrev pub FindNoMemory : {X : Type 0} → List ℕ → DecodeError X → Type 0
 FindNoMemory w e = cause_of e ≡ of_memory
 
+-- octets that came are taken, whatever they are
+abbrev pub AreNeverRefused : {X : Type 0} → List ℕ → DecodeError X → Type 0
+AreNeverRefused w e = ⊥
+
 module _ {T X : Type 0} (Means : List ℕ → T → Type 0) (Refuses : List ℕ → DecodeError X → Type 0) where
   -- why contents octets were not read, and e was answered: they did not come, or were refused
   pub data RefusesReading (c : Reading) (e : DecodeError X) (d : Reading) : Type 0 where

@@ -10,6 +10,7 @@ mod alone;
 mod capture;
 mod capture_values;
 mod decode;
+mod decode_all;
 mod either;
 mod forms;
 mod inside;

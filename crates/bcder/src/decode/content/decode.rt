@@ -46,7 +46,7 @@ where
 
 /// Calls the closure on all values of a source.
 #[tactic(auto, unfolding(crate::specs::calls::Views::of_constructed))]
-fn run_over<S: Source, F, T: Drop>(
+pub(super) fn run_over<S: Source, F, T: Drop>(
     source: &mut LimitedSource<S>,
     mode: Mode,
     op: F,

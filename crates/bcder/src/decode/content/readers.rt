@@ -15,6 +15,7 @@ ghost use Rattle.bcder.specs.calls.Views.{of_primitive, octets_before, octets_af
 mod bits;
 mod characters;
 mod identifier;
+mod lent;
 mod octets;
 
 use super::Primitive;

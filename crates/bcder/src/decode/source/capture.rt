@@ -6,7 +6,7 @@ ghost use Rattle.bcder.specs.calls.Sources.{behind, passed, borrow_of, capturing
 ghost use Rattle.bcder.specs.calls.Stream.{Grew, Provides};
 ghost use Rattle.bcder.specs.laws.Limits.{ahead_sound};
 
-use super::{Pos, Source};
+use super::{LendingSource, Pos, Source};
 use crate::NoMemory;
 use bytes::Bytes;
 use std::alloc::Global;
@@ -210,5 +210,13 @@ impl<'a, S: Source> Source for CaptureSource<'a, S> {
         ensures source { behind self.new ≡ behind self.old }
     {
         self.pos += len;
+    }
+}
+
+/// The octets that the borrowed source lends, but for those that were passed over.
+impl<'a, 'b, S: LendingSource<'b>> LendingSource<'b> for CaptureSource<'a, S> {
+    fn lent_slice(&self) -> &'b [u8] {
+        let all = self.source.lent_slice();
+        all.get(self.pos..).unwrap_or(&[])
     }
 }

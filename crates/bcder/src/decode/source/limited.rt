@@ -7,7 +7,7 @@ ghost use Rattle.bcder.specs.calls.Changed.{SameFaults, MoreFaults, SameRest, Sa
 ghost use Rattle.bcder.specs.calls.Changed.{SameKept};
 ghost use Rattle.bcder.specs.calls.Changed.{RefusedWhere, inside, EndsEarly, ReachesLimit};
 ghost use Rattle.bcder.specs.calls.Changed.{HasNoneLeft};
-ghost use Rattle.bcder.specs.calls.Cause.{cause_of, MatchCause, IsRefusal};
+ghost use Rattle.bcder.specs.calls.Cause.{cause_of, position_of, MatchCause, IsRefusal};
 ghost use Rattle.bcder.specs.steps.StopCause.{MatchStop};
 ghost use Rattle.bcder.specs.calls.Content.{FitsOwed};
 ghost use Rattle.bcder.specs.calls.Sources.{wrapped, limit_of, owed};
@@ -15,7 +15,7 @@ ghost use Rattle.bcder.specs.calls.Stream.{limited, IsNoLooser};
 ghost use Rattle.bcder.specs.laws.Limits.{limited_sound};
 
 use super::capture::take_front;
-use super::{Pos, Source};
+use super::{LendingSource, Pos, Source};
 use crate::NoMemory;
 use crate::decode::error::{ContentError, DecodeError};
 use crate::decode::stop::Stop;
@@ -203,6 +203,8 @@ impl<S: Source> LimitedSource<S> {
         ensures no_fault { OnOk result (SameFaults (inside S.stream) self) }
         ensures cause { IfErr result
             (RefusedWhere (inside S.stream) self (¬ HasNoneLeft S.stream self.old)) }
+        ensures at { IfErr result (λ e. IsRefusal e
+            → position_of e ≡ Some (inside S.stream self.old).position) }
         ensures limit { limit_of self.new ≡ limit_of self.old }
         ensures rest { SameRest (inside S.stream) self }
         ensures position { SamePosition (inside S.stream) self }
@@ -258,5 +260,16 @@ impl<S: Source> Source for LimitedSource<S> {
             *limit -= len;
         }
         self.source.advance(len)
+    }
+}
+
+/// The octets that the wrapped source lends, up to the limit.
+impl<'a, S: LendingSource<'a>> LendingSource<'a> for LimitedSource<S> {
+    fn lent_slice(&self) -> &'a [u8] {
+        let all = self.source.lent_slice();
+        match self.limit {
+            Some(limit) => all.get(..limit).unwrap_or(all),
+            None => all,
+        }
     }
 }

@@ -4,7 +4,7 @@ ghost use Rattle.std.specs.Prelude.{IsTrue, length, take, drop, slice_range, IfO
 ghost use Rattle.bcder.specs.x690.Identifier.{AreOctets};
 ghost use Rattle.bcder.specs.calls.Stream.{pos_after};
 
-use super::{Pos, Source};
+use super::{LendingSource, Pos, Source};
 use crate::NoMemory;
 use bytes::Bytes;
 use std::alloc::Global;
@@ -107,5 +107,12 @@ impl<'a> Source for SliceSource<'a> {
 
     fn advance(&mut self, len: usize) {
         self.passed += len;
+    }
+}
+
+/// The octets of the slice that are left.
+impl<'a> LendingSource<'a> for SliceSource<'a> {
+    fn lent_slice(&self) -> &'a [u8] {
+        &self.octets[self.passed..]
     }
 }

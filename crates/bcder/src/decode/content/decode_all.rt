@@ -1,0 +1,122 @@
+//! Decoding all values of a source, and all that contents octets hold.
+ghost use Rattle.std.specs.Prelude.{◌≡◌, IfOk, IfErr};
+ghost use Rattle.bcder.specs.calls.Calls.{MayBeCalledOn, IsLawfulOn};
+ghost use Rattle.bcder.specs.calls.Content.{Moves};
+ghost use Rattle.bcder.specs.calls.Decoding.{CallableOnAll, LawfulOnAll};
+ghost use Rattle.bcder.specs.calls.DecodingAll.{DecodesWhole, RefusesWhole};
+ghost use Rattle.bcder.specs.calls.DecodingAll.{AnswersToEnd, RefusesToEnd};
+ghost use Rattle.bcder.specs.calls.DecodingAll.{CallableWithin, LawfulWithin};
+ghost use Rattle.bcder.specs.calls.DecodingAll.{DecodesWithin, RefusesWithin};
+ghost use Rattle.bcder.specs.calls.Views.{of_constructed, before, after, MovedOctets};
+ghost use Rattle.bcder.specs.calls.Views.{octets_before, octets_after};
+
+use super::decode::{run, run_over};
+use super::{Constructed, Kind, Primitive, State};
+use crate::decode::error::DecodeError;
+use crate::decode::source::{IntoSource, LimitedSource, Source};
+use crate::mode::Mode;
+
+/// Calls the closure on content, of which then no octets are left.
+#[tactic(auto, using(crate::proofs::moves_constructed_name), unfolding(crate::specs::calls::Views::views))]
+fn run_to_end<S: Source, F, T: Drop>(
+    cons: &mut Constructed<'_, S>,
+    op: F,
+) -> Result<T, DecodeError<S::Error>>
+where
+    F: FnOnce(&mut Constructed<'_, S>) -> Result<T, DecodeError<S::Error>>,
+    requires callable { MayBeCalledOn (of_constructed S.stream)
+        (λ i. i ≡ of_constructed S.stream cons.old) (F.pre op) }
+    requires lawful { IsLawfulOn (of_constructed S.stream)
+        (λ i. i ≡ of_constructed S.stream cons.old) (F.post op) }
+    ensures moves { Moves (before S.stream cons) (after S.stream cons) }
+    ensures name { cons.new.source.ghost_name ≡ cons.old.source.ghost_name }
+    ensures ok { IfOk result (λ x. AnswersToEnd (of_constructed S.stream) (F.post op)
+        (before S.stream cons) x (after S.stream cons)) }
+    ensures refused { IfErr result (λ e. RefusesToEnd (of_constructed S.stream) (F.post op)
+        (before S.stream cons) e (after S.stream cons)) }
+{
+    match run(cons, op) {
+        Ok(value) => match cons.source.exhausted() {
+            Ok(()) => Ok(value),
+            Err(error) => Err(error),
+        },
+        Err(error) => Err(error),
+    }
+}
+
+impl<'a, S: Source + Drop> Constructed<'a, S> {
+    /// Decodes all values of a source, in a mode.
+    ///
+    /// It is [`decode`](Self::decode), and the values that the closure takes have to reach up to
+    /// the end of the source.
+    ///
+    /// # Errors
+    ///
+    /// Those of `decode`; a refusal if octets are left behind the values, at the first of them; and
+    /// a failure of the source when it is asked for more.
+    pub fn decode_all<I, F, T: Drop>(
+        source: I,
+        mode: Mode,
+        op: F,
+    ) -> Result<T, DecodeError<S::Error>>
+    where
+        I: IntoSource<Source = S>,
+        F: FnOnce(&mut Constructed<'_, S>) -> Result<T, DecodeError<S::Error>>,
+        requires callable { CallableOnAll S.stream (I.gives source) mode (F.pre op) }
+        requires lawful { LawfulOnAll S.stream (I.gives source) mode (F.post op) }
+        ensures ok { IfOk result (λ x.
+            DecodesWhole (of_constructed S.stream) (F.post op) (I.gives source) mode x) }
+        ensures refused { IfErr result (λ e.
+            RefusesWhole (of_constructed S.stream) (F.post op) (I.gives source) mode e) }
+    {
+        let mut limited = LimitedSource::new(source.into_source());
+        match run_over(&mut limited, mode, op) {
+            Ok(value) => match limited.exhausted() {
+                Ok(()) => Ok(value),
+                Err(error) => Err(error),
+            },
+            Err(error) => Err(error),
+        }
+    }
+}
+
+#[tactic(auto, unfolding(crate::specs::calls::Views::views))]
+impl<'a, S: Source> Primitive<'a, S> {
+    /// Decodes all contents octets as values in a mode, and takes them.
+    ///
+    /// An OCTET STRING often holds an encoding, as that of a certificate's extension does. The
+    /// closure is handed the octets as values up to their end, over the same source: positions go
+    /// on, and nothing is copied. The mode of the octets themselves stays as it is.
+    ///
+    /// # Errors
+    ///
+    /// The closure's refusal as it is; a refusal if it leaves failed content; and a refusal if
+    /// octets are left behind the values, at the first of them. Some of the octets may then have
+    /// been taken.
+    pub fn decode_all<F, T: Drop>(&mut self, mode: Mode, op: F) -> Result<T, DecodeError<S::Error>>
+    where
+        F: FnOnce(&mut Constructed<'_, S>) -> Result<T, DecodeError<S::Error>>,
+        requires callable { CallableWithin S.stream self mode (F.pre op) }
+        requires lawful { LawfulWithin S.stream self mode (F.post op) }
+        ensures moves { MovedOctets S.stream self }
+        ensures ok { IfOk result (λ x. DecodesWithin (of_constructed S.stream) (F.post op)
+            (octets_before S.stream self) mode x (octets_after S.stream self)) }
+        ensures refused { IfErr result (λ e. RefusesWithin (of_constructed S.stream) (F.post op)
+            (octets_before S.stream self) mode e (octets_after S.stream self)) }
+        ensures mode { (octets_after S.stream self).mode ≡ (octets_before S.stream self).mode }
+        ensures marked { (octets_after S.stream self).marked
+            ≡ (octets_before S.stream self).marked }
+    {
+        let source = &mut *self.source;
+        let start = source.pos();
+        let mut cons = Constructed {
+            source: &mut *source,
+            kind: Kind::Definite,
+            state: State::Open,
+            mode,
+            marked: false,
+            start,
+        };
+        run_to_end(&mut cons, op)
+    }
+}
