@@ -14,6 +14,7 @@ ghost use Rattle.bcder.specs.calls.Views.{Moved, MovedContent, MovedOctets};
 
 mod addresses;
 mod certificate;
+mod crl;
 mod extensions;
 mod filter;
 pub mod latin_1;
@@ -27,6 +28,7 @@ pub use addresses::{Addresses, decode_addresses};
 use bcder::decode::{Constructed, Content, DecodeError, Primitive, Source};
 use bcder::{Captured, Tag};
 pub use certificate::{Certificate, Time, Validity, decode_certificate, decode_two};
+pub use crl::Crl;
 pub use extensions::{Basic, Extensions, decode_extensions};
 pub use filter::{Filter, decode_filter};
 pub use names::{Attribute, Name, Text};
