@@ -1,13 +1,15 @@
 -- Values whose headers are passed one by one: what is left of them, and of the segments that they are.
 use Rattle.std.proofs.Common.{◌≡◌, ℕ, suc, ◌+◌, ◌-◌, ◌*◌, ◌<◌, ◌≤◌, Bool, true, false, List, [], ◌∷◌, ◌++◌, length, get_or, take, drop, Option, Some, None, refl, sym, ap, subst, ◌∙◌, append_assoc, append-nil, arith, inl, inr}
 use Rattle.std.specs.Prelude.{nat_eq, slice_range}
+use Rattle.std.specs.List.{concat}
+use Rattle.std.proofs.lemmas.List.Folds.{concat-append}
 use Rattle.std.proofs.lemmas.Bool.{lt-ltb, le-ltb}
 use Rattle.std.proofs.lemmas.Bool.Decides.{nat_tests}
 use Rattle.std.proofs.lemmas.List.{length-append, map-append, take_at, drop_at}
 use Rattle.bcder.specs.declared.mode.Mode.{Mode}
 use Rattle.bcder.specs.declared.mode.Mode.TheVariants.{Ber, Cer, Der}
 use Rattle.bcder.specs.declared.length.Length.{Length}
-use Rattle.bcder.specs.declared.length.Length.TheVariants.{Definite}
+use Rattle.bcder.specs.declared.length.Length.TheVariants.{Definite, Indefinite}
 use Rattle.bcder.specs.x690.Identifier.{Class, universal, application, context_specific, private, Tag}
 use Rattle.bcder.specs.x690.Length.{IsEndOfContents}
 use Rattle.bcder.specs.x690.Tree.{Tree, primitive, constructed, Trees, no_trees, ◌∷ₜ◌}
@@ -15,7 +17,7 @@ use Rattle.bcder.specs.x690.Encoding.{IsHeader, IsDefinite, IsFramed, IsEncoding
 use Rattle.bcder.specs.steps.Reading.{class_of, is_marked, read_identifier, read_header, read_length}
 use Rattle.bcder.specs.calls.Captured.{AreWhole}
 use Rattle.bcder.specs.x690.OctetString.{octet_string_tag, segments, segments_of, IsSegment, AreSegments, IsPiece, IsFull, IsLast, FollowFull, AreSegmentsIn, AreCut}
-use Rattle.bcder.specs.steps.SegmentTable.{segment_at, segments_at, AreWithin, FollowsHeader, AreInOrder, IsTable}
+use Rattle.bcder.specs.steps.SegmentTable.{segment_at, segments_at, AreWithin, IsMark, AreMarks, IsNext, AreInOrder, IsTable}
 use Rattle.bcder.specs.declared.string.octet.Segment.{Segment}
 use Rattle.bcder.specs.steps.Segments.{is_octet_string, behind_header, read_segment}
 use Rattle.bcder.specs.laws.Complete.{header_complete, header_size, two_octets, one_list}
@@ -130,8 +132,8 @@ contents_there contents x = rw (le-ltb (length (contents ++ x)) (length contents
 -- at a value: a primitive segment; a constructed one, whose values stand behind the header; or no segment
 pub data Front (mode : Mode) (t : Tree) (w others : List ℕ) : Type 0 where
   piece : (contents header : List ℕ) → t ≡ primitive octet_string_tag contents → w ≡ header ++ (contents ++ others) → IsHeader mode octet_string_tag false (Definite (length contents)) header → read_segment mode w ≡ Some (Some (length contents), others) → Front mode t w others
-  definite : (ts : Trees) (header contents : List ℕ) → t ≡ constructed octet_string_tag ts → AreEncodings mode ts contents → w ≡ header ++ (contents ++ others) → 2 ≤ length header → read_segment mode w ≡ Some (None, contents ++ others) → Front mode t w others
-  indefinite : (ts : Trees) (header contents end : List ℕ) → t ≡ constructed octet_string_tag ts → AreEncodings mode ts contents → IsEndOfContents mode end → w ≡ header ++ (contents ++ (end ++ others)) → 2 ≤ length header → read_segment mode w ≡ Some (None, contents ++ (end ++ others)) → Front mode t w others
+  definite : (ts : Trees) (header contents : List ℕ) → t ≡ constructed octet_string_tag ts → AreEncodings mode ts contents → w ≡ header ++ (contents ++ others) → IsMark mode header → read_segment mode w ≡ Some (None, contents ++ others) → Front mode t w others
+  indefinite : (ts : Trees) (header contents end : List ℕ) → t ≡ constructed octet_string_tag ts → AreEncodings mode ts contents → IsEndOfContents mode end → w ≡ header ++ (contents ++ (end ++ others)) → IsMark mode header → read_segment mode w ≡ Some (None, contents ++ (end ++ others)) → Front mode t w others
   other : read_segment mode w ≡ None → (IsSegment t → ⊥) → Front mode t w others
 
 header_before : (h c x w : List ℕ) → w ≡ h ++ c → w ++ x ≡ h ++ (c ++ x)
@@ -157,7 +159,7 @@ front_constructed mode t ts contents w x h (inl d) = by_tag (is_octet_string t) 
     there = header_before d.header contents x w d.is
 
     by_tag : (b : Bool) → is_octet_string t ≡ b → Front mode (constructed t ts) (w ++ x) x
-    by_tag true e = definite ts d.header contents (ap (λ z. constructed z ts) (is_tag t e)) h there (header_size mode t true _ d.header d.is_header) (ap (read_segment mode) there ∙ segment_at_header mode t true _ d.header (contents ++ x) d.is_header e)
+    by_tag true e = definite ts d.header contents (ap (λ z. constructed z ts) (is_tag t e)) h there (inl (Definite (length contents), subst (λ z. IsHeader mode z true (Definite (length contents)) d.header) (is_tag t e) d.is_header)) (ap (read_segment mode) there ∙ segment_at_header mode t true _ d.header (contents ++ x) d.is_header e)
     by_tag false e = other (ap (read_segment mode) there ∙ other_at_header mode t true _ d.header (contents ++ x) d.is_header e) (λ s. is_other t e s.0)
 front_constructed mode t ts contents w x h (inr d) = by_tag (is_octet_string t) refl
   where
@@ -165,7 +167,7 @@ front_constructed mode t ts contents w x h (inr d) = by_tag (is_octet_string t) 
     there = end_before d.header contents d.end x w d.is
 
     by_tag : (b : Bool) → is_octet_string t ≡ b → Front mode (constructed t ts) (w ++ x) x
-    by_tag true e = indefinite ts d.header contents d.end (ap (λ z. constructed z ts) (is_tag t e)) h d.is_end there (header_size mode t true _ d.header d.is_header) (ap (read_segment mode) there ∙ segment_at_header mode t true _ d.header (contents ++ (d.end ++ x)) d.is_header e)
+    by_tag true e = indefinite ts d.header contents d.end (ap (λ z. constructed z ts) (is_tag t e)) h d.is_end there (inl (Indefinite, subst (λ z. IsHeader mode z true Indefinite d.header) (is_tag t e) d.is_header)) (ap (read_segment mode) there ∙ segment_at_header mode t true _ d.header (contents ++ (d.end ++ x)) d.is_header e)
     by_tag false e = other (ap (read_segment mode) there ∙ other_at_header mode t true _ d.header (contents ++ (d.end ++ x)) d.is_header e) (λ s. is_other t e s.0)
 
 pub front : (mode : Mode) (t : Tree) (w x : List ℕ) → IsEncoding mode t w → Front mode t (w ++ x) x
@@ -175,7 +177,7 @@ front mode (constructed t ts) w x h = front_constructed mode t ts h.0 w x h.1 h.
 -- at items: a primitive segment is passed; or a header or an end is, behind which the same segments are held; or they hold others than segments
 pub data Turn (mode : Mode) (is : Items) (w : List ℕ) : Type 0 where
   passes : (contents header others : List ℕ) (more : Items) → is ≡ value (primitive octet_string_tag contents) more → w ≡ header ++ (contents ++ others) → IsHeader mode octet_string_tag false (Definite (length contents)) header → AreItems mode more others → read_segment mode w ≡ Some (Some (length contents), others) → Turn mode is w
-  goes : (header others : List ℕ) (more : Items) → parts_of is ≡ parts_of more → (HoldSegments is → HoldSegments more) → (HoldSegments more → HoldSegments is) → w ≡ header ++ others → 2 ≤ length header → AreItems mode more others → read_segment mode w ≡ Some (None, others) → Turn mode is w
+  goes : (header others : List ℕ) (more : Items) → parts_of is ≡ parts_of more → (HoldSegments is → HoldSegments more) → (HoldSegments more → HoldSegments is) → w ≡ header ++ others → IsMark mode header → AreItems mode more others → read_segment mode w ≡ Some (None, others) → Turn mode is w
   stops : read_segment mode w ≡ None → (HoldSegments is → ⊥) → Turn mode is w
 
 turn_at : (mode : Mode) (t : Tree) (more : Items) (w x : List ℕ) → AreItems mode more x → Front mode t w x → Turn mode (value t more) w
@@ -195,7 +197,7 @@ turn_at mode t more w x h (other r n) = stops r (λ s. n s.0)
 pub turn : (mode : Mode) (is : Items) (w : List ℕ) → AreItems mode is w → 1 ≤ length w → Turn mode is w
 turn mode no_items w h some = absurd (let e = ap length h in omega arith)
 turn mode (value t is) w h some = turn_at mode t is w h.1 h.3 (subst (λ z. Front mode t z h.1) (sym h.4) (front mode t h.0 h.1 h.2))
-turn mode (closing is) w h some = goes h.0 h.1 is refl (λ s. s) (λ s. s) h.4 (end_size mode h.0 h.2).0 h.3 (ap (read_segment mode) h.4 ∙ segment_at_end mode h.0 h.1 h.2)
+turn mode (closing is) w h some = goes h.0 h.1 is refl (λ s. s) (λ s. s) h.4 (inr h.2) h.3 (ap (read_segment mode) h.4 ∙ segment_at_end mode h.0 h.1 h.2)
 
 -- ---- a primitive segment with a header of two octets
 
@@ -245,6 +247,10 @@ not_none n e = cc
 number_is : (n m : ℕ) → ◌≡◌ {A = Option ℕ} (Some n) (Some m) → n ≡ m
 number_is n m e = cc
 
+mark_size : (mode : Mode) (w : List ℕ) → IsMark mode w → 2 ≤ length w
+mark_size mode w (inl h) = header_size mode octet_string_tag true h.0 w h.1
+mark_size mode w (inr e) = (end_size mode w e).0
+
 shorter : (header w x : List ℕ) → w ≡ header ++ x → 2 ≤ length header → length x + 2 ≤ length w
 shorter header w x e two = omega (arith, ap length e, length-append header x)
 
@@ -257,7 +263,7 @@ passed_shorter mode is w after found h some r = of_turn (turn mode is w h some)
   where
     of_turn : Turn mode is w → length after + 2 ≤ length w
     of_turn (passes contents header others more e split two k q) = subst (λ z. length z + 2 ≤ length w) (some_pair _ _ _ _ (sym q ∙ r)).1 (shorter_by header contents w others split (header_size _ _ _ _ _ two))
-    of_turn (goes header others more e f g split two k q) = subst (λ z. length z + 2 ≤ length w) (some_pair _ _ _ _ (sym q ∙ r)).1 (shorter header w others split two)
+    of_turn (goes header others more e f g split two k q) = subst (λ z. length z + 2 ≤ length w) (some_pair _ _ _ _ (sym q ∙ r)).1 (shorter header w others split (mark_size mode header two))
     of_turn (stops q n) = absurd (none_pair found after (sym q ∙ r))
 
 -- of values in BER, what is left behind those that were passed: all are segments where these are
@@ -311,7 +317,7 @@ counts_goes w rest after count c some r = of_turn (turn Ber c.left rest c.items 
     of_turn (passes contents header others more e split two k q) = absurd (let p = some_pair _ _ _ _ (sym q ∙ r) in not_none _ p.0)
     of_turn (goes header others more e f g split two k q) =
         let p = some_pair _ _ _ _ (sym q ∙ r) in
-        let s = shorter header rest others split two in
+        let s = shorter header rest others split (mark_size Ber header two) in
         let b = c.bound in
         record {
           values = c.values;
@@ -536,11 +542,18 @@ contents_at w passed header contents after s e l b =
     let d : drop s.start w ≡ contents ++ after = ap (drop s.start) is ∙ drop_at (passed ++ header) (contents ++ after) s.start at in
     (ap (take (s.start + s.len - s.start)) d ∙ take_at contents after (s.start + s.len - s.start) n, omega (arith, size, l, at), omega (arith, at, length-append passed header))
 
--- and the header in front of them
-header_at : (w passed header behind : List ℕ) (start : ℕ) → w ≡ passed ++ (header ++ behind) → start ≡ length passed + length header → slice_range w (length passed) start ≡ header
-header_at w passed header behind start e at =
-    let d : drop (length passed) w ≡ header ++ behind = ap (drop (length passed)) e ∙ drop_at passed (header ++ behind) (length passed) refl in
-    ap (take (start - length passed)) d ∙ take_at header behind (start - length passed) (omega (arith, at))
+-- and what stands in front of them
+range_at : (w front middle behind : List ℕ) (n start : ℕ) → w ≡ front ++ (middle ++ behind) → length front ≡ n → start ≡ n + length middle → slice_range w n start ≡ middle
+range_at w front middle behind n start e at size =
+    let d : drop n w ≡ middle ++ behind = ap (drop n) e ∙ drop_at front (middle ++ behind) n at in
+    ap (take (start - n)) d ∙ take_at middle behind (start - n) (omega (arith, size))
+
+marks_more : (mode : Mode) (ms : List (List ℕ)) (m : List ℕ) → AreMarks mode ms → IsMark mode m → AreMarks mode (ms ++ m ∷ [])
+marks_more mode [] m h k = (k, tt)
+marks_more mode (l ∷ ms) m h k = (h.0, marks_more mode ms m h.1 k)
+
+joined_more : (ms : List (List ℕ)) (m : List ℕ) → concat (ms ++ m ∷ []) ≡ concat ms ++ m
+joined_more ms m = concat-append ms (m ∷ []) ∙ ap (λ z. concat ms ++ z) (append-nil m)
 
 -- where the last of the segments ends, or else n
 abbrev pub end_of : ℕ → List Segment → ℕ
@@ -551,7 +564,7 @@ end_at_last : (n : ℕ) (ss : List Segment) (s : Segment) → end_of n (ss ++ s 
 end_at_last n [] s = refl
 end_at_last n (r ∷ ss) s = end_at_last (r.start + r.len) ss s
 
-ordered_more : (mode : Mode) (w : List ℕ) (n : ℕ) (ss : List Segment) (s : Segment) → AreInOrder mode w n ss → FollowsHeader mode w (end_of n ss) s → AreInOrder mode w n (ss ++ s ∷ [])
+ordered_more : (mode : Mode) (w : List ℕ) (n : ℕ) (ss : List Segment) (s : Segment) → AreInOrder mode w n ss → IsNext mode w (end_of n ss) s → AreInOrder mode w n (ss ++ s ∷ [])
 ordered_more mode w n [] s h k = (k, tt)
 ordered_more mode w n (r ∷ ss) s h k = (h.0, ordered_more mode w (r.start + r.len) ss s h.1 k)
 
@@ -563,12 +576,14 @@ pub record Fills (mode : Mode) (w rest : List ℕ) (table : List Segment) : Type
   pub left : Items
   pub items : AreItems mode left rest
   pub fine : HoldSegments left
-  pub passed : List ℕ
-  pub split : w ≡ passed ++ rest
+  pub front : List ℕ
+  pub between : List (List ℕ)
+  pub marks : AreMarks mode between
+  pub split : w ≡ front ++ (concat between ++ rest)
   pub parts : segments_of values ≡ segments_at w table ++ parts_of left
   pub within : AreWithin w table
   pub ordered : AreInOrder mode w 0 table
-  pub reached : end_of 0 table ≤ length passed
+  pub reached : length front ≡ end_of 0 table
 
 pub fills_all : (mode : Mode) (w : List ℕ) → AreCut mode w → Fills mode w w []
 fills_all mode w h = record {
@@ -578,12 +593,14 @@ fills_all mode w h = record {
   left = before h.1.values no_items;
   items = all_items mode h.1.values w h.1.encode;
   fine = all_hold h.1.values (shape_segments mode h.1.values h.1.shape);
-  passed = [];
+  front = [];
+  between = [];
+  marks = tt;
   split = refl;
   parts = sym (all_parts h.1.values);
   within = tt;
   ordered = tt;
-  reached = omega arith;
+  reached = refl;
 }
 
 pub fills_shorter : (mode : Mode) (w rest after : List ℕ) (table : List Segment) (found : Option ℕ) → Fills mode w rest table → 1 ≤ length rest → read_segment mode rest ≡ Some (found, after) → length after + 2 ≤ length rest
@@ -597,7 +614,7 @@ fills_room mode w rest after table n c some r = of_turn (turn mode c.left rest c
     of_turn (passes contents header others more e split two k q) =
         let p = some_pair _ _ _ _ (sym q ∙ r) in
         let l : length contents ≡ n = number_is _ _ p.0 in
-        let a : length w ≡ length c.passed + length rest = ap length c.split ∙ length-append c.passed rest in
+        let a : length w ≡ length c.front + (length (concat c.between) + length rest) = ap length c.split ∙ length-append c.front (concat c.between ++ rest) ∙ ap (λ z. length c.front + z) (length-append (concat c.between) rest) in
         let b : length rest ≡ length header + (length contents + length others) = ap length split ∙ length-append header (contents ++ others) ∙ ap (λ z. length header + z) (length-append contents others) in
         omega (arith, a, b, l, ap length p.1)
     of_turn (goes header others more e f g split two k q) = absurd (let p = some_pair _ _ _ _ (sym r ∙ q) in not_none _ p.0)
@@ -616,8 +633,10 @@ fills_goes mode w rest after table c some r = of_turn (turn mode c.left rest c.i
   where
     of_turn : Turn mode c.left rest → Fills mode w after table
     of_turn (passes contents header others more e split two k q) = absurd (let p = some_pair _ _ _ _ (sym q ∙ r) in not_none _ p.0)
-    of_turn (goes header others more e f g split two k q) =
+    of_turn (goes header others more e f g split mark k q) =
         let p = some_pair _ _ _ _ (sym q ∙ r) in
+        let is : rest ≡ header ++ after = split ∙ ap (λ z. header ++ z) p.1 in
+        let joined : concat c.between ++ (header ++ after) ≡ concat (c.between ++ header ∷ []) ++ after = sym (append_assoc (concat c.between) header after) ∙ ap (λ z. z ++ after) (sym (joined_more c.between header)) in
         record {
           values = c.values;
           encode = c.encode;
@@ -625,12 +644,14 @@ fills_goes mode w rest after table c some r = of_turn (turn mode c.left rest c.i
           left = more;
           items = subst (AreItems mode more) p.1 k;
           fine = f c.fine;
-          passed = c.passed ++ header;
-          split = c.split ∙ ap (λ z. c.passed ++ z) (split ∙ ap (λ z. header ++ z) p.1) ∙ sym (append_assoc c.passed header after);
+          front = c.front;
+          between = c.between ++ header ∷ [];
+          marks = marks_more mode c.between header c.marks mark;
+          split = c.split ∙ ap (λ z. c.front ++ (concat c.between ++ z)) is ∙ ap (λ z. c.front ++ z) joined;
           parts = c.parts ∙ ap (λ z. segments_at w table ++ z) e;
           within = c.within;
           ordered = c.ordered;
-          reached = omega (arith, c.reached, length-append c.passed header);
+          reached = c.reached;
         }
     of_turn (stops q x) = absurd (none_pair _ _ (sym q ∙ r))
 
@@ -642,8 +663,11 @@ fills_piece mode w rest after table s c some r b = of_turn (turn mode c.left res
         let p = some_pair _ _ _ _ (sym q ∙ r) in
         let n : length contents ≡ s.len = number_is _ _ p.0 in
         let is : rest ≡ header ++ (contents ++ after) = split ∙ ap (λ z. header ++ (contents ++ z)) p.1 in
-        let there : w ≡ c.passed ++ (header ++ (contents ++ after)) = c.split ∙ ap (λ z. c.passed ++ z) is in
-        let at = contents_at w c.passed header contents after s there (sym n) b in
+        let passed : List ℕ = c.front ++ concat c.between in
+        let there : w ≡ passed ++ (header ++ (contents ++ after)) = c.split ∙ ap (λ z. c.front ++ (concat c.between ++ z)) is ∙ sym (append_assoc c.front (concat c.between) (header ++ (contents ++ after))) in
+        let behind : w ≡ c.front ++ ((concat c.between ++ header) ++ (contents ++ after)) = c.split ∙ ap (λ z. c.front ++ (concat c.between ++ z)) is ∙ ap (λ z. c.front ++ z) (sym (append_assoc (concat c.between) header (contents ++ after))) in
+        let at = contents_at w passed header contents after s there (sym n) b in
+        let from : s.start ≡ end_of 0 table + length (concat c.between ++ header) = omega (arith, at.2, c.reached, length-append c.front (concat c.between), length-append (concat c.between) header) in
         let own : IsHeader mode octet_string_tag false (Definite s.len) header = subst (λ z. IsHeader mode octet_string_tag false (Definite z) header) n h in
         let t : segments_at w (table ++ s ∷ []) ≡ segments_at w table ++ contents ∷ [] = map-append (segment_at w) table (s ∷ []) ∙ ap (λ z. segments_at w table ++ z ∷ []) at.0 in
         record {
@@ -653,16 +677,20 @@ fills_piece mode w rest after table s c some r b = of_turn (turn mode c.left res
           left = more;
           items = subst (AreItems mode more) p.1 k;
           fine = (let x : IsSegment (primitive octet_string_tag contents) × HoldSegments more = subst HoldSegments e c.fine in x.1);
-          passed = c.passed ++ (header ++ contents);
-          split = c.split ∙ ap (λ z. c.passed ++ z) (is ∙ sym (append_assoc header contents after)) ∙ sym (append_assoc c.passed (header ++ contents) after);
+          front = passed ++ (header ++ contents);
+          between = [];
+          marks = tt;
+          split = there ∙ ap (λ z. passed ++ z) (sym (append_assoc header contents after)) ∙ sym (append_assoc passed (header ++ contents) after);
           parts = c.parts ∙ ap (λ z. segments_at w table ++ parts_of z) e ∙ sym (append_assoc (segments_at w table) (contents ∷ []) (parts_of more)) ∙ ap (λ z. z ++ parts_of more) (sym t);
           within = within_more w table s c.within at.1;
           ordered = ordered_more mode w 0 table s c.ordered (record {
-            begins = length c.passed;
-            behind = c.reached;
-            header = subst (IsHeader mode octet_string_tag false (Definite s.len)) (sym (header_at w c.passed header (contents ++ after) s.start there at.2)) own;
+            marks = c.between;
+            header = header;
+            are_marks = c.marks;
+            is_header = own;
+            is = range_at w c.front (concat c.between ++ header) (contents ++ after) (end_of 0 table) s.start behind c.reached from;
           });
-          reached = omega (arith, end_at_last 0 table s, at.2, n, length-append c.passed (header ++ contents), length-append header contents);
+          reached = omega (arith, end_at_last 0 table s, at.2, n, length-append passed (header ++ contents), length-append header contents);
         }
     of_turn (goes header others more e f g split two k q) = absurd (let p = some_pair _ _ _ _ (sym r ∙ q) in not_none _ p.0)
     of_turn (stops q x) = absurd (none_pair _ _ (sym q ∙ r))

@@ -1,9 +1,12 @@
 -- The table of the segments of an octet string that was cut.
-use Rattle.std.specs.Prelude.{ℕ, ◌+◌, ◌≤◌, false, List, [], ◌∷◌, length, map, slice_range, ⊤}
+use Rattle.std.specs.Prelude.{◌≡◌, ◌⊎◌, ℕ, ◌+◌, ◌≤◌, true, false, List, [], ◌∷◌, ◌++◌, length, map, slice_range, ⊤}
+use Rattle.std.specs.List.{concat}
+use Rattle.bcder.specs.declared.length.Length.{Length}
 use Rattle.bcder.specs.declared.length.Length.TheVariants.{Definite}
 use Rattle.bcder.specs.declared.mode.Mode.{Mode}
 use Rattle.bcder.specs.declared.string.octet.Segment.{Segment}
 use Rattle.bcder.specs.x690.Encoding.{IsHeader}
+use Rattle.bcder.specs.x690.Length.{IsEndOfContents}
 use Rattle.bcder.specs.x690.OctetString.{octet_string_tag, AreSegmented}
 
 -- the octets where a segment's contents octets stand
@@ -18,16 +21,26 @@ abbrev pub AreWithin : List ℕ → List Segment → Type 0
 AreWithin w [] = ⊤
 AreWithin w (s ∷ ss) = (s.start + s.len ≤ length w) × AreWithin w ss
 
--- a segment stands right behind a header of its own, which begins behind the first n octets
-pub record FollowsHeader (mode : Mode) (w : List ℕ) (n : ℕ) (s : Segment) : Type 0 where
-  pub begins : ℕ
-  pub behind : n ≤ begins
-  pub header : IsHeader mode octet_string_tag false (Definite s.len) (slice_range w begins s.start)
+-- what stands between primitive segments: the header of a constructed one, or end-of-contents octets (8.7.3.2, 8.1.5)
+abbrev pub IsMark : Mode → List ℕ → Type 0
+IsMark mode w = ((len : Length) × IsHeader mode octet_string_tag true len w) ⊎ IsEndOfContents mode w
 
--- each does, behind those before it
+abbrev pub AreMarks : Mode → List (List ℕ) → Type 0
+AreMarks mode [] = ⊤
+AreMarks mode (w ∷ ws) = IsMark mode w × AreMarks mode ws
+
+-- behind the first n octets stand such, if any, and then a header, right behind which the segment stands
+pub record IsNext (mode : Mode) (w : List ℕ) (n : ℕ) (s : Segment) : Type 0 where
+  pub marks : List (List ℕ)
+  pub header : List ℕ
+  pub are_marks : AreMarks mode marks
+  pub is_header : IsHeader mode octet_string_tag false (Definite s.len) header
+  pub is : slice_range w n s.start ≡ concat marks ++ header
+
+-- each is the next one behind the first n octets, or behind the one before it
 abbrev pub AreInOrder : Mode → List ℕ → ℕ → List Segment → Type 0
 AreInOrder mode w n [] = ⊤
-AreInOrder mode w n (s ∷ ss) = FollowsHeader mode w n s × AreInOrder mode w (s.start + s.len) ss
+AreInOrder mode w n (s ∷ ss) = IsNext mode w n s × AreInOrder mode w (s.start + s.len) ss
 
 -- the table tells the parts of the segments that the octets are, each once, in their order, and where it stands
 pub record IsTable (mode : Mode) (w : List ℕ) (ss : List Segment) : Type 0 where

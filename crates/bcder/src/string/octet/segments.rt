@@ -208,3 +208,41 @@ pub(super) fn table_of(
         None => Ok(None),
     }
 }
+
+#[cfg(test)]
+mod tests {
+    use crate::Mode;
+    use crate::string::octet::{OctetString, Octets};
+
+    /// Whether a string was cut into segments of these places and lengths.
+    fn stands_at(string: &OctetString, places: &[(usize, usize)]) -> bool {
+        let Octets::Cut(_, table) = &string.octets else {
+            return false;
+        };
+        let mut segments = table.iter();
+        for (start, len) in places {
+            match segments.next() {
+                Some(segment) => {
+                    if segment.start != *start || segment.len != *len {
+                        return false;
+                    }
+                }
+                None => return false,
+            }
+        }
+        segments.next().is_none()
+    }
+
+    /// Empty segments stand behind headers of their own, in front of that of the last one.
+    #[tactic(auto, using(crate::specs::laws::Moved::untouched_is_moved))]
+    #[test]
+    fn places_of_empty_segments(rt: HostRuntime) {
+        let alloc = rt.alloc();
+        let octets = [0x24, 0x07, 0x04, 0x00, 0x04, 0x00, 0x04, 0x01, 0x61];
+        let outcome = Mode::Ber.decode(octets.as_slice(), |cons| {
+            OctetString::take_from(alloc, cons)
+        });
+        let string = outcome.expect(&rt, "an octet string");
+        assert!(rt; stands_at(&string, &[(2, 0), (4, 0), (6, 1)]));
+    }
+}
