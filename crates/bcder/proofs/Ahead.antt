@@ -21,6 +21,7 @@ use Rattle.bcder.specs.calls.Takes.{HasNone, TakesNext, by_form}
 use Rattle.bcder.proofs.Entering.{looked_enters, header_entered, no_fewer}
 use Rattle.bcder.proofs.Stopping.{header_stopped}
 use Rattle.bcder.proofs.Taking.{next_refused}
+use Rattle.bcder.proofs.Naming.{named_alike}
 
 alike : (c d : Reading) → Resembles c d → Resembles d c
 alike c d s = record { rest = sym s.rest; kept = sym s.kept; owed = sym s.owed; kind = sym s.kind; state = sym s.state; mode = sym s.mode; marked = sym s.marked; name = sym s.name }
@@ -69,7 +70,7 @@ module _ (c d e : Reading) (s : Resembles c d) (f : d.stream.faults ≡ c.stream
     usable = sym s.state ∙ n.usable;
     header = λ after h. n.header after (header_alike c d s (tagged t) after h);
     absent = λ after a. n.absent after (absent_alike c d s t after a);
-  }) o
+  }) (named_alike c d s (why x) o)
 
   form_ahead : HasForm true (tagged t) d → HasForm true (tagged t) c
   unfolding header_alike
@@ -100,21 +101,21 @@ module _ (c d : Reading) (t : Tag) (h : CodeHeader) (e : h.tag ≡ t) (x : Enter
 
 -- an error is for the cause that a stop has
 abbrev IsOfCause : {X : Type 0} → Cause ContentError → DecodeError X → Type 0
-IsOfCause s e = (IsOfContent s → IsRefusal e) × (s ≡ of_source → cause_of e ≡ of_source) × (s ≡ of_memory → cause_of e ≡ of_memory)
+IsOfCause s e = cause_of e ≡ s
 
 -- what a take says where no header was passed
 module _ {C T X S : Type 0} (view : C → Reading) (post : Tag → MutBor C → Result T (DecodeError X) → MutBor C → Type 0) (c d : Reading) (mode : d.mode ≡ c.mode) (t : Tag) where
-  pub next_stopped : (stopped : S → Cause ContentError) (s : S) (e : DecodeError X) → (IsOfContent (stopped s) → IsRefusal e) → (stopped s ≡ of_source → cause_of e ≡ of_source) → d.marked ≡ c.marked → d.state ≡ Failed → RefusesHeader stopped (tagged t) c s d ⊎ HasForm true (tagged t) c × IsOfContent (stopped s) → TakesNext view post (Some true) (tagged t) c (Err e) d
-  next_stopped stopped s e own lost m f (inl h) = next_refused view post (Some true) (tagged t) c d mode e (header_stopped stopped cause_of s e own lost c d (tagged t) h) m f
-  next_stopped stopped s e own lost m f (inr x) = record { value = tt; shorter = tt; none = tt; refused = by_form x.0 (own x.1) m; failed = f; mode = mode }
+  pub next_stopped : (stopped : S → Cause ContentError) (s : S) (e : DecodeError X) → IsOfCause (stopped s) e → d.marked ≡ c.marked → d.state ≡ Failed → RefusesHeader stopped (tagged t) c s d ⊎ HasForm true (tagged t) c × IsOfContent (stopped s) → TakesNext view post (Some true) (tagged t) c (Err e) d
+  next_stopped stopped s e same m f (inl h) = next_refused view post (Some true) (tagged t) c d mode e (header_stopped stopped cause_of s e same c d (tagged t) h) m f
+  next_stopped stopped s e same m f (inr x) = record { value = tt; shorter = tt; none = tt; refused = by_form x.0 (subst IsOfContent (sym same) x.1) m; failed = f; mode = mode }
 
   -- the same of an answer
   pub next_stops : (stopped : S → Cause ContentError) (s : S) (r : Result (Option T) (DecodeError X)) → IsErrAnd r (IsOfCause (stopped s)) → d.marked ≡ c.marked → d.state ≡ Failed → RefusesHeader stopped (tagged t) c s d ⊎ HasForm true (tagged t) c × IsOfContent (stopped s) → TakesNext view post (Some true) (tagged t) c r d
-  next_stops stopped s (Err e) y m f h = next_stopped stopped s e y.0 y.1 m f h
+  next_stops stopped s (Err e) y m f h = next_stopped stopped s e y m f h
   next_stops stopped s (Ok _) y m f h = elim y [ ]
 
 -- the same of a value of any form
 module _ {C T X S : Type 0} (view : C → Reading) (post : Tag → MutBor C → Result T (DecodeError X) → MutBor C → Type 0) (form : Option Bool) (asked : Asked) (c d : Reading) (mode : d.mode ≡ c.mode) where
   pub next_answered : (stopped : S → Cause ContentError) (s : S) (r : Result (Option T) (DecodeError X)) → IsErrAnd r (IsOfCause (stopped s)) → d.marked ≡ c.marked → d.state ≡ Failed → RefusesHeader stopped asked c s d → TakesNext view post form asked c r d
-  next_answered stopped s (Err e) y m f h = next_refused view post form asked c d mode e (header_stopped stopped cause_of s e y.0 y.1 c d asked h) m f
+  next_answered stopped s (Err e) y m f h = next_refused view post form asked c d mode e (header_stopped stopped cause_of s e y c d asked h) m f
   next_answered stopped s (Ok _) y m f h = elim y [ ]

@@ -16,7 +16,7 @@ use Rattle.bcder.specs.laws.Sound.{none_is, some_inj, identifier_sound, length_s
 use Rattle.bcder.specs.laws.Stands.{AreOctets-after, header_sound}
 use Rattle.bcder.specs.laws.Complete.{header_complete}
 
-some_is_none : {A : Type 0} (x : A) → ◌≡◌ {A = Option A} (Some x) None → ⊥
+pub some_is_none : {A : Type 0} (x : A) → ◌≡◌ {A = Option A} (Some x) None → ⊥
 some_is_none x e = cc
 
 unmapped : {A B : Type 0} (f : A → B) (r : Option A) → option_map f r ≡ None → r ≡ None

@@ -1,5 +1,5 @@
 -- What a capture takes of the source behind, and what is left of it.
-use Rattle.std.proofs.Common.{◌≡◌, ◌≢◌, ℕ, ◌-◌, ◌≤◌, ◌||◌, Bool, true, false, List, ◌++◌, length, take, drop, Option, Some, None, refl, sym, ap, ◌∙◌, subst, append_assoc, arith, inl, inr}
+use Rattle.std.proofs.Common.{◌≡◌, ◌≢◌, ℕ, ◌-◌, ◌<◌, ◌≤◌, ◌||◌, Bool, true, false, List, ◌++◌, length, take, drop, Option, Some, None, refl, sym, ap, ◌∙◌, subst, append_assoc, arith, inl, inr}
 use Rattle.std.specs.Prelude.{Result, Ok, Err, ◌↔◌, IsTrue, IfOk, IfErr, OnOk, OnErr}
 use Rattle.std.specs.Borrow.{MutBor}
 use Rattle.std.proofs.lemmas.Grind.{common_steps}
@@ -47,6 +47,10 @@ pub ran_kept : {C E : Type 0} (why : E → Cause ContentError) (view : C → Rea
 unfolding Moves
 ran_kept why view post s s' o o' k st st' m r mark h = ap (λ (x : Stream). x.kept) (sym h.left_stream) ∙ h.moves.kept ∙ ap (λ (x : Stream). x.kept) h.from.stream
 
+-- octets of which all were passed that a count says
+all_passed : (p behind s v x y : List ℕ) (n : ℕ) → s ≡ p ++ behind → v ≡ s → n ≤ length v → length behind ≡ length v - n → 1 ≤ n → x ≡ p ++ y → length y < length x
+all_passed p behind s v x y n a b within l some e = omega (arith, ap length a, ap length b, within, l, some, ap length e, length-append p behind, length-append p y)
+
 -- ---- what was taken from the source behind
 
 module _ {C X : Type 0} (view : C → Reading) (post : MutBor C → Result (Unit {0}) (DecodeError X) → MutBor C → Type 0) (s v s' : Stream) (o o' : Option ℕ) (k : Kind) (st st' : State) (m : Mode) (mark : Bool) (name name' z n : ℕ) (fresh : z ≡ 0) where
@@ -84,12 +88,22 @@ module _ {C X : Type 0} (view : C → Reading) (post : MutBor C → Result (Unit
       let same : p ≡ b = append_cancel_right p b s'.rest (ap (λ i. p ++ i) (sym w) ∙ sym y ∙ sym (same_rest r h) ∙ sym e) in
       h.moves.rest ∙ ap (λ i. i ++ h.left.stream.rest) same
 
-  none_taken : (e : DecodeError X) (h : Ran (Ok tt)) (why : Cause ContentError) → cause_of e ≡ why → MatchCause why (Grew v.faults s'.faults) ⊥ (s'.faults ≡ v.faults) → RefusesLeft view post h.handed e h.left s'.faults
+  -- so many were passed
+  passed_count : (r : Result (Unit {0}) (DecodeError X)) (h : Ran r) → 1 ≤ n → length h.left.stream.rest < length h.handed.stream.rest
+  unfolding Moves
+  passed_count r h some =
+      let p = h.moves.passed in
+      let x : (limited o (ahead name z s)).rest ≡ p ++ (limited o' (ahead name' n v)).rest = ap (λ (y : Stream). y.rest) (sym h.from.stream) ∙ h.moves.rest ∙ ap (λ (y : Stream). p ++ y.rest) h.left_stream in
+      let y : s.rest ≡ p ++ drop n v.rest = capture_passed o o' name name' z n s v fresh (ran_kept _ _ _ _ _ _ _ _ _ _ _ _ _ h) p x in
+      let w : n ≤ length v.rest = capture_within o o' name name' z n s v fresh (ran_kept _ _ _ _ _ _ _ _ _ _ _ _ _ h) in
+      all_passed p (drop n v.rest) s.rest v.rest h.handed.stream.rest h.left.stream.rest n y (same_rest r h) w (let q : length (drop n v.rest) ≡ length v.rest - n = grind (arith, common_steps) in q) some h.moves.rest
+
+  none_taken : (e : DecodeError X) (h : Ran (Ok tt)) (why : Cause ContentError) → cause_of e ≡ why → MatchCause why (Grew v.faults s'.faults) ⊥ ((s'.faults ≡ v.faults) × (1 ≤ n)) → RefusesLeft view post h.handed e h.left s'.faults
   none_taken e h of_source is a = by_source h.answers h.usable is (rw (left_faults (Ok tt) h) a)
   none_taken e h (of_content x) is a = absurd a
-  none_taken e h of_memory is a = by_memory h.answers h.usable is (a ∙ sym (left_faults (Ok tt) h))
+  none_taken e h of_memory is a = by_memory h.answers h.usable is (passed_count (Ok tt) h a.1) (a.0 ∙ sym (left_faults (Ok tt) h))
 
-  pub took : Ran (Ok tt) → (q : Result (List ℕ) (DecodeError X)) → IfOk q (λ b. b ++ s'.rest ≡ v.rest) → IfOk q (λ b. length b ≡ n) → OnOk q (s'.faults ≡ v.faults) → IfErr q (λ e. MatchCause (cause_of e) (Grew v.faults s'.faults) ⊥ (s'.faults ≡ v.faults)) → OnErr q (s'.rest ≡ v.rest) → s'.kept ≡ v.kept → CapturesOver view post s o k st m q st' mark s'
+  pub took : Ran (Ok tt) → (q : Result (List ℕ) (DecodeError X)) → IfOk q (λ b. b ++ s'.rest ≡ v.rest) → IfOk q (λ b. length b ≡ n) → OnOk q (s'.faults ≡ v.faults) → IfErr q (λ e. MatchCause (cause_of e) (Grew v.faults s'.faults) ⊥ ((s'.faults ≡ v.faults) × (1 ≤ n))) → OnErr q (s'.rest ≡ v.rest) → s'.kept ≡ v.kept → CapturesOver view post s o k st m q st' mark s'
   took h (Ok b) e l f a r c = record {
     handed = h.handed;
     left = h.left;
@@ -131,10 +145,10 @@ module _ {C X : Type 0} (view : C → Reading) (post : MutBor C → Result (Unit
   so : (q : Result (List ℕ) (DecodeError X)) → CapturesOver view post s o k st m q st' mark s' → CapturesOver view post t p k st m q st' mark t'
   so q h = subst (λ x. CapturesOver view post t p k st m q st' mark x) is_left (subst (λ x. CapturesOver view post t x k st m q st' mark s') is_o (subst (λ x. CapturesOver view post x o k st m q st' mark s') is_s h))
 
-  pub captures_over : (u : Unit {0}) → r ≡ Ok u → n ≡ i → (q : Result (List ℕ) (DecodeError X)) → IfOk q (λ b. b ++ s'.rest ≡ w.rest) → IfOk q (λ b. length b ≡ i) → OnOk q (s'.faults ≡ w.faults) → IfErr q (λ e. MatchCause (cause_of e) (Grew w.faults s'.faults) ⊥ (s'.faults ≡ w.faults)) → OnErr q (s'.rest ≡ w.rest) → s'.kept ≡ w.kept → CapturesOver view post t p k st m q st' mark t'
+  pub captures_over : (u : Unit {0}) → r ≡ Ok u → n ≡ i → (q : Result (List ℕ) (DecodeError X)) → IfOk q (λ b. b ++ s'.rest ≡ w.rest) → IfOk q (λ b. length b ≡ i) → OnOk q (s'.faults ≡ w.faults) → IfErr q (λ e. MatchCause (cause_of e) (Grew w.faults s'.faults) ⊥ ((s'.faults ≡ w.faults) × (1 ≤ i))) → OnErr q (s'.rest ≡ w.rest) → s'.kept ≡ w.kept → CapturesOver view post t p k st m q st' mark t'
   captures_over u is_ok is_n q e l f a b c =
       so q (took view post s v s' o o' k st st' m mark name name' z n fresh (subst (λ x. RanFrom cause_of view post (limited o (ahead name z s)) o k st m x st' mark (limited o' (ahead name' n v)) o') is_ok ran) q
-      (rw is_v e) (rw is_n l) (rw is_v f) (rw is_v a) (rw is_v b) (rw is_v c))
+      (rw is_v e) (rw is_n l) (rw is_v f) (rw (is_v, is_n) a) (rw is_v b) (rw is_v c))
 
   pub captures_none : (e : DecodeError X) → r ≡ Err e → s' ≡ w → CapturesOver view post t p k st m (Err e) st' mark t'
   captures_none e is_err same =
@@ -357,7 +371,7 @@ module _ {C X : Type 0} (view : C → Reading) (post : MutBor C → Result (Unit
     left_faults_of : (f : ℕ) → RefusesLeft view post undone.handed e undone.left f → undone.left.stream.faults ≤ f
     left_faults_of f (by_content r g) = omega (arith, g)
     left_faults_of f (by_source a u w g) = g.no_smaller
-    left_faults_of f (by_memory a u w g) = omega (arith, g)
+    left_faults_of f (by_memory a u w s g) = omega (arith, g)
 
     pub refused_moves : Moves c d
     refused_moves =

@@ -1,5 +1,5 @@
 -- What a capture of the next value, or of all values, holds.
-use Rattle.std.proofs.Common.{◌≡◌, ◌≢◌, ℕ, ◌||◌, Bool, true, false, List, [], ◌∷◌, ◌++◌, length, Option, Some, None, refl, sym, ap, ◌∙◌, subst, append_assoc, append-nil, arith, inl, inr}
+use Rattle.std.proofs.Common.{◌≡◌, ◌≢◌, ℕ, ◌<◌, ◌||◌, Bool, true, false, List, [], ◌∷◌, ◌++◌, length, Option, Some, None, refl, sym, ap, ◌∙◌, subst, append_assoc, append-nil, length-append, arith, inl, inr}
 use Rattle.std.specs.Prelude.{Result, Ok, Err, IsOkAnd, IsErrAnd, IsOk, IfOk, IfErr}
 use Rattle.std.specs.Borrow.{MutBor}
 use Rattle.std.proofs.lemmas.List.{append_cancel_right}
@@ -9,22 +9,23 @@ use Rattle.bcder.specs.declared.decode.content.State.TheVariants.{Open, Ended, F
 use Rattle.bcder.specs.declared.decode.error.DecodeError.{DecodeError}
 use Rattle.bcder.specs.calls.Cause.{cause_of}
 use Rattle.bcder.specs.x690.Tree.{Tree}
-use Rattle.bcder.specs.x690.Encoding.{IsEncoding}
+use Rattle.bcder.specs.x690.Encoding.{IsEncoding, AreEncodings}
+use Rattle.bcder.specs.x690.Preorder.{Heading}
 use Rattle.bcder.specs.x690.Grammar.{IsOnly}
 use Rattle.bcder.specs.calls.Stream.{Grew}
 use Rattle.bcder.specs.calls.Captured.{Kept, AreWhole}
 use Rattle.bcder.specs.calls.Capturing.{IsCaptureOf, Captures, RefusesCapture, RefusesLeft, by_content, by_source, by_memory}
-use Rattle.bcder.specs.calls.CapturingValues.{RefusesWhere, failed, source, nothing, memory, WantsMemory, CapturesBy, PassesBy, CapturesValue, HasNoValue, CapturesValues, HasOthers, PassesToEnd}
-use Rattle.bcder.specs.calls.Content.{Reading, ContentForm, octets, values, Octets, IndefiniteValues, label, Closes, Moves, Falls, HasMarker, EndsAt, IsDone, IsUsedUp}
+use Rattle.bcder.specs.calls.CapturingValues.{RefusesWhere, failed, source, nothing, memory, WantsMemory, CapturesBy, PassesBy, LeadDeep, BeginsDeep, HasValueOrDeep, of_value, of_depth, HasDeepBehind, HasValuesOrDeep, MetDeep, CapturesValue, HasNoValue, CapturesValues, HasOthers, PassesToEnd}
+use Rattle.bcder.specs.calls.Content.{Reading, ContentForm, octets, values, Octets, IndefiniteValues, label, Closes, Moves, Whole, Falls, HasMarker, EndsAt, NotAtEnd, IsAtEnd, of_octets, of_definite, of_indefinite, of_unbounded, IsDone, IsUsedUp}
 use Rattle.bcder.specs.calls.Calls.{Answered}
 use Rattle.bcder.specs.calls.Decoding.{by_closure, left_failed}
 use Rattle.bcder.specs.calls.Walking.{HasValue, PassesValue, ClosesBefore, HasValues, Walks}
 use Rattle.bcder.specs.calls.Walking as walking
-use Rattle.bcder.specs.calls.Skipping.{RefusesOne}
+use Rattle.bcder.specs.calls.Skipping.{RefusesOne, GoesDeep}
 use Rattle.bcder.specs.calls.Skipping as skipping
 use Rattle.bcder.proofs.Moving.{open_not_ended, open_not_failed}
 use Rattle.bcder.proofs.Entering.{Within}
-use Rattle.bcder.proofs.WalkSteps.{value_not_at_end, value_once, moves_faults, grew_from, walks_refused}
+use Rattle.bcder.proofs.WalkSteps.{value_not_at_end, value_once, moves_faults, grew_from, walks_refused, done_here}
 
 -- ---- the same of content that resembles
 
@@ -46,15 +47,25 @@ module _ (c i : Reading) (h : IsCaptureOf c i) where
     closes = rw (h.kind, h.mode, h.owed) v.closes;
   }
 
+  values_in : HasValues i → HasValues c
+  values_in v = record {
+    trees = v.trees;
+    all = v.all;
+    after = v.after;
+    encode = subst (λ m. AreEncodings m v.trees v.all) h.mode v.encode;
+    rest = sym h.rest ∙ v.rest;
+    closes = subst (λ o. ClosesBefore c.kind c.mode o v.all v.after) h.owed (subst (λ m. ClosesBefore c.kind m i.owed v.all v.after) h.mode (subst (λ k. ClosesBefore k i.mode i.owed v.all v.after) h.kind v.closes));
+  }
+
   pub others_of : HasOthers i → HasOthers c
   others_of n = record { usable = sym h.state ∙ n.usable; none = λ v. n.none (values_of v) }
 
 -- what is refused of the content inside is refused of that around it
-where_of : {X : Type 0} (P Q : Type 0) → (P → Q) → (c i j d : Reading) (e : DecodeError X) → i.state ≡ c.state → i.stream.faults ≡ c.stream.faults → d.stream.faults ≡ j.stream.faults → RefusesWhere P i e j → RefusesWhere Q c e d
-where_of P Q f c i j d e s a b (failed x o) = failed (sym s ∙ x) o
-where_of P Q f c i j d e s a b (source k g) = source k (rw (← a, b) g)
-where_of P Q f c i j d e s a b (nothing n o) = nothing (f n) o
-where_of P Q f c i j d e s a b (memory m) = memory m
+where_of : {X : Type 0} (P Q D E : Type 0) → (P → Q) → (D → E) → (c i j d : Reading) (e : DecodeError X) → i.state ≡ c.state → i.stream.faults ≡ c.stream.faults → d.stream.faults ≡ j.stream.faults → RefusesWhere P D i e j → RefusesWhere Q E c e d
+where_of P Q D E f g c i j d e s a b (failed x o) = failed (sym s ∙ x) o
+where_of P Q D E f g c i j d e s a b (source k y) = source k (rw (← a, b) y)
+where_of P Q D E f g c i j d e s a b (nothing n o) = nothing (f n) o
+where_of P Q D E f g c i j d e s a b (memory m n) = memory m (g n)
 
 pub end_has_none : (c d : Reading) → Within c → EndsAt c d → HasNoValue c
 end_has_none c d w e = record { none = λ t v after h. (value_not_at_end c w t v after h).none d.stream.rest e }
@@ -65,29 +76,30 @@ or_false : (a : Bool) → (a || false) ≡ a
 or_false true = refl
 or_false false = refl
 
-module _ {C X : Type 0} (view : C → Reading) (post : MutBor C → Result (Unit {0}) (DecodeError X) → MutBor C → Type 0) (Q : Reading → Reading → Type 0) (HasNone : Reading → Type 0)
-    (law : (p : MutBor C) (r : Result (Unit {0}) (DecodeError X)) (q : MutBor C) → post p r q → PassesBy Q HasNone (view p.now) r (view q.now))
-    (around : (c i : Reading) → IsCaptureOf c i → HasNone i → HasNone c) (usable : (i j : Reading) → Q i j → j.state ≢ Failed) where
-  did : (i j : Reading) (r : Result (Unit {0}) (DecodeError X)) → Answered {R = Result (Unit {0}) (DecodeError X)} view post i r j → PassesBy Q HasNone i r j
-  did i j r a = subst (λ z. PassesBy Q HasNone i r z) a.left_is (subst (λ z. PassesBy Q HasNone z r (view a.left.now)) a.handed_is (law a.handed r a.left a.called))
+module _ {C X : Type 0} (view : C → Reading) (post : MutBor C → Result (Unit {0}) (DecodeError X) → MutBor C → Type 0) (Q : Reading → Reading → Type 0) (HasNone IsDeep HasSome : Reading → Type 0)
+    (law : (p : MutBor C) (r : Result (Unit {0}) (DecodeError X)) (q : MutBor C) → post p r q → PassesBy Q HasNone IsDeep (view p.now) r (view q.now))
+    (around : (c i : Reading) → IsCaptureOf c i → HasNone i → HasNone c) (usable : (i j : Reading) → Q i j → j.state ≢ Failed)
+    (deep_around : (c i : Reading) → IsCaptureOf c i → IsDeep i → HasSome c) (some_around : (c i j : Reading) → IsCaptureOf c i → Moves i j → Q i j → length j.stream.rest < length i.stream.rest → HasSome c) where
+  did : (i j : Reading) (r : Result (Unit {0}) (DecodeError X)) → Answered {R = Result (Unit {0}) (DecodeError X)} view post i r j → PassesBy Q HasNone IsDeep i r j
+  did i j r a = subst (λ z. PassesBy Q HasNone IsDeep i r z) a.left_is (subst (λ z. PassesBy Q HasNone IsDeep z r (view a.left.now)) a.handed_is (law a.handed r a.left a.called))
 
   left_mark : (i j : Reading) (e : DecodeError X) (n : ℕ) → RefusesLeft view post i e j n → j.marked ≡ i.marked
   left_mark i j e n (by_content (by_closure a) f) = (did i j (Err e) a).marked
   left_mark i j e n (by_content (left_failed x a s o) f) = (did i j (Ok x) a).marked
   left_mark i j e n (by_source a u k g) = (did i j (Ok tt) a).marked
-  left_mark i j e n (by_memory a u k f) = (did i j (Ok tt) a).marked
+  left_mark i j e n (by_memory a u k s f) = (did i j (Ok tt) a).marked
 
-  refused_left : (c i j d : Reading) (e : DecodeError X) → IsCaptureOf c i → RefusesLeft view post i e j d.stream.faults → RefusesWhere (HasNone c) c e d
-  refused_left c i j d e h (by_content (by_closure a) f) = where_of _ _ (around c i h) c i j d e h.state h.faults f (did i j (Err e) a).refused
-  refused_left c i j d e h (by_content (left_failed x a s o) f) = absurd (usable i j (did i j (Ok x) a).passed s)
-  refused_left c i j d e h (by_source a u k g) = source k (subst (λ z. Grew z d.stream.faults) ((did i j (Ok tt) a).no_fault ∙ h.faults) g)
-  refused_left c i j d e h (by_memory a u k f) = memory k
+  refused_left : (c i j d : Reading) (e : DecodeError X) → IsCaptureOf c i → Moves i j → RefusesLeft view post i e j d.stream.faults → RefusesWhere (HasNone c) (HasSome c) c e d
+  refused_left c i j d e h v (by_content (by_closure a) f) = where_of _ _ _ _ (around c i h) (deep_around c i h) c i j d e h.state h.faults f (did i j (Err e) a).refused
+  refused_left c i j d e h v (by_content (left_failed x a s o) f) = absurd (usable i j (did i j (Ok x) a).passed s)
+  refused_left c i j d e h v (by_source a u k g) = source k (subst (λ z. Grew z d.stream.faults) ((did i j (Ok tt) a).no_fault ∙ h.faults) g)
+  refused_left c i j d e h v (by_memory a u k s f) = memory k (some_around c i j h v (did i j (Ok tt) a).passed s)
 
   mark_of : (c d i j : Reading) → i.marked ≡ false → j.marked ≡ i.marked → d.marked ≡ (c.marked || j.marked) → d.marked ≡ c.marked
   mark_of c d i j f s m = m ∙ ap (λ z. c.marked || z) (s ∙ f) ∙ or_false c.marked
 
   module _ (P : Reading → Kept → Reading → Type 0) (c d : Reading) (holds : (k : Kept) (h : Captures view post c k d) → Q h.handed h.left → h.left.marked ≡ false → P c k d) where
-    pub captures_by : (r : Result Kept (DecodeError X)) → IfOk r (λ k. Captures view post c k d) → IfErr r (λ e. RefusesCapture view post c e d) → d.mode ≡ c.mode → CapturesBy P HasNone c r d
+    pub captures_by : (r : Result Kept (DecodeError X)) → IfOk r (λ k. Captures view post c k d) → IfErr r (λ e. RefusesCapture view post c e d) → d.mode ≡ c.mode → CapturesBy P HasNone HasSome c r d
     captures_by (Ok k) h n m =
         let s = did h.handed h.left (Ok tt) h.answered in
         record {
@@ -101,7 +113,7 @@ module _ {C X : Type 0} (view : C → Reading) (post : MutBor C → Result (Unit
     captures_by (Err e) h n m = record {
       captured = tt;
       no_fault = tt;
-      refused = refused_left c n.handed n.left d e n.hands n.refuses;
+      refused = refused_left c n.handed n.left d e n.hands n.moves n.refuses;
       as_before = record { rest = n.rest; owed = n.owed; state = n.state };
       mode = m;
       marked = mark_of c d n.handed n.left n.hands.marked (left_mark n.handed n.left e d.stream.faults n.refuses) n.marked;
@@ -135,15 +147,15 @@ holds_value view post c d k h v f =
     }
 
 -- where it stands in front it is captured, unless the source failed or memory was wanted
-pub exactly_one : {X : Type 0} (c d : Reading) (r : Result Kept (DecodeError X)) → CapturesBy CapturesValue HasNoValue c r d → (Grew c.stream.faults d.stream.faults → ⊥) → (WantsMemory r → ⊥) → (t : Tree) (w after : List ℕ) → HasValue c t w after → IsOkAnd r (λ k. k.octets ≡ w)
+pub exactly_one : {X : Type 0} (c d : Reading) (r : Result Kept (DecodeError X)) → CapturesBy CapturesValue HasNoValue HasValueOrDeep c r d → (Grew c.stream.faults d.stream.faults → ⊥) → (WantsMemory r → ⊥) → (t : Tree) (w after : List ℕ) → HasValue c t w after → IsOkAnd r (λ k. k.octets ≡ w)
 exactly_one c d (Ok k) h g m t w after v = (let s = value_once c h.captured.tree t k.octets w d.stream.rest after h.captured.has v in s.front)
 exactly_one c d (Err e) h g m t w after v = absurd (refuted h.refused)
   where
-    refuted : RefusesWhere (HasNoValue c) c e d → ⊥
+    refuted : RefusesWhere (HasNoValue c) (HasValueOrDeep c) c e d → ⊥
     refuted (failed s o) = open_not_failed c.state v.usable s
     refuted (source k x) = g x
     refuted (nothing n o) = n.none t w after v
-    refuted (memory k) = m k
+    refuted (memory k x) = m k
 
 -- ---- all values
 
@@ -161,7 +173,7 @@ done_of c i s k o r (inl e) = inl (s ∙ e)
 done_of c i s k o r (inr e) = inr (s ∙ e.0, subst (λ z. IsUsedUp z c.owed c.stream.rest) (sym k) (subst (λ z. IsUsedUp i.kind z c.stream.rest) (sym o) (subst (λ z. IsUsedUp i.kind i.owed z) (sym r) e.1)))
 
 pub end_usable : (i j : Reading) → PassesToEnd i j → j.state ≢ Failed
-end_usable i j h e = elim h [ inl x ↦ (let y : Ended ≡ Failed = sym x ∙ e in cc) | inr x ↦ (let y : Open ≡ Failed = sym x.0 ∙ e in cc) ]
+end_usable i j h e = elim h.done [ inl x ↦ (let y : Ended ≡ Failed = sym x ∙ e in cc) | inr x ↦ (let y : Open ≡ Failed = sym x.0 ∙ e in cc) ]
 
 module _ {C X : Type 0} (view : C → Reading) (post : MutBor C → Result (Unit {0}) (DecodeError X) → MutBor C → Type 0) (c d : Reading) (k : Kept) (h : Captures view post c k d) (form : c.kind ≢ Octets) (m : Moves c d) (q : PassesToEnd h.handed h.left) (f : h.left.marked ≡ false) where
   same_mode : k.mode ≡ c.mode
@@ -172,7 +184,7 @@ module _ {C X : Type 0} (view : C → Reading) (post : MutBor C → Result (Unit
   same_kind = m.kind ∙ sym h.hands.kind ∙ sym h.moves.kind
 
   is_done : IsDone d
-  is_done = done_of d h.left h.state same_kind h.owed h.rest q
+  is_done = done_of d h.left h.state same_kind h.owed h.rest q.done
 
   all_passed : (p : List ℕ) → c.stream.rest ≡ p ++ d.stream.rest → p ≡ k.octets ++ h.holds.close
   all_passed p e = append_cancel_right p (k.octets ++ h.holds.close) d.stream.rest (sym e ∙ h.holds.rest ∙ sym (append_assoc k.octets h.holds.close d.stream.rest))
@@ -228,21 +240,114 @@ module _ {C X : Type 0} (view : C → Reading) (post : MutBor C → Result (Unit
   }
 
 -- they are captured where the rest up to the end is encodings, unless the source failed or memory was wanted
-pub exactly_all : {X : Type 0} (c d : Reading) (r : Result Kept (DecodeError X)) → CapturesBy CapturesValues HasOthers c r d → (Grew c.stream.faults d.stream.faults → ⊥) → (WantsMemory r → ⊥) → (HasValues c → c.state ≡ Open → IsOk r) × (c.state ≡ Ended → IsOk r)
+pub exactly_all : {X : Type 0} (c d : Reading) (r : Result Kept (DecodeError X)) → CapturesBy CapturesValues HasOthers HasValuesOrDeep c r d → (Grew c.stream.faults d.stream.faults → ⊥) → (WantsMemory r → ⊥) → (HasValues c → c.state ≡ Open → IsOk r) × (c.state ≡ Ended → IsOk r)
 exactly_all c d (Ok k) h g m = (λ v o. refl, λ e. refl)
 exactly_all c d (Err e) h g m = (λ v o. absurd (refuted v o h.refused), λ s. absurd (not_ended s h.refused))
   where
-    refuted : HasValues c → c.state ≡ Open → RefusesWhere (HasOthers c) c e d → ⊥
+    refuted : HasValues c → c.state ≡ Open → RefusesWhere (HasOthers c) (HasValuesOrDeep c) c e d → ⊥
     refuted v o (failed s a) = open_not_failed c.state o s
     refuted v o (source k x) = g x
     refuted v o (nothing n a) = n.none v
-    refuted v o (memory k) = m k
+    refuted v o (memory k x) = m k
 
-    not_ended : c.state ≡ Ended → RefusesWhere (HasOthers c) c e d → ⊥
+    not_ended : c.state ≡ Ended → RefusesWhere (HasOthers c) (HasValuesOrDeep c) c e d → ⊥
     not_ended s (failed x a) = (let y : Ended ≡ Failed = sym s ∙ x in cc)
     not_ended s (source k x) = g x
     not_ended s (nothing n a) = open_not_ended c.state n.usable s
-    not_ended s (memory k) = m k
+    not_ended s (memory k x) = m k
+
+-- ---- what a capture wants memory for
+
+leads_deep : (c d : Reading) → GoesDeep c d → LeadDeep c.mode c.stream.rest
+leads_deep c d g = record { calls = g.calls; last = g.last; some = g.were.some; stand = g.were.stand; constructed = g.constructed; deep = g.deep }
+
+not_none : (calls : List Heading) (h : Heading) → calls ++ h ∷ [] ≡ [] → ⊥
+not_none [] h e = cc
+not_none (k ∷ calls) h e = cc
+
+-- content that goes deep is open, and not at its end
+deep_usable : (c d : Reading) → GoesDeep c d → (c.state ≡ Open) × NotAtEnd c
+deep_usable c d g = g.were.usable (not_none g.calls g.last)
+
+pub begins_deep : (c d : Reading) → GoesDeep c d → BeginsDeep c
+begins_deep c d g = record { usable = (deep_usable c d g).0; some = (deep_usable c d g).1; leads = leads_deep c d g }
+
+pub one_refused : {X : Type 0} (c d : Reading) (e : DecodeError X) → RefusesOne cause_of c e d → RefusesWhere (HasNoValue c) (BeginsDeep c) c e d
+one_refused c d e (skipping.RefusesOne.by_walk (walking.RefusesWalk.failed s a)) = failed s a
+one_refused c d e (skipping.RefusesOne.by_walk (walking.RefusesWalk.source s f)) = source s f
+one_refused c d e (skipping.RefusesOne.by_walk (walking.RefusesWalk.nothing s n f a)) = nothing (record { none = λ t w after v. n.none t w after v.encodes v.rest }) a
+one_refused c d e (skipping.RefusesOne.by_depth g m) = memory m (begins_deep c d g)
+
+at_end_of : (c i : Reading) → IsCaptureOf c i → (after : List ℕ) → IsAtEnd c after → IsAtEnd i after
+at_end_of c i h after (of_octets k e) = of_octets (h.kind ∙ k) (h.owed ∙ e)
+at_end_of c i h after (of_definite k e) = of_definite (h.kind ∙ k) (h.owed ∙ e)
+at_end_of c i h after (of_indefinite k m) = of_indefinite (h.kind ∙ k) (rw (h.mode, h.rest) m)
+at_end_of c i h after (of_unbounded k e) = of_unbounded (h.kind ∙ k) (h.rest ∙ e)
+
+leads_of : (c i : Reading) → IsCaptureOf c i → LeadDeep i.mode i.stream.rest → LeadDeep c.mode c.stream.rest
+leads_of c i h x = subst (λ m. LeadDeep m c.stream.rest) h.mode (subst (LeadDeep i.mode) h.rest x)
+
+pub one_deep : (c i : Reading) → IsCaptureOf c i → BeginsDeep i → HasValueOrDeep c
+one_deep c i h b = of_depth (record {
+  usable = sym h.state ∙ b.usable;
+  some = record { none = λ after e. b.some.none after (elim e [ inl x ↦ inl (h.state ∙ x) | inr x ↦ inr (h.state ∙ x.0, at_end_of c i h after x.1) ]) };
+  leads = leads_of c i h b.leads;
+})
+
+pub one_kept : (c i j : Reading) → IsCaptureOf c i → Moves i j → PassesValue i j → length j.stream.rest < length i.stream.rest → HasValueOrDeep c
+one_kept c i j h m p l = of_value p.tree p.value j.stream.rest (record {
+  usable = sym h.state ∙ p.has.usable;
+  encodes = subst (λ z. IsEncoding z p.tree p.value) h.mode p.has.encodes;
+  rest = sym h.rest ∙ p.has.rest;
+})
+
+none_fell : (o p : Option ℕ) (k : ℕ) → o ≡ Some 0 → Falls o k p → (k ≡ 0) × (p ≡ Some 0)
+none_fell None p k e f = (let x : ◌≡◌ {A = Option ℕ} None (Some 0) = e in cc)
+none_fell (Some m) None k e f = absurd (f refl)
+none_fell (Some m) (Some n) k e f = (let z : m ≡ 0 = some_of m 0 e in (omega arith, ap Some (omega arith)))
+  where
+    some_of : (m n : ℕ) → ◌≡◌ {A = Option ℕ} (Some m) (Some n) → m ≡ n
+    some_of m n e = cc
+
+-- of octets that are used up none is passed, and they stay so
+none_passed : (f : ContentForm) (o p : Option ℕ) (w v x : List ℕ) → IsUsedUp f o w → w ≡ v ++ x → Falls o (length v) p → (length v ≡ 0) × IsUsedUp f p x
+none_passed octets o p w v x u e f = none_fell o p (length v) u f
+none_passed (values kind.Definite) o p w v x u e f = none_fell o p (length v) u f
+none_passed (values kind.Indefinite) o p w v x u e f = absurd u
+none_passed (values kind.Unbounded) o p w v x u e f = (let z = both_empty v x (sym e ∙ u) in (ap length z, ap (λ y. y ++ x) (sym z) ∙ sym e ∙ u))
+
+pub done_passes_none : (i j : Reading) → Moves i j → IsDone i → length j.stream.rest < length i.stream.rest → ⊥
+unfolding Moves
+done_passes_none i j m d l = elim d [
+  | inl e ↦ (let z : length m.passed ≡ 0 = ap length ((m.ended e).1) in omega (arith, z, l, ap length m.rest, length-append m.passed j.stream.rest))
+  | inr u ↦ (let z = none_passed i.kind i.owed j.owed i.stream.rest m.passed j.stream.rest u.1 m.rest m.owed in omega (arith, z.0, l, ap length m.rest, length-append m.passed j.stream.rest))
+]
+
+done_stays : (i j : Reading) → Moves i j → j.state ≡ Open → IsDone i → IsDone j
+unfolding Moves
+done_stays i j m o d = elim d [
+  | inl e ↦ inl ((m.ended e).0)
+  | inr u ↦ inr (o, subst (λ f. IsUsedUp f j.owed j.stream.rest) (sym m.kind) (none_passed i.kind i.owed j.owed i.stream.rest m.passed j.stream.rest u.1 m.rest m.owed).1)
+]
+
+-- content that is passed on, and hasn't failed then, was open
+opened : (i j : Reading) → Moves i j → j.state ≢ Failed → length j.stream.rest < length i.stream.rest → i.state ≡ Open
+unfolding Moves
+opened i j m u l = go i.state refl
+  where
+    go : (s : _) → i.state ≡ s → i.state ≡ Open
+    go Open e = e
+    go Ended e = absurd (done_passes_none i j m (inl e) l)
+    go Failed e = absurd (u (m.failed e))
+
+pub all_kept : (c i j : Reading) → IsCaptureOf c i → Moves i j → PassesToEnd i j → length j.stream.rest < length i.stream.rest → HasValuesOrDeep c
+all_kept c i j h m p l =
+    let o : i.state ≡ Open = opened i j m (end_usable i j p) l in
+    record {
+      usable = sym h.state ∙ o;
+      some = λ d. done_passes_none i j m (done_of i c h.state h.kind h.owed h.rest d) l;
+      there = inl (values_in c i h (p.all o));
+    }
 
 -- ---- a loop that passes all values
 
@@ -256,22 +361,42 @@ still_open i j w o = go i.state refl
     go Ended e = absurd (open_not_ended j.state o ((w.moves.ended e).0))
     go Failed e = absurd (open_not_failed j.state o (w.moves.failed e))
 
-others_left : {X : Type 0} (e : DecodeError X) (i k : Reading) → i.kind ≢ Octets → i.state ≡ Open → walking.RefusesValues cause_of i e k → RefusesWhere (HasOthers i) i e k
+pub all_deep : (c i : Reading) → IsCaptureOf c i → MetDeep i → HasValuesOrDeep c
+unfolding Moves
+all_deep c i h b =
+    let j = b.at in
+    let u = deep_usable j b.left b.deep in
+    let w : Whole (label i.mode j.marked) i b.walks.moves.passed j = b.walks.moves.whole (open_not_failed j.state u.0) b.form in
+    let m : label i.mode j.marked ≡ c.mode = ap (λ z. label i.mode z) (b.walks.marked ∙ h.marked) ∙ h.mode in
+    record {
+      usable = sym h.state ∙ still_open i j b.walks u.0;
+      some = λ d. u.1.none j.stream.rest (done_here j j.kind refl (done_stays i j b.walks.moves u.0 (done_of i c h.state h.kind h.owed h.rest d)));
+      there = inr (record {
+        values = w.trees;
+        front = w.values;
+        behind = j.stream.rest;
+        encode = subst (λ z. AreEncodings z w.trees w.values) m w.encodes;
+        is = sym h.rest ∙ b.walks.moves.rest ∙ ap (λ z. z ++ j.stream.rest) (w.split ∙ ap (λ z. w.values ++ z) (closed_by_none _ i j w.close u.0 w.closes) ∙ append-nil w.values);
+        leads = subst (λ z. LeadDeep z j.stream.rest) (b.walks.mode ∙ h.mode) (leads_deep j b.left b.deep);
+      });
+    }
+
+others_left : {X : Type 0} (e : DecodeError X) (i k : Reading) → i.kind ≢ Octets → i.state ≡ Open → walking.RefusesValues cause_of i e k → RefusesWhere (HasOthers i) (MetDeep i) i e k
 others_left e i k form o (walking.RefusesValues.failed f a) = failed f a
 others_left e i k form o (walking.RefusesValues.source s f) = source s f
 others_left e i k form o (walking.RefusesValues.broken x n a) = nothing (record { usable = o; none = n }) a
 others_left e i k form o (walking.RefusesValues.short x n a) = absurd (form x)
 
-loop_refused : {X : Type 0} (e : DecodeError X) (i j k : Reading) → i.kind ≢ Octets → Walks i j → walking.RefusesWalk cause_of j e k → RefusesWhere (HasOthers i) i e k
+loop_refused : {X : Type 0} (e : DecodeError X) (i j k : Reading) → i.kind ≢ Octets → Walks i j → walking.RefusesWalk cause_of j e k → RefusesWhere (HasOthers i) (MetDeep i) i e k
 loop_refused e i j k form w (walking.RefusesWalk.failed f a) = failed (w.failed f) a
 loop_refused e i j k form w (walking.RefusesWalk.source s f) = source s (grew_from _ _ _ (moves_faults i j w.moves) f)
 loop_refused e i j k form w (walking.RefusesWalk.nothing s n f a) = others_left e i k form (still_open i j w s) (walks_refused cause_of e i j k form w (walking.RefusesWalk.nothing s n f a))
 
-pub loop_refused_one : {X : Type 0} (e : DecodeError X) (i j k : Reading) → i.kind ≢ Octets → Walks i j → RefusesOne cause_of j e k → RefusesWhere (HasOthers i) i e k
+pub loop_refused_one : {X : Type 0} (e : DecodeError X) (i j k : Reading) → i.kind ≢ Octets → Walks i j → RefusesOne cause_of j e k → RefusesWhere (HasOthers i) (MetDeep i) i e k
 loop_refused_one e i j k form w (skipping.RefusesOne.by_walk r) = loop_refused e i j k form w r
-loop_refused_one e i j k form w (skipping.RefusesOne.by_depth g m) = memory m
+loop_refused_one e i j k form w (skipping.RefusesOne.by_depth g m) = memory m (record { form = form; at = j; left = k; walks = w; deep = g })
 
 -- the loop answers the error that it met
-pub pass_refused : {T X : Type 0} (c d : Reading) (r : Result T (DecodeError X)) (e : DecodeError X) → IsErrAnd r (λ x. x ≡ e) → RefusesWhere (HasOthers c) c e d → d.marked ≡ c.marked → PassesBy PassesToEnd HasOthers c r d
+pub pass_refused : {T X : Type 0} (c d : Reading) (r : Result T (DecodeError X)) (e : DecodeError X) → IsErrAnd r (λ x. x ≡ e) → RefusesWhere (HasOthers c) (MetDeep c) c e d → d.marked ≡ c.marked → PassesBy PassesToEnd HasOthers MetDeep c r d
 pass_refused c d (Ok x) e h a g = absurd h
-pass_refused c d (Err x) e h a g = record { passed = tt; no_fault = tt; refused = subst (λ y. RefusesWhere (HasOthers c) c y d) (sym h) a; marked = g }
+pass_refused c d (Err x) e h a g = record { passed = tt; no_fault = tt; refused = subst (λ y. RefusesWhere (HasOthers c) (MetDeep c) c y d) (sym h) a; marked = g }

@@ -78,6 +78,7 @@ entered_shorter c h d x =
 
 pub stop_reason : {S : Type 0} (A B : Type 0) (e : Stop S) → MatchStop e A B → (stop_cause e ≡ of_source) × A ⊎ B × IsOfContent (stop_cause e)
 stop_reason A B (stop.Source x) a = inl (refl, a)
+stop_reason A B (stop.Violated x) b = inr (b, tt)
 stop_reason A B (stop.Refused x) b = inr (b, tt)
 stop_reason A B stop.NoMemory none = absurd none
 

@@ -16,7 +16,7 @@ use Rattle.bcder.specs.steps.Peek.{asked, HasOtherTag, HasNoHeader}
 use Rattle.bcder.specs.calls.Stream.{Layer, Stream, IsSound, Grew, cut, past, limited}
 use Rattle.bcder.specs.declared.decode.error.ContentError.{ContentError}
 use Rattle.bcder.specs.calls.Cause.{Cause}
-use Rattle.bcder.specs.calls.Content.{Reading, Asked, any, tagged, IsAsked, HasHeader, HasMarker, IndefiniteValues, HasOther, Falls, FitsOwed, Advances, Moves, Enters, TakesMarker, NoFront, Resembles, values, Octets, DefiniteValues, UnboundedValues, IsAtEnd, of_octets, of_definite, of_indefinite, of_unbounded, NotAtEnd, IsElsewhere, none_left, other, marker, IsMissing, NothingThere, RefusesHeader, failed, source, nothing}
+use Rattle.bcder.specs.calls.Content.{Reading, Asked, any, tagged, IsAsked, HasHeader, HasMarker, IndefiniteValues, HasOther, Falls, FitsOwed, Advances, Moves, Enters, TakesMarker, NoFront, Resembles, HasLongValue, values, Octets, DefiniteValues, UnboundedValues, IsAtEnd, of_octets, of_definite, of_indefinite, of_unbounded, NotAtEnd, IsElsewhere, none_left, other, marker, IsMissing, NothingThere, RefusesHeader, failed, source, nothing}
 use Rattle.bcder.specs.calls.Calls.{RefusesEnd, left_failed, source_failed, left_open}
 use Rattle.bcder.specs.laws.Limits.{limit_told_after, limited_sound}
 use Rattle.bcder.specs.laws.Sound.{none_is}
@@ -24,6 +24,7 @@ use Rattle.bcder.specs.laws.Stands.{Headed, header_sound}
 use Rattle.bcder.specs.laws.Moved.{Falls-refl}
 use Rattle.bcder.proofs.Moving.{moves_failed, moves_marker, moves_still, open_not_ended}
 use Rattle.bcder.proofs.Headers.{no_header_unread, no_header_empty, header_no_marker, no_marker_unread, no_marker_empty, no_other_front, no_other_end, no_other_unread, other_of, front_of_read, marker_of_end, end_no_header, header_no_end, no_header_long, size_is}
+use Rattle.bcder.proofs.Naming.{of_violation, long_value}
 
 -- ---- an advance of a limited source
 
@@ -109,9 +110,14 @@ module _ (c d : Reading) (n : ℕ) (a : Advances c d (take n c.stream.rest)) (o 
       marker = λ k after m. no_marker_unread c.mode c.stream.rest after (header_no_end c.mode c.stream.rest h (drop n c.stream.rest) r) m;
     }
 
+    pub too_long : (FitsOwed h.len d.owed → ⊥) → HasLongValue c
+    too_long x =
+        let p : Headed c.mode h c.stream.rest (drop n c.stream.rest) = header_sound c.mode c.stream.rest (h, drop n c.stream.rest) o r in
+        long_value c d h (drop n c.stream.rest) p (subst (λ z. Falls c.owed (length z) d.owed) (sym (drop_rest n c.stream.rest p.octets p.is l)) a.owed) x
+
   -- end-of-contents octets
   module _ (r : read_end c.mode c.stream.rest ≡ Some (drop n c.stream.rest)) where
-    marker_here : HasMarker c.mode c.stream.rest d.stream.rest
+    pub marker_here : HasMarker c.mode c.stream.rest d.stream.rest
     marker_here = subst (λ z. HasMarker c.mode c.stream.rest z) (sym rest_is) (marker_of_end c.mode c.stream.rest (drop n c.stream.rest) o r)
 
     pub takes_marker : c.kind ≡ IndefiniteValues → d.state ≡ Ended → TakesMarker c d
@@ -334,7 +340,7 @@ module _ (c d : Reading) (s : Resembles c d) (o : c.state ≡ Open) where
 pub end_refused : {E : Type 0} (why : E → Cause ContentError) (c d : Reading) (e : E) → RefusesHeader why any c e d → RefusesEnd why c e d
 end_refused why c d e (failed s o) = left_failed s o
 end_refused why c d e (source k g) = source_failed k g
-end_refused why c d e (nothing n o) = left_open (record { none = n.absent }) o
+end_refused why c d e (nothing n o) = left_open (record { none = n.absent }) (of_violation c (why e) o)
 
 -- ---- whether the octets that a length promises are within what is owed
 

@@ -83,3 +83,5 @@ pub mod RestrictedBack
 pub mod CharSets
 pub mod AsciiSets
 pub mod Utf8
+pub mod Violations
+pub mod Naming

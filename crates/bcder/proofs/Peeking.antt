@@ -37,7 +37,7 @@ front_shown mode asked w n h (peeked.Front g k) l i r = λ x. (
   (omega (arith, l, i.0), header_of_front mode (w ++ x) h (drop n (w ++ x)) (r x) i.3 i.4 ∙ ap Some (ap₂ (λ a m. (a, drop m (w ++ x))) (sym i.1) (sym i.0))),
   subst (λ (z : Header). IsAsked asked z.tag) (sym i.1) i.2,
 )
-front_shown mode asked w n h peeked.Refused l i r = absurd i
+front_shown mode asked w n h (peeked.Refused v) l i r = absurd i
 
 pub if_front : (mode : Mode) (asked : Asked) (w : List ℕ) (n : ℕ) (h : Header) (r : Option Peeked) → n ≤ length w → IfSome r (IsFrontOf mode asked n h) → ((x : List ℕ) → read_front mode (w ++ x) ≡ Some (h, drop n (w ++ x))) → IfSome r (λ p. Shows mode asked p w)
 if_front mode asked w n h None l i r = tt

@@ -14,7 +14,7 @@ use Rattle.bcder.specs.calls.RestrictedString.{MeansRestricted}
 use Rattle.bcder.specs.calls.Meaning.{Encoded}
 use Rattle.bcder.specs.calls.StringMeaning.{StringMeans}
 use Rattle.bcder.specs.calls.TakenBack.{StandsIn}
-use Rattle.bcder.specs.calls.Valued.{HasTagged, TakesTree, RefusesTree, TakesNextTree, TakesOneTree, failed, source, memory, broken}
+use Rattle.bcder.specs.calls.Valued.{HasTagged, TakesTree, WantsMemoryFor, of_value, of_header, RefusesTree, TakesNextTree, TakesOneTree, failed, source, memory, broken}
 use Rattle.bcder.specs.calls.WrittenStrings.{IsWrittenString}
 use Rattle.bcder.specs.calls.WrittenRestricted.{IsTakenRestricted, WrittenAsReadOf, OneRestricted}
 use Rattle.bcder.specs.laws.Complete.{only_at_front}
@@ -34,10 +34,14 @@ module _ (step : Step) (X : Type 0) (t : Tag) (mode : Mode) (w : List ℕ) (e : 
   tree_there : (y : StringOctets) (d : Reading) → TakesTree t (MeansRestricted step c.mode) c y d → TakesTree t (MeansString c.mode) c y d
   tree_there y d x = record { tree = x.tree; octets = x.octets; has = x.has; means = x.means.0; stays = x.stays }
 
+  wanted_there : WantsMemoryFor t (MeansRestricted step c.mode) c → WantsMemoryFor t (MeansString c.mode) c
+  wanted_there (of_value v u rest x h m) = of_value v u rest x h m.0
+  wanted_there (of_header der a h f) = of_header der a h f
+
   refused_there : (f : DecodeError X) (d : Reading) → RefusesTree t (MeansRestricted step c.mode) c f d → RefusesTree t (MeansString c.mode) c f d
   refused_there f d (failed h i) = failed h i
   refused_there f d (source h g) = source h g
-  refused_there f d (memory h there) = memory h there
+  refused_there f d (memory h there) = memory h (wanted_there there)
   refused_there f d (broken b i) = broken (record { usable = b.usable; value = λ v u rest x h m. b.value v u rest x h (m, accepted_there v u rest x h m); absent = b.absent }) i
 
   one_there : (r : Result StringOctets (DecodeError X)) (d : Reading) → TakesOneTree t (MeansRestricted step c.mode) c r d → TakesOneTree t (MeansString c.mode) c r d

@@ -35,6 +35,7 @@ use Rattle.bcder.specs.calls.Walking.{NoValue}
 use Rattle.bcder.proofs.WalkSteps.{no_value_of_nothing, end_of_nothing, moves_faults}
 use Rattle.bcder.proofs.LimitStack.{calls_on, falls_unwound, source_passes, first_gone, first_broken, IsMet, met, met_gone, met_broken, left, broken, nothing_more, nothing_whole, few_there}
 use Rattle.bcder.proofs.Unwinding.{counts_falls, unwound_indefinites}
+use Rattle.bcder.proofs.Naming.{of_violation}
 
 -- the closure was called at a header and at headings after it, and these values are open, without a fault
 pub record Goes {F : Type 0} (step : Steps F ContentError) (mode : Mode) (h : Header) (s : Stream) (o : Option ℕ) (f : F) (es : List Entry) (g : F) (t : Stream) (p : Option ℕ) : Type 0 where
@@ -209,7 +210,7 @@ module _ {F : Type 0} (step : Steps F ContentError) (mode : Mode) (h : Header) (
         go : RefusesHeader stop_cause any c e d → Breaks step mode h s o f (interrupt.Stopped e) g v r
         go (failed y z) = absurd (open_not_failed c.state st y)
         go (source y z) = by_source w.calls w.called b y (grew z)
-        go (nothing n z) = by_content w.calls w.called b (nothing_whole mode h s o (heading h 0 ∷ w.calls) (remain mode es p t.rest) w.under.outcome (remains es some ti w.under.limits (no_value_of_nothing c wi n) (end_of_nothing c n))) z
+        go (nothing n z) = by_content w.calls w.called b (nothing_whole mode h s o (heading h 0 ∷ w.calls) (remain mode es p t.rest) w.under.outcome (remains es some ti w.under.limits (no_value_of_nothing c wi n) (end_of_nothing c n))) (of_violation c (stop_cause e) z)
 
   -- all was passed
   pub went_through : {X : Type 0} → (x : Unit {0}) (es : List Entry) (g : F) (t : Stream) (p : Option ℕ) → es ≡ [] → Goes step mode h s o f es g t p → RanBy {X = X} step mode h s o f (Ok x) g t p

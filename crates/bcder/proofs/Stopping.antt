@@ -1,24 +1,27 @@
 -- A step that stopped is an error for the same reason.
-use Rattle.std.proofs.Common.{◌≡◌}
+use Rattle.std.proofs.Common.{◌≡◌, ◌∙◌, subst, sym}
 use Rattle.bcder.specs.declared.decode.error.ContentError.{ContentError}
-use Rattle.bcder.specs.calls.Cause.{Cause, of_source, IsOfContent}
+use Rattle.bcder.specs.calls.Cause.{Cause, IsOfContent}
 use Rattle.bcder.specs.calls.Content.{Reading, Asked}
 use Rattle.bcder.specs.calls.Content as content
 use Rattle.bcder.specs.calls.Calls as calls
 use Rattle.bcder.specs.calls.Walking as walking
 
-module _ {E F : Type 0} (stopped : E → Cause ContentError) (why : F → Cause ContentError) (s : E) (e : F) (own : IsOfContent (stopped s) → IsOfContent (why e)) (source : stopped s ≡ of_source → why e ≡ of_source) (c d : Reading) where
+module _ {E F : Type 0} (stopped : E → Cause ContentError) (why : F → Cause ContentError) (s : E) (e : F) (same : why e ≡ stopped s) (c d : Reading) where
+  own : IsOfContent (stopped s) → IsOfContent (why e)
+  own o = subst IsOfContent (sym same) o
+
   pub header_stopped : (asked : Asked) → content.RefusesHeader stopped asked c s d → content.RefusesHeader why asked c e d
   header_stopped asked (content.RefusesHeader.failed x o) = content.RefusesHeader.failed x (own o)
-  header_stopped asked (content.RefusesHeader.source k x) = content.RefusesHeader.source (source k) x
-  header_stopped asked (content.RefusesHeader.nothing x o) = content.RefusesHeader.nothing x (own o)
+  header_stopped asked (content.RefusesHeader.source k x) = content.RefusesHeader.source (same ∙ k) x
+  header_stopped asked (content.RefusesHeader.nothing x o) = content.RefusesHeader.nothing x (record { violation = o.violation; violates = o.violates; named = same ∙ o.named })
 
   pub end_stopped : calls.RefusesEnd stopped c s d → calls.RefusesEnd why c e d
   end_stopped (calls.RefusesEnd.left_failed x o) = calls.RefusesEnd.left_failed x (own o)
-  end_stopped (calls.RefusesEnd.source_failed k x) = calls.RefusesEnd.source_failed (source k) x
+  end_stopped (calls.RefusesEnd.source_failed k x) = calls.RefusesEnd.source_failed (same ∙ k) x
   end_stopped (calls.RefusesEnd.left_open x o) = calls.RefusesEnd.left_open x (own o)
 
   pub walk_stopped : walking.RefusesWalk stopped c s d → walking.RefusesWalk why c e d
   walk_stopped (walking.RefusesWalk.failed x o) = walking.RefusesWalk.failed x (own o)
-  walk_stopped (walking.RefusesWalk.source k x) = walking.RefusesWalk.source (source k) x
+  walk_stopped (walking.RefusesWalk.source k x) = walking.RefusesWalk.source (same ∙ k) x
   walk_stopped (walking.RefusesWalk.nothing s n f o) = walking.RefusesWalk.nothing s n f (own o)

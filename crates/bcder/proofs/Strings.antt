@@ -11,19 +11,19 @@ use Rattle.bcder.specs.declared.string.octet.Segment.{Segment}
 use Rattle.bcder.specs.x690.Identifier.{Tag}
 use Rattle.bcder.specs.x690.Tree.{Tree, primitive, constructed, Trees}
 use Rattle.bcder.specs.x690.Encoding.{AreEncodings}
-use Rattle.bcder.specs.calls.Cause.{IsRefusal}
+use Rattle.bcder.specs.calls.Cause.{cause_of, of_memory, IsRefusal}
 use Rattle.bcder.specs.calls.Stream.{limit_or}
 use Rattle.bcder.specs.calls.Captured.{Kept}
 use Rattle.bcder.specs.calls.Content.{Reading, Octets, Closes, HasHeader, IsDone, IsUsedUp, tagged}
 use Rattle.bcder.specs.calls.Walking.{HasValues, IsShort}
-use Rattle.bcder.specs.calls.Readers.{Reads, RefusesReading, FindNoMemory}
+use Rattle.bcder.specs.calls.Readers.{HasAll, Reads, RefusesReading, FindNoMemory}
 use Rattle.bcder.specs.calls.Readers as readers
-use Rattle.bcder.specs.calls.CapturingValues.{CapturesBy, CapturesValues, HasOthers, RefusesWhere}
+use Rattle.bcder.specs.calls.CapturingValues.{IsAsBefore, CapturesBy, CapturesValues, HasOthers, HasValuesOrDeep, RefusesWhere}
 use Rattle.bcder.specs.calls.CapturingValues as capturing
 use Rattle.bcder.specs.calls.StringOctets.{StringOctets, whole, cut, MeansString}
 use Rattle.bcder.specs.x690.OctetString.{segments_of, AreSegmentsIn, MayBeWhole, AreCut}
 use Rattle.bcder.specs.steps.SegmentTable.{segments_at, IsTable}
-use Rattle.bcder.specs.calls.Valued.{HoldsValues, HoldsNone, ReadsTree, RefusesToRead, ReadsContent, HasTagged, HasNoTree, RefusesTree, TakesNextTree}
+use Rattle.bcder.specs.calls.Valued.{HoldsOctets, HoldsValues, HoldsNone, ReadsTree, NeedsMemory, RefusesToRead, ReadsContent, HasTagged, HasNoTree, WantsMemoryFor, RefusesTree, TakesNextTree}
 use Rattle.bcder.specs.calls.Valued as valued
 use Rattle.bcder.specs.laws.Lists.{empty_list}
 use Rattle.bcder.proofs.Moving.{open_not_ended, open_not_failed}
@@ -32,7 +32,7 @@ use Rattle.bcder.proofs.Valued.{one_values, no_values_of_octets, primitive_in_fr
 -- ---- in one piece
 
 -- contents octets, as those of a string in one piece
-abbrev MeansPiece : Mode → Tree → List ℕ → Type 0
+abbrev pub MeansPiece : Mode → Tree → List ℕ → Type 0
 MeansPiece mode t w = MeansString mode t (whole w)
 
 whole_in : (mode : Mode) (w : List ℕ) → (mode ≡ Cer → length w ≤ 1000) → MayBeWhole mode w
@@ -41,7 +41,7 @@ whole_in Cer w h = h refl
 whole_in Der w h = tt
 
 -- contents octets are no values
-not_values : (c : Reading) (ts : Trees) → c.kind ≡ Octets → c.state ≡ Open → HoldsValues c ts → ⊥
+pub not_values : (c : Reading) (ts : Trees) → c.kind ≡ Octets → c.state ≡ Open → HoldsValues c ts → ⊥
 not_values c ts k o (inl v) = no_values_of_octets c k v.values
 not_values c ts k o (inr e) = open_not_ended c.state o e.0
 
@@ -59,15 +59,22 @@ too_long mode tag c m l k o (primitive t contents) x h means =
     omega (arith, l, limit_is c.owed (length contents) h.1.owed, w)
 too_long mode tag c m l k o (constructed t ts) x h means = not_values c ts k o h.1
 
+-- octets that all came, not too many in CER, are those of a string in one piece
+pub all_whole : (c : Reading) → (c.mode ≡ Cer → limit_or c.owed 0 ≤ 1000) → HasAll (length c.stream.rest) c → MayBeWhole c.mode c.stream.rest
+all_whole c most h = whole_in c.mode c.stream.rest (λ m. (let q = most m in omega (arith, q, limit_is c.owed (length c.stream.rest) h.owed)))
+
+-- they are those that the content holds
+pub all_held : (c : Reading) → c.kind ≡ Octets → c.state ≡ Open → HasAll (length c.stream.rest) c → HoldsOctets c c.stream.rest
+all_held c k o h = record { usable = o; form = k; owed = h.owed; rest = refl }
+
 done_octets : (d : Reading) → d.kind ≡ Octets → d.state ≡ Open → d.owed ≡ Some 0 → IsDone d
 done_octets d k o e = inr (o, subst (λ f. IsUsedUp f d.owed d.stream.rest) (sym k) e)
 
 -- what is answered of contents octets
 read_whole : {X : Type 0} (tag : Tag) (c d : Reading) (b : List ℕ) → Reads {X = X} (λ w b. b ≡ w) FindNoMemory c (Ok b) d → (c.kind ≡ Octets) × (c.state ≡ Open) → (d.kind ≡ Octets) × (d.state ≡ Open) → (c.mode ≡ Cer → limit_or c.owed 0 ≤ 1000) → ReadsContent tag (MeansPiece c.mode) {X = X} c (Ok b) d
 read_whole tag c d b r k l most =
-    let n : limit_or c.owed 0 ≡ length c.stream.rest = limit_is c.owed (length c.stream.rest) r.all.owed in
     record {
-      value = record { tree = primitive tag c.stream.rest; holds = (refl, record { usable = k.1; form = k.0; owed = r.all.owed; rest = refl }); means = (whole_in c.mode c.stream.rest (λ m. (let q = most m in omega (arith, q, n))), ap whole r.value) };
+      value = record { tree = primitive tag c.stream.rest; holds = (refl, record { usable = k.1; form = k.0; owed = r.all.owed; rest = refl }); means = (all_whole c most r.all, ap whole r.value) };
       done = done_octets d l.0 l.1 r.none_owed;
       no_fault = r.no_fault;
       refused = tt;
@@ -75,8 +82,8 @@ read_whole tag c d b r k l most =
       marked = r.marked;
     }
 
-pub refuse_long : {X : Type 0} (tag : Tag) (c : Reading) (e : DecodeError X) → IsRefusal e → (c.kind ≡ Octets) × (c.state ≡ Open) → ((c.mode ≡ Cer → limit_or c.owed 0 ≤ 1000) → ⊥) → ReadsContent tag (MeansPiece c.mode) c (Err e) c
-refuse_long tag c e a k long = record { value = tt; done = tt; no_fault = tt; refused = valued.RefusesToRead.nothing (by_mode c.mode refl) a; mode = refl; marked = refl }
+pub long_none : (tag : Tag) (c : Reading) → (c.kind ≡ Octets) × (c.state ≡ Open) → ((c.mode ≡ Cer → limit_or c.owed 0 ≤ 1000) → ⊥) → HoldsNone tag (MeansPiece c.mode) c
+long_none tag c k long = by_mode c.mode refl
   where
     by_mode : (m : Mode) → c.mode ≡ m → HoldsNone tag (MeansPiece c.mode) c
     by_mode Ber m = absurd (long (λ q. (let x : ◌≡◌ {A = Mode} Ber Cer = sym m ∙ q in cc)))
@@ -86,21 +93,24 @@ refuse_long tag c e a k long = record { value = tt; done = tt; no_fault = tt; re
         not_most n f = elim (cases_lt 1000 n) [ inl l ↦ l | inr l ↦ absurd (f l) ]
     by_mode Der m = absurd (long (λ q. (let x : ◌≡◌ {A = Mode} Der Cer = sym m ∙ q in cc)))
 
-too_few : {T : Type 0} (tag : Tag) (Means : Tree → T → Type 0) (c : Reading) → c.kind ≡ Octets → c.state ≡ Open → IsShort c → HoldsNone tag Means c
+pub refuse_long : {X : Type 0} (tag : Tag) (c : Reading) (e : DecodeError X) → IsRefusal e → (c.kind ≡ Octets) × (c.state ≡ Open) → ((c.mode ≡ Cer → limit_or c.owed 0 ≤ 1000) → ⊥) → ReadsContent tag (MeansPiece c.mode) c (Err e) c
+refuse_long tag c e a k long = record { value = tt; done = tt; no_fault = tt; refused = valued.RefusesToRead.nothing (long_none tag c k long) a; mode = refl; marked = refl }
+
+pub too_few : {T : Type 0} (tag : Tag) (Means : Tree → T → Type 0) (c : Reading) → c.kind ≡ Octets → c.state ≡ Open → IsShort c → HoldsNone tag Means c
 too_few tag Means c k o s (primitive t contents) x h means = omega (arith, s.short (length contents) h.1.owed, ap length h.1.rest)
 too_few tag Means c k o s (constructed t ts) x h means = not_values c ts k o h.1
 
-refused_octets : {X : Type 0} (tag : Tag) (c d : Reading) (e : DecodeError X) → c.kind ≡ Octets → c.state ≡ Open → RefusesReading (λ w (b : List ℕ). b ≡ w) FindNoMemory c e d → RefusesToRead tag (MeansPiece c.mode) c e d
-refused_octets tag c d e k o (readers.RefusesReading.missing (readers.RefusesTooFew.source s g)) = valued.RefusesToRead.source s g
-refused_octets tag c d e k o (readers.RefusesReading.missing (readers.RefusesTooFew.few s a n)) = valued.RefusesToRead.nothing (too_few tag _ c k o s) a
-refused_octets tag c d e k o (readers.RefusesReading.refused h a n) = valued.RefusesToRead.memory a
+refused_octets : {X : Type 0} (tag : Tag) (c d : Reading) (e : DecodeError X) → c.kind ≡ Octets → c.state ≡ Open → (c.mode ≡ Cer → limit_or c.owed 0 ≤ 1000) → RefusesReading (λ w (b : List ℕ). b ≡ w) FindNoMemory c e d → RefusesToRead tag (MeansPiece c.mode) c e d
+refused_octets tag c d e k o most (readers.RefusesReading.missing (readers.RefusesTooFew.source s g)) = valued.RefusesToRead.source s g
+refused_octets tag c d e k o most (readers.RefusesReading.missing (readers.RefusesTooFew.few s a n)) = valued.RefusesToRead.nothing (too_few tag _ c k o s) a
+refused_octets tag c d e k o most (readers.RefusesReading.refused h a n) = valued.RefusesToRead.memory a (valued.NeedsMemory.of_octets c.stream.rest c.stream.rest (all_held c k o h) (all_whole c most h, refl))
 
-refuse_octets : {X : Type 0} (tag : Tag) (c d : Reading) (e : DecodeError X) → Reads (λ w (b : List ℕ). b ≡ w) FindNoMemory c (Err e) d → (c.kind ≡ Octets) × (c.state ≡ Open) → ReadsContent tag (MeansPiece c.mode) c (Err e) d
-refuse_octets tag c d e r k = record { value = tt; done = tt; no_fault = tt; refused = refused_octets tag c d e k.0 k.1 r.refused; mode = r.mode; marked = r.marked }
+refuse_octets : {X : Type 0} (tag : Tag) (c d : Reading) (e : DecodeError X) → Reads (λ w (b : List ℕ). b ≡ w) FindNoMemory c (Err e) d → (c.kind ≡ Octets) × (c.state ≡ Open) → (c.mode ≡ Cer → limit_or c.owed 0 ≤ 1000) → ReadsContent tag (MeansPiece c.mode) c (Err e) d
+refuse_octets tag c d e r k most = record { value = tt; done = tt; no_fault = tt; refused = refused_octets tag c d e k.0 k.1 most r.refused; mode = r.mode; marked = r.marked }
 
 pub read_piece : {X : Type 0} (tag : Tag) (c d : Reading) (r : Result (List ℕ) (DecodeError X)) → Reads (λ w b. b ≡ w) FindNoMemory c r d → (c.kind ≡ Octets) × (c.state ≡ Open) → (d.kind ≡ Octets) × (d.state ≡ Open) → (c.mode ≡ Cer → limit_or c.owed 0 ≤ 1000) → ReadsContent tag (MeansPiece c.mode) c r d
 read_piece tag c d (Ok b) r k l most = read_whole tag c d b r k l most
-read_piece tag c d (Err e) r k l most = refuse_octets tag c d e r k
+read_piece tag c d (Err e) r k l most = refuse_octets tag c d e r k most
 
 -- what is told of contents octets holds of the string in one piece, where a primitive value means no other
 module _ {X : Type 0} (Means : Mode → Tree → StringOctets → Type 0) (in_one : (mode : Mode) (t : Tag) (contents : List ℕ) (x : StringOctets) → Means mode (primitive t contents) x → Means mode (primitive t contents) (whole contents)) (tag : Tag) (c d : Reading) where
@@ -121,10 +131,15 @@ module _ {X : Type 0} (Means : Mode → Tree → StringOctets → Type 0) (in_on
       none n (primitive t contents) x h means = n (primitive t contents) contents h (in_one c.mode t contents x means)
       none n (constructed t ts) x h means = not_values c ts o.0 o.1 h.1
 
+      needed : NeedsMemory {T = List ℕ} tag (λ t w. Means c.mode t (whole w)) c d → NeedsMemory tag (Means c.mode) c d
+      needed (valued.NeedsMemory.of_octets contents x h m) = valued.NeedsMemory.of_octets contents (whole x) h m
+      needed (valued.NeedsMemory.of_values der f h r s) = valued.NeedsMemory.of_values der f h r s
+      needed (valued.NeedsMemory.of_segments ts h s) = valued.NeedsMemory.of_segments ts h s
+
       of_piece : RefusesToRead {T = List ℕ} tag (λ t w. Means c.mode t (whole w)) c e d → RefusesToRead tag (Means c.mode) c e d
       of_piece (valued.RefusesToRead.failed s i) = valued.RefusesToRead.failed s i
       of_piece (valued.RefusesToRead.source s g) = valued.RefusesToRead.source s g
-      of_piece (valued.RefusesToRead.memory s) = valued.RefusesToRead.memory s
+      of_piece (valued.RefusesToRead.memory s n) = valued.RefusesToRead.memory s (needed n)
       of_piece (valued.RefusesToRead.nothing n i) = valued.RefusesToRead.nothing (none n) i
 
   pub piece_taken : (w : List ℕ) (s : StringOctets) → s ≡ whole w → TakesNextTree tag (λ t w. Means c.mode t (whole w)) {X = X} c (Ok (Some w)) d → TakesNextTree tag (Means c.mode) {X = X} c (Ok (Some s)) d
@@ -146,10 +161,14 @@ module _ {X : Type 0} (Means : Mode → Tree → StringOctets → Type 0) (in_on
       none n (primitive t contents) w rest x h means = n.value (primitive t contents) w rest contents h (in_one c.mode t contents x means)
       none n (constructed t ts) w rest x h means = primitive_in_front tag c after f p t ts w rest h
 
+      wanted : WantsMemoryFor {T = List ℕ} tag (λ t w. Means c.mode t (whole w)) c → WantsMemoryFor tag (Means c.mode) c
+      wanted (valued.WantsMemoryFor.of_value t w rest x h m) = valued.WantsMemoryFor.of_value t w rest (whole x) h m
+      wanted (valued.WantsMemoryFor.of_header der a h g) = valued.WantsMemoryFor.of_header der a h g
+
       of_piece : RefusesTree {T = List ℕ} tag (λ t w. Means c.mode t (whole w)) c e d → RefusesTree tag (Means c.mode) c e d
       of_piece (valued.RefusesTree.failed s i) = valued.RefusesTree.failed s i
       of_piece (valued.RefusesTree.source s g) = valued.RefusesTree.source s g
-      of_piece (valued.RefusesTree.memory s h) = valued.RefusesTree.memory s h
+      of_piece (valued.RefusesTree.memory s h) = valued.RefusesTree.memory s (wanted h)
       of_piece (valued.RefusesTree.broken n i) = valued.RefusesTree.broken (record { usable = n.usable; value = none n; absent = n.absent }) i
 
 -- a primitive octet string
@@ -217,15 +236,15 @@ no_others tag Means c o n (constructed t ts) x held means = of_held held.1
     of_held (inl v) = n.none v.values
     of_held (inr e) = open_not_ended c.state n.usable e.0
 
-not_captured : {X : Type 0} (tag : Tag) (c d : Reading) (e : DecodeError X) → c.kind ≢ Octets → RefusesWhere (HasOthers c) c e d → RefusesToRead tag (MeansString c.mode) c e d
-not_captured tag c d e o (capturing.RefusesWhere.failed s a) = valued.RefusesToRead.failed s a
-not_captured tag c d e o (capturing.RefusesWhere.source s g) = valued.RefusesToRead.source s g
-not_captured tag c d e o (capturing.RefusesWhere.nothing n a) = valued.RefusesToRead.nothing (no_others tag _ c o n) a
-not_captured tag c d e o (capturing.RefusesWhere.memory s) = valued.RefusesToRead.memory s
+not_captured : {X : Type 0} (tag : Tag) (c d : Reading) (e : DecodeError X) → c.kind ≢ Octets → c.mode ≢ Der → IsAsBefore c d → RefusesWhere (HasOthers c) (HasValuesOrDeep c) c e d → RefusesToRead tag (MeansString c.mode) c e d
+not_captured tag c d e o m b (capturing.RefusesWhere.failed s a) = valued.RefusesToRead.failed s a
+not_captured tag c d e o m b (capturing.RefusesWhere.source s g) = valued.RefusesToRead.source s g
+not_captured tag c d e o m b (capturing.RefusesWhere.nothing n a) = valued.RefusesToRead.nothing (no_others tag _ c o n) a
+not_captured tag c d e o m b (capturing.RefusesWhere.memory s h) = valued.RefusesToRead.memory s (valued.NeedsMemory.of_values m o h b.rest b.state)
 
 -- what is answered of values
 module _ {X : Type 0} (tag : Tag) (c d : Reading) where
-  pub read_segments : (k : Kept) (ss : List Segment) (s : StringOctets) → CapturesBy {X = X} CapturesValues HasOthers c (Ok k) d → IsTable c.mode k.octets ss → s ≡ cut k (segments_at k.octets ss) → ReadsContent tag (MeansString c.mode) {X = X} c (Ok s) d
+  pub read_segments : (k : Kept) (ss : List Segment) (s : StringOctets) → CapturesBy {X = X} CapturesValues HasOthers HasValuesOrDeep c (Ok k) d → IsTable c.mode k.octets ss → s ≡ cut k (segments_at k.octets ss) → ReadsContent tag (MeansString c.mode) {X = X} c (Ok s) d
   read_segments k ss s r t is = record {
     value = subst (ReadsTree tag (MeansString c.mode) c) (sym is) (read_cut tag c d k ss r.captured t);
     done = (let h : CapturesValues c k d = r.captured in h.done);
@@ -235,11 +254,15 @@ module _ {X : Type 0} (tag : Tag) (c d : Reading) where
     marked = r.marked;
   }
 
-  pub refuse_segments : (k : Kept) (e : DecodeError X) → CapturesBy {X = X} CapturesValues HasOthers c (Ok k) d → c.kind ≢ Octets → (AreCut c.mode k.octets → ⊥) → IsRefusal e → ReadsContent tag (MeansString c.mode) c (Err e) d
+  pub refuse_segments : (k : Kept) (e : DecodeError X) → CapturesBy {X = X} CapturesValues HasOthers HasValuesOrDeep c (Ok k) d → c.kind ≢ Octets → (AreCut c.mode k.octets → ⊥) → IsRefusal e → ReadsContent tag (MeansString c.mode) c (Err e) d
   refuse_segments k e r o none a = record { value = tt; done = tt; no_fault = tt; refused = valued.RefusesToRead.nothing (not_cut tag c d k r.captured o none) a; mode = r.mode; marked = r.marked }
 
-  pub refuse_values : (e : DecodeError X) → CapturesBy {X = X} CapturesValues HasOthers c (Err e) d → c.kind ≢ Octets → ReadsContent tag (MeansString c.mode) c (Err e) d
-  refuse_values e r o = record { value = tt; done = tt; no_fault = tt; refused = not_captured tag c d e o r.refused; mode = r.mode; marked = r.marked }
+  pub refuse_values : (e : DecodeError X) → CapturesBy {X = X} CapturesValues HasOthers HasValuesOrDeep c (Err e) d → c.kind ≢ Octets → c.mode ≢ Der → ReadsContent tag (MeansString c.mode) c (Err e) d
+  refuse_values e r o m = record { value = tt; done = tt; no_fault = tt; refused = not_captured tag c d e o m r.as_before r.refused; mode = r.mode; marked = r.marked }
+
+  -- segments for whose table there was no memory
+  pub refuse_table : (k : Kept) (e : DecodeError X) → CapturesBy {X = X} CapturesValues HasOthers HasValuesOrDeep c (Ok k) d → AreCut c.mode k.octets → cause_of e ≡ of_memory → ReadsContent tag (MeansString c.mode) c (Err e) d
+  refuse_table k e r a m = record { value = tt; done = tt; no_fault = tt; refused = valued.RefusesToRead.memory m (valued.NeedsMemory.of_segments a.1.values (captured_held c k d r.captured a.1.values a.1.encode) a.1.shape); mode = r.mode; marked = r.marked }
 
 -- in DER there is no such string
 pub refuse_constructed : {X : Type 0} (tag : Tag) (c : Reading) (e : DecodeError X) → c.mode ≡ Der → c.kind ≢ Octets → IsRefusal e → ReadsContent tag (MeansString c.mode) c (Err e) c

@@ -85,7 +85,7 @@ module _ (X : Type 0) (t : Tag) (mode : Mode) (w : List ℕ) (e : Encoded) (writ
   refusal_fails : (f : DecodeError X) (d : Reading) → RefusesTree t (MeansString c.mode) c f d → SourceFailedOrNoMemory c f d
   refusal_fails f d (valued.failed h i) = absurd (open_not_failed c.state s.usable h)
   refusal_fails f d (valued.source h g) = inl (h, g)
-  refusal_fails f d (valued.memory h there) = inr h
+  refusal_fails f d (valued.memory h k) = inr h
   refusal_fails f d (valued.broken b i) =
       let meant = meant_by c.mode written.value e.octets there.0.encodes (subst (λ m. IsOctetString m written.value) (sym s.in_mode) written.shape) in
       absurd (b.value written.value e.octets after meant.0 there meant.1)

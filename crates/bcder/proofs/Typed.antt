@@ -33,6 +33,7 @@ use Rattle.bcder.proofs.SameBorrow.{within_constructed}
 use Rattle.bcder.proofs.Headers.{Shape, is_primitive, is_definite, is_indefinite, front_of_header, no_header_empty, header_no_marker, no_other_front}
 use Rattle.bcder.proofs.Entering.{Within, no_fewer}
 use Rattle.bcder.proofs.WalkSteps.{owed_after, shape_in, short_front, grew_between}
+use Rattle.bcder.proofs.Naming.{of_violation}
 
 -- a header of the tag, as one of any
 abbrev any_of : (tag : Tag) (c : Reading) (after : List ℕ) → HasHeader (tagged tag) c after → HasHeader any c after
@@ -79,7 +80,7 @@ some_is m n e = cc
 
 -- contents octets that were handed behind a header of the tag, all of which came
 module _ (tag : Tag) (c i : Reading) (w : Within c) (after : List ℕ) (f : HasHeader (tagged tag) c after) (g : Hands c.mode f.form f.len f.owed after i) (k : i.kind ≡ Octets) where
-  handed_form : (n : ℕ) × (f.form ≡ false) × (f.len ≡ Definite n)
+  pub handed_form : (n : ℕ) × (f.form ≡ false) × (f.len ≡ Definite n)
   handed_form = form_is f.form f.len i.kind g.form k
 
   handed_octets : (i.owed ≡ Some handed_form.0) × (i.stream.rest ≡ take handed_form.0 after)
@@ -98,11 +99,11 @@ module _ (tag : Tag) (c i : Reading) (w : Within c) (after : List ℕ) (f : HasH
       (o, record { header = f.octets; is_header = h; is = refl })
 
   -- the value stands in front
-  handed_value : c.state ≡ Open → HasAll (length i.stream.rest) i → (rest : List ℕ) → after ≡ i.stream.rest ++ rest → HasPrimitive tag c i.stream.rest (f.octets ++ i.stream.rest) rest
+  pub handed_value : c.state ≡ Open → HasAll (length i.stream.rest) i → (rest : List ℕ) → after ≡ i.stream.rest ++ rest → HasPrimitive tag c i.stream.rest (f.octets ++ i.stream.rest) rest
   handed_value o a rest e = record { usable = o; encodes = handed_encoded a; rest = f.rest ∙ ap (λ z. f.octets ++ z) e ∙ sym (append_assoc f.octets i.stream.rest rest) }
 
   -- before what is behind the octets that were handed
-  handed_before : HasAll (length i.stream.rest) i → after ≡ i.stream.rest ++ drop handed_form.0 after
+  pub handed_before : HasAll (length i.stream.rest) i → after ≡ i.stream.rest ++ drop handed_form.0 after
   handed_before a = sym (take-append-drop handed_form.0 after) ∙ ap (λ z. z ++ drop handed_form.0 after) (sym handed_octets.1)
 
   -- or before the rest of a whole value
@@ -191,7 +192,7 @@ module _ {C T X : Type 0} (view : C → Reading) (post : Tag → MutBor C → Re
   refused_as : (c d : Reading) → Within c → (e : DecodeError X) → RefusesTake view post (Some true) (tagged tag) c e d → RefusesAs tag (MeansIn c.mode) (RefusesIn c.mode) c e d
   refused_as c d w e (by_header (content.RefusesHeader.failed s a) m) = typed.RefusesAs.failed s a
   refused_as c d w e (by_header (content.RefusesHeader.source s g) m) = typed.RefusesAs.source s g
-  refused_as c d w e (by_header (content.RefusesHeader.nothing n a) m) = typed.RefusesAs.broken (record { usable = n.usable; value = λ contents u rest h. (let x = primitive_header tag c w contents u rest h in n.header x.0 x.1); absent = n.absent }) a
+  refused_as c d w e (by_header (content.RefusesHeader.nothing n a) m) = typed.RefusesAs.broken (record { usable = n.usable; value = λ contents u rest h. (let x = primitive_header tag c w contents u rest h in n.header x.0 x.1); absent = n.absent }) (of_violation c (cause_of e) a)
   refused_as c d w e (by_form f a m) = typed.RefusesAs.broken (record { usable = f.usable; value = no_other_form tag c f; absent = λ rest. header_not_absent tag c f.after rest f.usable f.front }) a
   refused_as c d w e (by_content f) = refused_content c d w e f f.refuses
 

@@ -1,18 +1,21 @@
 -- Values of either form that are taken by readers of their content.
-use Rattle.std.proofs.Common.{◌≡◌, ℕ, Bool, true, false, List, [], ◌++◌, length, take, Option, Some, None, refl, ap, sym, ◌∙◌, arith, length-append, append_assoc, append-nil, subst, inl, inr}
+use Rattle.std.proofs.Common.{◌≡◌, ◌≢◌, ℕ, Bool, true, false, List, [], ◌++◌, length, take, Option, Some, None, refl, ap, sym, ◌∙◌, arith, length-append, append_assoc, append-nil, subst, inl, inr}
 use Rattle.std.specs.Prelude.{◌≤◌, IsTrue, Result, Ok, Err}
 use Rattle.std.specs.Borrow.{MutBor}
 use Rattle.std.proofs.lemmas.List.{take_at}
 use Rattle.bcder.specs.declared.mode.Mode.{Mode}
+use Rattle.bcder.specs.declared.mode.Mode.TheVariants.{Der}
 use Rattle.bcder.specs.declared.length.Length.{Length}
 use Rattle.bcder.specs.declared.length.Length.TheVariants.{Definite, Indefinite}
 use Rattle.bcder.specs.declared.decode.content.Kind.TheVariants as kind
 use Rattle.bcder.specs.declared.decode.content.State.{State}
-use Rattle.bcder.specs.declared.decode.content.State.TheVariants.{Ended, Failed}
+use Rattle.bcder.specs.declared.decode.content.State.TheVariants.{Open, Ended, Failed}
 use Rattle.bcder.specs.declared.decode.error.DecodeError.{DecodeError}
 use Rattle.bcder.specs.x690.Identifier.{Tag}
 use Rattle.bcder.specs.x690.Length.{IsEndOfContents}
 use Rattle.bcder.specs.x690.Tree.{Tree, primitive, constructed, Trees}
+use Rattle.bcder.specs.x690.OctetString.{AreSegmentsIn}
+use Rattle.bcder.specs.calls.Readers.{HasAll}
 use Rattle.bcder.specs.x690.Encoding.{may_have, IsHeader, IsDefinite, IsFramed, IsEncoding, AreEncodings}
 use Rattle.bcder.specs.calls.Cause.{cause_of}
 use Rattle.bcder.specs.calls.Content.{Reading, ContentForm, octets, values, Octets, DefiniteValues, IndefiniteValues, tagged, label, HasHeader, HasMarker, IsDone, RefusesHeader}
@@ -20,13 +23,14 @@ use Rattle.bcder.specs.calls.Content as content
 use Rattle.bcder.specs.calls.Calls.{Hands, IsFormOf, ContentOf, Answered, TakesValue, RefusesFront, RefusesContent, by_closure, unfinished, RefusesEnd, left_failed, source_failed, left_open}
 use Rattle.bcder.specs.calls.Takes.{HasNone, TakesNext, RefusesTake, by_header, by_form, by_content}
 use Rattle.bcder.specs.calls.Walking.{HasValues, ClosesBefore}
-use Rattle.bcder.specs.calls.Valued.{HoldsOctets, HoldsValues, HoldsTree, ReadsTree, RefusesToRead, ReadsContent, ReadsAny, tag_of, HasTagged, TakesTree, RefusesTree, TakesNextTree, TakesOneTree}
+use Rattle.bcder.specs.calls.Valued.{HoldsOctets, HoldsValues, HoldsTree, ReadsTree, NeedsMemory, RefusesToRead, ReadsContent, ReadsAny, tag_of, HasTagged, TakesTree, WantsMemoryFor, RefusesTree, TakesNextTree, TakesOneTree}
 use Rattle.bcder.specs.calls.Valued as valued
 use Rattle.bcder.specs.laws.Complete.{one_header, one_list, one_end_of_list}
 use Rattle.bcder.proofs.Moving.{open_not_ended, open_not_failed}
 use Rattle.bcder.proofs.Entering.{Within, no_fewer}
 use Rattle.bcder.proofs.WalkSteps.{owed_after, done_here, grew_between}
-use Rattle.bcder.proofs.Typed.{header_not_absent, or_false}
+use Rattle.bcder.proofs.Typed.{header_not_absent, or_false, handed_value, handed_before}
+use Rattle.bcder.proofs.Naming.{of_violation}
 
 -- ---- content is that of one value at most
 
@@ -168,11 +172,24 @@ primitive_in_front tag c after f p t ts v rest h = of_shaped (shaped c.mode f.ta
     of_shaped (of_definite us b is l n q e) = both l
     of_shaped (of_indefinite us b end is l q s e) = (let x : IsTrue false = subst (λ z. IsTrue (may_have c.mode z Indefinite)) p (subst (λ z. IsTrue (may_have c.mode f.form z)) l f.is_header.allowed) in cc)
 
+-- content of values is that of a constructed value
+constructed_form : (mode : Mode) (f : Bool) (l : Length) (k : ContentForm) → IsTrue (may_have mode f l) → IsFormOf f l k → k ≢ Octets → f ≡ true
+constructed_form mode true l k a h n = refl
+constructed_form mode false Indefinite k a h n = (let x : IsTrue false = a in cc)
+constructed_form mode false (Definite m) k a h n = absurd (n h)
+
+values_form : (c : Reading) (ts : Trees) → c.state ≡ Open → HoldsValues c ts → c.kind ≢ Octets
+values_form c ts o (inl h) = λ e. no_values_of_octets c e h.values
+values_form c ts o (inr h) = absurd (open_not_ended c.state o h.0)
+
+none_in_der : (ts : Trees) → AreSegmentsIn Der ts → ⊥
+none_in_der ts s = s
+
 -- no header was passed
 refused_header : {T X : Type 0} (tag : Tag) (Means : Tree → T → Type 0) (c d : Reading) → Within c → (e : DecodeError X) → RefusesHeader cause_of (tagged tag) c e d → RefusesTree tag Means c e d
 refused_header tag Means c d w e (content.RefusesHeader.failed s a) = valued.RefusesTree.failed s a
 refused_header tag Means c d w e (content.RefusesHeader.source s g) = valued.RefusesTree.source s g
-refused_header tag Means c d w e (content.RefusesHeader.nothing n a) = valued.RefusesTree.broken (record { usable = n.usable; value = λ t v rest x h k. (let y = tagged_header c w tag t v rest h in n.header y.0 y.1); absent = n.absent }) a
+refused_header tag Means c d w e (content.RefusesHeader.nothing n a) = valued.RefusesTree.broken (record { usable = n.usable; value = λ t v rest x h k. (let y = tagged_header c w tag t v rest h in n.header y.0 y.1); absent = n.absent }) (of_violation c (cause_of e) a)
 
 -- what the calls say where none was
 module _ {T X : Type 0} (tag : Tag) (Means : Tree → T → Type 0) (c d : Reading) where
@@ -181,6 +198,10 @@ module _ {T X : Type 0} (tag : Tag) (Means : Tree → T → Type 0) (c d : Readi
 
   pub stopped_tree : Within c → d.mode ≡ c.mode → (e : DecodeError X) → RefusesHeader cause_of (tagged tag) c e d → d.marked ≡ c.marked → d.state ≡ Failed → TakesNextTree tag Means c (Err e) d
   stopped_tree w m e h k f = record { value = tt; none = tt; no_fault = tt; refused = refused_header tag Means c d w e h; failed = f; mode = m; marked = k }
+
+-- a call that needs the value is refused as one that answers that there is none
+pub one_not_taken : {T X : Type 0} (tag : Tag) (Means : Tree → T → Type 0) (c d : Reading) (e : DecodeError X) → TakesNextTree tag Means c (Err e) d → TakesOneTree tag Means c (Err e) d
+one_not_taken tag Means c d e h = record { value = tt; no_fault = tt; refused = inr (h.failed, h.refused); mode = h.mode; marked = h.marked }
 
 not_done : (l : Reading) → l.state ≡ Failed → IsDone l → ⊥
 not_done l e (inl h) = (let x : ◌≡◌ {A = State} Failed Ended = sym e ∙ h in cc)
@@ -233,10 +254,19 @@ module _ {C T X : Type 0} (view : C → Reading) (post : Tag → MutBor C → Re
         let s = shaped c.mode f.front.tag f.front.form f.front.len f.front.octets f.after f.front.is_header t v rest h.0.encodes (sym h.0.rest ∙ f.front.rest) in
         held c.mode f.front.tag f.front.form f.front.len f.front.octets f.after f.front.is_header t rest f.front.owed f.handed s f.hands
 
+    -- what memory is wanted for in the content is there in front
+    needed : NeedsMemory f.front.tag (Means c.mode) f.handed f.left → WantsMemoryFor tag (Means c.mode) c
+    needed (valued.NeedsMemory.of_octets contents x h m) =
+        let a : HasAll (length f.handed.stream.rest) f.handed = record { owed = h.owed ∙ ap (λ z. Some (length z)) (sym h.rest); count = refl } in
+        let v = handed_value tag c f.handed w f.after f.front f.hands h.form f.usable a _ (handed_before tag c f.handed w f.after f.front f.hands h.form a) in
+        valued.WantsMemoryFor.of_value (primitive tag f.handed.stream.rest) _ _ x (record { usable = v.usable; encodes = v.encodes; rest = v.rest }, refl) (subst (λ z. Means c.mode (primitive z f.handed.stream.rest) x) f.front.is_asked (subst (λ z. Means c.mode (primitive f.front.tag z) x) (sym h.rest) m))
+    needed (valued.NeedsMemory.of_values der k h r s) = valued.WantsMemoryFor.of_header (λ e. der (f.hands.mode ∙ e)) f.after f.front (constructed_form c.mode f.front.form f.front.len f.handed.kind f.front.is_header.allowed f.hands.form k)
+    needed (valued.NeedsMemory.of_segments ts h s) = valued.WantsMemoryFor.of_header (λ e. none_in_der ts (subst (λ z. AreSegmentsIn z ts) (f.hands.mode ∙ e) s)) f.after f.front (constructed_form c.mode f.front.form f.front.len f.handed.kind f.front.is_header.allowed f.hands.form (values_form f.handed ts f.hands.state h))
+
     refused_read : RefusesToRead f.front.tag (Means c.mode) f.handed e f.left → RefusesTree tag (Means c.mode) c e d
     refused_read (valued.RefusesToRead.failed s a) = absurd (open_not_failed f.handed.state f.hands.state s)
     refused_read (valued.RefusesToRead.source s g) = valued.RefusesTree.source s (grew_between _ _ _ _ (no_fewer _ _ f.faults_handed) g f.faults_left)
-    refused_read (valued.RefusesToRead.memory s) = valued.RefusesTree.memory s (f.after, f.front)
+    refused_read (valued.RefusesToRead.memory s n) = valued.RefusesTree.memory s (needed n)
     refused_read (valued.RefusesToRead.nothing n a) = valued.RefusesTree.broken (record { usable = f.usable; value = λ t v rest x h m. n t x (held_there t v rest h) m; absent = λ rest. header_not_absent tag c f.after rest f.usable f.front }) a
 
     refused_end : (l : Reading) → IsDone l → l.stream.faults ≡ f.handed.stream.faults → RefusesEnd cause_of l e f.left → RefusesTree tag (Means c.mode) c e d

@@ -11,6 +11,7 @@ pub mod Classes
 pub mod Stream
 pub mod Sources
 pub mod Cause
+pub mod Violations
 pub mod ContentsLen
 pub mod Content
 pub mod Views
@@ -23,6 +24,7 @@ pub mod Valued
 pub mod OctetStrings
 pub mod ReadIdentifiers
 pub mod ReadBits
+pub mod ReadCharacters
 pub mod Decoding
 pub mod Begins
 pub mod Changed

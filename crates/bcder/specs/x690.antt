@@ -6,6 +6,7 @@ pub mod Encoding
 pub mod Preorder
 pub mod Integer
 pub mod BitString
+pub mod Broken
 pub mod Number
 pub mod ObjectIdentifier
 pub mod OctetString

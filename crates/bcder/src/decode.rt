@@ -4,8 +4,10 @@ mod error;
 pub(crate) mod header;
 pub(crate) mod source;
 mod stop;
+pub(crate) mod violation;
 
 pub use content::walk::walk;
 pub use content::{Constructed, Content, Primitive};
 pub use error::{ContentError, DecodeError, Message};
 pub use source::{BytesSource, CaptureSource, IntoSource, LimitedSource, Pos, SliceSource, Source};
+pub use violation::Violation;

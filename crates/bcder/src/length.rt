@@ -1,11 +1,14 @@
 //! Length octets and end-of-contents octets (X.690, 8.1.3, 8.1.5, 9.1, 10.1).
-ghost use Rattle.std.specs.Prelude.{◌≡◌, ℕ, ◌<◌, ◌≤◌, ◌^◌, ◌↔◌, Bool, List, ◌++◌, length, IsTrue};
-ghost use Rattle.std.specs.Prelude.{false, Some, None, IfSome, IfNone, MatchOption};
-ghost use Rattle.bcder.specs.declared.mode.Mode.{Mode as ModeValue};
+ghost use Rattle.std.specs.Prelude.{◌≡◌, ℕ, ◌<◌, ◌≤◌, Bool, List, ◌++◌, length};
+ghost use Rattle.std.specs.Prelude.{Some, None, IsSome, IsNone, IfSome, MatchOption};
+ghost use Rattle.bcder.specs.x690.Broken.{EndsInLength};
+ghost use Rattle.bcder.specs.x690.Identifier.{Tag as TagValue, IsTag, identifier};
+ghost use Rattle.bcder.specs.calls.Violations.{ViolatesFront};
 ghost use Rattle.bcder.specs.steps.Answers.{Answers};
 ghost use Rattle.bcder.specs.x690.Length.{big_endian};
 ghost use Rattle.bcder.specs.steps.Reading.{least, may_tell, read_length, read_long, read_end};
 
+use crate::decode::Violation;
 use crate::mode::Mode;
 
 pub(crate) mod write;
@@ -96,16 +99,31 @@ pub(crate) fn length_at(mode: Mode, octets: &[u8]) -> Option<(Length, &[u8])>
     }
 }
 
-/// Whether octets that hold no length octets may begin some.
-#[tactic(auto, using(crate::proofs::Beginnings::length_decides))]
-pub(crate) fn may_begin_length(octets: &[u8]) -> bool
-    ensures short { IsTrue result → length octets.now < 5 }
-    ensures refused { result ≡ false → (mode : ModeValue) (x : List ℕ)
-        → read_length mode octets.now ≡ None → read_length mode (octets.now ++ x) ≡ None }
+/// What octets that hold no length octets violate, whatever identifier octets stand before them.
+/// `None` is for those that may begin some.
+#[tactic(auto, using(crate::proofs::Violations::length_violated))]
+pub(crate) fn length_violation(mode: Mode, octets: &[u8]) -> Option<Violation>
+    requires { read_length mode octets.now ≡ None }
+    ensures short { IsNone result → length octets.now < 5 }
+    ensures ends { IsNone result → EndsInLength octets.now }
+    ensures refused { IsSome result
+        → (x : List ℕ) → read_length mode (octets.now ++ x) ≡ None }
+    ensures violates { IfSome result (λ v. (t : TagValue) (f : Bool) (w x : List ℕ)
+        → IsTag t → w ≡ identifier t f ++ (octets.now ++ x) → ViolatesFront mode w v) }
 {
     match octets {
-        [] => true,
-        [first, digits @ ..] => *first <= 0x84 && digits.len() + 0x80 < usize::from(*first),
+        [] => None,
+        [first, digits @ ..] => {
+            if *first == 0xFF {
+                Some(Violation::ReservedLength)
+            } else if *first > 0x84 {
+                Some(Violation::LengthTooLarge)
+            } else if digits.len() + 0x80 < usize::from(*first) {
+                None
+            } else {
+                Some(Violation::LengthNotFewest)
+            }
+        }
     }
 }
 

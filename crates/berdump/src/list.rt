@@ -67,7 +67,8 @@ impl From<NoMemory> for ListError {
     }
 }
 
-/// What may be said of contents octets, which hold encodings or don't.
+/// What may be said of contents octets, which hold encodings or don't. That it stands in one line is
+/// told by a look at it: no note has a newline.
 fn note_of(
     alloc: Global,
     mode: Mode,

@@ -14,6 +14,8 @@ mod encodes;
 #[cfg(test)]
 mod over;
 #[cfg(test)]
+mod refusals;
+#[cfg(test)]
 mod restricted_strings;
 #[cfg(test)]
 mod string_octets;

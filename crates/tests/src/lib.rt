@@ -26,6 +26,8 @@ mod octets;
 #[cfg(test)]
 mod over;
 #[cfg(test)]
+mod refusals;
+#[cfg(test)]
 mod skips;
 #[cfg(test)]
 mod sources;

@@ -1,5 +1,5 @@
 -- What a capture asks of its closure, and what it answers and leaves.
-use Rattle.std.specs.Prelude.{◌≡◌, ◌≢◌, ◌||◌, ℕ, ◌-◌, ◌≤◌, Bool, true, false, List, [], ◌++◌, length, take, Option, Result, Ok, IfOk, IfErr, OnOk}
+use Rattle.std.specs.Prelude.{◌≡◌, ◌≢◌, ◌||◌, ℕ, ◌-◌, ◌<◌, ◌≤◌, Bool, true, false, List, [], ◌++◌, length, take, Option, Result, Ok, IfOk, IfErr, OnOk}
 use Rattle.std.specs.Borrow.{MutBor}
 use denote.Triple.Both.{Both}
 use Rattle.bcder.specs.declared.mode.Mode.{Mode}
@@ -35,6 +35,10 @@ pub record IsHanded (w : List ℕ) (n : ℕ) (o : Option ℕ) (k : ContentForm) 
 abbrev pub IsCaptureOf : Reading → Reading → Type 0
 IsCaptureOf c i = IsHanded c.stream.rest c.stream.faults c.owed c.kind c.state c.mode i
 
+-- octets were passed
+abbrev pub PassesSome : Reading → Reading → Type 0
+PassesSome c d = length d.stream.rest < length c.stream.rest
+
 -- these octets were passed, and behind them a marker where it ended the content; they are encodings in a mode
 pub record Holds (c : Reading) (mode : Mode) (octets : List ℕ) (d : Reading) : Type 0 where
   pub whole : AreWhole mode octets
@@ -60,11 +64,12 @@ module _ {C X : Type 0} (view : C → Reading) (post : MutBor C → Result (Unit
     pub mode : k.mode ≡ label c.mode left.marked
     pub start : k.start ≡ c.stream.position
 
-  -- why nothing was captured where the closure left this content, and the source these faults, and e was answered: the closure refused, or left failed content; or then the source failed, or there was no memory
+  -- why nothing was captured where the closure left this content, and the source these faults, and e was answered:
+  -- the closure refused, or left failed content; or then the source failed, or there was no memory for octets that the closure passed
   pub data RefusesLeft (handed : Reading) (e : DecodeError X) (left : Reading) (faults : ℕ) : Type 0 where
     by_content : RefusesOn cause_of view post handed e left → faults ≡ left.stream.faults → RefusesLeft handed e left faults
     by_source : Answered {R = Result (Unit {0}) (DecodeError X)} view post handed (Ok tt) left → left.state ≢ Failed → cause_of e ≡ of_source → Grew left.stream.faults faults → RefusesLeft handed e left faults
-    by_memory : Answered {R = Result (Unit {0}) (DecodeError X)} view post handed (Ok tt) left → left.state ≢ Failed → cause_of e ≡ of_memory → faults ≡ left.stream.faults → RefusesLeft handed e left faults
+    by_memory : Answered {R = Result (Unit {0}) (DecodeError X)} view post handed (Ok tt) left → left.state ≢ Failed → cause_of e ≡ of_memory → PassesSome handed left → faults ≡ left.stream.faults → RefusesLeft handed e left faults
 
   -- nothing was captured from c, and e answered: its rest and its state are as they were
   pub record RefusesCapture (c : Reading) (e : DecodeError X) (d : Reading) : Type 0 where

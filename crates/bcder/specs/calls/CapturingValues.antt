@@ -1,17 +1,21 @@
 -- When the next value, and all values up to the end of content, are captured.
-use Rattle.std.specs.Prelude.{◌≡◌, ℕ, List, [], ◌++◌, Result, IsOkAnd, IsErrAnd, IfOk, IfErr, OnOk, OnErr, IsOk}
+use Rattle.std.specs.Prelude.{◌≡◌, ◌≢◌, ◌⊎◌, ℕ, ◌≤◌, true, List, [], ◌∷◌, ◌++◌, Result, IsOkAnd, IsErrAnd, IfOk, IfErr, OnOk, OnErr, IsOk}
 use Rattle.std.specs.Borrow.{MutBor}
 use denote.Triple.Both.{Both}
 use Rattle.bcder.specs.declared.decode.content.Constructed.{Constructed}
 use Rattle.bcder.specs.declared.decode.content.State.TheVariants.{Open, Ended, Failed}
 use Rattle.bcder.specs.declared.decode.error.DecodeError.{DecodeError}
 use Rattle.bcder.specs.calls.Cause.{cause_of, of_source, of_memory, IsRefusal}
-use Rattle.bcder.specs.x690.Tree.{Tree}
+use Rattle.bcder.specs.declared.mode.Mode.{Mode}
+use Rattle.bcder.specs.x690.Tree.{Tree, Trees}
+use Rattle.bcder.specs.x690.Encoding.{AreEncodings}
+use Rattle.bcder.specs.x690.Preorder.{Heading, preorder}
 use Rattle.bcder.specs.x690.Grammar.{IsOnly}
 use Rattle.bcder.specs.calls.Stream.{Stream, Grew}
 use Rattle.bcder.specs.calls.Captured.{Kept, AreWhole}
-use Rattle.bcder.specs.calls.Content.{Reading, Closes, IsDone}
-use Rattle.bcder.specs.calls.Walking.{HasValue, PassesValue, ClosesBefore, HasValues}
+use Rattle.bcder.specs.calls.Content.{Reading, Octets, Closes, IsDone, NotAtEnd}
+use Rattle.bcder.specs.calls.Skipping.{HeadersFrom, GoesDeep}
+use Rattle.bcder.specs.calls.Walking.{HasValue, PassesValue, ClosesBefore, HasValues, Walks}
 use Rattle.bcder.specs.calls.Views.{before, after}
 
 -- ---- what both leave
@@ -22,38 +26,59 @@ pub record IsAsBefore (c d : Reading) : Type 0 where
   pub owed : d.owed ≡ c.owed
   pub state : d.state ≡ c.state
 
--- why e was answered of content c: an earlier value was refused, the source failed, c has none of what is asked for, or there was no memory
-pub data RefusesWhere {X : Type 0} (HasNone : Type 0) (c : Reading) (e : DecodeError X) (d : Reading) : Type 0 where
-  failed : c.state ≡ Failed → IsRefusal e → RefusesWhere HasNone c e d
-  source : cause_of e ≡ of_source → Grew c.stream.faults d.stream.faults → RefusesWhere HasNone c e d
-  nothing : HasNone → IsRefusal e → RefusesWhere HasNone c e d
-  memory : cause_of e ≡ of_memory → RefusesWhere HasNone c e d
+-- why e was answered of content c: an earlier value was refused, the source failed, c has none of what is asked for,
+-- or there was no memory for what it has
+pub data RefusesWhere {X : Type 0} (HasNone HasSome : Type 0) (c : Reading) (e : DecodeError X) (d : Reading) : Type 0 where
+  failed : c.state ≡ Failed → IsRefusal e → RefusesWhere HasNone HasSome c e d
+  source : cause_of e ≡ of_source → Grew c.stream.faults d.stream.faults → RefusesWhere HasNone HasSome c e d
+  nothing : HasNone → IsRefusal e → RefusesWhere HasNone HasSome c e d
+  memory : cause_of e ≡ of_memory → HasSome → RefusesWhere HasNone HasSome c e d
 
 -- there was no memory
 abbrev pub WantsMemory : {T X : Type 0} → Result T (DecodeError X) → Type 0
 WantsMemory r = IsErrAnd r (λ e. cause_of e ≡ of_memory)
 
--- octets were captured, of which Q tells, or not, as where there is none of what is asked for
-pub record CapturesBy {X : Type 0} (Q : Reading → Kept → Reading → Type 0) (HasNone : Reading → Type 0) (c : Reading) (r : Result Kept (DecodeError X)) (d : Reading) : Type 0 where
+-- octets were captured, of which Q tells, or not, as where there is none of what is asked for; memory is wanted only where there is some
+pub record CapturesBy {X : Type 0} (Q : Reading → Kept → Reading → Type 0) (HasNone HasSome : Reading → Type 0) (c : Reading) (r : Result Kept (DecodeError X)) (d : Reading) : Type 0 where
   pub captured : IfOk r (λ k. Q c k d)
   pub no_fault : OnOk r (d.stream.faults ≡ c.stream.faults)
-  pub refused : IfErr r (λ e. RefusesWhere (HasNone c) c e d)
+  pub refused : IfErr r (λ e. RefusesWhere (HasNone c) (HasSome c) c e d)
   pub as_before : OnErr r (IsAsBefore c d)
   pub mode : d.mode ≡ c.mode
   pub marked : d.marked ≡ c.marked
 
--- the step that is captured: it passed what is asked for, or refused
-pub record PassesBy {T X : Type 0} (Q : Reading → Reading → Type 0) (HasNone : Reading → Type 0) (c : Reading) (r : Result T (DecodeError X)) (d : Reading) : Type 0 where
+-- the step that is captured: it passed what is asked for, or refused; memory is wanted only where values are deep
+pub record PassesBy {T X : Type 0} (Q : Reading → Reading → Type 0) (HasNone IsDeep : Reading → Type 0) (c : Reading) (r : Result T (DecodeError X)) (d : Reading) : Type 0 where
   pub passed : OnOk r (Q c d)
   pub no_fault : OnOk r (d.stream.faults ≡ c.stream.faults)
-  pub refused : IfErr r (λ e. RefusesWhere (HasNone c) c e d)
+  pub refused : IfErr r (λ e. RefusesWhere (HasNone c) (IsDeep c) c e d)
   pub marked : d.marked ≡ c.marked
+
+-- headers that stand in these octets, the first of them in front, lead to a constructed value at a depth of four or more
+pub record LeadDeep (mode : Mode) (w : List ℕ) : Type 0 where
+  pub calls : List Heading
+  pub last : Heading
+  pub some : (t : Tree) × (more : List Heading) × (preorder t 0 ≡ (calls ++ last ∷ []) ++ more)
+  pub stand : HeadersFrom mode (calls ++ last ∷ []) w
+  pub constructed : last.constructed ≡ true
+  pub deep : 4 ≤ last.depth
 
 -- ---- one value
 
 -- no value stands in front of open content
 pub record HasNoValue (c : Reading) : Type 0 where
   pub none : (t : Tree) (w after : List ℕ) → HasValue c t w after → ⊥
+
+-- open content that isn't at its end begins with headers that lead to a deep value
+pub record BeginsDeep (c : Reading) : Type 0 where
+  pub usable : c.state ≡ Open
+  pub some : NotAtEnd c
+  pub leads : LeadDeep c.mode c.stream.rest
+
+-- a value stands in front, or what begins there leads to a deep one
+pub data HasValueOrDeep (c : Reading) : Type 0 where
+  of_value : (t : Tree) (w after : List ℕ) → HasValue c t w after → HasValueOrDeep c
+  of_depth : BeginsDeep c → HasValueOrDeep c
 
 -- the octets k are the one value that stands in front of c, and d is left behind it
 pub record CapturesValue (c : Reading) (k : Kept) (d : Reading) : Type 0 where
@@ -71,6 +96,21 @@ pub record HasOthers (c : Reading) : Type 0 where
   pub usable : c.state ≡ Open
   pub none : HasValues c → ⊥
 
+-- some values stand in front, and what begins behind them leads to a deep one
+pub record HasDeepBehind (mode : Mode) (w : List ℕ) : Type 0 where
+  pub values : Trees
+  pub front : List ℕ
+  pub behind : List ℕ
+  pub encode : AreEncodings mode values front
+  pub is : w ≡ front ++ behind
+  pub leads : LeadDeep mode behind
+
+-- open content of which something is left is values up to its end, or has a deep one behind some
+pub record HasValuesOrDeep (c : Reading) : Type 0 where
+  pub usable : c.state ≡ Open
+  pub some : IsDone c → ⊥
+  pub there : HasValues c ⊎ HasDeepBehind c.mode c.stream.rest
+
 -- the octets k are all values up to the end of c, and d is at that end, its marker taken
 pub record CapturesValues (c : Reading) (k : Kept) (d : Reading) : Type 0 where
   pub whole : AreWhole c.mode k.octets
@@ -84,8 +124,17 @@ pub record CapturesValues (c : Reading) (k : Kept) (d : Reading) : Type 0 where
   pub start : k.start ≡ c.stream.position
 
 -- content was passed to its end, whose marker was taken
-abbrev pub PassesToEnd : Reading → Reading → Type 0
-PassesToEnd c d = IsDone d
+pub record PassesToEnd (c d : Reading) : Type 0 where
+  pub done : IsDone d
+  pub all : c.state ≡ Open → HasValues c
+
+-- values were passed, and a deep one met
+pub record MetDeep (c : Reading) : Type 0 where
+  pub form : c.kind ≢ Octets
+  pub at : Reading
+  pub left : Reading
+  pub walks : Walks c at
+  pub deep : GoesDeep at left
 
 -- ---- the same of a parameter as a whole
 
@@ -93,7 +142,7 @@ module _ {S : Type 0} (stream : S → Stream) (c : Both (MutBor (Constructed S))
   module _ {X : Type 0} (r : Result Kept (DecodeError X)) where
     -- the next value was captured, or why it wasn't
     abbrev pub CapturedOne : Type 0
-    CapturedOne = CapturesBy CapturesValue HasNoValue (before stream c) r (after stream c)
+    CapturedOne = CapturesBy CapturesValue HasNoValue HasValueOrDeep (before stream c) r (after stream c)
 
     -- unless the source failed or memory was wanted, it is captured where one stands in front
     abbrev pub ExactlyOne : Type 0
@@ -101,14 +150,14 @@ module _ {S : Type 0} (stream : S → Stream) (c : Both (MutBor (Constructed S))
 
     -- all values were captured, or why they weren't
     abbrev pub CapturedAll : Type 0
-    CapturedAll = CapturesBy CapturesValues HasOthers (before stream c) r (after stream c)
+    CapturedAll = CapturesBy CapturesValues HasOthers HasValuesOrDeep (before stream c) r (after stream c)
 
     -- unless the source failed or memory was wanted, they are captured where the rest up to the end is encodings, and where the content has ended
     abbrev pub CapturesExactlyAll : Type 0
     CapturesExactlyAll = (Grew (before stream c).stream.faults (after stream c).stream.faults → ⊥) → (WantsMemory r → ⊥) → (HasValues (before stream c) → (before stream c).state ≡ Open → IsOk r) × ((before stream c).state ≡ Ended → IsOk r)
 
   abbrev pub PassedOne : {T X : Type 0} → Result T (DecodeError X) → Type 0
-  PassedOne r = PassesBy PassesValue HasNoValue (before stream c) r (after stream c)
+  PassedOne r = PassesBy PassesValue HasNoValue BeginsDeep (before stream c) r (after stream c)
 
   abbrev pub PassedToEnd : {T X : Type 0} → Result T (DecodeError X) → Type 0
-  PassedToEnd r = PassesBy PassesToEnd HasOthers (before stream c) r (after stream c)
+  PassedToEnd r = PassesBy PassesToEnd HasOthers MetDeep (before stream c) r (after stream c)

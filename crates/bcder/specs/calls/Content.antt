@@ -1,5 +1,5 @@
 -- Content as clauses see it: octets, numbers and marks, whatever source lies below.
-use Rattle.std.specs.Prelude.{◌≡◌, ◌≢◌, ◌⊎◌, ℕ, ◌+◌, ◌≤◌, Bool, true, false, List, [], ◌++◌, length, Option, Some, None}
+use Rattle.std.specs.Prelude.{◌≡◌, ◌≢◌, ◌⊎◌, ℕ, ◌+◌, ◌<◌, ◌≤◌, Bool, true, false, List, [], ◌++◌, length, Option, Some, None}
 use Rattle.std.specs.Borrow.{GName}
 use Rattle.bcder.specs.declared.mode.Mode.{Mode}
 use Rattle.bcder.specs.declared.mode.Mode.TheVariants.{Ber}
@@ -15,7 +15,11 @@ use Rattle.bcder.specs.x690.Tree.{Trees}
 use Rattle.bcder.specs.x690.Encoding.{IsHeader, AreEncodings, Header}
 use Rattle.bcder.specs.calls.Stream.{Stream, Grew}
 use Rattle.bcder.specs.declared.decode.error.ContentError.{ContentError}
-use Rattle.bcder.specs.calls.Cause.{Cause, of_source, IsOfContent}
+use Rattle.bcder.specs.declared.decode.error.ContentError.TheVariants.{Static}
+use Rattle.bcder.specs.declared.decode.violation.Violation.{Violation}
+use Rattle.bcder.specs.declared.decode.violation.Violation.TheVariants as v
+use Rattle.bcder.specs.calls.Cause.{Cause, of_source, of_content, IsOfContent}
+use Rattle.bcder.specs.calls.Violations.{violation_text, ViolatesFront}
 
 -- what content is made of: octets, or values whose end is known in one of three ways
 pub data ContentForm : Type 0 where
@@ -247,8 +251,36 @@ pub record Resembles (c d : Reading) : Type 0 where
   pub marked : d.marked ≡ c.marked
   pub name : d.name ≡ c.name
 
+-- ---- what octets violate
+
+-- the header of a value stands in front, of which fewer octets are left than it tells
+pub record HasLongValue (c : Reading) : Type 0 where
+  pub tag : Tag
+  pub form : Bool
+  pub number : ℕ
+  pub octets : List ℕ
+  pub after : List ℕ
+  pub is_header : IsHeader c.mode tag form (Definite number) octets
+  pub rest : c.stream.rest ≡ octets ++ after
+  pub left : ℕ
+  pub owed : c.owed ≡ Some left
+  pub beyond : left < length octets + number
+
+-- the octets to come are refused in the content, for the reason that is named
+pub data Violates (c : Reading) (r : Violation) : Type 0 where
+  in_front : ViolatesFront c.mode c.stream.rest r → Violates c r
+  truncated_contents : r ≡ v.TruncatedContents → c.stream.rest ≡ [] → c.kind ≢ UnboundedValues → Violates c r
+  value_too_long : r ≡ v.ValueTooLong → HasLongValue c → Violates c r
+  stray_end : r ≡ v.StrayEnd → c.kind ≢ IndefiniteValues → (after : List ℕ) → HasMarker c.mode c.stream.rest after → Violates c r
+
+-- a cause is content, and its text names what the octets violate
+pub record NamesViolation (why : Cause ContentError) (c : Reading) : Type 0 where
+  pub violation : Violation
+  pub violates : Violates c violation
+  pub named : why ≡ of_content (Static (violation_text violation))
+
 -- why no header was passed, and e was answered; `why` tells its cause
 pub data RefusesHeader {E : Type 0} (why : E → Cause ContentError) (asked : Asked) (c : Reading) (e : E) (d : Reading) : Type 0 where
   failed : c.state ≡ Failed → IsOfContent (why e) → RefusesHeader why asked c e d
   source : why e ≡ of_source → Grew c.stream.faults d.stream.faults → RefusesHeader why asked c e d
-  nothing : NothingThere asked c → IsOfContent (why e) → RefusesHeader why asked c e d
+  nothing : NothingThere asked c → NamesViolation (why e) c → RefusesHeader why asked c e d

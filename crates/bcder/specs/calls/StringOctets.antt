@@ -1,5 +1,5 @@
 -- Octet strings as they are kept: in one piece, or cut into parts.
-use Rattle.std.specs.Prelude.{◌≡◌, ℕ, List, [], ◌∷◌, ⊤}
+use Rattle.std.specs.Prelude.{◌≡◌, ℕ, Bool, true, false, List, [], ◌∷◌, ◌++◌, ⊤}
 use Rattle.std.specs.List.{concat}
 use Rattle.bcder.specs.declared.mode.Mode.{Mode}
 use Rattle.bcder.specs.x690.Tree.{Tree, primitive, constructed}
@@ -26,6 +26,21 @@ parts (cut kept ps) = ps
 abbrev pub octets_of : StringOctets → List ℕ
 octets_of (whole w) = w
 octets_of (cut kept ps) = concat ps
+
+-- octets that are still to come, and whether they are known to stand in one piece
+pub record OctetsLeft : Type 0 where
+  pub octets : List ℕ
+  pub is_whole : Bool
+
+-- whether there is no part
+abbrev pub is_no_part : List (List ℕ) → Bool
+is_no_part [] = true
+is_no_part (p ∷ ps) = false
+
+-- whether the octets of a string are known to stand in one piece: it came so, or has no segment
+abbrev pub is_in_one_piece : StringOctets → Bool
+is_in_one_piece (whole w) = true
+is_in_one_piece (cut kept ps) = is_no_part ps
 
 -- the string that a value means in a mode: in one piece, or cut into its segments, with encodings of the values that it is cut into
 abbrev pub IsStringOf : Mode → Tree → StringOctets → Type 0

@@ -1,8 +1,9 @@
 -- Values of a tag, of either form, taken as what they mean.
-use Rattle.std.specs.Prelude.{◌≡◌, ◌⊎◌, List, ℕ, Some, Option, length, Result, IfOk, IfErr, IfSome, IfNone, OnOk, OnErr}
+use Rattle.std.specs.Prelude.{◌≡◌, ◌≢◌, ◌⊎◌, true, List, ℕ, Some, Option, length, Result, IfOk, IfErr, IfSome, IfNone, OnOk, OnErr}
 use Rattle.std.specs.Borrow.{MutBor}
 use denote.Triple.Both.{Both}
 use Rattle.bcder.specs.declared.mode.Mode.{Mode}
+use Rattle.bcder.specs.declared.mode.Mode.TheVariants.{Der}
 use Rattle.bcder.specs.declared.decode.content.Constructed.{Constructed}
 use Rattle.bcder.specs.declared.decode.content.Content.{Content}
 use Rattle.bcder.specs.declared.decode.content.State.TheVariants.{Open, Ended, Failed}
@@ -14,6 +15,8 @@ use Rattle.bcder.specs.calls.Stream.{Stream, Grew}
 use Rattle.bcder.specs.calls.Content.{Reading, Octets, tagged, IsAbsent, IsDone, HasHeader}
 use Rattle.bcder.specs.calls.Walking.{HasValue, HasValues}
 use Rattle.bcder.specs.calls.Takes.{HasNone}
+use Rattle.bcder.specs.calls.CapturingValues.{HasValuesOrDeep}
+use Rattle.bcder.specs.x690.OctetString.{AreSegmentsIn}
 use Rattle.bcder.specs.calls.Views.{before, after, content_before, content_after}
 
 -- ---- the content of a value
@@ -51,12 +54,20 @@ module _ {T : Type 0} (tag : Tag) (Means : Tree → T → Type 0) where
   abbrev pub HoldsNone : Reading → Type 0
   HoldsNone c = (t : Tree) (x : T) → HoldsTree tag c t → Means t x → ⊥
 
+  -- what memory is wanted for: contents octets that mean something; outside DER values, none of which was taken;
+  -- or the table of segments
+  pub data NeedsMemory (c d : Reading) : Type 0 where
+    of_octets : (contents : List ℕ) (x : T) → HoldsOctets c contents → Means (primitive tag contents) x → NeedsMemory c d
+    of_values : c.mode ≢ Der → c.kind ≢ Octets → HasValuesOrDeep c → d.stream.rest ≡ c.stream.rest → d.state ≡ c.state → NeedsMemory c d
+    of_segments : (ts : Trees) → HoldsValues c ts → AreSegmentsIn c.mode ts → NeedsMemory c d
+
   module _ {X : Type 0} where
-    -- why content was not read, and e was answered: an earlier value was refused; the source failed; there was no memory; or it is the content of nothing that is read
+    -- why content was not read, and e was answered: an earlier value was refused; the source failed; there was no memory for it;
+    -- or it is the content of nothing that is read
     pub data RefusesToRead (c : Reading) (e : DecodeError X) (d : Reading) : Type 0 where
       failed : c.state ≡ Failed → IsRefusal e → RefusesToRead c e d
       source : cause_of e ≡ of_source → Grew c.stream.faults d.stream.faults → RefusesToRead c e d
-      memory : cause_of e ≡ of_memory → RefusesToRead c e d
+      memory : cause_of e ≡ of_memory → NeedsMemory c d → RefusesToRead c e d
       nothing : HoldsNone c → IsRefusal e → RefusesToRead c e d
 
     -- content was read up to its end, or refused
@@ -93,12 +104,19 @@ module _ {T : Type 0} (tag : Tag) (Means : Tree → T → Type 0) where
     pub value : (t : Tree) (w rest : List ℕ) (x : T) → HasTagged tag c t w rest → Means t x → ⊥
     pub absent : (rest : List ℕ) → IsAbsent (tagged tag) c rest → ⊥
 
+  -- what memory is wanted for: a value with the tag that means something; or outside DER a constructed one,
+  -- which is kept before it is known whether it means anything
+  pub data WantsMemoryFor (c : Reading) : Type 0 where
+    of_value : (t : Tree) (w rest : List ℕ) (x : T) → HasTagged tag c t w rest → Means t x → WantsMemoryFor c
+    of_header : c.mode ≢ Der → (after : List ℕ) (h : HasHeader (tagged tag) c after) → h.form ≡ true → WantsMemoryFor c
+
   module _ {X : Type 0} where
-    -- why none was taken, and e was answered: an earlier value was refused; the source failed; there was no memory; or what stands in front is nothing that is read
+    -- why none was taken, and e was answered: an earlier value was refused; the source failed; there was no memory for one;
+    -- or what stands in front is nothing that is read
     pub data RefusesTree (c : Reading) (e : DecodeError X) (d : Reading) : Type 0 where
       failed : c.state ≡ Failed → IsRefusal e → RefusesTree c e d
       source : cause_of e ≡ of_source → Grew c.stream.faults d.stream.faults → RefusesTree c e d
-      memory : cause_of e ≡ of_memory → (after : List ℕ) × HasHeader (tagged tag) c after → RefusesTree c e d
+      memory : cause_of e ≡ of_memory → WantsMemoryFor c → RefusesTree c e d
       broken : HasNoTree c → IsRefusal e → RefusesTree c e d
 
     -- what a call did that answers the value, or that there is none with the tag

@@ -10,8 +10,11 @@ use Rattle.bcder.specs.declared.decode.header.Peeked.{Peeked}
 use Rattle.bcder.specs.declared.decode.header.Peeked.TheVariants as peeked
 use Rattle.bcder.specs.declared.length.Length.{Length}
 use Rattle.bcder.specs.declared.length.Length.TheVariants.{Definite}
-use Rattle.bcder.specs.x690.Identifier.{Tag, end_of_contents, is_value_tag}
+use Rattle.bcder.specs.x690.Identifier.{Tag, IsTag, identifier, end_of_contents, is_value_tag}
+use Rattle.bcder.specs.x690.Length.{AreLengthOctets}
 use Rattle.bcder.specs.x690.Encoding.{Header, may_have}
+use Rattle.bcder.specs.x690.Broken.{EndsInHeader}
+use Rattle.bcder.specs.calls.Violations.{ViolatesFront}
 use Rattle.bcder.specs.steps.Reading.{read_identifier, read_header, read_end}
 use Rattle.bcder.specs.calls.Content.{Asked, any, tagged, IsAsked}
 use Rattle.bcder.specs.calls.Stream.{Stream}
@@ -42,6 +45,14 @@ asked (wanted.Tagged t) = tagged t
 abbrev pub HasOtherTag : Asked → List ℕ → Type 0
 HasOtherTag asked w = (u : Tag) × (f : Bool) × (x : List ℕ) × (read_identifier w ≡ Some (u, f, x)) × (IsAsked asked u → ⊥)
 
+-- identifier octets and length octets stand in front, which tell this
+pub record HasHeaderOctets (mode : Mode) (t : Tag) (f : Bool) (len : Length) (w : List ℕ) : Type 0 where
+  pub is_tag : IsTag t
+  pub octets : List ℕ
+  pub others : List ℕ
+  pub tells : AreLengthOctets mode len octets
+  pub is : w ≡ identifier t f ++ (octets ++ others)
+
 -- neither those stand in front, nor the header of a value, nor end-of-contents octets
 abbrev pub HasNoHeader : Mode → Asked → List ℕ → Type 0
 HasNoHeader mode asked w = (read_header mode w ≡ None) × (read_end mode w ≡ None) × (HasOtherTag asked w → ⊥)
@@ -61,7 +72,7 @@ IsPeeked mode asked peeked.Nothing n w = w ≡ []
 IsPeeked mode asked peeked.Other n w = HasOtherTag asked w
 IsPeeked mode asked (peeked.End k) n w = IsEnd mode k n w × IsAsked asked end_of_contents
 IsPeeked mode asked (peeked.Front h k) n w = IsFront mode h k n w × IsAsked asked h.tag
-IsPeeked mode asked peeked.Refused n w = (1 ≤ length w) × HasNoHeader mode asked w
+IsPeeked mode asked (peeked.Refused v) n w = (1 ≤ length w) × HasNoHeader mode asked w × ViolatesFront mode w v
 
 -- ---- sources
 
@@ -80,7 +91,7 @@ abbrev pub Shows : Mode → Asked → Peeked → List ℕ → Type 0
 Shows mode asked p w = (x : List ℕ) → IsPeeked mode asked p (length w) (w ++ x)
 
 abbrev pub Sees : Mode → Asked → Option Peeked → List ℕ → Type 0
-Sees mode asked None w = (length w < 9) × HasNoHeader mode asked w
+Sees mode asked None w = (length w < 9) × HasNoHeader mode asked w × (1 ≤ length w → EndsInHeader w)
 Sees mode asked (Some p) w = Shows mode asked p w
 
 -- what is told of a header that was read in n octets
@@ -89,4 +100,4 @@ IsFrontOf mode asked n h peeked.Nothing = ⊥
 IsFrontOf mode asked n h peeked.Other = IsAsked asked h.tag → ⊥
 IsFrontOf mode asked n h (peeked.End k) = ⊥
 IsFrontOf mode asked n h (peeked.Front g k) = (k ≡ n) × (header_of g ≡ h) × IsAsked asked h.tag × (is_value_tag h.tag ≡ true) × (may_have mode h.form h.len ≡ true)
-IsFrontOf mode asked n h peeked.Refused = ⊥
+IsFrontOf mode asked n h (peeked.Refused v) = ⊥

@@ -4,16 +4,19 @@ ghost use Rattle.std.specs.Prelude.{IsTrue, Some, None, IfSome, MatchOption, IfO
 ghost use Rattle.bcder.specs.calls.Changed.{SameFaults, MoreFaults, SameRest, SamePosition};
 ghost use Rattle.bcder.specs.calls.Changed.{SameKept};
 ghost use Rattle.bcder.specs.calls.Content.{IsAsked};
+ghost use Rattle.bcder.specs.calls.Violations.{HasNoEnd, ViolatesFront};
 ghost use Rattle.bcder.specs.declared.mode.Mode.{Mode as ModeValue};
 ghost use Rattle.bcder.specs.steps.Peek.{asked, header_of, octets_header, is_constructed, len_of};
-ghost use Rattle.bcder.specs.steps.Peek.{Fronts, Peeks, Sees, Shows, IsFront, IsFrontOf};
+ghost use Rattle.bcder.specs.steps.Peek.{Fronts, Peeks, Sees, Shows, HasHeaderOctets, IsFront, IsFrontOf};
 ghost use Rattle.bcder.specs.steps.Reading.{read_header, class_of, is_marked};
 ghost use Rattle.bcder.specs.x690.Encoding.{may_have};
+ghost use Rattle.bcder.specs.x690.Identifier.{is_value_tag};
 
 use crate::decode::source::Source;
-use crate::length::{Length, after_end, length_at, may_begin_length};
+use crate::decode::violation::Violation;
+use crate::length::{Length, after_end, length_at, length_violation};
 use crate::mode::Mode;
-use crate::tag::take::may_begin_identifier;
+use crate::tag::take::identifier_violation;
 use crate::tag::{Tag, identifier_at, mark_of_leading, tag_of_leading};
 
 /// The form of an encoding (X.690, 8.1.2.5), and what its length octets say.
@@ -59,8 +62,8 @@ pub(crate) enum Peeked {
     /// The header of a value, and how many octets it has.
     Front { header: Header, size: usize },
 
-    /// Octets that are none of these in the mode, and no front of any.
-    Refused,
+    /// Octets that are none of these in the mode and no front of any, and what they violate.
+    Refused(Violation),
 }
 
 impl Form {
@@ -127,6 +130,27 @@ pub(crate) fn header_at(mode: Mode, octets: &[u8]) -> Option<(Header, &[u8])>
     }
 }
 
+/// What a form violates that a tag, a bit and length octets tell, if it has no header.
+fn form_violation(mode: Mode, tag: Tag, constructed: bool, len: Length) -> Violation
+    requires { is_value_tag tag ≡ true → may_have mode constructed len ≡ false }
+    ensures { (w : List ℕ) → HasHeaderOctets mode tag constructed len w → HasNoEnd mode w
+        → ViolatesFront mode w result }
+{
+    if !tag.is_value() {
+        return Violation::ReservedTag;
+    }
+    match len {
+        Length::Definite(_) => Violation::DefiniteInCer,
+        Length::Indefinite => {
+            if constructed {
+                Violation::IndefiniteInDer
+            } else {
+                Violation::PrimitiveIndefinite
+            }
+        }
+    }
+}
+
 /// Whether headers of a tag are looked for.
 #[inline(always)]
 fn is_wanted(wanted: &Wanted, tag: Tag) -> bool
@@ -154,10 +178,10 @@ fn look(mode: Mode, wanted: &Wanted, octets: &[u8]) -> Option<Peeked>
         });
     }
     let Some(found) = identifier_at(octets) else {
-        if may_begin_identifier(octets) {
-            return None;
-        }
-        return Some(Peeked::Refused);
+        return match identifier_violation(octets) {
+            Some(violation) => Some(Peeked::Refused(violation)),
+            None => None,
+        };
     };
     if !is_wanted(wanted, found.0) {
         return Some(Peeked::Other);
@@ -168,14 +192,14 @@ fn look(mode: Mode, wanted: &Wanted, octets: &[u8]) -> Option<Peeked>
         });
     }
     match length_at(mode, found.2) {
-        Some(_) => Some(Peeked::Refused),
-        None => {
-            if may_begin_length(found.2) {
-                None
-            } else {
-                Some(Peeked::Refused)
-            }
+        Some(length) => {
+            let violation = form_violation(mode, found.0, found.1, length.0);
+            Some(Peeked::Refused(violation))
         }
+        None => match length_violation(mode, found.2) {
+            Some(violation) => Some(Peeked::Refused(violation)),
+            None => None,
+        },
     }
 }
 
@@ -334,7 +358,7 @@ fn peek_long<S: Source>(source: &mut S, mode: Mode, wanted: Wanted) -> Result<Pe
             return Ok(Peeked::Nothing);
         }
         if found < count {
-            return Ok(Peeked::Refused);
+            return Ok(Peeked::Refused(Violation::TruncatedHeader));
         }
         count = found + 1;
     }

@@ -1,22 +1,17 @@
 //! Why a step over content stopped, in few octets. It becomes an error where it is answered.
+ghost use Rattle.std.specs.Prelude.{◌≡◌};
+ghost use Rattle.bcder.specs.steps.StopCause.{reason_text};
 
-/// Why octets were refused.
+use crate::decode::violation::Violation;
+
+/// Why content was refused, where no octets tell it.
 #[derive(Clone, Copy)]
 pub(crate) enum Reason {
     /// An earlier value was refused.
     Earlier,
 
-    /// Octets that are no identifier octets with length octets behind them.
-    Header,
-
-    /// A header that no value has here.
-    ValueHeader,
-
     /// A constructed value where a primitive one has to stand.
     Constructed,
-
-    /// Fewer octets came than are owed.
-    Short,
 
     /// Values that a closure left in a constructed value.
     ValuesLeft,
@@ -24,13 +19,12 @@ pub(crate) enum Reason {
 
 impl Reason {
     /// What is said of it.
-    pub(crate) fn text(self) -> &'static str {
+    pub(crate) fn text(self) -> &'static str
+        ensures { result.now ≡ reason_text self }
+    {
         match self {
             Reason::Earlier => "an earlier value was refused",
-            Reason::Header => "malformed header",
-            Reason::ValueHeader => "malformed value header",
             Reason::Constructed => "expected a primitive value",
-            Reason::Short => "unexpected end of data",
             Reason::ValuesLeft => "values left in a constructed value",
         }
     }
@@ -38,7 +32,10 @@ impl Reason {
 
 /// Why a step stopped.
 pub(crate) enum Stop<E> {
-    /// Octets were refused.
+    /// Octets were refused, and what they violate.
+    Violated(Violation),
+
+    /// Content was refused.
     Refused(Reason),
 
     /// The source failed.

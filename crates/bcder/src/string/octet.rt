@@ -19,7 +19,7 @@ use crate::captured::Captured;
 use bytes::Bytes;
 pub use encode::OctetStringEncoder;
 pub use iter::{OctetStringIter, OctetStringOctets};
-pub(crate) use read::{from_constructed, take_piece};
+pub(crate) use read::{from_constructed, may_be_whole};
 pub use slice::OctetSliceEncoder;
 pub use source::OctetStringSource;
 use std::alloc::AllocError;

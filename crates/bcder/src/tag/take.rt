@@ -1,7 +1,11 @@
 //! Reading identifier octets from a source (X.690, 8.1.2).
-ghost use Rattle.std.specs.Prelude.{◌≡◌, ◌⊎◌, ℕ, ◌<◌, ◌≤◌, List, [], ◌++◌, length, false, IsTrue};
-ghost use Rattle.std.specs.Prelude.{None, IsNone, IfSome, MatchOption, IfOk, IfErr, OnOk, OnErr};
+ghost use Rattle.std.specs.Prelude.{◌≡◌, ◌⊎◌, ℕ, ◌<◌, ◌≤◌, List, [], ◌++◌, length};
+ghost use Rattle.std.specs.Prelude.{None, IsNone, IsSome, IfSome, MatchOption};
+ghost use Rattle.std.specs.Prelude.{IfOk, IfErr, OnOk, OnErr};
+ghost use Rattle.bcder.specs.declared.mode.Mode.{Mode as ModeValue};
+ghost use Rattle.bcder.specs.x690.Broken.{EndsInTag};
 ghost use Rattle.bcder.specs.x690.Identifier.{IsTag, identifier};
+ghost use Rattle.bcder.specs.calls.Violations.{ViolatesFront};
 ghost use Rattle.bcder.specs.calls.Begins.{BeginsOther, BeginsNoIdentifier, HasNoIdentifier};
 ghost use Rattle.bcder.specs.calls.Changed.{SameFaults, MoreFaults, SameRest, SamePosition};
 ghost use Rattle.bcder.specs.calls.Changed.{SameKept};
@@ -11,7 +15,7 @@ ghost use Rattle.bcder.specs.steps.Reading.{read_identifier};
 ghost use Rattle.bcder.specs.steps.PeekTag.{PeeksTag, SeesTag};
 
 use super::{Tag, identifier_at};
-use crate::decode::{ContentError, DecodeError, Source};
+use crate::decode::{ContentError, DecodeError, Source, Violation};
 
 /// What identifier octets stand at the front of a source.
 enum PeekedTag {
@@ -25,21 +29,33 @@ enum PeekedTag {
         size: usize,
     },
 
-    /// Octets that begin no identifier octets.
-    Refused,
+    /// Octets that begin no identifier octets, and what they violate.
+    Refused(Violation),
 }
 
-/// Whether octets that hold no identifier octets may begin some.
-#[tactic(auto, using(crate::proofs::Beginnings::identifier_decides))]
-pub(crate) fn may_begin_identifier(octets: &[u8]) -> bool
-    ensures short { IsTrue result → length octets.now < 4 }
-    ensures some { result ≡ false → 1 ≤ length octets.now }
-    ensures refused { result ≡ false → (x : List ℕ)
-        → read_identifier octets.now ≡ None → read_identifier (octets.now ++ x) ≡ None }
+/// What octets that hold no identifier octets violate. `None` is for those that may begin some.
+#[tactic(auto, using(crate::proofs::Violations::identifier_violated))]
+pub(crate) fn identifier_violation(octets: &[u8]) -> Option<Violation>
+    requires { read_identifier octets.now ≡ None }
+    ensures short { IsNone result → length octets.now < 4 }
+    ensures ends { IsNone result → 1 ≤ length octets.now → EndsInTag octets.now }
+    ensures some { IsSome result → 1 ≤ length octets.now }
+    ensures refused { IsSome result
+        → (x : List ℕ) → read_identifier (octets.now ++ x) ≡ None }
+    ensures violates { IfSome result
+        (λ v. (mode : ModeValue) (x : List ℕ) → ViolatesFront mode (octets.now ++ x) v) }
 {
     match octets {
-        [] | [_] => true,
-        [_, digit, digits @ ..] => *digit > 0x80 && digits.len() < 2,
+        [] | [_] => None,
+        [_, digit, digits @ ..] => {
+            if *digit <= 0x80 {
+                Some(Violation::TagNotFewest)
+            } else if digits.len() < 2 {
+                None
+            } else {
+                Some(Violation::TagTooLarge)
+            }
+        }
     }
 }
 
@@ -54,13 +70,10 @@ fn look(octets: &[u8]) -> Option<PeekedTag>
             constructed: front.1,
             size: octets.len() - front.2.len(),
         }),
-        None => {
-            if may_begin_identifier(octets) {
-                None
-            } else {
-                Some(PeekedTag::Refused)
-            }
-        }
+        None => match identifier_violation(octets) {
+            Some(violation) => Some(PeekedTag::Refused(violation)),
+            None => None,
+        },
     }
 }
 
@@ -84,7 +97,7 @@ fn peek<S: Source>(source: &mut S) -> Result<PeekedTag, S::Error>
             return Ok(PeekedTag::Nothing);
         }
         if found < wanted {
-            return Ok(PeekedTag::Refused);
+            return Ok(PeekedTag::Refused(Violation::TruncatedHeader));
         }
         wanted = found + 1;
     }
@@ -92,10 +105,10 @@ fn peek<S: Source>(source: &mut S) -> Result<PeekedTag, S::Error>
 
 /// The refusal of octets that begin no identifier octets.
 #[cold]
-fn invalid<S: Source>(source: &S) -> DecodeError<S::Error>
+fn invalid<S: Source>(source: &S, violation: Violation) -> DecodeError<S::Error>
     ensures { IsRefusal result }
 {
-    source.content_err(ContentError::from_static("invalid identifier octets"))
+    source.content_err(ContentError::from_static(violation.text()))
 }
 
 impl Tag {
@@ -131,7 +144,7 @@ impl Tag {
                 source.advance(size);
                 Ok(Some((tag, constructed)))
             }
-            PeekedTag::Refused => Err(invalid(source)),
+            PeekedTag::Refused(violation) => Err(invalid(source, violation)),
         }
     }
 
@@ -164,7 +177,7 @@ impl Tag {
                 source.advance(size);
                 Ok((tag, constructed))
             }
-            PeekedTag::Refused => Err(invalid(source)),
+            PeekedTag::Refused(violation) => Err(invalid(source, violation)),
         }
     }
 
@@ -206,7 +219,7 @@ impl Tag {
                 source.advance(size);
                 Ok(Some(constructed))
             }
-            PeekedTag::Refused => Err(invalid(source)),
+            PeekedTag::Refused(violation) => Err(invalid(source, violation)),
         }
     }
 }

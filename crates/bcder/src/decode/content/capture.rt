@@ -100,7 +100,8 @@ fn take_passed<'a, S: Source>(
     ensures cause { IfErr result.0 (λ e. MatchCause (cause_of e)
         (Grew (S.stream (behind capture.entry)).faults (S.stream result.1.now).faults)
         ⊥
-        ((S.stream result.1.now).faults ≡ (S.stream (behind capture.entry)).faults)) }
+        (((S.stream result.1.now).faults ≡ (S.stream (behind capture.entry)).faults)
+        × (1 ≤ passed capture.entry))) }
     ensures err { OnErr result.0
         ((S.stream result.1.now).rest ≡ (S.stream (behind capture.entry)).rest) }
     ensures kept { (S.stream result.1.now).kept ≡ (S.stream (behind capture.entry)).kept }
@@ -174,8 +175,8 @@ impl<'a, S: Source> Constructed<'a, S> {
     /// # Errors
     ///
     /// The closure's refusal as it is; and a refusal where it leaves failed content, as failed
-    /// content stays; where the source fails; and where there is no memory for the octets. The
-    /// content is then as it was, and open content can still be used.
+    /// content stays; where the source fails; and where there is no memory for the octets, of which
+    /// there is at least one. The content is then as it was, and open content can still be used.
     #[tactic(auto, unfolding(crate::specs::calls::Views::of_constructed))]
     pub fn capture<F>(&mut self, alloc: Global, op: F) -> Result<Captured, DecodeError<S::Error>>
     where

@@ -13,6 +13,7 @@ ghost use Rattle.bcder.specs.laws.Limits.{borrowed_sound, limited_sound};
 ghost use Rattle.bcder.specs.calls.Views.{of_primitive, octets_before, octets_after, MovedOctets};
 
 mod bits;
+mod characters;
 mod identifier;
 mod octets;
 

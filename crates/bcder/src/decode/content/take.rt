@@ -3,10 +3,10 @@ ghost use Rattle.std.specs.Prelude.{◌≡◌, Some};
 ghost use Rattle.std.specs.Prelude.{IfOk, IfErr, IfSome, IsErrAnd, OnOk, OnErr};
 ghost use Rattle.bcder.specs.calls.Calls.{popped};
 ghost use Rattle.bcder.specs.calls.Changed.{SameFaults, MoreFaults, SameRest, SameKept};
-ghost use Rattle.bcder.specs.calls.Cause.{cause_of, of_source, of_memory, IsOfContent, IsRefusal};
+ghost use Rattle.bcder.specs.calls.Cause.{cause_of, IsRefusal};
 ghost use Rattle.bcder.specs.steps.StopCause.{stop_cause};
 ghost use Rattle.bcder.specs.calls.Cause.{NamesTag};
-ghost use Rattle.bcder.specs.calls.Content.{Moves, Enters, TakesMarker, NoFront};
+ghost use Rattle.bcder.specs.calls.Content.{Moves, Enters, TakesMarker, NoFront, NamesViolation};
 ghost use Rattle.bcder.specs.steps.Entering.{EntersNext, EntersOctets, FindsNone, RefusesNext};
 ghost use Rattle.bcder.specs.steps.Entering.{MeetsNoFault};
 ghost use Rattle.bcder.specs.steps.Peek.{header_of, octets_header, asked};
@@ -19,6 +19,7 @@ use crate::decode::error::{ContentError, DecodeError};
 use crate::decode::header::{Form, Header, Peeked, Wanted, peek};
 use crate::decode::source::{LimitedSource, Source};
 use crate::decode::stop::{Reason, Stop};
+use crate::decode::violation::Violation;
 use crate::length::Length;
 use crate::tag::{Tag, leads_primitive};
 
@@ -85,12 +86,15 @@ impl<'a, S: Source> Constructed<'a, S> {
     /// The error that a stop is, at the present position.
     #[cold]
     pub(crate) fn stop_error(&self, stop: Stop<S::Error>) -> DecodeError<S::Error>
-        ensures refused { IsOfContent (stop_cause stop) → IsRefusal result }
-        ensures source { stop_cause stop ≡ of_source → cause_of result ≡ of_source }
-        ensures memory { stop_cause stop ≡ of_memory → cause_of result ≡ of_memory }
+        ensures { cause_of result ≡ stop_cause stop }
     {
         match stop {
-            Stop::Refused(why) => self.refusal(why.text()),
+            Stop::Violated(violation) => self
+                .source
+                .content_err(ContentError::from_static(violation.text())),
+            Stop::Refused(why) => self
+                .source
+                .content_err(ContentError::from_static(why.text())),
             Stop::Source(error) => DecodeError::Source(error),
             Stop::NoMemory => DecodeError::no_memory(),
         }
@@ -99,9 +103,7 @@ impl<'a, S: Source> Constructed<'a, S> {
     /// The same as an answer, for the same reason.
     #[inline(always)]
     pub(super) fn answer_stop<T>(&self, stop: Stop<S::Error>) -> Result<T, DecodeError<S::Error>>
-        ensures { IsErrAnd result (λ e. (IsOfContent (stop_cause stop) → IsRefusal e)
-            × (stop_cause stop ≡ of_source → cause_of e ≡ of_source)
-            × (stop_cause stop ≡ of_memory → cause_of e ≡ of_memory)) }
+        ensures { IsErrAnd result (λ e. cause_of e ≡ stop_cause stop) }
     {
         Err(self.stop_error(stop))
     }
@@ -126,7 +128,7 @@ impl<'a, S: Source> Constructed<'a, S> {
         ensures entered { OnOk result
             (Enters (before S.stream self) (header_of header.now) (after S.stream self)) }
         ensures refused { IfErr result (λ e.
-            IsOfContent (stop_cause e) × NoFront (before S.stream self)) }
+            NamesViolation (stop_cause e) (before S.stream self) × NoFront (before S.stream self)) }
         ensures no_fault { MeetsNoFault (before S.stream self) (after S.stream self) result }
         ensures failed { OnErr result (self.new.state ≡ State.Failed) }
         ensures mode { self.new.mode ≡ self.old.mode }
@@ -145,7 +147,7 @@ impl<'a, S: Source> Constructed<'a, S> {
         if fits {
             return Ok(());
         }
-        Err(Stop::Refused(Reason::ValueHeader))
+        Err(Stop::Violated(Violation::ValueTooLong))
     }
 
     /// Passes over end-of-contents octets, which have to end the content.
@@ -158,7 +160,7 @@ impl<'a, S: Source> Constructed<'a, S> {
         ensures moves { Moves (before S.stream self) (after S.stream self) }
         ensures ended { OnOk result (TakesMarker (before S.stream self) (after S.stream self)) }
         ensures refused { IfErr result (λ e.
-            IsOfContent (stop_cause e) × NoFront (before S.stream self)) }
+            NamesViolation (stop_cause e) (before S.stream self) × NoFront (before S.stream self)) }
         ensures no_fault { MeetsNoFault (before S.stream self) (after S.stream self) result }
         ensures failed { OnErr result (self.new.state ≡ State.Failed) }
         ensures mode { self.new.mode ≡ self.old.mode }
@@ -167,7 +169,7 @@ impl<'a, S: Source> Constructed<'a, S> {
         self.state = State::Failed;
         self.source.advance(size);
         let Kind::Indefinite = self.kind else {
-            return Err(Stop::Refused(Reason::ValueHeader));
+            return Err(Stop::Violated(Violation::StrayEnd));
         };
         self.state = State::Ended;
         Ok(())
@@ -220,11 +222,11 @@ impl<'a, S: Source> Constructed<'a, S> {
                     return Ok(None);
                 }
                 self.state = State::Failed;
-                Err(Stop::Refused(Reason::Short))
+                Err(Stop::Violated(Violation::TruncatedContents))
             }
-            Ok(Peeked::Refused) => {
+            Ok(Peeked::Refused(violation)) => {
                 self.state = State::Failed;
-                Err(Stop::Refused(Reason::Header))
+                Err(Stop::Violated(violation))
             }
             Err(error) => {
                 self.state = State::Failed;

@@ -11,7 +11,8 @@ use crate::NoMemory;
 use bytes::Bytes;
 use std::alloc::Global;
 
-// Takes the first `len` octets, which are available, or leaves the source as it was.
+// Takes the first `len` octets, which are available, or leaves the source as it was. No memory is
+// asked for if there are none.
 pub(super) fn take_front<S: Source>(
     source: &mut S,
     alloc: Global,
@@ -22,9 +23,13 @@ pub(super) fn take_front<S: Source>(
     ensures rest { IfOk result (λ b. b ++ (S.stream source.new).rest ≡ (S.stream source.old).rest) }
     ensures ok { OnOk result ((S.stream source.new).rest ≡ drop len (S.stream source.old).rest) }
     ensures err { OnErr result (source.new ≡ source.old) }
+    ensures memory { OnErr result (1 ≤ len) }
     ensures faults { (S.stream source.new).faults ≡ (S.stream source.old).faults }
     ensures kept { (S.stream source.new).kept ≡ (S.stream source.old).kept }
 {
+    if len == 0 {
+        return Ok(Bytes::new());
+    }
     let taken = source.bytes(alloc, 0, len)?;
     source.advance(len);
     Ok(taken)
@@ -58,7 +63,8 @@ impl<'a, S: Source> CaptureSource<'a, S> {
     ///
     /// # Errors
     ///
-    /// Where there is no memory for them. The borrowed source is then as it was.
+    /// If there is no memory for them, of which there is at least one. The borrowed source is then
+    /// as it was.
     pub fn into_bytes(self, alloc: Global) -> Result<Bytes, NoMemory>
         requires { passed self ≤ (S.stream (behind self)).avail }
         ensures value { IfOk result
@@ -69,6 +75,7 @@ impl<'a, S: Source> CaptureSource<'a, S> {
             ((S.stream self.exit.0.now).rest
             ≡ drop (passed self.entry) (S.stream (behind self.entry)).rest) }
         ensures err { OnErr result (self.exit.0.now ≡ behind self.entry) }
+        ensures memory { OnErr result (1 ≤ passed self.entry) }
         ensures faults { (S.stream self.exit.0.now).faults ≡ (S.stream (behind self.entry)).faults }
         ensures kept { (S.stream self.exit.0.now).kept ≡ (S.stream (behind self.entry)).kept }
     {
@@ -103,6 +110,7 @@ impl<'a, S: Source> CaptureSource<'a, S> {
             ((S.stream result.1.now).rest
             ≡ drop (passed self.entry) (S.stream (behind self.entry)).rest) }
         ensures err { OnErr result.0 (result.1.now ≡ behind self.entry) }
+        ensures memory { OnErr result.0 (1 ≤ passed self.entry) }
         ensures faults { (S.stream result.1.now).faults ≡ (S.stream (behind self.entry)).faults }
         ensures kept { (S.stream result.1.now).kept ≡ (S.stream (behind self.entry)).kept }
     {

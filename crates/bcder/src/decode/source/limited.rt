@@ -18,7 +18,8 @@ use super::capture::take_front;
 use super::{Pos, Source};
 use crate::NoMemory;
 use crate::decode::error::{ContentError, DecodeError};
-use crate::decode::stop::{Reason, Stop};
+use crate::decode::stop::Stop;
+use crate::decode::violation::Violation;
 use crate::length::Length;
 use bytes::Bytes;
 use std::alloc::Global;
@@ -148,7 +149,7 @@ impl<S: Source> LimitedSource<S> {
         match self.source.request(len) {
             Ok(found) => {
                 if found < len {
-                    return Err(Stop::Refused(Reason::Short));
+                    return Err(Stop::Violated(Violation::TruncatedContents));
                 }
                 self.pass_owed(len);
                 Ok(())

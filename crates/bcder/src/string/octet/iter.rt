@@ -1,8 +1,8 @@
 //! The parts of an octet string, and its octets.
-ghost use Rattle.std.specs.Prelude.{◌≡◌, ◌+◌, ◌<◌, ◌≤◌, ◌↔◌, [], ◌++◌, length, IsTrue, IfSome};
-ghost use Rattle.std.specs.Prelude.{⊤, MatchOption};
+ghost use Rattle.std.specs.Prelude.{◌≡◌, ◌+◌, ◌<◌, ◌≤◌, ◌↔◌, [], ◌++◌, length, IsTrue, IsSome};
+ghost use Rattle.std.specs.Prelude.{⊤, IfSome, MatchOption};
 ghost use Rattle.std.specs.List.{concat};
-ghost use Rattle.bcder.specs.calls.StringOctets.{piece, parts, octets_of};
+ghost use Rattle.bcder.specs.calls.StringOctets.{piece, parts, octets_of, is_in_one_piece};
 ghost use Rattle.bcder.specs.steps.SegmentTable.{segment_at};
 ghost use Rattle.bcder.specs.steps.SegmentTable.{AreWithin, segments_at};
 
@@ -101,7 +101,8 @@ impl OctetString {
 
     /// The octets, in their order, those of one part behind those of another.
     pub fn octets(&self) -> OctetStringOctets<'_>
-        ensures { result ≡ octets_of self.now }
+        ensures octets { result.octets ≡ octets_of self.now }
+        ensures whole { result.is_whole ≡ is_in_one_piece self.now }
     {
         match &self.octets {
             Octets::Whole(octets) => OctetStringOctets::new(octets.as_slice()),
@@ -178,14 +179,18 @@ pub struct OctetStringOctets<'a> {
     parts: OctetStringIter<'a>,
 }
 
-/// The clauses see the octets that are still to come.
+/// The clauses see the octets that are still to come, and whether no part is behind them.
 impl<'a> Model for OctetStringOctets<'a> {
-    ghost use Rattle.std.specs.Prelude.{ℕ, List, ◌++◌, ◌≤◌, length, drop};
+    ghost use Rattle.std.specs.Prelude.{◌++◌, ◌≤◌, length, drop};
     ghost use Rattle.std.specs.List.{concat};
+    ghost use Rattle.bcder.specs.calls.StringOctets.{OctetsLeft, is_no_part};
 
-    ghost Value = { List ℕ };
+    ghost Value = { OctetsLeft };
 
-    ghost view = { λ o. drop o.given o.part.now ++ concat o.parts };
+    ghost view = { λ o. record {
+      octets = drop o.given o.part.now ++ concat o.parts;
+      is_whole = is_no_part o.parts;
+    } };
 
     ghost invariant = { λ o. o.given ≤ length o.part.now };
 }
@@ -193,7 +198,8 @@ impl<'a> Model for OctetStringOctets<'a> {
 impl<'a> OctetStringOctets<'a> {
     /// Octets that stand in one piece.
     pub fn new(octets: &'a [u8]) -> OctetStringOctets<'a>
-        ensures { result ≡ octets.now }
+        ensures octets { result.octets ≡ octets.now }
+        ensures whole { IsTrue result.is_whole }
     {
         OctetStringOctets {
             part: octets,
@@ -202,13 +208,15 @@ impl<'a> OctetStringOctets<'a> {
         }
     }
 
-    /// The octets that are still to come, where they are known to stand in one piece.
+    /// The octets that are still to come, if they are known to stand in one piece: no segment is
+    /// behind them.
     ///
-    /// `None` says that a string was cut, and that there may be segments to come; it says nothing of
-    /// the octets.
+    /// It returns `Some` for a string that came in one piece, and at the last segment of one that
+    /// was cut.
     #[inline(always)]
     pub fn as_slice(&self) -> Option<&'a [u8]>
-        ensures { IfSome result (λ octets. octets.now ≡ self.now) }
+        ensures octets { IfSome result (λ octets. octets.now ≡ self.now.octets) }
+        ensures whole { IsSome result ↔ IsTrue self.now.is_whole }
     {
         if !self.parts.segments.is_empty() || !self.parts.front.is_empty() {
             return None;
@@ -218,14 +226,14 @@ impl<'a> OctetStringOctets<'a> {
 
     /// What is left of a part, and the parts behind it.
     pub(crate) fn into_parts(self) -> (&'a [u8], OctetStringIter<'a>)
-        ensures { self.entry ≡ result.0.now ++ concat result.1 }
+        ensures { self.entry.octets ≡ result.0.now ++ concat result.1 }
     {
         (&self.part[self.given..], self.parts)
     }
 
     /// Octets, and parts behind them.
     pub(crate) fn from_parts(part: &'a [u8], parts: OctetStringIter<'a>) -> OctetStringOctets<'a>
-        ensures { result ≡ part.now ++ concat parts.entry }
+        ensures { result.octets ≡ part.now ++ concat parts.entry }
     {
         OctetStringOctets {
             part,
@@ -236,8 +244,9 @@ impl<'a> OctetStringOctets<'a> {
 
     /// Takes the octets that stand in one piece in front, as long as there are any.
     pub(crate) fn next_piece(&mut self) -> Option<&'a [u8]>
-        ensures { MatchOption result ((self.old ≡ []) × (self.new ≡ []))
-            (λ piece. (self.old ≡ piece.now ++ self.new) × (0 < length piece.now)) }
+        ensures { MatchOption result ((self.old.octets ≡ []) × (self.new.octets ≡ []))
+            (λ piece. (self.old.octets ≡ piece.now ++ self.new.octets)
+            × (0 < length piece.now)) }
     {
         loop {
             let part = &self.part[self.given..];
@@ -271,9 +280,9 @@ impl Iterator for OctetStringOctets<'_> {
 
     type Item = u8;
 
-    ghost next_gives = { YieldsFirst (λ octets. octets) };
+    ghost next_gives = { YieldsFirst (λ left. left.octets) };
 
-    ghost remaining = { item_count (λ octets. octets) };
+    ghost remaining = { item_count (λ left. left.octets) };
 
     #[inline(always)]
     fn next(&mut self) -> Option<u8> {

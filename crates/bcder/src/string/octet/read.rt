@@ -17,7 +17,7 @@ use std::alloc::Global;
 
 /// Whether a string in one piece may have so many octets in a mode (9.2).
 #[inline(always)]
-fn may_be_whole(mode: Mode, len: usize) -> bool
+pub(crate) fn may_be_whole(mode: Mode, len: usize) -> bool
     ensures { IsTrue result ↔ (mode ≡ Mode.Cer → len ≤ 1000) }
 {
     match mode {

@@ -1,6 +1,7 @@
 //! Which octets are segments of an octet string (X.690, 8.7.3, 9.2), and where these stand. The
 //! headers are passed one after the other, however they are nested: no stack is kept.
-ghost use Rattle.std.specs.Prelude.{◌≡◌, ◌+◌, ◌≤◌, length, IfOk, IfSome, IfNone, MatchOption};
+ghost use Rattle.std.specs.Prelude.{◌≡◌, ◌+◌, ◌≤◌, length, IfOk, OnErr, IfSome};
+ghost use Rattle.std.specs.Prelude.{IfNone, MatchOption};
 ghost use Rattle.bcder.specs.steps.Answers.{Answers};
 ghost use Rattle.bcder.specs.calls.Captured.{AreWhole};
 ghost use Rattle.bcder.specs.x690.OctetString.{AreCut};
@@ -192,9 +193,10 @@ pub(super) fn table_of(
     octets: &[u8],
 ) -> Result<Option<Vec<Segment>>, NoMemory>
     requires { AreWhole mode octets.now }
-    ensures { IfOk result (λ o. MatchOption o
+    ensures found { IfOk result (λ o. MatchOption o
         (AreCut mode octets.now → ⊥)
         (λ table. IsTable mode octets.now table.items)) }
+    ensures memory { OnErr result (AreCut mode octets.now) }
 {
     let count = match mode {
         Mode::Ber => count_nested(octets),

@@ -42,7 +42,7 @@ trait AsciiSet {
 fn next_char_of<S: AsciiSet>(
     octets: &mut OctetStringOctets<'_>,
 ) -> Result<Option<char>, CharSetError>
-    ensures { NextChar (one_octet_step S.test) octets.old result octets.new }
+    ensures { NextChar (one_octet_step S.test) octets.old.octets result octets.new.octets }
 {
     match octets.next() {
         Some(octet) => {
@@ -58,7 +58,7 @@ fn next_char_of<S: AsciiSet>(
 
 /// Looks at the octets piece by piece, as they stand.
 fn check_of<S: AsciiSet>(octets: OctetStringOctets<'_>) -> Result<(), CharSetError>
-    ensures { Checks (one_octet_step S.test) octets.entry result }
+    ensures { Checks (one_octet_step S.test) octets.entry.octets result }
 {
     let mut octets = octets;
     while let Some(piece) = octets.next_piece() {
@@ -82,9 +82,9 @@ fn from_str_of<S: AsciiSet>(text: &str) -> Result<CowSlice<'_, u8>, StringError>
 
 /// The text that the octets are, where they stand in one piece.
 fn as_text_of<'a, S: AsciiSet>(octets: &OctetStringOctets<'a>) -> Option<&'a str>
-    requires { IsOfSet (one_octet_step S.test) octets.now }
+    requires { IsOfSet (one_octet_step S.test) octets.now.octets }
     ensures { IfSome result (λ text.
-        text.now ≡ encode_utf8_all (characters (one_octet_step S.test) octets.now)) }
+        text.now ≡ encode_utf8_all (characters (one_octet_step S.test) octets.now.octets)) }
 {
     text_of(octets)
 }

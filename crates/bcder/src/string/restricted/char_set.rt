@@ -126,7 +126,7 @@ pub trait CharSet {
     ///
     /// Where octets are left that begin with no character. Some of them may then have been taken.
     fn next_char(octets: &mut OctetStringOctets<'_>) -> Result<Option<char>, CharSetError>
-        ensures { NextChar step octets.old result octets.new };
+        ensures { NextChar step octets.old.octets result octets.new.octets };
 
     /// The octets that spell a text: the text's own, where they are the same, or others.
     ///
@@ -143,7 +143,7 @@ pub trait CharSet {
     ///
     /// Where they don't.
     fn check(octets: OctetStringOctets<'_>) -> Result<(), CharSetError>
-        ensures { Checks step octets.entry result }
+        ensures { Checks step octets.entry.octets result }
     {
         let mut octets = octets;
         while Self::next_char(&mut octets)?.is_some() {}
@@ -154,9 +154,9 @@ pub trait CharSet {
     /// text as they stand lends the octets, which are then shown at once.
     #[doc(hidden)]
     fn as_text<'a>(_octets: &OctetStringOctets<'a>) -> Option<&'a str>
-        requires { IsOfSet step _octets.now }
+        requires { IsOfSet step _octets.now.octets }
         ensures { IfSome result (λ text.
-            text.now ≡ encode_utf8_all (characters step _octets.now)) }
+            text.now ≡ encode_utf8_all (characters step _octets.now.octets)) }
     {
         None
     }
@@ -174,8 +174,8 @@ pub trait TextCharSet: CharSet {
 /// The octets as a text, where they are known to stand in one piece.
 #[inline(always)]
 pub(super) fn text_of<'a>(octets: &OctetStringOctets<'a>) -> Option<&'a str>
-    requires { IsUtf8 octets.now }
-    ensures { IfSome result (λ text. text.now ≡ octets.now) }
+    requires { IsUtf8 octets.now.octets }
+    ensures { IfSome result (λ text. text.now ≡ octets.now.octets) }
 {
     match octets.as_slice() {
         Some(octets) => Some(unsafe { str::from_utf8_unchecked(octets) }),

@@ -31,9 +31,9 @@ impl<'a, L: CharSet> Model for RestrictedStringChars<'a, L> {
 
     ghost Value = { List ℕ };
 
-    ghost view = { λ i. characters_left L.step i.text i.octets };
+    ghost view = { λ i. characters_left L.step i.text i.octets.octets };
 
-    ghost invariant = { λ i. IfSome i.text (λ t. IsUtf8 t.now) × IsOfSet L.step i.octets };
+    ghost invariant = { λ i. IfSome i.text (λ t. IsUtf8 t.now) × IsOfSet L.step i.octets.octets };
 }
 
 impl<L: CharSet> RestrictedString<L> {

@@ -1,5 +1,9 @@
 //! Reading restricted strings (X.690, 8.23).
+ghost use Rattle.std.specs.Prelude.{◌≡◌, IfOk, IfErr};
+ghost use Rattle.bcder.specs.calls.Cause.{IsRefusal};
 ghost use Rattle.bcder.specs.calls.RestrictedString.{MeansRestricted, MeansPiece};
+ghost use Rattle.bcder.specs.calls.StringOctets.{octets_of};
+ghost use Rattle.bcder.specs.x690.CharSet.{IsOfSet};
 ghost use Rattle.bcder.specs.calls.Valued.{ReadsAny, ReadTree, TookNextTree, TookOneTree};
 ghost use Rattle.bcder.specs.calls.Views.{before, after, octets_before, octets_after};
 ghost use Rattle.bcder.specs.calls.Views.{Moved, MovedOctets, MovedContent};
@@ -7,7 +11,7 @@ ghost use Rattle.bcder.specs.calls.Views.{Moved, MovedOctets, MovedContent};
 use super::{CharSet, RestrictedString};
 use crate::decode::header::Wanted;
 use crate::decode::{Constructed, Content, ContentError, DecodeError, Primitive, Source};
-use crate::string::octet::{OctetStringOctets, from_constructed, take_piece};
+use crate::string::octet::{OctetString, from_constructed, may_be_whole};
 use bytes::Bytes;
 use std::alloc::Global;
 
@@ -22,21 +26,31 @@ fn take_accepted<L: CharSet, S: Source>(
     ensures read { ReadsAny (MeansPiece L.step)
         (octets_before S.stream octets) result (octets_after S.stream octets) }
 {
-    let piece = match take_piece(alloc, octets) {
-        Ok(piece) => piece,
-        Err(error) => return Err(error),
-    };
-    match L::check(OctetStringOctets::new(piece.as_slice())) {
-        Ok(()) => Ok(piece),
-        Err(_) => Err(Primitive::content_err(
-            octets,
-            ContentError::from_static("invalid character"),
-        )),
+    if !may_be_whole(octets.mode(), octets.remaining()) {
+        return Err(octets.refusal("a string that is to be cut"));
     }
+    octets.take_characters::<L>(alloc)
 }
 
 #[tactic(auto, using(crate::specs::laws::Moved::untouched_is_moved))]
 impl<L: CharSet> RestrictedString<L> {
+    /// A string that was read from values, if its octets spell characters of the set.
+    #[inline(always)]
+    fn accept<S: Source>(
+        values: &Constructed<'_, S>,
+        octets: OctetString,
+    ) -> Result<Self, DecodeError<S::Error>>
+        ensures accepted { IfOk result
+            (λ s. (s ≡ octets) × IsOfSet L.step (octets_of octets)) }
+        ensures refused { IfErr result
+            (λ e. (IsOfSet L.step (octets_of octets) → ⊥) × IsRefusal e) }
+    {
+        match RestrictedString::new(octets) {
+            Ok(string) => Ok(string),
+            Err(_) => Err(values.content_err(ContentError::from_static("invalid character"))),
+        }
+    }
+
     /// Takes all values as the segments of a string of the set.
     #[cold]
     #[inline(never)]
@@ -52,10 +66,7 @@ impl<L: CharSet> RestrictedString<L> {
             Ok(octets) => octets,
             Err(error) => return Err(error),
         };
-        match RestrictedString::new(octets) {
-            Ok(string) => Ok(string),
-            Err(_) => Err(values.content_err(ContentError::from_static("invalid character"))),
-        }
+        RestrictedString::<L>::accept(values, octets)
     }
 
     /// Takes the next value, which has to be a string of the set, with the set's tag.

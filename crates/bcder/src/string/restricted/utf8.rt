@@ -65,10 +65,10 @@ fn take_octet(
     requires few { bits < 0x4_0000 }
     requires behind { (0x80 ≤ low) × (high ≤ 0xBF) }
     ensures took { MatchResult result
-        (λ c. read_behind (record { bits = bits; low = low; high = high; tails = 0 }) octets.old
-        ≡ Some (record { char = c; rest = octets.new }))
-        (λ _. read_behind (record { bits = bits; low = low; high = high; tails = 0 }) octets.old
-        ≡ None) }
+        (λ c. read_behind (record { bits = bits; low = low; high = high; tails = 0 })
+        octets.old.octets ≡ Some (record { char = c; rest = octets.new.octets }))
+        (λ _. read_behind (record { bits = bits; low = low; high = high; tails = 0 })
+        octets.old.octets ≡ None) }
     ensures small { IfOk result (λ c. c < 64 * bits + 64) }
 {
     match octets.next() {
@@ -89,8 +89,9 @@ fn take_behind(octets: &mut OctetStringOctets<'_>, lead: Lead) -> Result<u32, Ch
     requires few { (lead.bits < 32) × (lead.tails < 3) }
     requires behind { (0x80 ≤ lead.low) × (lead.high ≤ 0xBF) }
     ensures { MatchResult result
-        (λ c. read_behind (of_lead lead) octets.old ≡ Some (record { char = c; rest = octets.new }))
-        (λ _. read_behind (of_lead lead) octets.old ≡ None) }
+        (λ c. read_behind (of_lead lead) octets.old.octets
+        ≡ Some (record { char = c; rest = octets.new.octets }))
+        (λ _. read_behind (of_lead lead) octets.old.octets ≡ None) }
 {
     let code = take_octet(octets, lead.bits, lead.low, lead.high)?;
     if lead.tails == 0 {
@@ -195,7 +196,7 @@ impl TextCharSet for Utf8CharSet {
 /// character.
 #[inline(never)]
 fn check_parts(octets: OctetStringOctets<'_>) -> Result<(), CharSetError>
-    ensures { Checks utf8_step octets.entry result }
+    ensures { Checks utf8_step octets.entry.octets result }
 {
     let (mut part, mut parts) = octets.into_parts();
     loop {

@@ -1,4 +1,4 @@
-use Rattle.std.proofs.Common.{refl, arith}
+use Rattle.std.proofs.Common.{refl, arith, rules, inl}
 use Rattle.bcder.specs.x690.Identifier.{AreOctets}
 use Rattle.bcder.proofs.Beginnings.{has_identifier, identifier_stands, begins_no_identifier}
 use Rattle.bcder.proofs.Peeking.{some_followed}
@@ -15,8 +15,10 @@ returns-in-Some c = λ x.
     let i = has_identifier c.args.octets.now c.in-Some.front.0 c.in-Some.front.1 c.in-Some.front.2.now o c.in-Some.ensures in
     (omega arith, i.fits, identifier_stands _ _ _ _ i x)
 
-pub returns-then-may_begin_identifier : goal.returns-then-may_begin_identifier
-returns-then-may_begin_identifier c = (c.if-may_begin_identifier.ensures.short refl, begins_no_identifier _ c.in-None.ensures)
+pub returns-in-Some-identifier_violation : goal.returns-in-Some-identifier_violation
+returns-in-Some-identifier_violation c = λ x. let v = c.in-Some-identifier_violation.ensures in (some_followed _ x (v.some (search rules)), begins_no_identifier _ (v.refused (search rules) x), v.violates _ x)
 
-pub returns-else-may_begin_identifier : goal.returns-else-may_begin_identifier
-returns-else-may_begin_identifier c = λ x. (some_followed _ x (c.if-may_begin_identifier.ensures.some refl), begins_no_identifier _ (c.if-may_begin_identifier.ensures.refused refl x c.in-None.ensures))
+pub returns-in-None-identifier_violation : goal.returns-in-None-identifier_violation
+returns-in-None-identifier_violation c =
+    let v = c.in-None-identifier_violation.ensures in
+    (v.short (search rules), begins_no_identifier _ c.in-None.ensures, λ s. inl (v.ends (search rules) s))

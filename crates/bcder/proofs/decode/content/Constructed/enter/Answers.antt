@@ -1,10 +1,11 @@
 use Rattle.std.proofs.Common.{◌≡◌, ◌∙◌, refl, ap, arith, rules, sym, subst, take}
 use Rattle.bcder.specs.declared.length.Length.TheVariants.{Definite}
-use Rattle.bcder.specs.calls.Content.{FitsOwed, Advances, Moves, Enters}
+use Rattle.bcder.specs.declared.decode.violation.Violation.TheVariants as violation
+use Rattle.bcder.specs.calls.Content.{FitsOwed, Advances, Moves, Enters, value_too_long}
 use Rattle.bcder.specs.steps.Peek.{header_of, len_of}
 use Rattle.bcder.specs.calls.Views.{of_constructed}
 use Rattle.bcder.proofs.Moving.{moves_failed, open_not_ended}
-use Rattle.bcder.proofs.Entering.{enters, no_front, fits_owed}
+use Rattle.bcder.proofs.Entering.{enters, no_front, too_long, fits_owed}
 use Rattle.bcder.proofs.SameBorrow.{failed_behind, advances_behind, octets_behind}
 use Rattle.bcder.proofs.decode.content.Constructed.enter.Given.{Over}
 use Rattle.bcder.proofs.decode.content.Constructed.enter.Goals as goal
@@ -55,13 +56,15 @@ returns-then-fits-clause-entered g c =
 pub returns-clause-refused : goal.returns-clause-refused
 unfolding of_constructed
 returns-clause-refused g c =
+    let i = of_constructed g.S.Source.stream c.args.self.now in
     let p = (goal.at.returns-clause-refused g c).After-advance in
-    let o = octets_behind g.S.Source.stream g.met.S.Source.sound c.args.self.now c.advance.new.self c.args.size c.requires.read.0 in (
-      tt,
-      no_front (of_constructed g.S.Source.stream c.args.self.now) _ c.args.size (passed g p) o.0 o.1 c.requires.usable (header_of c.args.header.now) c.requires.read.1
-          (λ fits. elim c.match-header.branch [
-            | in-Primitive w ↦ let within = (fits_owed _ _).0 fits _ _ (ap len_of w.in-Primitive.is) (sym c.limit.ensures ∙ c.in-Some.is) in grind (arith, within, w.fits-is, c.if-fits.false)
-            | in-Constructed-Definite w ↦ let len : len_of c.args.header.now.form ≡ Definite w.in-Constructed-Definite.len = search rules in let within = (fits_owed _ _).0 fits _ _ len (sym c.limit.ensures ∙ c.in-Some.is) in grind (arith, within, w.fits-is, c.if-fits.false)
-            | in-Constructed-Indefinite w ↦ absurd (let z = sym w.fits-is ∙ c.if-fits.false in cc)
-          ]),
+    let o = octets_behind g.S.Source.stream g.met.S.Source.sound c.args.self.now c.advance.new.self c.args.size c.requires.read.0 in
+    let more : FitsOwed (len_of c.args.header.now.form) c.advance.new.self.limit → ⊥ =
+    (λ fits. elim c.match-header.branch [
+      | in-Primitive w ↦ let within = (fits_owed _ _).0 fits _ _ (ap len_of w.in-Primitive.is) (sym c.limit.ensures ∙ c.in-Some.is) in grind (arith, within, w.fits-is, c.if-fits.false)
+      | in-Constructed-Definite w ↦ let len : len_of c.args.header.now.form ≡ Definite w.in-Constructed-Definite.len = search rules in let within = (fits_owed _ _).0 fits _ _ len (sym c.limit.ensures ∙ c.in-Some.is) in grind (arith, within, w.fits-is, c.if-fits.false)
+      | in-Constructed-Indefinite w ↦ absurd (let z = sym w.fits-is ∙ c.if-fits.false in cc)
+    ]) in (
+      record { violation = violation.ValueTooLong; violates = value_too_long refl (too_long i _ c.args.size (passed g p) o.0 o.1 c.requires.usable (header_of c.args.header.now) c.requires.read.1 more); named = refl },
+      no_front i _ c.args.size (passed g p) o.0 o.1 c.requires.usable (header_of c.args.header.now) c.requires.read.1 more,
     )

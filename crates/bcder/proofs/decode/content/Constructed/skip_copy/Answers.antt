@@ -69,5 +69,5 @@ pub returns-in-Err-clause-skipped : goal.returns-in-Err-clause-skipped
 unfolding of_constructed
 returns-in-Err-clause-skipped g c =
     let p = c.in-Err.ensures.passed in
-    let w = refused_at_once cause_of _ _ (of_constructed g.S.Source.stream c.pass_shallow.new.self) c.stop_error.result (by_walk (source (c.stop_error.ensures.source p.fault.0) p.fault.1)) p.failed p.mode p.marked in
+    let w = refused_at_once cause_of _ _ (of_constructed g.S.Source.stream c.pass_shallow.new.self) c.stop_error.result (by_walk (source (c.stop_error.ensures ∙ p.fault.0) p.fault.1)) p.failed p.mode p.marked in
     skipped_behind c.args.self.now.source.ghost_name _ _ _ refl refl refl w.failed refl refl refl c.pass_shallow.ensures.moves w.mode w.marked cause_of (Err c.stop_error.result) w

@@ -120,4 +120,4 @@ returns-in-Err-clause-moves g c =
 pub returns-in-Err-clause-skipped : goal.returns-in-Err-clause-skipped
 unfolding of_constructed
 returns-in-Err-clause-skipped g c =
-    skipped_none cause_of _ (of_constructed g.S.Source.stream c.args.self.now) (of_constructed g.S.Source.stream c.next_header.new.self) c.args.op.now c.next_header.ensures.mode c.next_header.ensures.marked c.stop_error.result c.next_header.ensures.moves (walk_stopped stop_cause cause_of _ _ c.stop_error.ensures.refused c.stop_error.ensures.source _ _ (next_refused stop_cause (of_constructed g.S.Source.stream c.args.self.now) (of_constructed g.S.Source.stream c.next_header.new.self) _ (within_constructed g.S.Source.stream g.met.S.Source.sound c.args.self.now) c.in-Err.ensures.refused)) c.in-Err.ensures.failed
+    skipped_none cause_of _ (of_constructed g.S.Source.stream c.args.self.now) (of_constructed g.S.Source.stream c.next_header.new.self) c.args.op.now c.next_header.ensures.mode c.next_header.ensures.marked c.stop_error.result c.next_header.ensures.moves (walk_stopped stop_cause cause_of _ _ c.stop_error.ensures _ _ (next_refused stop_cause (of_constructed g.S.Source.stream c.args.self.now) (of_constructed g.S.Source.stream c.next_header.new.self) _ (within_constructed g.S.Source.stream g.met.S.Source.sound c.args.self.now) c.in-Err.ensures.refused)) c.in-Err.ensures.failed

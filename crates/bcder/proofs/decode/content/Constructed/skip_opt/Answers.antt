@@ -1,4 +1,4 @@
-use Rattle.std.proofs.Common.{refl}
+use Rattle.std.proofs.Common.{◌∙◌, refl}
 use Rattle.bcder.specs.declared.decode.content.skip.Interrupt.TheVariants as interrupt
 use Rattle.bcder.specs.calls.Cause.{cause_of}
 use Rattle.bcder.specs.steps.Peek.{header_of, octets_header}
@@ -71,8 +71,8 @@ returns-in-Err-clause-moves g c = moved_carries _ _ c.enter_at_hand.ensures.move
 
 pub returns-in-Err-clause-skipped : goal.returns-in-Err-clause-skipped
 unfolding of_constructed
-returns-in-Err-clause-skipped g c = skipped_none cause_of _ (of_constructed g.S.Source.stream c.args.self.now) (of_constructed g.S.Source.stream c.enter_at_hand.new.self) c.args.op.now c.enter_at_hand.ensures.mode c.enter_at_hand.ensures.marked c.stop_error.result c.enter_at_hand.ensures.moves (source (c.stop_error.ensures.source c.in-Err.ensures.fault.0) c.in-Err.ensures.fault.1) c.in-Err.ensures.failed
+returns-in-Err-clause-skipped g c = skipped_none cause_of _ (of_constructed g.S.Source.stream c.args.self.now) (of_constructed g.S.Source.stream c.enter_at_hand.new.self) c.args.op.now c.enter_at_hand.ensures.mode c.enter_at_hand.ensures.marked c.stop_error.result c.enter_at_hand.ensures.moves (source (c.stop_error.ensures ∙ c.in-Err.ensures.fault.0) c.in-Err.ensures.fault.1) c.in-Err.ensures.failed
 
 pub returns-in-Err-clause-exact : goal.returns-in-Err-clause-exact
 unfolding of_constructed
-returns-in-Err-clause-exact g c = λ n. answers_skip cause_of _ _ _ _ _ (within_constructed g.S.Source.stream g.met.S.Source.sound c.args.self.now) n _ (skipped_none cause_of _ (of_constructed g.S.Source.stream c.args.self.now) (of_constructed g.S.Source.stream c.enter_at_hand.new.self) c.args.op.now c.enter_at_hand.ensures.mode c.enter_at_hand.ensures.marked c.stop_error.result c.enter_at_hand.ensures.moves (source (c.stop_error.ensures.source c.in-Err.ensures.fault.0) c.in-Err.ensures.fault.1) c.in-Err.ensures.failed)
+returns-in-Err-clause-exact g c = λ n. answers_skip cause_of _ _ _ _ _ (within_constructed g.S.Source.stream g.met.S.Source.sound c.args.self.now) n _ (skipped_none cause_of _ (of_constructed g.S.Source.stream c.args.self.now) (of_constructed g.S.Source.stream c.enter_at_hand.new.self) c.args.op.now c.enter_at_hand.ensures.mode c.enter_at_hand.ensures.marked c.stop_error.result c.enter_at_hand.ensures.moves (source (c.stop_error.ensures ∙ c.in-Err.ensures.fault.0) c.in-Err.ensures.fault.1) c.in-Err.ensures.failed)

@@ -1,8 +1,9 @@
-use Rattle.std.proofs.Common.{refl, ap}
-use Rattle.bcder.specs.calls.Content.{values}
+use Rattle.std.proofs.Common.{◌≡◌, refl, ap}
+use Rattle.bcder.specs.declared.decode.violation.Violation.TheVariants as violation
+use Rattle.bcder.specs.calls.Content.{values, IndefiniteValues, stray_end}
 use Rattle.bcder.specs.calls.Views.{of_constructed}
 use Rattle.bcder.proofs.Moving.{moves_failed, open_not_ended}
-use Rattle.bcder.proofs.Entering.{takes_marker, marker_moves, no_end_here, advances_to, kind_of}
+use Rattle.bcder.proofs.Entering.{takes_marker, marker_moves, marker_here, no_end_here, advances_to, kind_of}
 use Rattle.bcder.proofs.SameBorrow.{advances_behind, octets_behind}
 use Rattle.bcder.proofs.decode.content.Constructed.take_end.Goals as goal
 
@@ -34,4 +35,5 @@ returns-in_default-clause-refused g c =
     let i = of_constructed g.S.Source.stream c.args.self.now in
     let o = octets_behind g.S.Source.stream g.met.S.Source.sound c.args.self.now c.advance.new.self c.args.size c.requires.read.0 in
     let a = advances_behind g.S.Source.stream g.met.S.Source.sound c.args.self.now c.advance.new.self c.args.size c.requires.read.0 c.advance.ensures.rest c.advance.ensures.faults c.advance.ensures.kept in
-    (tt, no_end_here i _ c.args.size a o.0 o.1 c.requires.usable c.requires.read.1 (λ k. c.in_default.not-Indefinite (kind_of _ _ k)))
+    let n : i.kind ≡ IndefiniteValues → ⊥ = λ k. c.in_default.not-Indefinite (kind_of _ _ k) in
+    (record { violation = violation.StrayEnd; violates = stray_end refl n _ (marker_here i _ c.args.size a o.0 o.1 c.requires.usable c.requires.read.1); named = refl }, no_end_here i _ c.args.size a o.0 o.1 c.requires.usable c.requires.read.1 n)

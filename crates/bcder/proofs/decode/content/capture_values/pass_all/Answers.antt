@@ -1,10 +1,10 @@
 use Rattle.std.proofs.Common.{◌∙◌, arith, refl}
-use Rattle.bcder.specs.calls.Content.{IsDone}
+use Rattle.bcder.specs.calls.Content.{EndsAt, IsDone}
 use Rattle.bcder.specs.calls.Walking.{PassesValue}
 use Rattle.bcder.specs.calls.Views.{of_constructed}
 use Rattle.bcder.specs.laws.Moved.{untouched_is_moved, moved_twice_is_moved, moved_carries}
 use Rattle.bcder.proofs.SameBorrow.{within_constructed, constructed_form}
-use Rattle.bcder.proofs.WalkSteps.{walks_refl, walks_value, value_shorter}
+use Rattle.bcder.proofs.WalkSteps.{walks_refl, walks_value, walks_all, value_shorter}
 use Rattle.bcder.proofs.WalkCalls.{some_value, none_value}
 use Rattle.bcder.proofs.CapturingValues.{loop_refused_one, pass_refused}
 use Rattle.bcder.proofs.decode.content.capture_values.pass_all.Goals as goal
@@ -53,7 +53,10 @@ returns-clause-passed g c =
     let k = of_constructed g.S.Source.stream c.skip_one.new.self in
     let p = c.in_ok-skip_one.ensures.skipped in
     record {
-      passed = none_value (IsDone k) _ c.if-is_some.ensures p.done;
+      passed = record {
+        done = none_value (IsDone k) _ c.if-is_some.ensures p.done;
+        all = walks_all i j k (constructed_form g.S.Source.stream c.args.cons.now) c.loop.invariant.walks (none_value (EndsAt j k) _ c.if-is_some.ensures p.end);
+      };
       no_fault = p.no_fault ∙ c.loop.invariant.no_fault;
       refused = tt;
       marked = p.marked ∙ c.loop.invariant.walks.marked;

@@ -1,3 +1,4 @@
+use Rattle.std.proofs.Common.{◌∙◌}
 use Rattle.std.specs.Prelude.{Ok, Err, Some}
 use Rattle.bcder.specs.calls.Cause.{cause_of}
 use Rattle.bcder.specs.steps.StopCause.{stop_cause}
@@ -35,12 +36,12 @@ returns-in-Err-walk_copy-clause-moves g c = moved_carries _ _ (moved_twice_is_mo
 pub returns-in-Err-walk_copy-clause-passed : goal.returns-in-Err-walk_copy-clause-passed
 returns-in-Err-walk_copy-clause-passed g c =
     let p = looked_next stop_cause (of_constructed g.S.Source.stream c.args.cons.now) (of_constructed g.S.Source.stream c.pass_at_hand.new.self) (of_constructed g.S.Source.stream c.walk_copy.new.cons) (c.in-Ok-false.ensures.passed.same c.in-Ok-false.field-0-test) c.in-Ok-false.ensures.passed.no_fault (Err c.in-Err-walk_copy.stop) c.in-Err-walk_copy.ensures.passed in
-    record { value = tt; end = tt; done = tt; no_fault = tt; refused = walk_stopped stop_cause cause_of _ _ c.stop_error.ensures.refused c.stop_error.ensures.source _ _ p.refused; failed = p.failed; mode = p.mode; marked = p.marked }
+    record { value = tt; end = tt; done = tt; no_fault = tt; refused = walk_stopped stop_cause cause_of _ _ c.stop_error.ensures _ _ p.refused; failed = p.failed; mode = p.mode; marked = p.marked }
 
 pub returns-in-Err-walk_copy-clause-exact : goal.returns-in-Err-walk_copy-clause-exact
 returns-in-Err-walk_copy-clause-exact g c =
     let p = looked_next stop_cause (of_constructed g.S.Source.stream c.args.cons.now) (of_constructed g.S.Source.stream c.pass_at_hand.new.self) (of_constructed g.S.Source.stream c.walk_copy.new.cons) (c.in-Ok-false.ensures.passed.same c.in-Ok-false.field-0-test) c.in-Ok-false.ensures.passed.no_fault (Err c.in-Err-walk_copy.stop) c.in-Err-walk_copy.ensures.passed in
-    answers_next cause_of (of_constructed g.S.Source.stream c.args.cons.now) (of_constructed g.S.Source.stream c.walk_copy.new.cons) (Err c.stop_error.result) (within_constructed g.S.Source.stream g.met.S.Source.sound c.args.cons.now) tt tt (walk_stopped stop_cause cause_of _ _ c.stop_error.ensures.refused c.stop_error.ensures.source _ _ p.refused)
+    answers_next cause_of (of_constructed g.S.Source.stream c.args.cons.now) (of_constructed g.S.Source.stream c.walk_copy.new.cons) (Err c.stop_error.result) (within_constructed g.S.Source.stream g.met.S.Source.sound c.args.cons.now) tt tt (walk_stopped stop_cause cause_of _ _ c.stop_error.ensures _ _ p.refused)
 
 pub returns-in-Err-clause-moves : goal.returns-in-Err-clause-moves
 returns-in-Err-clause-moves g c = moved_carries _ _ c.pass_at_hand.ensures.moves
@@ -48,9 +49,9 @@ returns-in-Err-clause-moves g c = moved_carries _ _ c.pass_at_hand.ensures.moves
 pub returns-in-Err-clause-passed : goal.returns-in-Err-clause-passed
 returns-in-Err-clause-passed g c =
     let p = c.in-Err.ensures.passed in
-    record { value = tt; end = tt; done = tt; no_fault = tt; refused = source (c.stop_error-in-Err.ensures.source p.fault.0) p.fault.1; failed = p.failed; mode = p.mode; marked = p.marked }
+    record { value = tt; end = tt; done = tt; no_fault = tt; refused = source (c.stop_error-in-Err.ensures ∙ p.fault.0) p.fault.1; failed = p.failed; mode = p.mode; marked = p.marked }
 
 pub returns-in-Err-clause-exact : goal.returns-in-Err-clause-exact
 returns-in-Err-clause-exact g c =
     let p = c.in-Err.ensures.passed in
-    answers_next cause_of (of_constructed g.S.Source.stream c.args.cons.now) (of_constructed g.S.Source.stream c.pass_at_hand.new.self) (Err c.stop_error-in-Err.result) (within_constructed g.S.Source.stream g.met.S.Source.sound c.args.cons.now) tt tt (source (c.stop_error-in-Err.ensures.source p.fault.0) p.fault.1)
+    answers_next cause_of (of_constructed g.S.Source.stream c.args.cons.now) (of_constructed g.S.Source.stream c.pass_at_hand.new.self) (Err c.stop_error-in-Err.result) (within_constructed g.S.Source.stream g.met.S.Source.sound c.args.cons.now) tt tt (source (c.stop_error-in-Err.ensures ∙ p.fault.0) p.fault.1)

@@ -87,7 +87,7 @@ unfolding of_constructed
 returns-in-Err-clause-took g c =
     rw (← c.TAG.ensures) (stopped_tree c.TAG.result _ (of_constructed g.S.Source.stream c.args.cons.now) (of_constructed g.S.Source.stream c.next_header.new.self)
     (within_constructed g.S.Source.stream g.met.S.Source.sound c.args.cons.now) c.next_header.ensures.mode _
-    (header_stopped stop_cause cause_of _ _ c.stop_error.ensures.refused c.stop_error.ensures.source _ _ (tagged c.TAG.result) c.in-Err.ensures.refused) c.next_header.ensures.marked c.in-Err.ensures.failed)
+    (header_stopped stop_cause cause_of _ _ c.stop_error.ensures _ _ (tagged c.TAG.result) c.in-Err.ensures.refused) c.next_header.ensures.marked c.in-Err.ensures.failed)
 
 pub of_bytes-requires : goal.of_bytes-requires
 of_bytes-requires g c =

@@ -7,10 +7,10 @@ pub text_of-requires : goal.text_of-requires
 text_of-requires g c =
     let has = g.S.AsciiSet.test in
     let ascii = g.met.S.AsciiSet.ascii in
-    text_accepted (one_octet_step has) (ascii_lawful has ascii) (ascii_texts has ascii) c.args.octets.now c.requires
+    text_accepted (one_octet_step has) (ascii_lawful has ascii) (ascii_texts has ascii) c.args.octets.now.octets c.requires
 
 pub returns : goal.returns
 returns g c =
     let has = g.S.AsciiSet.test in
     let ascii = g.met.S.AsciiSet.ascii in
-    text_lent (one_octet_step has) (ascii_lawful has ascii) (ascii_texts has ascii) c.args.octets.now c.text_of.result c.requires c.text_of.ensures
+    text_lent (one_octet_step has) (ascii_lawful has ascii) (ascii_texts has ascii) c.args.octets.now.octets c.text_of.result c.requires c.text_of.ensures

@@ -1,28 +1,20 @@
-use Rattle.std.proofs.Common.{rules, refl, sym, subst, ◌∙◌}
-use Rattle.bcder.specs.calls.Cause.{IsRefusal}
-use Rattle.bcder.specs.calls.StringOctets.{whole}
-use Rattle.bcder.specs.x690.CharSet.{IsOfSet}
+use Rattle.std.proofs.Common.{◌≤◌, IsTrue, false, refl, subst, sym, ◌∙◌}
 use Rattle.bcder.specs.calls.Views.{of_primitive}
-use Rattle.bcder.proofs.Accepting.{read_accepted, read_not_accepted, read_refused}
+use Rattle.bcder.proofs.Typed.{octets_form}
+use Rattle.bcder.proofs.Accepting.{refuse_long_piece, read_characters}
 use Rattle.bcder.proofs.string.restricted.read.take_accepted.Goals as goal
 
-pub returns-in-Err-clause-read : goal.returns-in-Err-clause-read
-returns-in-Err-clause-read g c =
-    let i = of_primitive g.S.Source.stream c.args.octets.now in
-    let j = of_primitive g.S.Source.stream c.take_piece.new.octets in
-    read_refused whole g.L.CharSet.step i j c.in-Err.error c.in-Err.ensures.read
+pub returns-then-not-may_be_whole-clause-read : goal.returns-then-not-may_be_whole-clause-read
+returns-then-not-may_be_whole-clause-read g c = record {
+  at_tag = λ tag.
+      let i = of_primitive g.S.Source.stream c.args.octets.now in
+      refuse_long_piece g.L.CharSet.step tag i i (octets_form g.S.Source.stream c.args.octets.now) c.refusal.result c.refusal.ensures (λ h. (let f : IsTrue false = c.if-not-may_be_whole.ensures.1 (λ m. subst (λ z. z ≤ 1000) (sym c.remaining.ensures) (h (sym c.mode.ensures ∙ m))) in cc));
+}
 
-pub returns-in-Ok-check-clause-read : goal.returns-in-Ok-check-clause-read
-returns-in-Ok-check-clause-read g c =
-    let i = of_primitive g.S.Source.stream c.args.octets.now in
-    let j = of_primitive g.S.Source.stream c.take_piece.new.octets in
-    let is = c.new.ensures ∙ c.as_slice.ensures in
-    read_accepted whole g.L.CharSet.step i j c.in-Ok.piece c.in-Ok.piece refl (subst (IsOfSet g.L.CharSet.step) is c.in-Ok-check.ensures) c.in-Ok.ensures.read
-
-pub returns-in-Err-check-clause-read : goal.returns-in-Err-check-clause-read
-returns-in-Err-check-clause-read g c =
-    let i = of_primitive g.S.Source.stream c.args.octets.now in
-    let j = of_primitive g.S.Source.stream c.take_piece.new.octets in
-    let is = c.new.ensures ∙ c.as_slice.ensures in
-    let refusal : IsRefusal c.content_err.result = search rules in
-    read_not_accepted whole g.L.CharSet.step i j c.in-Ok.piece c.content_err.result refusal (λ a. c.in-Err-check.ensures (subst (IsOfSet g.L.CharSet.step) (sym is) a)) c.in-Ok.ensures.read
+pub returns-clause-read : goal.returns-clause-read
+returns-clause-read g c = record {
+  at_tag = λ tag.
+      let i = of_primitive g.S.Source.stream c.args.octets.now in
+      let j = of_primitive g.S.Source.stream c.take_characters.new.self in
+      read_characters g.L.CharSet.step tag i j (octets_form g.S.Source.stream c.args.octets.now) c.take_characters.result c.take_characters.ensures.read (octets_form g.S.Source.stream c.take_characters.new.self) (λ m. subst (λ z. z ≤ 1000) c.remaining.ensures (c.if-not-may_be_whole.ensures.0 refl (c.mode.ensures ∙ m)));
+}

@@ -4,7 +4,7 @@ use Rattle.bcder.proofs.string.octet.iter.OctetStringOctetsIterator.next.Given a
 
 -- only empty parts were passed
 abbrev pub invariant-loop-self : goal.invariant-loop-self
-invariant-loop-self l = (drop l.self-inside.given l.self-inside.part.now ++ concat l.self-inside.parts ≡ l.fn.self)
+invariant-loop-self l = (drop l.self-inside.given l.self-inside.part.now ++ concat l.self-inside.parts ≡ l.fn.self.octets)
     × (l.self-inside.given ≤ length l.self-inside.part.now)
 
 abbrev pub decreases-loop-self : goal.decreases-loop-self

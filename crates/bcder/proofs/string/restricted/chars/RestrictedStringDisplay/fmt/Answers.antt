@@ -16,7 +16,7 @@ pub returns-in-Some-clause-writes : goal.returns-in-Some-clause-writes
 returns-in-Some-clause-writes g c =
     λ plain ok.
     let step = g.L.CharSet.step in
-    let own = c.in-Some.ensures ∙ ap (λ w. encode_utf8_all (characters step w)) c.octets.ensures in
+    let own = c.in-Some.ensures ∙ ap (λ w. encode_utf8_all (characters step w)) c.octets.ensures.octets in
     let is = own ∙ ap (λ s. encode_utf8_all (characters step (octets_of s))) c.self.view_is in
     has_written_of_eq _ _ _ _ _ is (c.write_str.ensures.writes plain ok)
 

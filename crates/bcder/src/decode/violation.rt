@@ -1,0 +1,80 @@
+//! Which rule of headers octets violate (X.690, 8.1.2, 8.1.3, 8.1.5, 9.1, 10.1).
+ghost use Rattle.std.specs.Prelude.{◌≡◌, Some};
+ghost use Rattle.bcder.specs.calls.Violations.{violation_text};
+
+use std::fmt;
+
+/// Why no header of a value, and no end of the content, can be read in front of octets.
+#[derive(Clone, Copy, Debug, PartialEq, Eq)]
+pub enum Violation {
+    /// The octets end inside identifier octets or length octets, or between them.
+    TruncatedHeader,
+
+    /// The octets end before the content does.
+    TruncatedContents,
+
+    /// The number of a tag isn't in the fewest octets (8.1.2.2, 8.1.2.4.2 c).
+    TagNotFewest,
+
+    /// The number of a tag is larger than 2097151. X.690 has no limit, this crate has.
+    TagTooLarge,
+
+    /// The tag of end-of-contents octets, in front of other octets than theirs (8.1.5).
+    ReservedTag,
+
+    /// The first length octet is FF (8.1.3.5 c).
+    ReservedLength,
+
+    /// More than four octets follow the first length octet. X.690 allows 126, this crate four.
+    LengthTooLarge,
+
+    /// The length isn't in the fewest octets, in CER or DER (9.1, 10.1).
+    LengthNotFewest,
+
+    /// A primitive value has the indefinite form (8.1.3.2).
+    PrimitiveIndefinite,
+
+    /// A value has the indefinite form in DER (10.1).
+    IndefiniteInDer,
+
+    /// A constructed value has the definite form in CER (9.1).
+    DefiniteInCer,
+
+    /// A value has more octets than are left of the value around it (8.1.3.3).
+    ValueTooLong,
+
+    /// End-of-contents octets stand in content that doesn't end at any (8.1.5).
+    StrayEnd,
+}
+
+impl Violation {
+    /// What an error says of it.
+    pub fn text(self) -> &'static str
+        ensures { result.now ≡ violation_text self }
+    {
+        match self {
+            Violation::TruncatedHeader => "the octets end inside a header",
+            Violation::TruncatedContents => "unexpected end of data",
+            Violation::TagNotFewest => "tag number not in the fewest octets",
+            Violation::TagTooLarge => "tag number over 2097151",
+            Violation::ReservedTag => "tag of end-of-contents octets on a value",
+            Violation::ReservedLength => "reserved length octet FF",
+            Violation::LengthTooLarge => "length of more than four octets",
+            Violation::LengthNotFewest => "length not in the fewest octets",
+            Violation::PrimitiveIndefinite => "indefinite length of a primitive value",
+            Violation::IndefiniteInDer => "indefinite length in DER",
+            Violation::DefiniteInCer => "definite length of a constructed value in CER",
+            Violation::ValueTooLong => "value longer than the value around it",
+            Violation::StrayEnd => "end-of-contents octets where none belong",
+        }
+    }
+}
+
+/// Its text.
+impl fmt::Display for Violation {
+    ghost output = { λ v. Some (violation_text v) };
+
+    fn fmt<W: fmt::Write>(&self, f: &mut fmt::Formatter<W>) -> fmt::Result {
+        f.write_str(self.text())
+    }
+}

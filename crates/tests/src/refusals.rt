@@ -1,0 +1,218 @@
+//! What is said of octets that are refused, and where: a row for each rule of X.690 that they break,
+//! and files of each mode that were cut.
+#![tactic(auto, using(bcder::specs::laws::Moved::untouched_is_moved))]
+
+use crate::asserts::{holds, shows};
+use crate::over::{shared, sip};
+use bcder::Mode;
+use bcder::decode::{DecodeError, SliceSource, Source, walk};
+use std::alloc::Global;
+use std::process::Abort;
+
+/// Octets that are refused in a mode, what is said of them, and at which position.
+type Row = (Mode, &'static [u8], &'static str, &'static str);
+
+fn skipped<S: Source>(
+    rt: &impl Abort,
+    alloc: Global,
+    source: &mut S,
+    mode: Mode,
+    said: &str,
+    at: &str,
+) {
+    match mode.decode_lent(source, |cons| cons.skip_all(alloc)) {
+        Err(DecodeError::Content { error, pos }) => {
+            shows(rt, alloc, &error, said);
+            shows(rt, alloc, &pos, at);
+        }
+        _ => holds(rt, false),
+    }
+}
+
+fn walked<S: Source>(
+    rt: &impl Abort,
+    alloc: Global,
+    source: &mut S,
+    mode: Mode,
+    said: &str,
+    at: &str,
+) {
+    match mode.decode_lent(source, |cons| cons.while_some(|cons| walk(cons))) {
+        Err(DecodeError::Content { error, pos }) => {
+            shows(rt, alloc, &error, said);
+            shows(rt, alloc, &pos, at);
+        }
+        _ => holds(rt, false),
+    }
+}
+
+fn check(rt: &impl Abort, alloc: Global, row: &Row) {
+    let (mode, octets, said, at) = *row;
+    skipped(rt, alloc, &mut SliceSource::new(octets), mode, said, at);
+    skipped(rt, alloc, &mut shared(rt, alloc, octets), mode, said, at);
+    skipped(rt, alloc, &mut sip(rt, alloc, octets), mode, said, at);
+    walked(rt, alloc, &mut SliceSource::new(octets), mode, said, at);
+    walked(rt, alloc, &mut sip(rt, alloc, octets), mode, said, at);
+}
+
+const HEADER: &str = "the octets end inside a header";
+const END: &str = "unexpected end of data";
+const TAG: &str = "tag number not in the fewest octets";
+const LENGTH: &str = "length not in the fewest octets";
+const LONG: &str = "value longer than the value around it";
+const STRAY: &str = "end-of-contents octets where none belong";
+
+const TAGS: [Row; 9] = [
+    // 8.1.2.4.2 a: bit 8 is set in the last octet
+    (Mode::Ber, &[0x1F], HEADER, "0"),
+    (Mode::Cer, &[0x05, 0x00, 0x5F, 0x81], HEADER, "2"),
+    (Mode::Der, &[0xBF, 0x81, 0x80], HEADER, "0"),
+    // 8.1.2.2: 30 is told by the leading octet
+    (Mode::Ber, &[0x1F, 0x1E, 0x00], TAG, "0"),
+    // 8.1.2.4.2 c: bits 7 to 1 of the first octet of the number are zero
+    (Mode::Der, &[0x05, 0x00, 0x9F, 0x80, 0x81, 0x00, 0x00], TAG, "2"),
+    // 2097152
+    (
+        Mode::Ber,
+        &[0x1F, 0x81, 0x80, 0x80, 0x00, 0x00],
+        "tag number over 2097151",
+        "0",
+    ),
+    // 8.1.5
+    (
+        Mode::Ber,
+        &[0x00, 0x01, 0x00],
+        "tag of end-of-contents octets on a value",
+        "0",
+    ),
+    (
+        Mode::Der,
+        &[0x20, 0x00],
+        "tag of end-of-contents octets on a value",
+        "0",
+    ),
+    (
+        Mode::Cer,
+        &[0x30, 0x80, 0x00, 0x80],
+        "tag of end-of-contents octets on a value",
+        "2",
+    ),
+];
+
+const LENGTHS: [Row; 11] = [
+    // 8.1.3.5
+    (Mode::Ber, &[0x30], HEADER, "0"),
+    (Mode::Der, &[0x04, 0x82, 0x01], HEADER, "0"),
+    // 8.1.3.5 c
+    (Mode::Ber, &[0x04, 0xFF, 0x00], "reserved length octet FF", "0"),
+    (
+        Mode::Ber,
+        &[0x04, 0x85, 0x00, 0x00, 0x00, 0x00, 0x01, 0x61],
+        "length of more than four octets",
+        "0",
+    ),
+    // 9.1, 10.1
+    (Mode::Cer, &[0x04, 0x81, 0x01, 0x61], LENGTH, "0"),
+    (Mode::Der, &[0x30, 0x04, 0x04, 0x82, 0x00, 0x80], LENGTH, "2"),
+    // 8.1.3.2
+    (
+        Mode::Ber,
+        &[0x04, 0x80, 0x00, 0x00],
+        "indefinite length of a primitive value",
+        "0",
+    ),
+    (
+        Mode::Der,
+        &[0x04, 0x80, 0x00, 0x00],
+        "indefinite length of a primitive value",
+        "0",
+    ),
+    // 10.1
+    (
+        Mode::Der,
+        &[0x30, 0x02, 0x30, 0x80, 0x00, 0x00],
+        "indefinite length in DER",
+        "2",
+    ),
+    // 9.1
+    (
+        Mode::Cer,
+        &[0x30, 0x00],
+        "definite length of a constructed value in CER",
+        "0",
+    ),
+    (
+        Mode::Cer,
+        &[0x30, 0x80, 0x31, 0x81, 0x80],
+        "definite length of a constructed value in CER",
+        "2",
+    ),
+];
+
+const CONTENTS: [Row; 6] = [
+    // the position is that behind the header
+    (Mode::Ber, &[0x30, 0x03, 0x04, 0x02, 0x61], LONG, "4"),
+    (Mode::Der, &[0x30, 0x04, 0x31, 0x03, 0x05, 0x00], LONG, "4"),
+    // 8.1.5
+    (Mode::Ber, &[0x00, 0x00], STRAY, "2"),
+    (Mode::Der, &[0x30, 0x02, 0x00, 0x00], STRAY, "4"),
+    (Mode::Cer, &[0x30, 0x80, 0x00, 0x00, 0x00, 0x00], STRAY, "6"),
+    // the value around ends before the end-of-contents octets do
+    (Mode::Ber, &[0x30, 0x04, 0x30, 0x80, 0x05, 0x00], END, "6"),
+];
+
+// A SEQUENCE of an INTEGER and an OCTET STRING of 200 octets, cut.
+const CUT: [Row; 9] = [
+    (Mode::Ber, &[0x30, 0x80, 0x02, 0x01, 0x05, 0x04], HEADER, "5"),
+    (Mode::Ber, &[0x30, 0x80, 0x02, 0x01], END, "4"),
+    (Mode::Ber, &[0x30, 0x80, 0x02, 0x01, 0x05], END, "5"),
+    (Mode::Cer, &[0x30, 0x80, 0x02, 0x01, 0x05, 0x04, 0x81], HEADER, "5"),
+    (
+        Mode::Cer,
+        &[0x30, 0x80, 0x02, 0x01, 0x05, 0x04, 0x81, 0xC8, 0x61],
+        END,
+        "8",
+    ),
+    (Mode::Cer, &[0x30, 0x80], END, "2"),
+    (Mode::Der, &[0x30, 0x81], HEADER, "0"),
+    (
+        Mode::Der,
+        &[0x30, 0x81, 0xCE, 0x02, 0x01, 0x05, 0x04, 0x81],
+        HEADER,
+        "6",
+    ),
+    (
+        Mode::Der,
+        &[0x30, 0x81, 0xCE, 0x02, 0x01, 0x05, 0x04, 0x81, 0xC8],
+        END,
+        "9",
+    ),
+];
+
+#[test]
+fn tags_that_are_refused(rt: HostRuntime) {
+    for row in &TAGS {
+        check(&rt, rt.alloc(), row);
+    }
+}
+
+#[test]
+fn lengths_that_are_refused(rt: HostRuntime) {
+    for row in &LENGTHS {
+        check(&rt, rt.alloc(), row);
+    }
+}
+
+#[test]
+fn contents_that_are_refused(rt: HostRuntime) {
+    for row in &CONTENTS {
+        check(&rt, rt.alloc(), row);
+    }
+}
+
+#[test]
+fn files_that_were_cut(rt: HostRuntime) {
+    for row in &CUT {
+        check(&rt, rt.alloc(), row);
+    }
+}
