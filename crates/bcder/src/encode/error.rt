@@ -103,7 +103,7 @@ pub enum WriteError {
     /// The values have no encoding, or memory ran out.
     Refused(EncodeError),
 
-    /// The target failed, or took none of one or more octets.
+    /// The target failed, or its `write` accepted none of one or more octets.
     Target(io::Error),
 }
 

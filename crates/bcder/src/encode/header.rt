@@ -39,7 +39,7 @@ pub fn total_encoded_len(tag: Tag, len: usize) -> Result<usize, EncodeError>
 ///
 /// # Errors
 ///
-/// Returns
+/// Returns one of these errors:
 ///
 /// - `EndOfValueTag` for `Tag::END_OF_VALUE`, and otherwise `LengthTooLarge` for 2^32 or more
 ///   octets; nothing is written then;

@@ -33,8 +33,8 @@ use std::io;
 
 /// An encoder of the contents octets of a primitive value.
 ///
-/// In each mode it means at most one thing: a refusal, or octets. Its calls give what it means,
-/// each time they are called.
+/// In each mode it means at most one thing: a refusal, or octets. Its calls give that meaning every
+/// time.
 pub trait PrimitiveContent: Sized {
     /// The tag that such a value has by default.
     ghost own_tag: { TagValue };
@@ -53,7 +53,7 @@ pub trait PrimitiveContent: Sized {
     ///
     /// # Errors
     ///
-    /// Returns the refusal if there is no encoding, or `NoMemory` if memory runs out.
+    /// Returns the reason why there is no encoding, or `NoMemory` if memory runs out.
     fn encoded_len(&self, mode: Mode) -> Result<usize, EncodeError>
         ensures { SizeOfContents (means self.now mode) (may_lack self.now mode) result };
 
@@ -61,7 +61,7 @@ pub trait PrimitiveContent: Sized {
     ///
     /// # Errors
     ///
-    /// Returns
+    /// Returns one of these errors:
     ///
     /// - `Refused` with the error of `encoded_len`; nothing was written then;
     /// - `Refused` with `NoMemory` if memory runs out while writing; a prefix of the octets was

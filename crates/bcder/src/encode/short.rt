@@ -49,7 +49,7 @@ fn put_header_then_contents<W: io::Write>(
 }
 
 /// Returns the octets of a primitive value with one identifier octet and at most eight contents
-/// octets, followed by others.
+/// octets, followed by padding.
 #[inline(always)]
 fn few_together(identifier: u8, contents: &[u8]) -> [u8; 10]
     requires { length contents.now ≤ 8 }

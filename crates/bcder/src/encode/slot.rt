@@ -10,7 +10,7 @@ ghost use Rattle.bcder.specs.calls.Encoders.{into_result};
 use crate::encode::{EncodeError, WriteError};
 use std::io;
 
-/// The sign that a writing step failed. The reason is in the slot that the step got.
+/// The failure of a writing step. The reason is in the slot that the step got.
 #[doc(hidden)]
 #[derive(Clone, Copy, Debug)]
 pub struct Failed;
@@ -21,7 +21,7 @@ pub(crate) fn slot() -> WriteError {
     WriteError::Refused(EncodeError::NoMemory)
 }
 
-/// Returns what a public call returns, from the outcome of its steps and the slot.
+/// Makes the result of a public call from the outcome of its steps and the slot.
 #[inline(always)]
 pub(crate) fn into_result(outcome: Result<(), Failed>, why: WriteError) -> Result<(), WriteError>
     ensures { result ≡ into_result outcome why }

@@ -8,8 +8,8 @@ use crate::encode::slot::{Failed, store_target_error};
 use std::io;
 use std::io::{Error, ErrorKind, Write};
 
-/// Writes all octets. A target that takes none of one or more octets has failed, and any error ends
-/// the loop.
+/// Writes all octets. A target that accepts none of one or more octets has failed, and any error
+/// ends the loop.
 ///
 /// # Errors
 ///

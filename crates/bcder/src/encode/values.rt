@@ -31,7 +31,7 @@ use std::io;
 /// An encoder of a list of values, one after the other.
 ///
 /// In each mode an encoder means at most one thing: a refusal, or a list of values together with
-/// octets that are their encoding. Its calls give what it means, each time they are called.
+/// octets that are their encoding. Its calls give that meaning every time.
 pub trait Values {
     /// What the encoder means in a mode.
     ghost means: { Self → Mode → Meaning → Type 0 };
@@ -50,7 +50,7 @@ pub trait Values {
     ///
     /// # Errors
     ///
-    /// Returns the refusal if there is no encoding, or `NoMemory` if memory runs out.
+    /// Returns the reason why there is no encoding, or `NoMemory` if memory runs out.
     fn encoded_len(&self, mode: Mode) -> Result<usize, EncodeError>
         requires { can_encode self.now }
         ensures { SizeOfValues (means self.now mode) (may_lack self.now mode) result };
@@ -76,7 +76,7 @@ pub trait Values {
     ///
     /// # Errors
     ///
-    /// Returns
+    /// Returns one of these errors:
     ///
     /// - `Refused` with the error of `encoded_len`; nothing was written then;
     /// - `Refused` with `NoMemory` if memory runs out while writing; a prefix of the octets was

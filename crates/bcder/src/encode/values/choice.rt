@@ -52,7 +52,7 @@ impl Values for Nothing {
     ghost lawful = { λ x mode can. NoValues_lawful mode };
 }
 
-/// Encodes what is there as its values, and `None` as no values.
+/// Encodes `Some` as the values of what is in it, and `None` as no values.
 impl<V: Values> Values for Option<V> {
     ghost means = { λ x mode. OptionMeans (λ v. V.means v mode) x };
 
