@@ -28,7 +28,7 @@ use std::io;
 /// The values have a mode of their own, and their encoding in it is the octets of the string. In
 /// BER and DER the string is one primitive value. In CER it is one primitive value of at most 1000
 /// octets. A longer string is a constructed value with segments of 1000 octets, the last with the
-/// octets that are left (9.2). Only then the octets are gathered in memory before they are written;
+/// octets that are left (9.2). Only then are the octets gathered in memory before they are written;
 /// otherwise they are written straight to the target.
 #[derive(Clone, Debug, Drop)]
 pub struct WrappingOctetStringEncoder<V> {

@@ -54,7 +54,7 @@ impl<L: CharSet> Ord for RestrictedString<L> {
     }
 }
 
-/// A hasher gets what it gets of the octet string.
+/// The hash is that of the octet string.
 impl<L: CharSet> Hash for RestrictedString<L> {
     ghost hash_input = { λ s. hashed (octets_of s) };
 
