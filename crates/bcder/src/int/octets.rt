@@ -37,8 +37,8 @@ fn behind(lead: u8, bits: u128) -> [u8; 24]
 impl Octets {
     /// Creates the octets of `magnitude`, or of -1 minus `magnitude` if the number is negative.
     ///
-    /// The first octet is followed by one octet for every full eight bits of the magnitude. It has
-    /// the other bits and the sign.
+    /// The first octet has the sign, and the bits of the magnitude that are left over. Every eight
+    /// other bits have an octet after it.
     #[inline(always)]
     pub(crate) fn of(negative: bool, magnitude: u128) -> Octets
         ensures octets { drop result.start result.buffer

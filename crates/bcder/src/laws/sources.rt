@@ -40,7 +40,7 @@ pub fn limited_is_a_front<S: Source>(source: &LimitedSource<S>)
         ≡ (S.stream (wrapped source.now)).position }
 {}
 
-/// A capturing source is the borrowed source after the octets that were skipped.
+/// A capturing source is the borrowed source after the octets that were passed over.
 pub fn capturing_is_what_follows<'a, S: Source>(source: &CaptureSource<'a, S>)
     ensures rest { (⟦<CaptureSource<'a, S> as Source>⟧.stream source.now).rest
         ≡ drop (passed source.now) (S.stream (behind source.now)).rest }
@@ -53,7 +53,7 @@ pub fn capturing_is_what_follows<'a, S: Source>(source: &CaptureSource<'a, S>)
 {}
 
 /// A limit over a capturing source over a limited source is the plain octets after those that were
-/// skipped, cut at the smaller limit.
+/// passed over, cut at the smaller limit.
 #[tactic(auto, using(crate::proofs::Nested::limits_through))]
 pub fn nested_limits_are_one<'a, S: Source>(
     source: &LimitedSource<CaptureSource<'a, LimitedSource<S>>>,
