@@ -37,8 +37,8 @@ fn behind(lead: u8, bits: u128) -> [u8; 24]
 impl Octets {
     /// Creates the octets of `magnitude`, or of -1 minus `magnitude` if the number is negative.
     ///
-    /// The first octet has the sign, and the bits of the magnitude that are left over. Every eight
-    /// other bits have an octet after it.
+    /// The low bits of the magnitude fill octets of eight bits each. An octet before them has the
+    /// bits that are left over, and the sign.
     #[inline(always)]
     pub(crate) fn of(negative: bool, magnitude: u128) -> Octets
         ensures octets { drop result.start result.buffer
