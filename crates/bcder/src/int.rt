@@ -57,7 +57,7 @@ fn is_negative_at(octets: &[u8]) -> bool
     }
 }
 
-/// Compares contents octets of integers with the same sign, as the integers.
+/// Compares contents octets of integers with the same sign, in the order of the integers.
 fn same_sign_order(negative: bool, one: &[u8], other: &[u8]) -> Ordering
     ensures { result ≡ same_sign_order negative one.now other.now }
 {
@@ -68,7 +68,7 @@ fn same_sign_order(negative: bool, one: &[u8], other: &[u8]) -> Ordering
     }
 }
 
-/// Compares contents octets as the integers that they are.
+/// Compares contents octets in the order of the integers that they are.
 fn integer_order(one: &[u8], other: &[u8]) -> Ordering
     ensures { result ≡ integer_order one.now other.now }
 {
@@ -175,7 +175,7 @@ impl Integer {
         is_negative_at(self.as_slice())
     }
 
-    /// Returns the number as a value of a type.
+    /// Converts the number to a value of a type, if the type can hold it.
     pub(super) fn number<N: Number>(&self) -> Result<N, OverflowError>
         ensures { ConvertsTo N.value N.in_range self.now result }
     {

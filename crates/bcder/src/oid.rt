@@ -87,8 +87,7 @@ impl<T: AsSlice<u8>> Oid<T> {
         components::is_minimal(self.0.as_slice())
     }
 
-    /// Returns whether the octets are those of another identifier, which may be kept in another
-    /// way.
+    /// Returns whether another identifier has the same octets, however they are kept.
     pub fn same_as<U: AsSlice<u8>>(&self, other: &Oid<U>) -> bool
         ensures { IsTrue result ↔ (T.items self.now.0 ≡ U.items other.now.0) }
     {

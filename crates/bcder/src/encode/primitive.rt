@@ -119,28 +119,28 @@ pub trait PrimitiveContent: Sized {
         gather_contents(self, alloc, mode)
     }
 
-    /// Makes a primitive value of this, with its own tag.
+    /// Creates an encoder of this as a primitive value with its own tag.
     final fn encode(self) -> Primitive<Self>
         ensures { result ≡ record { tag = own_tag; prim = self } }
     {
         self.encode_as(Self::tag())
     }
 
-    /// Makes a primitive value of this, with another tag.
+    /// Creates an encoder of this as a primitive value with another tag.
     final fn encode_as(self, tag: Tag) -> Primitive<Self>
         ensures { result ≡ record { tag = tag; prim = self } }
     {
         Primitive { tag, prim: self }
     }
 
-    /// Makes a primitive value of a reference to this, with its own tag.
+    /// Creates an encoder of a reference to this, as a primitive value with its own tag.
     final fn encode_ref(&self) -> Primitive<&Self>
         ensures { result ≡ record { tag = own_tag; prim = self.entry } }
     {
         self.encode_ref_as(Self::tag())
     }
 
-    /// Makes a primitive value of a reference to this, with another tag.
+    /// Creates an encoder of a reference to this, as a primitive value with another tag.
     final fn encode_ref_as(&self, tag: Tag) -> Primitive<&Self>
         ensures { result ≡ record { tag = tag; prim = self.entry } }
     {

@@ -117,7 +117,7 @@ pub trait Values {
     /// There is at most one meaning, and it is a refusal or an encoding.
     ghost lawful: { (x : Self) (mode : Mode) → can_encode x → IsLawful mode (means x mode) };
 
-    /// Wraps the values in one constructed value with the tag.
+    /// Creates an encoder of one constructed value with the tag and these values inside.
     final fn explicit(self, tag: Tag) -> Constructed<Self>
     where
         Self: Sized,

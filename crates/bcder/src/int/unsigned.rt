@@ -233,7 +233,7 @@ impl Unsigned {
         &self.integer
     }
 
-    /// Returns the number as a value of a type.
+    /// Converts the number to a value of a type, if the type can hold it.
     pub(super) fn number<N: Number>(&self) -> Result<N, OverflowError>
         ensures { ConvertsTo N.value N.in_range (pos self.now) result }
     {
@@ -347,7 +347,7 @@ impl AsRef<Bytes> for Unsigned {
 }
 
 impl Integer {
-    /// Returns whether the other is the same number.
+    /// Returns whether `other` is the same number.
     pub fn eq_unsigned(&self, other: &Unsigned) -> bool
         ensures { IsTrue result ↔ (self.now ≡ pos other.now) }
     {

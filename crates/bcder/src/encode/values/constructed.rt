@@ -30,7 +30,7 @@ pub struct Constructed<V> {
 }
 
 impl<V> Constructed<V> {
-    /// Creates a value with the tag and the values of `inner` inside.
+    /// Creates an encoder of a value with the tag and the values of `inner` inside.
     pub fn new(tag: Tag, inner: V) -> Self
         ensures { result ≡ record { tag = tag; inner = inner } }
     {
@@ -38,28 +38,28 @@ impl<V> Constructed<V> {
     }
 }
 
-/// Creates a SEQUENCE of the values.
+/// Creates an encoder of a SEQUENCE of the values.
 pub fn sequence<V>(inner: V) -> Constructed<V>
     ensures { result ≡ record { tag = sequence_tag; inner = inner } }
 {
     Constructed::new(Tag::SEQUENCE, inner)
 }
 
-/// Creates a SEQUENCE of the values with another tag.
+/// Creates an encoder of a SEQUENCE of the values with another tag.
 pub fn sequence_as<V>(tag: Tag, inner: V) -> Constructed<V>
     ensures { result ≡ record { tag = tag; inner = inner } }
 {
     Constructed::new(tag, inner)
 }
 
-/// Creates a SET of the values, in the order that they have.
+/// Creates an encoder of a SET of the values, in the order that they have.
 pub fn set<V>(inner: V) -> Constructed<V>
     ensures { result ≡ record { tag = set_tag; inner = inner } }
 {
     Constructed::new(Tag::SET, inner)
 }
 
-/// Creates a SET of the values with another tag.
+/// Creates an encoder of a SET of the values with another tag.
 pub fn set_as<V>(tag: Tag, inner: V) -> Constructed<V>
     ensures { result ≡ record { tag = tag; inner = inner } }
 {

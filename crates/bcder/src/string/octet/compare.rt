@@ -58,7 +58,7 @@ fn equal(ones: OctetStringIter<'_>, others: OctetStringIter<'_>) -> bool
 }
 
 impl OctetString {
-    /// Returns whether the octets are these.
+    /// Returns whether the octets equal those of a slice.
     #[tactic(auto, using(crate::proofs::Comparing::same_told, crate::proofs::Comparing::parts_joined, crate::proofs::Comparing::piece_joined))]
     pub fn eq_octets(&self, octets: &[u8]) -> bool
         ensures { IsTrue result ↔ (octets_of self.now ≡ octets.now) }
