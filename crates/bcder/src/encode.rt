@@ -1,4 +1,4 @@
-//! Encoding: what has an encoding, and writing it.
+//! Encoding: traits and types for what can be encoded, and for writing it.
 pub(crate) mod buffer;
 mod error;
 mod gather;

@@ -28,8 +28,7 @@ use std::convert::{AsRef, AsSlice};
 use std::marker::Model;
 pub use unsigned::Unsigned;
 
-/// An integer of any size, by its contents octets, of which there are no more than are needed
-/// (8.3.2).
+/// An integer of any size, kept as its contents octets, which are as few as possible (8.3.2).
 #[derive(Debug, Drop)]
 pub struct Integer {
     octets: Bytes,
@@ -48,7 +47,7 @@ impl Model for Integer {
     ghost invariant = { λ a. AreOctets a.octets × IsSmallest a.octets };
 }
 
-/// Whether contents octets are those of a negative number.
+/// Returns whether contents octets are those of a negative number.
 fn is_negative_at(octets: &[u8]) -> bool
     ensures { result ≡ is_negative octets.now }
 {
@@ -58,7 +57,7 @@ fn is_negative_at(octets: &[u8]) -> bool
     }
 }
 
-/// Contents octets of integers with one sign, compared as the integers.
+/// Compares contents octets of integers with the same sign, in the order of the integers.
 fn same_sign_order(negative: bool, one: &[u8], other: &[u8]) -> Ordering
     ensures { result ≡ same_sign_order negative one.now other.now }
 {
@@ -69,7 +68,7 @@ fn same_sign_order(negative: bool, one: &[u8], other: &[u8]) -> Ordering
     }
 }
 
-/// Contents octets compared as the integers that they are.
+/// Compares contents octets in the order of the integers that they are.
 fn integer_order(one: &[u8], other: &[u8]) -> Ordering
     ensures { result ≡ integer_order one.now other.now }
 {
@@ -82,7 +81,7 @@ fn integer_order(one: &[u8], other: &[u8]) -> Ordering
 }
 
 impl Integer {
-    /// The integer with these contents octets.
+    /// Creates the integer with these contents octets.
     fn of(octets: Bytes) -> Integer
         requires { IsSmallest octets }
         ensures { AreInteger result octets }
@@ -97,8 +96,8 @@ impl Integer {
     ///
     /// # Errors
     ///
-    /// Those of [`Constructed::take_primitive_if`]; where the contents octets are no integer's; and
-    /// where there is no memory for them.
+    /// Returns the errors of [`Constructed::take_primitive_if`], and an error if the contents
+    /// octets are not those of an integer, or if there is no memory for them.
     #[tactic(auto, using(crate::specs::laws::Moved::untouched_is_moved))]
     #[inline(always)]
     pub fn take_from<S: Source>(
@@ -115,12 +114,13 @@ impl Integer {
         )
     }
 
-    /// Reads all contents octets as an integer, and takes them.
+    /// Takes all contents octets as an integer.
     ///
     /// # Errors
     ///
-    /// Where they are no integer's, where fewer come than are owed, where the source fails, and
-    /// where there is no memory for them. Then none is taken.
+    /// Returns an error, and takes no octet, if the contents octets are not those of an integer, if
+    /// there are fewer than the length promises, if the source fails, or if there is no memory for
+    /// them.
     #[inline(always)]
     pub fn from_primitive<S: Source>(
         alloc: Global,
@@ -135,7 +135,7 @@ impl Integer {
         }
     }
 
-    /// The contents octets (8.3).
+    /// Returns the contents octets (8.3).
     pub fn into_bytes(self) -> Bytes
         ensures integer { AreInteger self result }
         ensures octets { AreOctets result }
@@ -143,7 +143,7 @@ impl Integer {
         self.octets
     }
 
-    /// The contents octets (8.3).
+    /// Returns the contents octets (8.3).
     pub fn as_slice(&self) -> &[u8]
         ensures integer { AreInteger self.now result.now }
         ensures octets { AreOctets result.now }
@@ -151,7 +151,7 @@ impl Integer {
         self.octets.as_slice()
     }
 
-    /// Whether the number is 0.
+    /// Returns whether the number is 0.
     pub fn is_zero(&self) -> bool
         ensures { IsTrue result ↔ (self.now ≡ pos 0) }
     {
@@ -161,21 +161,21 @@ impl Integer {
         }
     }
 
-    /// Whether the number is greater than 0.
+    /// Returns whether the number is greater than 0.
     pub fn is_positive(&self) -> bool
         ensures { IsTrue result ↔ (pos 0 <ℤ self.now) }
     {
         !self.is_negative() && !self.is_zero()
     }
 
-    /// Whether the number is less than 0.
+    /// Returns whether the number is less than 0.
     pub fn is_negative(&self) -> bool
         ensures { IsTrue result ↔ (self.now <ℤ pos 0) }
     {
         is_negative_at(self.as_slice())
     }
 
-    /// The value of a type that is the number.
+    /// Converts the number to a value of a type, if the type can hold it.
     pub(super) fn number<N: Number>(&self) -> Result<N, OverflowError>
         ensures { ConvertsTo N.value N.in_range self.now result }
     {
@@ -185,11 +185,11 @@ impl Integer {
         }
     }
 
-    /// Reads all contents octets as an integer that an `i8` holds, as `Primitive::to_i8` does.
+    /// Reads all contents octets as an integer that an `i8` can hold, like `Primitive::to_i8`.
     ///
     /// # Errors
     ///
-    /// Those of `Primitive::to_i8`.
+    /// Returns the errors of `Primitive::to_i8`.
     pub fn i8_from_primitive<S: Source>(
         octets: &mut Primitive<'_, S>,
     ) -> Result<i8, DecodeError<S::Error>>
@@ -199,11 +199,11 @@ impl Integer {
         octets.to_i8()
     }
 
-    /// Reads all contents octets as an integer that an `i16` holds, as `Primitive::to_i16` does.
+    /// Reads all contents octets as an integer that an `i16` can hold, like `Primitive::to_i16`.
     ///
     /// # Errors
     ///
-    /// Those of `Primitive::to_i16`.
+    /// Returns the errors of `Primitive::to_i16`.
     pub fn i16_from_primitive<S: Source>(
         octets: &mut Primitive<'_, S>,
     ) -> Result<i16, DecodeError<S::Error>>
@@ -213,11 +213,11 @@ impl Integer {
         octets.to_i16()
     }
 
-    /// Reads all contents octets as an integer that an `i32` holds, as `Primitive::to_i32` does.
+    /// Reads all contents octets as an integer that an `i32` can hold, like `Primitive::to_i32`.
     ///
     /// # Errors
     ///
-    /// Those of `Primitive::to_i32`.
+    /// Returns the errors of `Primitive::to_i32`.
     pub fn i32_from_primitive<S: Source>(
         octets: &mut Primitive<'_, S>,
     ) -> Result<i32, DecodeError<S::Error>>
@@ -227,11 +227,11 @@ impl Integer {
         octets.to_i32()
     }
 
-    /// Reads all contents octets as an integer that an `i64` holds, as `Primitive::to_i64` does.
+    /// Reads all contents octets as an integer that an `i64` can hold, like `Primitive::to_i64`.
     ///
     /// # Errors
     ///
-    /// Those of `Primitive::to_i64`.
+    /// Returns the errors of `Primitive::to_i64`.
     pub fn i64_from_primitive<S: Source>(
         octets: &mut Primitive<'_, S>,
     ) -> Result<i64, DecodeError<S::Error>>
@@ -241,11 +241,11 @@ impl Integer {
         octets.to_i64()
     }
 
-    /// Reads all contents octets as an integer that an `i128` holds, as `Primitive::to_i128` does.
+    /// Reads all contents octets as an integer that an `i128` can hold, like `Primitive::to_i128`.
     ///
     /// # Errors
     ///
-    /// Those of `Primitive::to_i128`.
+    /// Returns the errors of `Primitive::to_i128`.
     pub fn i128_from_primitive<S: Source>(
         octets: &mut Primitive<'_, S>,
     ) -> Result<i128, DecodeError<S::Error>>

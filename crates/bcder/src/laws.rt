@@ -1,5 +1,5 @@
-//! What follows from the definitions alone, each law the contract of a function without a body; and
-//! the constants of `Tag`, each beside what it stands for.
+//! Laws that follow from the definitions alone, each stated as the contract of a function without a
+//! body; and the constants of `Tag` beside the numbers that they stand for.
 ghost use Rattle.std.specs.Prelude.{◌≡◌, ◌++◌, map};
 ghost use Rattle.std.specs.List.{range_with_len};
 ghost use Rattle.bcder.specs.x690.Identifier.{universal, context_specific};
@@ -21,15 +21,16 @@ pub mod written_strings;
 
 use crate::tag::Tag;
 
-/// No identifier octets, length octets or end-of-contents octets begin others (X.690, 8.1.2, 8.1.3,
-/// 8.1.5).
+/// No identifier octets, length octets or end-of-contents octets are a proper prefix of others of
+/// their kind (X.690, 8.1.2, 8.1.3, 8.1.5).
 pub fn no_header_begins_another()
     ensures identifier { OneIdentifier }
     ensures length { OneLength }
     ensures end { OneEnd }
 {}
 
-/// A front of octets is at most one value with at most one encoding: no encoding begins another.
+/// At most one prefix of octets is an encoding in a mode, and it encodes one value only: no
+/// encoding is a proper prefix of another.
 pub fn a_front_is_one_value()
     ensures { OneFront }
 {}
@@ -44,14 +45,14 @@ pub fn values_have_one_encoding()
     ensures { OneEncoding }
 {}
 
-/// What is an encoding in CER or DER is one in BER, of the same value.
+/// An encoding in CER or DER is also an encoding in BER, of the same value.
 pub fn strict_encodings_are_basic()
     ensures value { ValueInBer }
     ensures list { ListInBer }
 {}
 
-/// An encoding has at least two octets for each heading of its value: one of its identifier and one
-/// of its length.
+/// An encoding has at least two octets for each heading of its value: one identifier octet and one
+/// length octet.
 pub fn each_heading_has_two_octets()
     ensures value { ValueHasTwo }
     ensures list { ListHasTwo }
@@ -63,7 +64,7 @@ pub fn encodings_are_octets()
     ensures list { ListIsOctets }
 {}
 
-/// Each universal constant, beside its number (X.680, 8.4): 0 to 14 and 16 to 36.
+/// Returns each universal constant beside its number (X.680, 8.4): 0 to 14 and 16 to 36.
 pub fn universal_constants() -> [(Tag, u32); 36]
     ensures { result ≡ map (λ n. (record { class = universal; number = n }, n))
         (range_with_len 0 15 ++ range_with_len 16 21) }
@@ -108,7 +109,7 @@ pub fn universal_constants() -> [(Tag, u32); 36]
     ]
 }
 
-/// Each context-specific constant, beside its number: 0 to 6.
+/// Returns each context-specific constant beside its number: 0 to 6.
 pub fn context_constants() -> [(Tag, u32); 7]
     ensures { result ≡ map (λ n. (record { class = context_specific; number = n }, n))
         (range_with_len 0 7) }

@@ -28,29 +28,31 @@ use std::fmt;
 use std::hash::{Hash, Hasher};
 pub use text::OidError;
 
-/// An object identifier, as its contents octets (8.19).
+/// An object identifier, kept as its contents octets (8.19).
 ///
-/// A subidentifier may begin with the octet 80, which the standard forbids (8.19.2), since the
-/// readers take that: `2A 80 01` is shown as `1.2.1`, as `2A 01` is, and is another identifier.
-/// [`is_minimal`](Self::is_minimal) tells such identifiers apart.
+/// A subidentifier may begin with the octet 80, since the readers accept that although the standard
+/// forbids it (8.19.2). For example, `2A 80 01` is displayed as `1.2.1` like `2A 01`, but is
+/// another identifier. [`is_minimal`](Self::is_minimal) distinguishes such identifiers.
 ///
-/// Octets that don't end with a subidentifier may be held too. What stands after the last complete
-/// subidentifier is then part of no component.
+/// The octets need not end with a subidentifier. What follows the last complete subidentifier is
+/// then part of no component.
 #[derive(Clone, Copy, Debug, Drop)]
 pub struct Oid<T: AsSlice<u8> = Bytes>(pub T);
 
-/// An object identifier that is known when the program is compiled. It is `Copy`.
+/// An object identifier that is known at compile time. It is `Copy`.
 pub type ConstOid = Oid<&'static [u8]>;
 
 impl<T: AsSlice<u8>> Oid<T> {
-    /// Passes over the next value, which has to be this OBJECT IDENTIFIER: its contents octets are
-    /// compared where they stand.
+    /// Skips the next value, which has to be this OBJECT IDENTIFIER. Its contents octets are
+    /// compared in place.
     ///
     /// # Errors
     ///
-    /// `ContentError::ExpectedTag` at the end and at a value of another tag: the content then stays
-    /// usable. Where the value is another identifier, where octets are no value, where an earlier
-    /// value was refused, and where the source fails: the content has then failed.
+    /// Returns `ContentError::ExpectedTag` at the end and at a value of another tag. The content
+    /// then stays usable.
+    ///
+    /// Returns an error, and the content has then failed, if the value is another identifier, if
+    /// the octets are no value, if an earlier value was refused, or if the source fails.
     #[tactic(auto, using(crate::specs::laws::Moved::untouched_is_moved))]
     pub fn skip_if<S: Source>(
         &self,
@@ -63,15 +65,15 @@ impl<T: AsSlice<u8>> Oid<T> {
         cons.take_primitive_if(Tag::OID, |octets| octets.skip_same(expected))
     }
 
-    /// The components, in their order.
+    /// Returns an iterator over the components, in order.
     pub fn iter(&self) -> Iter<'_>
         ensures { parts_left result ≡ component_parts (T.items self.now.0) }
     {
         Iter::new(self.0.as_slice())
     }
 
-    /// Whether each subidentifier is in the fewest octets, as the standard has it (8.19.2): none
-    /// begins with the octet 80. The readers take those that do.
+    /// Returns whether each subidentifier has the fewest octets, as the standard requires (8.19.2):
+    /// none begins with the octet 80. The readers accept those that do.
     ///
     /// ```text
     /// let oid = Oid::take_from(alloc, cons)?;
@@ -85,7 +87,7 @@ impl<T: AsSlice<u8>> Oid<T> {
         components::is_minimal(self.0.as_slice())
     }
 
-    /// Whether the octets are those of another identifier, which may be kept in another way.
+    /// Returns whether another identifier has the same octets, however they are kept.
     pub fn same_as<U: AsSlice<u8>>(&self, other: &Oid<U>) -> bool
         ensures { IsTrue result ↔ (T.items self.now.0 ≡ U.items other.now.0) }
     {
@@ -95,12 +97,12 @@ impl<T: AsSlice<u8>> Oid<T> {
 
 #[tactic(auto, using(crate::specs::laws::Moved::untouched_is_moved))]
 impl Oid<Bytes> {
-    /// Passes over the next value, which has to be an OBJECT IDENTIFIER.
+    /// Skips the next value, which has to be an OBJECT IDENTIFIER.
     ///
     /// # Errors
     ///
-    /// Those of [`skip_opt_in`](Self::skip_opt_in), and `ContentError::ExpectedTag` where that
-    /// answers `None`: the content then stays usable.
+    /// Returns the errors of [`skip_opt_in`](Self::skip_opt_in), and `ContentError::ExpectedTag` if
+    /// that returns `None`. The content then stays usable.
     pub fn skip_in<S: Source>(cons: &mut Constructed<'_, S>) -> Result<(), DecodeError<S::Error>>
         ensures moves { Moved S.stream cons }
         ensures took { TookOneAs S.stream cons identifier_tag HoldIdentifier result }
@@ -108,14 +110,17 @@ impl Oid<Bytes> {
         cons.take_primitive_if(Tag::OID, |octets| octets.skip_identifier())
     }
 
-    /// Passes over the next value if it is an OBJECT IDENTIFIER, or answers `None` at the end and
-    /// at a value of another tag, which stays.
+    /// Skips the next value if it is an OBJECT IDENTIFIER. Returns `None` at the end and at a value
+    /// of another tag, which stays.
     ///
     /// # Errors
     ///
-    /// Where a value of the tag stands there whose contents octets don't end with a subidentifier,
-    /// or octets that are no value; where an earlier value was refused; where the source fails. The
-    /// content has then failed.
+    /// Returns an error, and the content has then failed, if
+    ///
+    /// - the next value has the tag, but its contents octets don't end with a subidentifier;
+    /// - the octets are no value;
+    /// - an earlier value was refused;
+    /// - the source fails.
     pub fn skip_opt_in<S: Source>(
         cons: &mut Constructed<'_, S>,
     ) -> Result<Option<()>, DecodeError<S::Error>>
@@ -126,12 +131,12 @@ impl Oid<Bytes> {
     }
 
     /// Takes the next value, which has to be an OBJECT IDENTIFIER. Its octets are shared with the
-    /// source where that shares them.
+    /// source if the source shares them.
     ///
     /// # Errors
     ///
-    /// Those of [`take_opt_from`](Self::take_opt_from), and `ContentError::ExpectedTag` where that
-    /// answers `None`: the content then stays usable.
+    /// Returns the errors of [`take_opt_from`](Self::take_opt_from), and
+    /// `ContentError::ExpectedTag` if that returns `None`. The content then stays usable.
     #[inline(always)]
     pub fn take_from<S: Source>(
         alloc: Global,
@@ -144,12 +149,13 @@ impl Oid<Bytes> {
         cons.take_primitive_if(Tag::OID, |octets| Oid::from_primitive(alloc, octets))
     }
 
-    /// Takes the next value if it is an OBJECT IDENTIFIER, or answers `None` at the end and at a
-    /// value of another tag, which stays.
+    /// Takes the next value if it is an OBJECT IDENTIFIER. Returns `None` at the end and at a value
+    /// of another tag, which stays.
     ///
     /// # Errors
     ///
-    /// Those of [`skip_opt_in`](Self::skip_opt_in), and where there is no memory for the octets.
+    /// Returns the errors of [`skip_opt_in`](Self::skip_opt_in), and an error if there is no memory
+    /// for the octets.
     #[inline(always)]
     pub fn take_opt_from<S: Source>(
         alloc: Global,
@@ -162,12 +168,12 @@ impl Oid<Bytes> {
         cons.take_opt_primitive_if(Tag::OID, |octets| Oid::from_primitive(alloc, octets))
     }
 
-    /// Passes over all contents octets, which have to be those of an object identifier.
+    /// Skips all contents octets, which have to be those of an object identifier.
     ///
     /// # Errors
     ///
-    /// Where they don't end with a subidentifier, where fewer come than are owed, and where the
-    /// source fails. Then none is taken.
+    /// Returns an error, and takes no octet, if the contents octets don't end with a subidentifier,
+    /// if there are fewer than the length promises, or if the source fails.
     pub fn skip_primitive<S: Source>(
         octets: &mut Primitive<'_, S>,
     ) -> Result<(), DecodeError<S::Error>>
@@ -177,13 +183,13 @@ impl Oid<Bytes> {
         octets.skip_identifier()
     }
 
-    /// Takes all contents octets as an object identifier. They are shared with the source where
-    /// that shares them.
+    /// Takes all contents octets as an object identifier. They are shared with the source if the
+    /// source shares them.
     ///
     /// # Errors
     ///
-    /// Those of [`skip_primitive`](Self::skip_primitive), and where there is no memory for the
-    /// octets. Then none is taken.
+    /// Returns the errors of [`skip_primitive`](Self::skip_primitive), and an error if there is no
+    /// memory for the octets. No octet is taken then.
     #[inline(always)]
     pub fn from_primitive<S: Source>(
         alloc: Global,
@@ -201,14 +207,16 @@ impl Oid<Bytes> {
 }
 
 impl Oid<Vec<u8>> {
-    /// Reads components in decimal, joined by dots. Each may have a plus in front and is below
-    /// 2^32; the first is at most 2, and where it is 0 or 1 the second is below 40. Each
-    /// subidentifier is given the fewest octets.
+    /// Reads components in decimal, joined by dots, such as `1.2.840`.
+    ///
+    /// Each component may have a leading plus and is below 2^32. The first is at most 2; if it is 0
+    /// or 1, the second is below 40. Each subidentifier gets the fewest octets.
     ///
     /// # Errors
     ///
-    /// What keeps the text from being an identifier, at the first component that does; and where
-    /// there is no memory for the octets.
+    /// Returns what keeps the text from being an identifier: too few components, or the first
+    /// component that is wrong. Returns `NoMemory` if nothing does, but there is no memory for the
+    /// octets.
     pub fn from_str(alloc: Global, text: &str) -> Result<Self, OidError>
         ensures ok { IfOk result (λ oid. IsTextOf text.now oid.0.items) }
         ensures err { IfErr result (λ e. RefusesText text.now e) }
@@ -216,11 +224,11 @@ impl Oid<Vec<u8>> {
         Ok(Oid(text::octets_of(alloc, text)?))
     }
 
-    /// The same identifier, its octets shared by all clones.
+    /// Returns the same identifier, its octets shared by all clones.
     ///
     /// # Errors
     ///
-    /// Where there is no memory to count the clones. The identifier is then dropped.
+    /// Returns an error if there is no memory to count the clones. The identifier is then dropped.
     pub fn into_shared(self) -> Result<Oid<Bytes>, NoMemory>
         ensures { IfOk result (λ oid. oid.0 ≡ self.0.items) }
     {
@@ -238,7 +246,7 @@ impl<T: AsSlice<u8>> AsSlice<u8> for Oid<T> {
     }
 }
 
-/// Identifiers are equal where their octets are.
+/// Identifiers are equal if their octets are.
 impl<T: AsSlice<u8>> PartialEq for Oid<T> {
     ghost eq = { λ x y. pointwise nat_eq (T.items x.0) (T.items y.0) };
 
@@ -264,7 +272,7 @@ impl<T: AsSlice<u8>> Hash for Oid<T> {
     }
 }
 
-/// The components joined by dots.
+/// Displays the components, joined by dots.
 impl<T: AsSlice<u8>> fmt::Display for Oid<T> {
     ghost output = { λ oid. Some (text_of (T.items oid.0)) };
 

@@ -1,11 +1,11 @@
-//! The octets of a header, put together so that they are written at once, with contents octets
-//! behind them where these are few.
+//! A buffer for the octets of a header, and for a few contents octets after them, so that they are
+//! written at once.
 ghost use Rattle.std.specs.Prelude.{◌≡◌, ◌+◌, ◌≤◌, ◌<◌, [], ◌++◌, length, Some};
 
 use std::io;
 use std::io::Write;
 
-/// The first octets of a value: of its header, which has at most nine, and up to 64 more.
+/// The first octets of a value: its header, which has at most nine, and up to 64 more.
 #[derive(Clone, Copy)]
 pub(crate) struct Buffer {
     octets: [u8; 73],
@@ -16,7 +16,7 @@ pub(crate) struct Buffer {
 impl Buffer {
     ghost use Rattle.bcder.specs.steps.Buffer.{buffered};
 
-    /// None yet.
+    /// Returns an empty buffer.
     #[inline(always)]
     pub(crate) fn new() -> Buffer
         ensures none { buffered result ≡ [] }
@@ -28,7 +28,7 @@ impl Buffer {
         }
     }
 
-    /// Adds octets behind those that there are.
+    /// Appends octets.
     #[inline(always)]
     pub(crate) fn add(&mut self, octets: &[u8])
         requires { self.old.len + length octets.now ≤ 73 }
@@ -41,7 +41,7 @@ impl Buffer {
         self.len = end;
     }
 
-    /// All of them.
+    /// Returns all octets.
     #[inline(always)]
     pub(crate) fn as_slice(&self) -> &[u8]
         ensures { result.now ≡ buffered self.now }
@@ -50,7 +50,7 @@ impl Buffer {
     }
 }
 
-/// What is written is added while there is room.
+/// Appends what is written while there is room.
 impl Write for Buffer {
     ghost use Rattle.bcder.specs.steps.Buffer.{buffered};
 

@@ -4,22 +4,22 @@ use std::alloc::{AllocError, AllocFailed};
 use std::error::Error;
 use std::{fmt, io};
 
-/// Why a value has no encoding.
+/// The reason why a value has no encoding.
 #[derive(Clone, Copy, Debug, PartialEq, Eq)]
 pub enum EncodeError {
-    /// There is no memory for the octets, or for what a part needs to tell them.
+    /// Memory ran out, for the octets or for something that a part needs to produce them.
     NoMemory,
 
     /// A value would have the tag of the end-of-contents octets (X.690, 8.1.5).
     EndOfValueTag,
 
-    /// A definite length is 2^32 or more, which four octets don't tell.
+    /// A definite length is 2^32 or more, too large for four octets.
     LengthTooLarge,
 
-    /// The encoding has more octets than a `usize` counts.
+    /// The encoding has more octets than a `usize` can count.
     SizeOverflow,
 
-    /// Captured values would be written in CER or DER, and were captured in another mode.
+    /// Captured values would be written in CER or DER, but were captured in another mode.
     CapturedMode,
 
     /// A bit string would have over 1000 contents octets in CER (X.690, 9.2).
@@ -97,13 +97,13 @@ impl<T: Drop> From<AllocFailed<T>> for EncodeError {
     }
 }
 
-/// Why values were not written.
+/// The reason why values were not written.
 #[derive(Debug, Drop)]
 pub enum WriteError {
-    /// They have no encoding, or there was no memory to tell it.
+    /// The values have no encoding, or memory ran out.
     Refused(EncodeError),
 
-    /// The target failed, or took none of some octets.
+    /// The target failed, or its `write` accepted none of one or more octets.
     Target(io::Error),
 }
 

@@ -7,7 +7,7 @@ use crate::mode::Mode;
 use bytes::Bytes;
 use std::alloc::Global;
 
-/// The contents octets, in memory that is reserved once.
+/// Returns the contents octets, in memory that is reserved once.
 pub(crate) fn gather_contents<P: PrimitiveContent>(
     contents: &P,
     alloc: Global,

@@ -15,12 +15,13 @@ use crate::length::Length;
 use crate::tag::Tag;
 use std::io;
 
-/// How many octets a value with the tag and `len` contents octets has, with a definite length in
-/// the fewest octets (X.690, 10.1).
+/// Returns the number of octets of a value with the tag and `len` contents octets, if its length is
+/// definite and in the fewest octets (X.690, 10.1).
 ///
 /// # Errors
 ///
-/// `EndOfValueTag` for `Tag::END_OF_VALUE`, and else `LengthTooLarge` for 2^32 or more octets.
+/// Returns `EndOfValueTag` for `Tag::END_OF_VALUE`, and otherwise `LengthTooLarge` for 2^32 or more
+/// octets.
 pub fn total_encoded_len(tag: Tag, len: usize) -> Result<usize, EncodeError>
     ensures ok { IfOk result (λ n. MayHaveHeader tag len
         × (n ≡ length (header tag false (Definite len)) + len)) }
@@ -33,13 +34,16 @@ pub fn total_encoded_len(tag: Tag, len: usize) -> Result<usize, EncodeError>
     Ok(tag.encoded_len() + size + len)
 }
 
-/// Writes the header of a value with the tag and `len` contents octets, constructed or primitive,
-/// with a definite length in the fewest octets (X.690, 10.1).
+/// Writes the header of a value, constructed or primitive, with the tag and `len` contents octets.
+/// The length is definite and in the fewest octets (X.690, 10.1).
 ///
 /// # Errors
 ///
-/// `EndOfValueTag` for `Tag::END_OF_VALUE`, and else `LengthTooLarge` for 2^32 or more octets, and
-/// nothing is written; or the target's.
+/// Returns one of these errors:
+///
+/// - `EndOfValueTag` for `Tag::END_OF_VALUE`, and otherwise `LengthTooLarge` for 2^32 or more
+///   octets; nothing is written then;
+/// - the target's error.
 pub fn write_header<W: io::Write>(
     target: &mut W,
     tag: Tag,
@@ -59,8 +63,8 @@ pub fn write_header<W: io::Write>(
     into_result(outcome, why)
 }
 
-/// Writes a header as `put_header`, of any size. One that has a length of two octets behind one
-/// identifier octet is an array, as `put_header` has it for a length of one.
+/// Writes a header of any size, for `put_header`. One identifier octet and two length octets are
+/// written as an array, as `put_header` does with one length octet.
 #[tactic(auto, unfolding(crate::specs::x690::Octets::definite_length))]
 fn put_any_header<W: io::Write>(
     target: &mut W,
@@ -84,8 +88,8 @@ fn put_any_header<W: io::Write>(
     put_all(target, buffer.as_slice(), why)
 }
 
-/// Writes a header with a length that four octets tell, by one call of the target's `write` where
-/// that takes all of it.
+/// Writes a header whose length fits four octets, by one call of the target's `write` if that takes
+/// all of it.
 #[inline(always)]
 pub(crate) fn put_header<W: io::Write>(
     target: &mut W,
@@ -108,7 +112,7 @@ pub(crate) fn put_header<W: io::Write>(
 }
 
 /// Writes the header of a primitive value and the first of its contents octets, by one call of the
-/// target's `write` where that takes all of it.
+/// target's `write` if that takes all of it.
 pub(crate) fn put_header_and<W: io::Write>(
     target: &mut W,
     tag: Tag,

@@ -1,4 +1,4 @@
-//! What has an encoding as the contents octets of a primitive value.
+//! Encoders of the contents octets of primitive values.
 ghost use Rattle.std.specs.Prelude.{◌≡◌, ◌<◌, ◌^◌, false, List, ℕ, [], ◌∷◌};
 ghost use Rattle.bcder.specs.declared.mode.Mode.{Mode};
 ghost use Rattle.bcder.specs.x690.Identifier.{Tag as TagValue};
@@ -31,29 +31,29 @@ use bytes::Bytes;
 use std::alloc::Global;
 use std::io;
 
-/// What has an encoding as the contents octets of a primitive value.
+/// An encoder of the contents octets of a primitive value.
 ///
-/// For each mode it means one thing at most: why it has no encoding, or octets. Its calls answer
-/// what it means, each time they are called.
+/// In each mode it means at most one thing: a refusal, or octets. Its calls give that meaning every
+/// time.
 pub trait PrimitiveContent: Sized {
-    /// The tag that such a value has by itself.
+    /// The tag that such a value has by default.
     ghost own_tag: { TagValue };
 
-    /// What it means in a mode.
+    /// What the encoder means in a mode.
     ghost means: { Self → Mode → ContentsMeaning → Type 0 };
 
-    /// Where memory may lack for an answer: nowhere, where an implementation doesn't say.
+    /// When a call may run out of memory. By default never.
     ghost may_lack: { Self → Mode → Type 0 } = { λ _ _. ⊥ };
 
-    /// The tag that such a value has by itself.
+    /// Returns the tag that such a value has by default.
     fn tag() -> Tag
         ensures { result ≡ own_tag };
 
-    /// How many contents octets there are.
+    /// Returns the number of contents octets.
     ///
     /// # Errors
     ///
-    /// Why there is no encoding, or `NoMemory`.
+    /// Returns the reason why there is no encoding, or `NoMemory` if memory runs out.
     fn encoded_len(&self, mode: Mode) -> Result<usize, EncodeError>
         ensures { SizeOfContents (means self.now mode) (may_lack self.now mode) result };
 
@@ -61,20 +61,23 @@ pub trait PrimitiveContent: Sized {
     ///
     /// # Errors
     ///
-    /// `Refused` with the error of `encoded_len`, and then nothing was written, or with `NoMemory`
-    /// after a front of the octets; `Target` where the target failed, after a front of the octets
-    /// that isn't all of them.
+    /// Returns one of these errors:
+    ///
+    /// - `Refused` with the error of `encoded_len`; nothing was written then;
+    /// - `Refused` with `NoMemory` if memory runs out while writing; a prefix of the octets was
+    ///   written then;
+    /// - `Target` if the target fails; a proper prefix of the octets was written then.
     fn write_encoded<W: io::Write>(&self, mode: Mode, target: &mut W) -> Result<(), WriteError>
         ensures { WritesContents W.contents target
             (means self.now mode) (may_lack self.now mode) result };
 
-    /// Writes a primitive value with these contents octets, `len` of them. Up to 64 are gathered
-    /// first, and written with their header by one call of the target's `write`, if that takes all
-    /// of it.
+    /// Writes a primitive value with these contents octets, of which there are `len`. Up to 64 are
+    /// gathered first, and written with their header by one call of the target's `write`, if that
+    /// takes all of it.
     ///
     /// # Errors
     ///
-    /// `NoMemory` or the target's, as `write_encoded`.
+    /// Returns `NoMemory` or the target's error, like `write_encoded`.
     #[doc(hidden)]
     #[inline(always)]
     fn write_value<W: io::Write>(
@@ -101,42 +104,43 @@ pub trait PrimitiveContent: Sized {
         put_all(target, buffer.as_slice(), why)
     }
 
-    /// There is one meaning at most, and it is a refusal or octets.
+    /// There is at most one meaning, and it is a refusal or octets.
     ghost lawful: { (x : Self) (mode : Mode) → IsLawfulContents (means x mode) };
 
-    /// The contents octets.
+    /// Returns the contents octets.
     ///
     /// # Errors
     ///
-    /// Those of `encoded_len`, and `NoMemory` where there are octets and no memory for them.
+    /// Returns the errors of `encoded_len`, or `NoMemory` if there are octets and no memory for
+    /// them.
     final fn to_encoded_bytes(&self, alloc: Global, mode: Mode) -> Result<Bytes, EncodeError>
         ensures { GathersContents (means self.now mode) (may_lack self.now mode) result }
     {
         gather_contents(self, alloc, mode)
     }
 
-    /// This as a primitive value with its own tag.
+    /// Creates an encoder of this as a primitive value with its own tag.
     final fn encode(self) -> Primitive<Self>
         ensures { result ≡ record { tag = own_tag; prim = self } }
     {
         self.encode_as(Self::tag())
     }
 
-    /// This as a primitive value with another tag.
+    /// Creates an encoder of this as a primitive value with another tag.
     final fn encode_as(self, tag: Tag) -> Primitive<Self>
         ensures { result ≡ record { tag = tag; prim = self } }
     {
         Primitive { tag, prim: self }
     }
 
-    /// A reference to this as a primitive value with its own tag.
+    /// Creates an encoder of a reference to this, as a primitive value with its own tag.
     final fn encode_ref(&self) -> Primitive<&Self>
         ensures { result ≡ record { tag = own_tag; prim = self.entry } }
     {
         self.encode_ref_as(Self::tag())
     }
 
-    /// A reference to this as a primitive value with another tag.
+    /// Creates an encoder of a reference to this, as a primitive value with another tag.
     final fn encode_ref_as(&self, tag: Tag) -> Primitive<&Self>
         ensures { result ≡ record { tag = tag; prim = self.entry } }
     {
@@ -180,14 +184,14 @@ impl<P: PrimitiveContent> PrimitiveContent for &'_ P {
     ghost lawful = { λ x mode. P.lawful x.now mode };
 }
 
-/// One primitive value: a tag, and what its contents octets are.
+/// An encoder of one primitive value: a tag, and an encoder of its contents octets.
 #[derive(Clone, Copy, Debug, Drop)]
 pub struct Primitive<P> {
     tag: Tag,
     prim: P,
 }
 
-/// How many contents octets the value has, or why it has no encoding.
+/// Returns the number of contents octets of the value, or its refusal.
 #[inline(always)]
 fn contents_len<P: PrimitiveContent>(tag: Tag, prim: &P, mode: Mode) -> Result<usize, EncodeError>
     ensures { ContentsSize tag (P.means prim.now mode) (P.may_lack prim.now mode) result }
@@ -202,7 +206,7 @@ fn contents_len<P: PrimitiveContent>(tag: Tag, prim: &P, mode: Mode) -> Result<u
     Ok(len)
 }
 
-/// How many octets the value has, or why it has no encoding.
+/// Returns the number of octets of the value, or its refusal.
 #[inline(always)]
 fn value_len<P: PrimitiveContent>(tag: Tag, prim: &P, mode: Mode) -> Result<usize, EncodeError>
     ensures { SizeOfValues (ValueMeans tag (primitive_meaning tag) (P.means prim.now mode))
@@ -221,7 +225,7 @@ fn value_len<P: PrimitiveContent>(tag: Tag, prim: &P, mode: Mode) -> Result<usiz
     Ok(identifier + Length::Definite(len).octet_count() + len)
 }
 
-/// Writes the value, if it has an encoding.
+/// Writes the value if it has an encoding.
 #[inline(always)]
 fn put_value<P: PrimitiveContent, W: io::Write>(
     tag: Tag,

@@ -14,8 +14,8 @@ use crate::length::Length;
 use crate::tag::Tag;
 use std::io;
 
-/// Writes a primitive value with at most 64 contents octets, under any tag, by one call of the
-/// target's `write`, if that takes all of it.
+/// Writes a primitive value with at most 64 contents octets and any tag, by one call of the
+/// target's `write` if that takes all of it.
 fn put_any_few<W: io::Write>(
     tag: Tag,
     contents: &[u8],
@@ -48,8 +48,8 @@ fn put_header_then_contents<W: io::Write>(
     put_all(target, contents, why)
 }
 
-/// The octets of a primitive value with one identifier octet and at most eight contents octets, in
-/// front of others.
+/// Returns the octets of a primitive value with one identifier octet and at most eight contents
+/// octets, followed by padding.
 #[inline(always)]
 fn few_together(identifier: u8, contents: &[u8]) -> [u8; 10]
     requires { length contents.now ≤ 8 }
@@ -70,8 +70,8 @@ fn few_together(identifier: u8, contents: &[u8]) -> [u8; 10]
     }
 }
 
-/// Writes a primitive value with one identifier octet and at most eight contents octets. Three of
-/// them are written as an array, whose size is known where it is copied.
+/// Writes a primitive value with one identifier octet and at most eight contents octets. Three
+/// contents octets are written as an array, so that the size of the copy is known.
 #[inline(always)]
 fn put_few<W: io::Write>(
     identifier: u8,
@@ -90,7 +90,8 @@ fn put_few<W: io::Write>(
     put_all(target, &few_together(identifier, contents)[..end], why)
 }
 
-/// The same. Up to five octets are written as an array, whose size is known where it is copied.
+/// Writes a primitive value like `put_few`, but up to five contents octets as an array, so that the
+/// size of the copy is known.
 #[inline(always)]
 fn put_array<W: io::Write>(
     identifier: u8,
@@ -129,8 +130,8 @@ fn put_together<W: io::Write>(
     put_all(target, buffer.as_slice(), why)
 }
 
-/// Writes a primitive value from its contents octets: of up to 64, where its identifier is one
-/// octet, by one call of the target's `write`, if that takes all of it.
+/// Writes a primitive value from its contents octets. If there are at most 64 of them and one
+/// identifier octet, it makes one call of the target's `write`, if that takes all of it.
 #[inline(always)]
 pub(crate) fn put_contents<W: io::Write>(
     tag: Tag,
@@ -155,9 +156,8 @@ pub(crate) fn put_contents<W: io::Write>(
     put_few(identifier, contents, target, why)
 }
 
-/// Writes a primitive value from its contents octets as `put_contents`, with a slot of its own, so
-/// that the one that it is handed isn't lent on, and need not be cleared where a small number is
-/// written alone.
+/// Writes a primitive value like `put_contents`, with a slot of its own. The slot that it gets
+/// isn't lent on then, and need not be cleared when a small number is written alone.
 #[inline(always)]
 fn put_with_own_slot<W: io::Write>(
     tag: Tag,
@@ -179,7 +179,7 @@ fn put_with_own_slot<W: io::Write>(
     }
 }
 
-/// Writes the contents octets of a number as `put_contents`, few of them as an array.
+/// Writes a number from its contents octets like `put_contents`, but few of them as an array.
 #[inline(always)]
 pub(crate) fn put_number<W: io::Write>(
     tag: Tag,
@@ -201,8 +201,8 @@ pub(crate) fn put_number<W: io::Write>(
     put_array(identifier, contents, target, why)
 }
 
-/// Writes a primitive value with few contents octets, where its identifier is one octet by one
-/// call of the target's `write`, if that takes all of it.
+/// Writes a primitive value with few contents octets. With one identifier octet it makes one call
+/// of the target's `write`, if that takes all of it.
 pub(crate) fn put_short<W: io::Write>(
     tag: Tag,
     contents: Octets,
@@ -223,8 +223,8 @@ pub(crate) fn put_short<W: io::Write>(
     put_all(target, value.as_slice(), why)
 }
 
-/// Writes a primitive value with one identifier octet and the last `len` of these as its contents
-/// octets, for each number of them as an array.
+/// Writes a primitive value with one identifier octet and the last `len` octets as its contents, as
+/// an array of the size for each `len`.
 #[inline(always)]
 fn put_last<W: io::Write>(
     identifier: u8,
@@ -248,8 +248,8 @@ fn put_last<W: io::Write>(
     }
 }
 
-/// Writes a primitive value with one identifier octet and at most five contents octets, which
-/// need not stand in memory.
+/// Writes a primitive value with one identifier octet and at most five contents octets, which need
+/// not be in memory.
 #[inline(always)]
 pub(crate) fn put_five<W: io::Write>(
     identifier: u8,
@@ -266,7 +266,7 @@ pub(crate) fn put_five<W: io::Write>(
     put_last(identifier, contents.last_five(), len, target, why)
 }
 
-/// Writes a primitive value with one contents octet, apart.
+/// Writes a primitive value with one contents octet and any tag, out of line.
 fn put_any_octet<W: io::Write>(
     tag: Tag,
     octet: u8,
@@ -279,7 +279,7 @@ fn put_any_octet<W: io::Write>(
     put_any_few(tag, &[octet], target, why)
 }
 
-/// Writes a primitive value with one contents octet, where its identifier is one octet as an array.
+/// Writes a primitive value with one contents octet, as an array if it has one identifier octet.
 #[inline(always)]
 pub(crate) fn put_octet<W: io::Write>(
     tag: Tag,
@@ -296,7 +296,7 @@ pub(crate) fn put_octet<W: io::Write>(
     put_all(target, &[identifier, 1, octet], why)
 }
 
-/// Writes a primitive value without contents octets, where its identifier is one octet as an array.
+/// Writes a primitive value without contents octets, as an array if it has one identifier octet.
 #[inline(always)]
 pub(crate) fn put_empty<W: io::Write>(
     tag: Tag,

@@ -1,12 +1,12 @@
-//! Sizes that are noted where encoders are measured, and read where they are written.
+//! Sizes that are noted when encoders are measured, and read when they are written.
 //!
-//! An encoder of many values is measured before it is written, so that nothing is written of what
-//! is refused. The size of what stands inside a value is noted then, in the order in which it has
-//! to be told, so that none is worked out again. There is room for some on the stack; a value whose
-//! size isn't noted measures its inside once more, and notes what stands there anew.
+//! An encoder of many values is measured before it is written, so that nothing is written if a part
+//! is refused. The size of what is inside a value is noted then, in the order in which length
+//! octets need it, so that none is computed again. There is room for some sizes on the stack. A
+//! value whose size isn't noted measures its inside once more, and notes the sizes there anew.
 ghost use Rattle.std.specs.Prelude.{◌≡◌, ◌≢◌, ◌≤◌, ◌+◌, ℕ, List, [], ◌∷◌, ◌++◌, length, IsTrue};
 
-/// The sizes of what stands inside values, in the order in which they are told.
+/// The sizes of what is inside values, in the order in which length octets need them.
 #[doc(hidden)]
 #[derive(Clone, Copy, Debug)]
 pub struct Sizes {
@@ -19,7 +19,7 @@ pub struct Sizes {
 impl Sizes {
     ghost use Rattle.bcder.specs.calls.Noted.{noted};
 
-    /// None yet.
+    /// Returns an empty list of sizes.
     #[inline(always)]
     pub(crate) fn new() -> Sizes
         ensures { noted result ≡ [] }
@@ -31,7 +31,7 @@ impl Sizes {
         }
     }
 
-    /// From here on none is noted.
+    /// Stops noting: from here on no size is noted.
     #[inline(always)]
     pub(crate) fn close(&mut self)
         ensures same { noted self.new ≡ noted self.old }
@@ -40,7 +40,7 @@ impl Sizes {
         self.room = 0;
     }
 
-    /// Whether there is no place left.
+    /// Returns whether there is no place left.
     #[inline(always)]
     pub(crate) fn is_full(&self) -> bool
         ensures { IsTrue result → self.now.room ≡ 0 }
@@ -48,7 +48,7 @@ impl Sizes {
         self.room == 0
     }
 
-    /// Keeps a place for a size that isn't known yet, if there is one, and tells which.
+    /// Reserves a place for a size that isn't known yet, if there is one, and returns its index.
     #[inline(always)]
     pub(crate) fn reserve(&mut self) -> usize
         ensures place { result ≡ length (noted self.old) }
@@ -64,7 +64,7 @@ impl Sizes {
         place
     }
 
-    /// Puts a size into the place that was kept for it.
+    /// Puts a size into the place that was reserved for it.
     #[inline(always)]
     pub(crate) fn fill(&mut self, place: usize, size: usize)
         ensures there { (before behind : List ℕ) (k : ℕ) → noted self.old ≡ before ++ k ∷ behind
@@ -77,7 +77,7 @@ impl Sizes {
         }
     }
 
-    /// All of them, to be read.
+    /// Returns all sizes, to be read.
     #[inline(always)]
     pub(crate) fn left(&self) -> SizesLeft<'_>
         ensures { result.sizes.now ≡ noted self.now }
@@ -88,7 +88,7 @@ impl Sizes {
     }
 }
 
-/// The sizes that are to be told yet.
+/// The sizes that are still to be read.
 #[doc(hidden)]
 #[derive(Clone, Copy, Debug)]
 pub struct SizesLeft<'a> {
@@ -98,7 +98,7 @@ pub struct SizesLeft<'a> {
 impl SizesLeft<'_> {
     ghost use Rattle.bcder.specs.steps.Enclosing.{Takes};
 
-    /// None.
+    /// Returns an empty list.
     #[inline(always)]
     pub(crate) fn none() -> Self
         ensures { result.sizes.now ≡ [] }
@@ -106,7 +106,7 @@ impl SizesLeft<'_> {
         SizesLeft { sizes: &[] }
     }
 
-    /// From here on none is left.
+    /// Discards the sizes: from here on none is left.
     #[inline(always)]
     pub(crate) fn clear(&mut self)
         ensures { self.new.sizes.now ≡ [] }
@@ -114,7 +114,7 @@ impl SizesLeft<'_> {
         self.sizes = &[];
     }
 
-    /// The next one.
+    /// Returns the next size.
     #[inline(always)]
     pub(crate) fn next(&mut self) -> Option<usize>
         ensures { Takes self.old.sizes.now result self.new.sizes.now }

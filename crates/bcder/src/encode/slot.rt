@@ -1,8 +1,8 @@
-//! Why values were not written, apart from the answers of the steps that write.
+//! A slot for the error of a writer, so that steps needn't return it.
 //!
-//! An error of a target is many times as large as an octet, and would be moved at each step that
-//! may answer it. So a step answers whether it succeeded, and puts an error into a slot that it is
-//! handed. The slot is made, and told, where a public call answers.
+//! The error of a target is many times as large as an octet, and would be moved at each step that
+//! may return it. So a step returns whether it succeeded, and stores an error in a slot that it
+//! gets. A public call makes the slot, and returns what is in it.
 ghost use Rattle.std.specs.Prelude.{◌≡◌};
 ghost use Rattle.bcder.specs.declared.encode.error.WriteError.TheVariants.{Refused, Target};
 ghost use Rattle.bcder.specs.calls.Encoders.{into_result};
@@ -10,18 +10,18 @@ ghost use Rattle.bcder.specs.calls.Encoders.{into_result};
 use crate::encode::{EncodeError, WriteError};
 use std::io;
 
-/// A step that writes failed. Why stands in the slot that it was handed.
+/// The failure of a writing step. The reason is in the slot that the step got.
 #[doc(hidden)]
 #[derive(Clone, Copy, Debug)]
 pub struct Failed;
 
-/// A slot for an error.
+/// Returns a slot for an error.
 #[inline(always)]
 pub(crate) fn slot() -> WriteError {
     WriteError::Refused(EncodeError::NoMemory)
 }
 
-/// What a public call answers for its steps.
+/// Makes the result of a public call from the outcome of its steps and the slot.
 #[inline(always)]
 pub(crate) fn into_result(outcome: Result<(), Failed>, why: WriteError) -> Result<(), WriteError>
     ensures { result ≡ into_result outcome why }
@@ -32,8 +32,8 @@ pub(crate) fn into_result(outcome: Result<(), Failed>, why: WriteError) -> Resul
     }
 }
 
-/// Keeps a refusal. The slot isn't lent on, so that where it is made and lent to no other step it
-/// need not be cleared.
+/// Stores a refusal. The slot isn't lent on, so it need not be cleared if it is made by the caller
+/// and lent to no other step.
 #[inline(always)]
 pub(crate) fn store_refusal(why: &mut WriteError, error: EncodeError) -> Failed
     ensures { why.new ≡ Refused error }
@@ -42,7 +42,7 @@ pub(crate) fn store_refusal(why: &mut WriteError, error: EncodeError) -> Failed
     Failed
 }
 
-/// Keeps an error of the target, as `store_refusal`.
+/// Stores an error of the target. Like `store_refusal`, it doesn't lend the slot on.
 #[inline(always)]
 pub(crate) fn store_target_error(why: &mut WriteError, error: io::Error) -> Failed
     ensures { why.new ≡ Target error }
@@ -51,7 +51,7 @@ pub(crate) fn store_target_error(why: &mut WriteError, error: io::Error) -> Fail
     Failed
 }
 
-/// Keeps what a public call answered.
+/// Stores the error that a public call returned, if it failed.
 #[inline(always)]
 pub(crate) fn store(outcome: Result<(), WriteError>, why: &mut WriteError) -> Result<(), Failed>
     ensures { into_result result why.new ≡ outcome }

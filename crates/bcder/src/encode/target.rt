@@ -8,11 +8,12 @@ use crate::encode::slot::{Failed, store_target_error};
 use std::io;
 use std::io::{Error, ErrorKind, Write};
 
-/// Writes all octets. A target that takes none of some octets has failed, and any error ends it.
+/// Writes all octets. A target that accepts none of one or more octets has failed, and any error
+/// ends the loop.
 ///
 /// # Errors
 ///
-/// That of the target. A front of the octets was then written, and not all of them.
+/// Returns the target's error. A proper prefix of the octets was written then.
 #[inline(always)]
 pub(crate) fn write_octets<W: Write>(target: &mut W, octets: &[u8]) -> io::Result<()>
     ensures ok { OnOk result (Appended W.contents target octets.now) }
@@ -29,7 +30,7 @@ pub(crate) fn write_octets<W: Write>(target: &mut W, octets: &[u8]) -> io::Resul
     Ok(())
 }
 
-/// Writes all octets, where a refusal may follow.
+/// Writes all octets, for callers that may refuse as well.
 #[inline(always)]
 pub(crate) fn write_all<W: Write>(target: &mut W, octets: &[u8]) -> Result<(), WriteError>
     ensures { WroteOctets W.contents target octets.now result }
@@ -38,7 +39,7 @@ pub(crate) fn write_all<W: Write>(target: &mut W, octets: &[u8]) -> Result<(), W
     Ok(())
 }
 
-/// The same with a slot for the error.
+/// Writes all octets, and stores the error in a slot.
 #[inline(always)]
 pub(crate) fn put_all<W: Write>(
     target: &mut W,

@@ -1,4 +1,4 @@
-//! What has an encoding as a list of values.
+//! Encoders of lists of values.
 ghost use Rattle.std.specs.Prelude.{◌≡◌, ⊤, ℕ, List, [], IfOk};
 ghost use Rattle.bcder.specs.declared.mode.Mode.{Mode};
 ghost use Rattle.bcder.specs.calls.Meaning.{Meaning, IsLawful};
@@ -28,39 +28,39 @@ use crate::tag::Tag;
 use std::alloc::Global;
 use std::io;
 
-/// What has an encoding as a list of values, one after the other.
+/// An encoder of a list of values, one after the other.
 ///
-/// For each mode an encoder means one thing at most: why it has no encoding, or a list of values
-/// with octets that are their encoding. Its calls answer what it means, each time they are called.
+/// In each mode an encoder means at most one thing: a refusal, or a list of values together with
+/// octets that are their encoding. Its calls give that meaning every time.
 pub trait Values {
     /// What the encoder means in a mode.
     ghost means: { Self → Mode → Meaning → Type 0 };
 
-    /// Where memory may lack for an answer: nowhere, where an implementation doesn't say.
+    /// When a call may run out of memory. By default never.
     ghost may_lack: { Self → Mode → Type 0 } = { λ _ _. ⊥ };
 
-    /// Which of the sizes that are left it reads when it is written, and what is left then: none,
-    /// where an implementation doesn't say.
+    /// Which of the sizes that are left the encoder reads when it is written, and which are left
+    /// then. By default none.
     ghost reads: { Self → Mode → List ℕ → List ℕ → Type 0 } = { λ _ _ _ _. ⊥ };
 
-    /// What has to hold of the encoder for it to be asked.
+    /// The condition under which the encoder's calls may be made. By default there is none.
     ghost can_encode: { Self → Type 0 } = { λ _. ⊤ };
 
-    /// How many octets the encoding has.
+    /// Returns the number of octets of the encoding.
     ///
     /// # Errors
     ///
-    /// Why there is no encoding, or `NoMemory`.
+    /// Returns the reason why there is no encoding, or `NoMemory` if memory runs out.
     fn encoded_len(&self, mode: Mode) -> Result<usize, EncodeError>
         requires { can_encode self.now }
         ensures { SizeOfValues (means self.now mode) (may_lack self.now mode) result };
 
-    /// How many octets the encoding has, as `encoded_len`. The sizes that have to be told when it
-    /// is written are noted, so that none is worked out again.
+    /// Returns the number of octets of the encoding, like `encoded_len`, and notes the sizes that
+    /// writing needs for length octets, so that none is computed again.
     ///
     /// # Errors
     ///
-    /// Those of `encoded_len`.
+    /// Returns the errors of `encoded_len`.
     #[doc(hidden)]
     #[inline(always)]
     fn note_sizes(&self, mode: Mode, sizes: &mut Sizes) -> Result<usize, EncodeError>
@@ -76,20 +76,23 @@ pub trait Values {
     ///
     /// # Errors
     ///
-    /// `Refused` with the error of `encoded_len`, and then nothing was written, or with `NoMemory`
-    /// after a front of the octets; `Target` where the target failed, after a front of the octets
-    /// that isn't all of them.
+    /// Returns one of these errors:
+    ///
+    /// - `Refused` with the error of `encoded_len`; nothing was written then;
+    /// - `Refused` with `NoMemory` if memory runs out while writing; a prefix of the octets was
+    ///   written then;
+    /// - `Target` if the target fails; a proper prefix of the octets was written then.
     fn write_encoded<W: io::Write>(&self, mode: Mode, target: &mut W) -> Result<(), WriteError>
         requires { can_encode self.now }
         ensures { WritesValues W.contents target
             (means self.now mode) (may_lack self.now mode) result };
 
-    /// Writes the encoding where it is known that there is one, so that an encoder of many parts
-    /// looks for refusals once. Sizes that have to be told are read from those that are left.
+    /// Writes an encoding that is known to exist, so that an encoder of many parts looks for
+    /// refusals only once. Sizes for length octets are read from those that are left.
     ///
     /// # Errors
     ///
-    /// `NoMemory` or the target's, as `write_encoded`.
+    /// Returns `NoMemory` or the target's error, like `write_encoded`.
     #[doc(hidden)]
     #[inline(always)]
     fn write_known<W: io::Write>(
@@ -111,10 +114,10 @@ pub trait Values {
         store(self.write_encoded(mode, target), why)
     }
 
-    /// There is one meaning at most, and it is a refusal or an encoding.
+    /// There is at most one meaning, and it is a refusal or an encoding.
     ghost lawful: { (x : Self) (mode : Mode) → can_encode x → IsLawful mode (means x mode) };
 
-    /// This list of values as the contents of one constructed value with the tag.
+    /// Creates an encoder of one constructed value with the tag and these values inside.
     final fn explicit(self, tag: Tag) -> Constructed<Self>
     where
         Self: Sized,
@@ -123,11 +126,12 @@ pub trait Values {
         Constructed::new(tag, self)
     }
 
-    /// The values as [`Captured`], in a mode, at position 0.
+    /// Encodes the values in a mode, and returns them as [`Captured`] at position 0.
     ///
     /// # Errors
     ///
-    /// Those of `encoded_len`, and `NoMemory` where there are octets and no memory for them.
+    /// Returns the errors of `encoded_len`, or `NoMemory` if there are octets and no memory for
+    /// them.
     final fn to_captured(&self, alloc: Global, mode: Mode) -> Result<Captured, EncodeError>
     where
         Self: Sized,
@@ -176,7 +180,7 @@ impl<V: Values> Values for &'_ V {
     ghost lawful = { λ x mode can. V.lawful x.now mode can };
 }
 
-/// How many octets the values have. That is noted, in front of the sizes inside.
+/// Returns the number of octets of the values. Notes it ahead of the sizes inside.
 #[inline(always)]
 pub(crate) fn note_inside<V: Values>(
     values: &V,
@@ -194,8 +198,8 @@ pub(crate) fn note_inside<V: Values>(
     Ok(len)
 }
 
-/// How many octets values have that are written next. The sizes that they tell are noted: in CER
-/// none, where no constructed value tells one.
+/// Returns the number of octets of values that are written next, and notes the sizes that their
+/// length octets need. In CER there are none, since no constructed value has a definite length.
 #[inline(always)]
 pub(crate) fn measure<V: Values>(
     values: &V,

@@ -1,4 +1,4 @@
-//! Integers are equal, in order and hashed by their numbers.
+//! Equality, order and hash of integers: by their numbers.
 ghost use Rattle.std.specs.Prelude.{Some, pos, nat_eq};
 ghost use Rattle.std.specs.Cmp.{partial_equiv_from_equiv, int_eq_equiv, int_cmp_total, signed_po};
 ghost use Rattle.std.specs.Cmp.{nat_eq_equiv, nat_cmp_total, unsigned_po};

@@ -1,4 +1,4 @@
-//! Conversions between integers and Rust's.
+//! Conversions between these integers and Rust's.
 ghost use Rattle.std.specs.Prelude.{◌≡◌, ℤ, pos, IfOk};
 ghost use Rattle.std.specs.Int.{w8, w16, w32, w64, w128, complement_if, FitsUnsignedBits};
 ghost use Rattle.std.specs.Int.RustNames.{FitsSigned};
@@ -12,70 +12,70 @@ use std::alloc::Global;
 use std::convert::TryFrom;
 
 impl Integer {
-    /// The integer that a `u8` is.
+    /// Creates the integer from a `u8`.
     pub fn from_u8(alloc: Global, x: u8) -> Result<Integer, NoMemory>
         ensures { IfOk result (λ z. z ≡ pos x) }
     {
         Integer::from_u128(alloc, u128::from(x))
     }
 
-    /// The integer that a `u16` is.
+    /// Creates the integer from a `u16`.
     pub fn from_u16(alloc: Global, x: u16) -> Result<Integer, NoMemory>
         ensures { IfOk result (λ z. z ≡ pos x) }
     {
         Integer::from_u128(alloc, u128::from(x))
     }
 
-    /// The integer that a `u32` is.
+    /// Creates the integer from a `u32`.
     pub fn from_u32(alloc: Global, x: u32) -> Result<Integer, NoMemory>
         ensures { IfOk result (λ z. z ≡ pos x) }
     {
         Integer::from_u128(alloc, u128::from(x))
     }
 
-    /// The integer that a `u64` is.
+    /// Creates the integer from a `u64`.
     pub fn from_u64(alloc: Global, x: u64) -> Result<Integer, NoMemory>
         ensures { IfOk result (λ z. z ≡ pos x) }
     {
         Integer::from_u128(alloc, u128::from(x))
     }
 
-    /// The integer that a `u128` is.
+    /// Creates the integer from a `u128`.
     pub fn from_u128(alloc: Global, x: u128) -> Result<Integer, NoMemory>
         ensures { IfOk result (λ z. z ≡ pos x) }
     {
         Ok(Integer::of(Bytes::copy_from_slice(alloc, Octets::of(false, x).as_slice())?))
     }
 
-    /// The integer that an `i8` is.
+    /// Creates the integer from an `i8`.
     pub fn from_i8(alloc: Global, x: i8) -> Result<Integer, NoMemory>
         ensures { IfOk result (λ z. z ≡ x) }
     {
         Integer::from_i128(alloc, i128::from(x))
     }
 
-    /// The integer that an `i16` is.
+    /// Creates the integer from an `i16`.
     pub fn from_i16(alloc: Global, x: i16) -> Result<Integer, NoMemory>
         ensures { IfOk result (λ z. z ≡ x) }
     {
         Integer::from_i128(alloc, i128::from(x))
     }
 
-    /// The integer that an `i32` is.
+    /// Creates the integer from an `i32`.
     pub fn from_i32(alloc: Global, x: i32) -> Result<Integer, NoMemory>
         ensures { IfOk result (λ z. z ≡ x) }
     {
         Integer::from_i128(alloc, i128::from(x))
     }
 
-    /// The integer that an `i64` is.
+    /// Creates the integer from an `i64`.
     pub fn from_i64(alloc: Global, x: i64) -> Result<Integer, NoMemory>
         ensures { IfOk result (λ z. z ≡ x) }
     {
         Integer::from_i128(alloc, i128::from(x))
     }
 
-    /// The integer that an `i128` is.
+    /// Creates the integer from an `i128`.
     pub fn from_i128(alloc: Global, x: i128) -> Result<Integer, NoMemory>
         ensures { IfOk result (λ z. z ≡ x) }
     {
@@ -84,35 +84,35 @@ impl Integer {
 }
 
 impl Unsigned {
-    /// The integer that a `u8` is.
+    /// Creates the integer from a `u8`.
     pub fn from_u8(alloc: Global, x: u8) -> Result<Unsigned, NoMemory>
         ensures { IfOk result (λ n. n ≡ x) }
     {
         Ok(Unsigned::new(Integer::from_u8(alloc, x)?))
     }
 
-    /// The integer that a `u16` is.
+    /// Creates the integer from a `u16`.
     pub fn from_u16(alloc: Global, x: u16) -> Result<Unsigned, NoMemory>
         ensures { IfOk result (λ n. n ≡ x) }
     {
         Ok(Unsigned::new(Integer::from_u16(alloc, x)?))
     }
 
-    /// The integer that a `u32` is.
+    /// Creates the integer from a `u32`.
     pub fn from_u32(alloc: Global, x: u32) -> Result<Unsigned, NoMemory>
         ensures { IfOk result (λ n. n ≡ x) }
     {
         Ok(Unsigned::new(Integer::from_u32(alloc, x)?))
     }
 
-    /// The integer that a `u64` is.
+    /// Creates the integer from a `u64`.
     pub fn from_u64(alloc: Global, x: u64) -> Result<Unsigned, NoMemory>
         ensures { IfOk result (λ n. n ≡ x) }
     {
         Ok(Unsigned::new(Integer::from_u64(alloc, x)?))
     }
 
-    /// The integer that a `u128` is.
+    /// Creates the integer from a `u128`.
     pub fn from_u128(alloc: Global, x: u128) -> Result<Unsigned, NoMemory>
         ensures { IfOk result (λ n. n ≡ x) }
     {

@@ -1,4 +1,4 @@
-//! Why there is no integer, or none of a type.
+//! The reasons why there is no integer, or none of a type.
 ghost use Rattle.std.specs.Prelude.{◌≡◌, codes, Some};
 
 use crate::NoMemory;
@@ -6,7 +6,7 @@ use std::alloc::AllocError;
 use std::error::Error;
 use std::fmt;
 
-/// Octets that are no integer.
+/// The error that octets are not those of an integer.
 #[derive(Clone, Copy, Debug, PartialEq, Eq)]
 pub struct InvalidInteger;
 
@@ -20,7 +20,7 @@ impl fmt::Display for InvalidInteger {
 
 impl Error for InvalidInteger {}
 
-/// A number that a type doesn't hold.
+/// The error that a type can't hold a number.
 #[derive(Clone, Copy, Debug, PartialEq, Eq)]
 pub struct OverflowError;
 
@@ -34,13 +34,13 @@ impl fmt::Display for OverflowError {
 
 impl Error for OverflowError {}
 
-/// Why no integer was made of octets.
+/// The reason why no integer was made of octets.
 #[derive(Clone, Copy, Debug, PartialEq, Eq)]
 pub enum IntegerError {
-    /// They are none.
+    /// The octets are not those of an integer.
     Invalid(InvalidInteger),
 
-    /// There was no memory.
+    /// Memory ran out.
     NoMemory,
 }
 

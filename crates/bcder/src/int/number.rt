@@ -1,4 +1,5 @@
-//! The numbers that contents octets of INTEGER values are (X.690, 8.3), as values of Rust's types.
+//! The numbers that contents octets of INTEGER values denote (X.690, 8.3), as values of Rust's
+//! types.
 ghost use Rattle.std.specs.Prelude.{◌≡◌, ◌∷◌, [], ◌≤◌, ◌↔◌, ℤ, ℕ, false, pos};
 ghost use Rattle.std.specs.Prelude.{IfSome, IfNone, IsTrue, length};
 ghost use Rattle.std.specs.Int.{complement_if, w8, w16, w32, w64, w128, FitsUnsignedBits};
@@ -10,29 +11,29 @@ ghost use Rattle.bcder.specs.laws.Numbers.{u64_magnitude, u128_magnitude, i8_mag
 ghost use Rattle.bcder.specs.laws.Numbers.{i16_magnitude, i32_magnitude, i64_magnitude};
 ghost use Rattle.bcder.specs.laws.Numbers.{i128_magnitude};
 
-/// A type of Rust's integers.
+/// An integer type of Rust.
 pub(crate) trait Number: Sized {
-    /// Whether the type holds negative numbers too.
+    /// Whether the type has negative numbers.
     const SIGNED: bool;
 
     /// The number that a value is.
     ghost value: { Self → ℤ };
 
-    /// The numbers that the type holds.
+    /// The numbers that the type can hold.
     ghost in_range: { ℤ → Type 0 };
 
-    /// The value that is `magnitude`, or -1 less it where the number is negative, if the type holds
-    /// it.
+    /// Returns `magnitude` as a value of the type, or -1 minus `magnitude` if the number is
+    /// negative. Returns `None` if the type can't hold it.
     fn of(negative: bool, magnitude: u128) -> Option<Self>
         ensures value { IfSome result (λ x. value x ≡ complement_if negative magnitude) }
         ensures fits { IfSome result (λ x. in_range (value x)) }
         ensures none { IfNone result (in_range (complement_if negative magnitude) → ⊥) };
 
-    /// They have a magnitude of at most 128 bits.
+    /// The numbers have a magnitude of at most 128 bits.
     ghost bounded: { (z : ℤ) → in_range z → HasMagnitude z };
 }
 
-/// Whether octets are the smallest that tell their number (8.3.1, 8.3.2).
+/// Returns whether octets are the fewest that their number needs (8.3.1, 8.3.2).
 #[inline(always)]
 pub(crate) fn is_smallest(octets: &[u8]) -> bool
     ensures { IsTrue result ↔ IsSmallest octets.now }
@@ -46,7 +47,7 @@ pub(crate) fn is_smallest(octets: &[u8]) -> bool
     }
 }
 
-/// Whether the octets of a number begin with its sign (8.3.3).
+/// Returns whether the octets of a number begin with the sign of a negative one (8.3.3).
 #[inline(always)]
 fn is_negative(octets: &[u8]) -> bool
     requires { IsSmallest octets.now }
@@ -55,7 +56,7 @@ fn is_negative(octets: &[u8]) -> bool
     octets[0] >= 0x80
 }
 
-/// Whether octets are contents octets of an integer that isn't negative.
+/// Returns whether octets are contents octets of an integer that isn't negative.
 pub(crate) fn is_unsigned(octets: &[u8]) -> bool
     ensures yes { IsTrue result → IsSmallest octets.now × Leads false octets.now }
     ensures no { result ≡ false → (n : ℕ) → AreInteger (pos n) octets.now → ⊥ }
@@ -63,7 +64,7 @@ pub(crate) fn is_unsigned(octets: &[u8]) -> bool
     is_smallest(octets) && !is_negative(octets)
 }
 
-/// An octet, or all its bits turned.
+/// Returns an octet, with all its bits inverted if the number is negative.
 #[inline(always)]
 pub(crate) fn turned(negative: bool, bits: u8) -> u8
     ensures { result ≡ octet negative bits }
@@ -71,7 +72,7 @@ pub(crate) fn turned(negative: bool, bits: u8) -> u8
     if negative { 255 - bits } else { bits }
 }
 
-/// What at most 16 octets tell of a number apart from its sign.
+/// Returns the magnitude that at most 16 octets have, apart from their sign.
 #[tactic(auto, using(crate::proofs::Numbers::magnitude_step))]
 fn magnitude_of(negative: bool, octets: &[u8]) -> u128
     requires { length octets.now ≤ 16 }
@@ -84,7 +85,7 @@ fn magnitude_of(negative: bool, octets: &[u8]) -> u128
     value
 }
 
-/// What at most 8 octets tell of a number apart from its sign, in 64 bits.
+/// Returns the magnitude that at most 8 octets have, apart from their sign, in 64 bits.
 #[inline(always)]
 #[tactic(auto, using(crate::proofs::Numbers::magnitude_step))]
 fn short_magnitude_of(negative: bool, octets: &[u8]) -> u64
@@ -98,8 +99,8 @@ fn short_magnitude_of(negative: bool, octets: &[u8]) -> u64
     value
 }
 
-/// Whether the number of at most 8 octets is negative, and its magnitude, if they are contents
-/// octets of a number.
+/// Returns whether the number of at most 8 octets is negative, and its magnitude, if they are
+/// contents octets of a number.
 #[inline(always)]
 fn short_parts_of(octets: &[u8]) -> Option<(bool, u64)>
     requires { length octets.now ≤ 8 }
@@ -116,8 +117,8 @@ fn short_parts_of(octets: &[u8]) -> Option<(bool, u64)>
     }
 }
 
-/// Whether the number is negative, and its magnitude, if the octets are contents octets of a number
-/// whose magnitude has at most 128 bits.
+/// Returns whether the number is negative, and its magnitude, if the octets are contents octets of
+/// a number whose magnitude has at most 128 bits.
 #[inline(never)]
 fn parts_of(octets: &[u8]) -> Option<(bool, u128)>
     ensures some { IfSome result (λ r. AreInteger (complement_if r.0 r.1) octets.now) }
@@ -136,7 +137,7 @@ fn parts_of(octets: &[u8]) -> Option<(bool, u128)>
     None
 }
 
-/// The number that one octet is.
+/// Returns the number that one octet is.
 #[inline(always)]
 fn small<N: Number>(first: u8) -> Option<N>
     ensures value { IfSome result (λ x. IsNumber N.value N.in_range (first ∷ []) x) }
@@ -148,30 +149,30 @@ fn small<N: Number>(first: u8) -> Option<N>
     N::of(false, u128::from(first))
 }
 
-/// The number of a type that contents octets are, if they are of one.
+/// Returns the number of a type that contents octets denote, if there is one.
 #[inline(always)]
 pub(crate) fn number_at<N: Number>(octets: &[u8]) -> Option<N>
     ensures some { IfSome result (IsNumber N.value N.in_range octets.now) }
     ensures none { IfNone result (IsNoNumber N.in_range octets.now) }
 {
     if let [first] = octets {
-        // a sign that an unsigned type refuses is told below, so that this way has one answer there
+        // an unsigned type refuses a negative number below, so that this path has one result for it
         if N::SIGNED || *first < 0x80 {
             return small(*first);
         }
     }
-    // not of a signed type, whose two loops make a reader's closure too large to be inlined
+    // not for a signed type, whose two loops would make a reader's closure too large to be inlined
     if !N::SIGNED && octets.len() <= 8 {
         return short_number(octets);
     }
-    // taken apart, so that few octets keep to their own paths
+    // taken apart, so that a few octets keep to their own paths
     let Some(number) = any_number(octets) else {
         return None;
     };
     Some(number)
 }
 
-/// The number of at most 8 octets.
+/// Returns the number that at most 8 octets denote.
 #[inline(always)]
 fn short_number<N: Number>(octets: &[u8]) -> Option<N>
     requires { length octets.now ≤ 8 }
@@ -184,7 +185,7 @@ fn short_number<N: Number>(octets: &[u8]) -> Option<N>
     }
 }
 
-/// The same of any octets.
+/// Returns the number that octets of any length denote.
 #[inline(never)]
 fn any_number<N: Number>(octets: &[u8]) -> Option<N>
     ensures some { IfSome result (IsNumber N.value N.in_range octets.now) }

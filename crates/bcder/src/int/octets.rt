@@ -1,12 +1,12 @@
-//! The contents octets of a number, which readers and encoders share.
+//! The contents octets of a number, shared by readers and encoders.
 ghost use Rattle.std.specs.Prelude.{◌≡◌, ◌≤◌, ◌<◌, ◌+◌, ◌++◌, ◌∷◌, [], length, drop, replicate};
 ghost use Rattle.std.specs.Int.{complement_if, to_be_bytes, w128};
 ghost use Rattle.bcder.specs.x690.Integer.{AreInteger, IsTurned, integer_octets};
 
 use crate::int::number::turned;
 
-/// Short contents octets, as those of a number (X.690, 8.3), at the end of a buffer that has room
-/// for a header before them.
+/// Short contents octets, such as those of a number (X.690, 8.3), at the end of a buffer that has
+/// room for a header before them.
 #[derive(Clone, Copy)]
 pub(crate) struct Octets {
     buffer: [u8; 24],
@@ -14,7 +14,7 @@ pub(crate) struct Octets {
     ghost in_buffer: { start ≤ 24 },
 }
 
-/// A number in 16 octets, or all bits of it turned.
+/// Returns a number in 16 octets, with all bits inverted if it is negative.
 #[inline(always)]
 fn bits_of(negative: bool, magnitude: u128) -> u128
     ensures { IsTurned negative 16 magnitude result }
@@ -22,7 +22,7 @@ fn bits_of(negative: bool, magnitude: u128) -> u128
     if negative { !magnitude } else { magnitude }
 }
 
-/// The octets of a number, behind others that are all the same.
+/// Returns the octets of a number, after others that are all the same.
 #[inline(always)]
 fn behind(lead: u8, bits: u128) -> [u8; 24]
     ensures { result ≡ replicate 8 lead ++ to_be_bytes w128 bits }
@@ -35,10 +35,10 @@ fn behind(lead: u8, bits: u128) -> [u8; 24]
 }
 
 impl Octets {
-    /// Those of `magnitude`, or of -1 less it where the number is negative.
+    /// Creates the octets of `magnitude`, or of -1 minus `magnitude` if the number is negative.
     ///
-    /// Behind the first octet there are as many as have a bit of the magnitude, less one bit, which
-    /// tells the sign.
+    /// The low bits of the magnitude fill octets of eight bits each. An octet before them has the
+    /// bits that are left over, and the sign.
     #[inline(always)]
     pub(crate) fn of(negative: bool, magnitude: u128) -> Octets
         ensures octets { drop result.start result.buffer
@@ -55,7 +55,7 @@ impl Octets {
         }
     }
 
-    /// Those of a signed integer.
+    /// Creates the octets of a signed integer.
     #[inline(always)]
     pub(crate) fn of_signed(x: i128) -> Octets
         ensures octets { drop result.start result.buffer ≡ integer_octets x }
@@ -69,7 +69,7 @@ impl Octets {
         }
     }
 
-    /// Puts an octet before them.
+    /// Adds an octet before the others.
     #[inline(always)]
     pub(crate) fn put_before(&mut self, octet: u8)
         requires { 0 < self.old.start }
@@ -82,7 +82,7 @@ impl Octets {
         self.start = before;
     }
 
-    /// The last five octets of the buffer.
+    /// Returns the last five octets of the buffer.
     #[inline(always)]
     pub(crate) fn last_five(&self) -> [u8; 5]
         ensures { result ≡ drop 19 self.now.buffer }
@@ -91,7 +91,7 @@ impl Octets {
         [a, b, c, d, e]
     }
 
-    /// How many there are.
+    /// Returns the number of octets.
     #[inline(always)]
     pub(crate) fn len(&self) -> usize
         ensures value { result ≡ length (drop self.now.start self.now.buffer) }
@@ -100,7 +100,7 @@ impl Octets {
         24 - self.start
     }
 
-    /// These octets.
+    /// Returns the octets.
     #[inline(always)]
     pub(crate) fn as_slice(&self) -> &[u8]
         ensures { result.now ≡ drop self.now.start self.now.buffer }

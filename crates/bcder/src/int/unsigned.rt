@@ -19,8 +19,8 @@ use std::alloc::{AllocError, Global};
 use std::convert::{AsRef, AsSlice};
 use std::marker::Model;
 
-/// An integer of any size that isn't negative, by its contents octets, of which there are no more
-/// than are needed (X.690, 8.3.2).
+/// An integer of any size that isn't negative, kept as its contents octets, which are as few as
+/// possible (X.690, 8.3.2).
 #[derive(Debug, Drop)]
 pub struct Unsigned {
     integer: Integer,
@@ -37,7 +37,7 @@ impl Model for Unsigned {
     ghost invariant = { λ a. a.integer ≡ pos (unsigned_abs a.integer) };
 }
 
-/// How many octets of 0 stand in front.
+/// Returns the number of leading octets of 0.
 fn leading_zeros(octets: &[u8]) -> usize
     ensures { BeginsWithZeros octets.now result }
 {
@@ -51,7 +51,7 @@ fn leading_zeros(octets: &[u8]) -> usize
     count
 }
 
-/// Whether octets begin as those of a number that isn't negative.
+/// Returns whether octets begin like those of a number that isn't negative.
 fn is_signed(octets: &[u8]) -> bool
     ensures { IsTrue result ↔ Leads false octets.now }
 {
@@ -62,7 +62,7 @@ fn is_signed(octets: &[u8]) -> bool
 }
 
 impl Unsigned {
-    /// The integer, which isn't negative.
+    /// Creates the unsigned integer from an integer that isn't negative.
     pub(super) fn new(integer: Integer) -> Unsigned
         requires { integer ≡ pos (unsigned_abs integer) }
         ensures { integer ≡ pos result }
@@ -70,7 +70,7 @@ impl Unsigned {
         Unsigned { integer }
     }
 
-    /// The integer with these contents octets.
+    /// Creates the integer with these contents octets.
     fn of(octets: Bytes) -> Unsigned
         requires smallest { IsSmallest octets }
         requires sign { Leads false octets }
@@ -80,11 +80,12 @@ impl Unsigned {
         Unsigned::new(Integer::of(octets))
     }
 
-    /// The integer that octets are, the most significant first. Octets of 0 in front don't matter.
+    /// Creates the integer that octets are, the most significant first. Leading octets of 0 are
+    /// ignored.
     ///
     /// # Errors
     ///
-    /// `Invalid` where there are no octets, and where there is no memory.
+    /// Returns `Invalid` if there are no octets, and `NoMemory` if memory runs out.
     pub fn from_slice(alloc: Global, octets: &[u8]) -> Result<Unsigned, IntegerError>
         ensures ok { IfOk result (λ x. x ≡ big_endian octets.now) }
         ensures err { IfErr result (λ e.
@@ -101,7 +102,7 @@ impl Unsigned {
         }
     }
 
-    /// The integer with a copy of these contents octets.
+    /// Creates the integer with a copy of these contents octets.
     fn copied(alloc: Global, digits: &[u8]) -> Result<Unsigned, IntegerError>
         requires smallest { IsSmallest digits.now }
         requires sign { Leads false digits.now }
@@ -114,7 +115,7 @@ impl Unsigned {
         }
     }
 
-    /// The integer with a copy of these octets behind one of 0.
+    /// Creates the integer with a copy of these octets after an octet of 0.
     fn padded(alloc: Global, digits: &[u8]) -> Result<Unsigned, IntegerError>
         requires { Leads false digits.now → ⊥ }
         ensures ok { IfOk result (λ x. x ≡ big_endian digits.now) }
@@ -133,12 +134,12 @@ impl Unsigned {
         }
     }
 
-    /// The integer that octets are, the most significant first. Octets of 0 in front don't matter.
-    /// The octets are shared where they need none in front.
+    /// Creates the integer that octets are, the most significant first. Leading octets of 0 are
+    /// ignored. The octets are shared unless an octet of 0 has to be added before them.
     ///
     /// # Errors
     ///
-    /// Those of [`from_slice`](Self::from_slice).
+    /// Returns the errors of [`from_slice`](Self::from_slice).
     pub fn from_bytes(alloc: Global, octets: Bytes) -> Result<Unsigned, IntegerError>
         ensures ok { IfOk result (λ x. x ≡ big_endian octets) }
         ensures err { IfErr result (λ e. MatchIntegerError e (octets ≡ []) (octets ≢ [])) }
@@ -163,8 +164,8 @@ impl Unsigned {
     ///
     /// # Errors
     ///
-    /// Those of [`Constructed::take_primitive_if`]; where the contents octets are no such
-    /// integer's; and where there is no memory for them.
+    /// Returns the errors of [`Constructed::take_primitive_if`], and an error if the contents
+    /// octets are not those of such an integer, or if there is no memory for them.
     #[tactic(auto, using(crate::specs::laws::Moved::untouched_is_moved))]
     #[inline(always)]
     pub fn take_from<S: Source>(
@@ -181,12 +182,13 @@ impl Unsigned {
         )
     }
 
-    /// Reads all contents octets as an integer that isn't negative, and takes them.
+    /// Takes all contents octets as an integer that isn't negative.
     ///
     /// # Errors
     ///
-    /// Where they are no such integer's, where fewer come than are owed, where the source fails,
-    /// and where there is no memory for them. Then none is taken.
+    /// Returns an error, and takes no octet, if the contents octets are not those of such an
+    /// integer, if there are fewer than the length promises, if the source fails, or if there is no
+    /// memory for them.
     #[inline(always)]
     pub fn from_primitive<S: Source>(
         alloc: Global,
@@ -201,7 +203,7 @@ impl Unsigned {
         }
     }
 
-    /// The contents octets (X.690, 8.3).
+    /// Returns the contents octets (X.690, 8.3).
     pub fn into_bytes(self) -> Bytes
         ensures integer { AreInteger (pos self) result }
         ensures octets { AreOctets result }
@@ -209,7 +211,7 @@ impl Unsigned {
         self.integer.into_bytes()
     }
 
-    /// The contents octets (X.690, 8.3).
+    /// Returns the contents octets (X.690, 8.3).
     pub fn as_slice(&self) -> &[u8]
         ensures integer { AreInteger (pos self.now) result.now }
         ensures octets { AreOctets result.now }
@@ -217,32 +219,32 @@ impl Unsigned {
         self.integer.as_slice()
     }
 
-    /// Whether the number is 0.
+    /// Returns whether the number is 0.
     pub fn is_zero(&self) -> bool
         ensures { IsTrue result ↔ (self.now ≡ 0) }
     {
         self.integer.is_zero()
     }
 
-    /// The same as an integer.
+    /// Returns the number as an [`Integer`].
     pub(super) fn integer(&self) -> &Integer
         ensures { result.now ≡ pos self.now }
     {
         &self.integer
     }
 
-    /// The value of a type that is the number.
+    /// Converts the number to a value of a type, if the type can hold it.
     pub(super) fn number<N: Number>(&self) -> Result<N, OverflowError>
         ensures { ConvertsTo N.value N.in_range (pos self.now) result }
     {
         self.integer.number()
     }
 
-    /// Reads all contents octets as an integer that a `u8` holds, as `Primitive::to_u8` does.
+    /// Reads all contents octets as an integer that a `u8` can hold, like `Primitive::to_u8`.
     ///
     /// # Errors
     ///
-    /// Those of `Primitive::to_u8`.
+    /// Returns the errors of `Primitive::to_u8`.
     pub fn u8_from_primitive<S: Source>(
         octets: &mut Primitive<'_, S>,
     ) -> Result<u8, DecodeError<S::Error>>
@@ -252,11 +254,11 @@ impl Unsigned {
         octets.to_u8()
     }
 
-    /// Reads all contents octets as an integer that a `u16` holds, as `Primitive::to_u16` does.
+    /// Reads all contents octets as an integer that a `u16` can hold, like `Primitive::to_u16`.
     ///
     /// # Errors
     ///
-    /// Those of `Primitive::to_u16`.
+    /// Returns the errors of `Primitive::to_u16`.
     pub fn u16_from_primitive<S: Source>(
         octets: &mut Primitive<'_, S>,
     ) -> Result<u16, DecodeError<S::Error>>
@@ -266,11 +268,11 @@ impl Unsigned {
         octets.to_u16()
     }
 
-    /// Reads all contents octets as an integer that a `u32` holds, as `Primitive::to_u32` does.
+    /// Reads all contents octets as an integer that a `u32` can hold, like `Primitive::to_u32`.
     ///
     /// # Errors
     ///
-    /// Those of `Primitive::to_u32`.
+    /// Returns the errors of `Primitive::to_u32`.
     pub fn u32_from_primitive<S: Source>(
         octets: &mut Primitive<'_, S>,
     ) -> Result<u32, DecodeError<S::Error>>
@@ -280,11 +282,11 @@ impl Unsigned {
         octets.to_u32()
     }
 
-    /// Reads all contents octets as an integer that a `u64` holds, as `Primitive::to_u64` does.
+    /// Reads all contents octets as an integer that a `u64` can hold, like `Primitive::to_u64`.
     ///
     /// # Errors
     ///
-    /// Those of `Primitive::to_u64`.
+    /// Returns the errors of `Primitive::to_u64`.
     pub fn u64_from_primitive<S: Source>(
         octets: &mut Primitive<'_, S>,
     ) -> Result<u64, DecodeError<S::Error>>
@@ -294,11 +296,11 @@ impl Unsigned {
         octets.to_u64()
     }
 
-    /// Reads all contents octets as an integer that a `u128` holds, as `Primitive::to_u128` does.
+    /// Reads all contents octets as an integer that a `u128` can hold, like `Primitive::to_u128`.
     ///
     /// # Errors
     ///
-    /// Those of `Primitive::to_u128`.
+    /// Returns the errors of `Primitive::to_u128`.
     pub fn u128_from_primitive<S: Source>(
         octets: &mut Primitive<'_, S>,
     ) -> Result<u128, DecodeError<S::Error>>
@@ -345,7 +347,7 @@ impl AsRef<Bytes> for Unsigned {
 }
 
 impl Integer {
-    /// Whether it is the same number.
+    /// Returns whether `other` is the same number.
     pub fn eq_unsigned(&self, other: &Unsigned) -> bool
         ensures { IsTrue result ↔ (self.now ≡ pos other.now) }
     {

@@ -1,10 +1,10 @@
-//! Octet strings (X.690, 8.7, 9.2, 10.2).
+//! Laws of octet strings (X.690, 8.7, 9.2, 10.2).
 ghost use Rattle.bcder.specs.calls.OctetStrings.{PrimitiveInDer, PrimitiveInCer};
 ghost use Rattle.bcder.specs.calls.OctetStrings.{OneString, OneStringEncoding};
 ghost use Rattle.bcder.specs.calls.OctetStrings.{PartsJoin, MeansFlat, MeansSegments};
 
-/// In DER an octet string is primitive (10.2); in CER it is where it has 1000 octets at most, and
-/// constructed where it has more (9.2).
+/// In DER an octet string is primitive (10.2). In CER it is primitive if it has at most 1000
+/// octets, and constructed if it has more (9.2).
 pub fn strict_strings_have_one_form()
     ensures der { PrimitiveInDer }
     ensures cer { PrimitiveInCer }
@@ -17,8 +17,8 @@ pub fn equal_strings_are_equal_octets()
     ensures encoding { OneStringEncoding }
 {}
 
-/// The parts of an octet string are its octets, cut; and what a value means has the octets, and
-/// where it is constructed the parts, of the value (8.7.3.2).
+/// The parts of an octet string are its octets, cut. What a value means has the octets of the value
+/// and, if the value is constructed, its parts (8.7.3.2).
 pub fn parts_are_the_octets()
     ensures join { PartsJoin }
     ensures flat { MeansFlat }

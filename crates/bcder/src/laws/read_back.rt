@@ -1,5 +1,5 @@
-//! What is written is read back as the same value: the contents octets that an encoder means are
-//! what the reader of that type reads as this value, and as no other.
+//! What is written is read back as the same value: the reader of a type reads the contents octets
+//! that an encoder means as this value, and as no other.
 ghost use Rattle.std.specs.Prelude.{◌≡◌, ◌+◌, ⊤, true, length};
 ghost use Rattle.std.specs.Int.{w8, w16, w32, w64, w128, FitsUnsignedBits};
 ghost use Rattle.std.specs.Prelude.{pos, FitsSigned};
@@ -17,8 +17,8 @@ use crate::oid::Oid;
 use crate::string::BitString;
 use std::convert::AsSlice;
 
-/// The unsigned integers of Rust are read back by `Primitive::to_u8` to `to_u128`, and by all that
-/// read as these do.
+/// Rust's unsigned integers are read back by `Primitive::to_u8` to `to_u128`, and by all that read
+/// like these.
 pub fn unsigned_integers_are_read_back()
     ensures of_8_bits { AreReadBack (λ n. FitsUnsignedBits 8 (pos n))
         ⟦<u8 as PrimitiveContent>⟧.means (λ _. IsUnsigned 8) }
@@ -32,8 +32,8 @@ pub fn unsigned_integers_are_read_back()
         ⟦<u128 as PrimitiveContent>⟧.means (λ _. IsUnsigned 128) }
 {}
 
-/// The signed integers of Rust are read back by `Primitive::to_i8` to `to_i128`, and by all that
-/// read as these do.
+/// Rust's signed integers are read back by `Primitive::to_i8` to `to_i128`, and by all that read
+/// like these.
 pub fn signed_integers_are_read_back()
     ensures of_8_bits { AreReadBack (FitsSigned w8)
         ⟦<i8 as PrimitiveContent>⟧.means (λ _. IsSigned w8) }
@@ -47,8 +47,8 @@ pub fn signed_integers_are_read_back()
         ⟦<i128 as PrimitiveContent>⟧.means (λ _. IsSigned w128) }
 {}
 
-/// Booleans and null are read back by `Primitive::to_bool` and `to_null`, and by all that read as
-/// these do.
+/// Booleans and null are read back by `Primitive::to_bool` and `to_null`, and by all that read like
+/// these.
 pub fn booleans_and_null_are_read_back()
     ensures booleans { AreReadBack (λ _. ⊤) ⟦<bool as PrimitiveContent>⟧.means IsTruth }
     ensures null { AreReadBack (λ _. ⊤) ⟦<() as PrimitiveContent>⟧.means (λ _. IsNull) }
@@ -63,7 +63,8 @@ pub fn an_integer_is_read_back<'a>(x: &'a Integer, mode: Mode)
     let _mode = mode;
 }
 
-/// One that isn't negative is read back by `Unsigned::from_primitive` and `take_from`.
+/// An integer of any size that isn't negative is read back by `Unsigned::from_primitive` and
+/// `take_from`.
 pub fn an_unsigned_is_read_back<'a>(x: &'a Unsigned, mode: Mode)
     ensures { IsReadBack (⟦<&'a Unsigned as PrimitiveContent>⟧.means x.entry mode)
         (λ w n. AreInteger (pos n) w) x.now }
@@ -84,9 +85,9 @@ pub fn an_identifier_is_read_back<T: AsSlice<u8>>(x: &Oid<T>, mode: Mode)
     let _mode = mode;
 }
 
-/// A bit string is read back by `BitString::from_content` and `take_from` with unused bits as they
-/// are written: in BER as they stand, in CER and DER zero (X.690, 11.2.1). In CER it has at most
-/// 999 octets (9.2).
+/// A bit string is read back by `BitString::from_content` and `take_from`, with unused bits as they
+/// are written: unchanged in BER, zero in CER and DER (X.690, 11.2.1). In CER it has at most 999
+/// octets (9.2).
 pub fn a_bit_string_is_read_back(x: &BitString, mode: Mode)
     requires { fits_primitive mode (length x.now.octets + 1) ≡ true }
     ensures { IsReadBack (⟦<BitString as PrimitiveContent>⟧.means x.now mode)

@@ -14,10 +14,11 @@ use crate::string::{CharSet, OctetString, OctetStringEncoder, RestrictedString};
 use crate::tag::Tag;
 
 /// What the encoders of a string of a set write is one string in the mode, with the octets of the
-/// string. Something is written of each with fewer than 2^32 contents octets, under each tag but
-/// that of end-of-contents octets. It is taken back by the set's `take_from` and `take_opt_from`, and by all that read as
-/// these do, as an equal string, unless the source fails, whose errors are of type `E`, or memory
-/// lacks.
+/// string. Something is written of each string with fewer than 2^32 contents octets, with any tag
+/// but that of end-of-contents octets.
+///
+/// It is taken back, as an equal string, by the set's `take_from` and `take_opt_from`, and by all
+/// that read like these, unless the source fails, whose errors are of type `E`, or memory runs out.
 pub fn a_string_is_taken_back<'a, L: CharSet, E>(
     string: &'a RestrictedString<L>,
     tag: Tag,
@@ -49,9 +50,9 @@ pub fn equal_strings_are_equal_octets<L: CharSet>()
     ensures { OneRestricted L.step }
 {}
 
-/// In CER and DER a string of a set is written, under the tag that it was read with, as it was read
-/// (9.2, 10.2). If that was in fewer than 2^64 octets, header and all, it has an encoding, which is
-/// these octets; it never has one of other octets.
+/// In CER and DER a string of a set is written as it was read, if it is written with the tag that
+/// it was read with (9.2, 10.2). If it was read from fewer than 2^64 octets, header included, it
+/// has an encoding, which is these octets. In any case it has no other encoding.
 pub fn what_is_read_is_written_back<'a, L: CharSet>(string: &'a RestrictedString<L>)
     ensures owned { WrittenAsReadOf L.step string.now
         (λ tag. ⟦<OctetStringEncoder<OctetString> as Values>⟧.means

@@ -18,7 +18,7 @@ pub fn slice_is_its_octets<'a>(source: &SliceSource<'a>)
         ≡ slice_start source.now }
 {}
 
-/// A source over shared octets is those that are left, all available. It never fails.
+/// A source over shared octets is the octets that are left of them, all available. It never fails.
 pub fn bytes_are_their_octets(source: &BytesSource)
     ensures rest { (⟦<BytesSource as Source>⟧.stream source.now).rest ≡ shared_rest source.now }
     ensures avail { (⟦<BytesSource as Source>⟧.stream source.now).avail
@@ -28,7 +28,7 @@ pub fn bytes_are_their_octets(source: &BytesSource)
         ≡ shared_start source.now }
 {}
 
-/// A limited source is the front of the wrapped one up to the limit.
+/// A limited source is the prefix of the wrapped source up to the limit.
 pub fn limited_is_a_front<S: Source>(source: &LimitedSource<S>)
     ensures rest { (⟦<LimitedSource<S> as Source>⟧.stream source.now).rest
         ≡ cut (limit_of source.now) (S.stream (wrapped source.now)).rest }
@@ -40,7 +40,7 @@ pub fn limited_is_a_front<S: Source>(source: &LimitedSource<S>)
         ≡ (S.stream (wrapped source.now)).position }
 {}
 
-/// A capturing source is the borrowed one after the octets that were passed over.
+/// A capturing source is the borrowed source after the octets that were passed over.
 pub fn capturing_is_what_follows<'a, S: Source>(source: &CaptureSource<'a, S>)
     ensures rest { (⟦<CaptureSource<'a, S> as Source>⟧.stream source.now).rest
         ≡ drop (passed source.now) (S.stream (behind source.now)).rest }
@@ -52,7 +52,7 @@ pub fn capturing_is_what_follows<'a, S: Source>(source: &CaptureSource<'a, S>)
         ≡ pos_after (S.stream (behind source.now)).position (passed source.now) }
 {}
 
-/// A limit over a capturing source over a limited one: the plain octets after those that were
+/// A limit over a capturing source over a limited source is the plain octets after those that were
 /// passed over, cut at the smaller limit.
 #[tactic(auto, using(crate::proofs::Nested::limits_through))]
 pub fn nested_limits_are_one<'a, S: Source>(

@@ -1,6 +1,5 @@
-//! What is written is taken back as the same value: wherever the encoding that an encoder means
-//! stands in front of content in its mode, the typed takes answer this value, and leave what
-//! follows.
+//! What is written is taken back as the same value: wherever open content begins with the encoding
+//! that an encoder means in its mode, the typed takes return this value, and leave what follows.
 ghost use Rattle.std.specs.Prelude.{◌≡◌, ⊤, true, pos, length, ◌+◌, ◌<◌, ◌^◌, FitsSigned};
 ghost use Rattle.std.specs.Int.{w8, w16, w32, w64, w128, FitsUnsignedBits};
 ghost use Rattle.bcder.specs.x690.Identifier.{boolean_tag, integer_tag, null_tag};
@@ -25,9 +24,9 @@ use crate::string::{BitSliceEncoder, BitString};
 use bytes::Bytes;
 use std::convert::AsSlice;
 
-/// The unsigned integers of Rust are taken back by `Constructed::take_u8` to `take_u64`, a `u128`
-/// by `take_primitive_if` with a closure that calls `Primitive::to_u128`, and all by takes that read
-/// as these do, unless the source fails, whose errors are of type `E`.
+/// Rust's unsigned integers are taken back by `Constructed::take_u8` to `take_u64`, a `u128` by
+/// `take_primitive_if` with a closure that calls `Primitive::to_u128`, and all by takes that read
+/// like these, unless the source fails, whose errors are of type `E`.
 pub fn unsigned_integers_are_taken_back<E>()
     ensures of_8_bits { AreTakenBack E (λ n. FitsUnsignedBits 8 (pos n)) integer_tag
         (λ _. IsUnsigned 8) (λ x. ⟦<Primitive<u8> as Values>⟧.means
@@ -46,8 +45,8 @@ pub fn unsigned_integers_are_taken_back<E>()
         (record { tag = integer_tag; prim = x })) }
 {}
 
-/// The signed integers of Rust are taken back by `Constructed::take_primitive_if` with a closure
-/// that calls `Primitive::to_i8` to `to_i128`, and by all that read as this does.
+/// Rust's signed integers are taken back by `Constructed::take_primitive_if` with a closure that
+/// calls `Primitive::to_i8` to `to_i128`, and by all that read like this.
 pub fn signed_integers_are_taken_back<E>()
     ensures of_8_bits { AreTakenBack E (FitsSigned w8) integer_tag
         (λ _. IsSigned w8) (λ x. ⟦<Primitive<i8> as Values>⟧.means
@@ -74,7 +73,7 @@ pub fn booleans_and_null_are_taken_back<E>()
         (λ x. ⟦<Primitive<()> as Values>⟧.means (record { tag = null_tag; prim = x })) }
 {}
 
-/// A `u8` is what `Constructed::skip_u8_if` skips that asks for it.
+/// A `u8` that is written is skipped by `Constructed::skip_u8_if` for that number.
 pub fn a_small_integer_is_skipped<E>(x: u8, mode: Mode)
     ensures { IsTakenBackBy {X = E} SourceFailed integer_tag (IsThis {T = Unit {0}} 8 x)
         (MeanAnother x) mode
@@ -85,7 +84,7 @@ pub fn a_small_integer_is_skipped<E>(x: u8, mode: Mode)
 }
 
 /// An integer of any size whose contents octets an encoding may have is taken back by
-/// `Integer::take_from`, where there is memory for them.
+/// `Integer::take_from`, if there is memory for them.
 pub fn an_integer_is_taken_back<'a, E>(x: &'a Integer, mode: Mode)
     requires { length (integer_octets x.now) < 2 ^ 32 }
     ensures { IsTakenBackBy {X = E} SourceFailedOrNoMemory integer_tag (λ w z. AreInteger z w)
@@ -96,7 +95,7 @@ pub fn an_integer_is_taken_back<'a, E>(x: &'a Integer, mode: Mode)
     let _mode = mode;
 }
 
-/// One that isn't negative is taken back by `Unsigned::take_from`.
+/// An integer of any size that isn't negative is taken back by `Unsigned::take_from`.
 pub fn an_unsigned_is_taken_back<'a, E>(x: &'a Unsigned, mode: Mode)
     requires { length (integer_octets (pos x.now)) < 2 ^ 32 }
     ensures { IsTakenBackBy {X = E} SourceFailedOrNoMemory integer_tag
@@ -122,9 +121,9 @@ pub fn an_identifier_is_taken_back<E>(x: &Oid<Bytes>, mode: Mode)
     let _mode = mode;
 }
 
-/// A bit string is taken back by `BitString::take_from`, and passed over by `BitString::skip_in`,
-/// with unused bits as they are written: in BER as they stand, in CER and DER zero (X.690, 11.2.1).
-/// In CER it has at most 999 octets (9.2).
+/// A bit string is taken back by `BitString::take_from`, and skipped by `BitString::skip_in`, with
+/// unused bits as they are written: unchanged in BER, zero in CER and DER (X.690, 11.2.1). In CER
+/// it has at most 999 octets (9.2).
 pub fn a_bit_string_is_taken_back<E>(x: &BitString, mode: Mode)
     requires fits { fits_primitive mode (length x.now.octets + 1) ≡ true }
     requires short { length x.now.octets + 1 < 2 ^ 32 }
@@ -140,7 +139,7 @@ pub fn a_bit_string_is_taken_back<E>(x: &BitString, mode: Mode)
     let _mode = mode;
 }
 
-/// Octets that `BitString::encode_slice` writes are taken back so too.
+/// Octets that `BitString::encode_slice` writes are taken back in the same way.
 pub fn a_slice_of_bits_is_taken_back<T: AsSlice<u8>, E>(value: &T, unused: u8, mode: Mode)
     requires bits { IsBits (record { unused = unused; octets = T.items value.now }) }
     requires fits { fits_primitive mode (length (T.items value.now) + 1) ≡ true }

@@ -1,5 +1,5 @@
-//! What is written of an octet string is one: each value that its encoders mean is an octet string
-//! in the mode, and holds the octets (X.690, 8.7, 9.2, 10.2).
+//! What is written of an octet string is an octet string: each value that its encoders mean is an
+//! octet string in the mode, and holds the octets (X.690, 8.7, 9.2, 10.2).
 ghost use Rattle.std.specs.Prelude.{ℕ, ◌^◌, ◌<◌, List, length, Ok};
 ghost use Rattle.bcder.specs.declared.mode.Mode.{Mode};
 ghost use Rattle.bcder.specs.x690.Identifier.{Tag};
@@ -21,9 +21,9 @@ use crate::string::{
 use crate::tag::Tag;
 use std::convert::AsSlice;
 
-/// What is written of an octet string is one octet string in the mode, under the tag that is asked
-/// for, with the octets of the string. Something is written of each with fewer than 2^32 contents
-/// octets, under each tag but that of end-of-contents octets.
+/// What is written of an octet string is one octet string in the mode, with the tag that was asked
+/// for and the octets of the string. Something is written of each string with fewer than 2^32
+/// contents octets, with any tag but that of end-of-contents octets.
 pub fn a_string_is_written_as_one<'a>(string: &'a OctetString, tag: Tag, mode: Mode)
     ensures owned { WritesString tag mode (octets_of string.now)
         (⟦<OctetStringEncoder<OctetString> as Values>⟧.means
@@ -48,7 +48,9 @@ pub fn equal_strings_are_written_alike()
     ensures { (t : Tag) (mode : Mode) (r s : StringOctets) → WritesAlike t mode r s }
 {}
 
-/// The same of the octets of a slice.
+/// What is written of the octets of a slice is one octet string in the mode, with the tag of the
+/// encoder and these octets. Something is written of fewer than 2^32 octets, with any tag but that
+/// of end-of-contents octets.
 pub fn a_slice_is_written_as_one<T: AsSlice<u8>>(encoder: &OctetSliceEncoder<T>, mode: Mode)
     ensures one { WritesString encoder.now.tag mode (T.items encoder.now.slice)
         (⟦<OctetSliceEncoder<T> as Values>⟧.means encoder.now mode) }
@@ -59,8 +61,8 @@ pub fn a_slice_is_written_as_one<T: AsSlice<u8>>(encoder: &OctetSliceEncoder<T>,
     let _mode = mode;
 }
 
-/// What is written of values that are wrapped is one OCTET STRING in the mode, whose octets are
-/// what is written of the values in theirs.
+/// What is written of wrapped values is one OCTET STRING in the mode. Its octets are what is
+/// written of the values in their own mode.
 pub fn wrapped_values_are_written_as_one<V: Values>(
     encoder: &WrappingOctetStringEncoder<V>,
     mode: Mode,
@@ -78,16 +80,16 @@ pub fn wrapped_values_are_written_as_one<V: Values>(
 }
 
 /// What is written of a string is taken back by `OctetString::take_from` and `take_opt_from`, and
-/// by all that read as these do, as a string with its octets, unless the source fails, whose
-/// errors are of type `E`, or memory lacks.
+/// by all that read like these, as a string with its octets, unless the source fails, whose errors
+/// are of type `E`, or memory runs out.
 pub fn written_strings_are_taken_back<E>()
     ensures { (t : Tag) (mode : Mode) (w : List ℕ) (e : Encoded)
         → IsWrittenString t mode w e → IsTakenString E t mode w e }
 {}
 
-/// In CER and DER an octet string is written, under the tag that it was read with, as it was read
-/// (9.2, 10.2). If that was in fewer than 2^64 octets, header and all, it has an encoding, which is
-/// these octets; it never has one of other octets.
+/// In CER and DER an octet string is written as it was read, if it is written with the tag that it
+/// was read with (9.2, 10.2). If it was read from fewer than 2^64 octets, header included, it has
+/// an encoding, which is these octets. In any case it has no other encoding.
 pub fn what_is_read_is_written_back<'a>(string: &'a OctetString)
     ensures owned { WrittenAsRead string.now
         (λ tag. ⟦<OctetStringEncoder<OctetString> as Values>⟧.means

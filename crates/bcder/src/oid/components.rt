@@ -8,7 +8,7 @@ ghost use Rattle.bcder.specs.calls.IdentifierText.{shown};
 
 use std::fmt;
 
-/// The place of a component: the first two are held by the first subidentifier (8.19.4).
+/// The position of a component. The first subidentifier holds the first two (8.19.4).
 #[derive(Clone, Copy, Debug, PartialEq, Eq)]
 enum Position {
     First,
@@ -16,15 +16,17 @@ enum Position {
     Other,
 }
 
-/// A component: its place, and the octets of the subidentifier that holds it. Two are equal where
-/// both are equal, so octets that aren't the fewest make another component of the same number.
+/// A component: its position, and the octets of the subidentifier that holds it.
+///
+/// Two components are equal if both are equal. So octets that aren't the fewest make another
+/// component of the same number.
 #[derive(Clone, Copy, Debug, PartialEq, Eq)]
 pub struct Component<'a> {
     position: Position,
     octets: &'a [u8],
 }
 
-/// Whether octets end with a subidentifier.
+/// Returns whether octets end with a subidentifier.
 #[inline(always)]
 pub(crate) fn is_complete(octets: &[u8]) -> bool
     ensures { IsTrue result ↔ IsComplete octets.now }
@@ -35,10 +37,10 @@ pub(crate) fn is_complete(octets: &[u8]) -> bool
     }
 }
 
-/// What a number is told as that doesn't fit.
+/// The number that is returned in place of any larger one.
 const LARGE: u64 = 1 << 33;
 
-/// The number that the octets of a subidentifier hold, or `LARGE` where it is that or more.
+/// Returns the number that the octets of a subidentifier hold, or `LARGE` if it is that or more.
 fn number_to_large(octets: &[u8]) -> u64
     ensures { result ≡ min (subidentifier_number octets.now) (2 ^ 33) }
 {
@@ -53,7 +55,7 @@ fn number_to_large(octets: &[u8]) -> u64
 }
 
 impl Component<'_> {
-    /// The number, or `None` where it is 2^32 or more.
+    /// Returns the number, or `None` if it is 2^32 or more.
     pub fn to_u32(self) -> Option<u32>
         ensures { result ≡ in_32_bits (part_value (part_of self.entry)) }
     {
@@ -71,7 +73,7 @@ impl Component<'_> {
     }
 }
 
-/// The number in decimal, or `(very large component)` where it is 2^32 or more.
+/// Displays the number in decimal, or `(very large component)` if it is 2^32 or more.
 impl fmt::Display for Component<'_> {
     ghost output = { λ component. Some (shown (part_value (part_of component))) };
 
@@ -83,14 +85,14 @@ impl fmt::Display for Component<'_> {
     }
 }
 
-/// The components of an object identifier, in their order.
+/// An iterator over the components of an object identifier, in order.
 #[derive(Clone, Debug, Drop)]
 pub struct Iter<'a> {
     position: Position,
     octets: &'a [u8],
 }
 
-/// The octets of the first subidentifier, and the octets after it.
+/// Returns the octets of the first subidentifier, and the octets after it.
 fn split_subidentifier(octets: &[u8]) -> Option<(&[u8], &[u8])>
     ensures { MatchOption result
         (subidentifiers octets.now ≡ [])
@@ -104,7 +106,7 @@ fn split_subidentifier(octets: &[u8]) -> Option<(&[u8], &[u8])>
     None
 }
 
-/// Whether each subidentifier is in the fewest octets: none begins with the octet 80.
+/// Returns whether each subidentifier has the fewest octets: none begins with the octet 80.
 pub(super) fn is_minimal(octets: &[u8]) -> bool
     ensures { IsTrue result ↔ IsMinimal octets.now }
 {

@@ -13,7 +13,7 @@ use std::alloc::Global;
 use std::error::Error;
 use std::fmt;
 
-/// Why a text is no object identifier, in the order in which it is looked at.
+/// The reason why a text is no object identifier, in the order in which the text is checked.
 #[derive(Debug, Drop)]
 pub enum OidError {
     /// There are fewer than two components.
@@ -28,7 +28,7 @@ pub enum OidError {
     /// The first component is 0 or 1, and the second is 40 or more.
     Second,
 
-    /// The text is that of an identifier, and there is no memory for its octets.
+    /// The text is that of an identifier, but there is no memory for its octets.
     NoMemory,
 }
 
@@ -56,8 +56,8 @@ impl From<NoMemory> for OidError {
     }
 }
 
-/// Appends the digits of a number in base 128, the most significant first and not 0, each with
-/// bit 8 set.
+/// Appends the digits of a number in base 128, each with bit 8 set. The most significant digit
+/// comes first and isn't 0.
 fn push_digits(octets: &mut Vec<u8>, number: u64) -> Result<(), NoMemory>
     requires { 0 < number }
     ensures { OnOk result (AppendsDigits octets.old.items octets.new.items number) }
@@ -69,7 +69,7 @@ fn push_digits(octets: &mut Vec<u8>, number: u64) -> Result<(), NoMemory>
     Ok(())
 }
 
-/// Appends the octets of a subidentifier, the fewest that it can have (8.19.2).
+/// Appends the octets of a subidentifier, as few as possible (8.19.2).
 fn push_subidentifier(octets: &mut Vec<u8>, number: u64) -> Result<(), NoMemory>
     ensures { OnOk result (AppendsSubidentifier octets.old.items octets.new.items number) }
 {
@@ -80,7 +80,7 @@ fn push_subidentifier(octets: &mut Vec<u8>, number: u64) -> Result<(), NoMemory>
     Ok(())
 }
 
-/// The text up to the first dot, and the text after it, if there is a dot.
+/// Returns the text up to the first dot, and the text after it if there is a dot.
 fn split_text(text: &str) -> (&str, Option<&str>)
     ensures { between_dots text.now ≡ result.0.now ∷ texts_of result.1 }
 {
@@ -90,8 +90,8 @@ fn split_text(text: &str) -> (&str, Option<&str>)
     }
 }
 
-/// The number of a component, if the text is an optional plus and decimal digits, and the number
-/// is below 2^32.
+/// Returns the number of a component, if the text is an optional plus and decimal digits, and the
+/// number is below 2^32.
 fn component(text: &str) -> Option<u32>
     ensures { MatchOption result
         (IsNoComponent text.now) (λ number. IsComponentText text.now number) }
@@ -99,8 +99,8 @@ fn component(text: &str) -> Option<u32>
     text.parse::<u32>().ok()
 }
 
-/// Why there is no identifier where there was no memory for a component: one of those behind it is
-/// none, or that want.
+/// Returns why there is no identifier if memory ran out at a component: `NotInteger` if a later
+/// component is none, and otherwise `NoMemory`.
 fn why_no_component(others: Option<&str>) -> OidError
     ensures { RefusesOthers (texts_of others.entry) result }
 {
@@ -135,7 +135,7 @@ fn push_others(octets: &mut Vec<u8>, others: Option<&str>) -> Result<(), OidErro
     Ok(())
 }
 
-/// The octets of the identifier whose components the text has.
+/// Returns the octets of the identifier whose components are in the text.
 pub(super) fn octets_of(alloc: Global, text: &str) -> Result<Vec<u8>, OidError>
     ensures ok { IfOk result (λ octets. IsTextOf text.now octets.items) }
     ensures err { IfErr result (λ e. RefusesText text.now e) }

@@ -25,9 +25,9 @@ use std::alloc::{AllocError, Global};
 use std::convert::AsSlice;
 use std::marker::Model;
 
-/// A bit string: octets, bit 8 of each first, of whose last some bits may be unused (8.6.2).
+/// A bit string: octets, bit 8 of each first. Some bits of the last octet may be unused (8.6.2).
 ///
-/// The octets are shared: a clone copies none. Unused bits are kept as they stand.
+/// The octets are shared: a clone copies none of them. Unused bits are kept as they are.
 #[derive(Debug, Drop)]
 pub struct BitString {
     unused: u8,
@@ -45,8 +45,8 @@ impl Model for BitString {
 }
 
 impl BitString {
-    /// The bits of these octets but the last `unused`, of which there are at most 7, and none where
-    /// there are no octets. There are fewer than 2^61 octets.
+    /// Creates a bit string of these octets, without the last `unused` bits. At most 7 bits may be
+    /// unused, and none if there are no octets. There must be fewer than 2^61 octets.
     pub fn new(unused: u8, bits: Bytes) -> Self
         requires few { unused ≤ 7 }
         requires none { bits ≡ [] → unused ≡ 0 }
@@ -59,7 +59,8 @@ impl BitString {
         }
     }
 
-    /// The bit at a place, counted from 0, the leading one; `false` behind the last.
+    /// Returns the bit at an index, counted from 0 for the leading bit, or `false` after the last
+    /// bit.
     pub fn bit(&self, bit: usize) -> bool
         ensures { result ≡ get_or (bits self.now) bit false }
     {
@@ -69,7 +70,7 @@ impl BitString {
         self.octets[bit / 8] >> (7 - bit % 8) & 1 == 1
     }
 
-    /// The octet at a place, counted from 0; 0 behind the last.
+    /// Returns the octet at an index, counted from 0, or 0 after the last octet.
     pub fn octet(&self, idx: usize) -> u8
         ensures { result ≡ slice_index self.now.octets idx }
     {
@@ -79,53 +80,53 @@ impl BitString {
         }
     }
 
-    /// How many bits there are.
+    /// Returns the number of bits.
     pub fn bit_len(&self) -> usize
         ensures { result ≡ length (bits self.now) }
     {
         8 * self.octets.len() - usize::from(self.unused)
     }
 
-    /// How many bits of the last octet are unused.
+    /// Returns the number of unused bits in the last octet.
     pub fn unused(&self) -> u8
         ensures { result ≡ self.now.unused }
     {
         self.unused
     }
 
-    /// How many octets there are.
+    /// Returns the number of octets.
     pub fn octet_len(&self) -> usize
         ensures { result ≡ length self.now.octets }
     {
         self.octets.len()
     }
 
-    /// The octets, one after the other.
+    /// Returns an iterator over the octets, in order.
     pub fn octets(&self) -> BitStringIter<'_>
         ensures { octets_left result ≡ self.now.octets }
     {
         BitStringIter(self.octets.iter())
     }
 
-    /// The octets, lent. They are always at hand.
+    /// Returns the octets as a slice. This is never `None`.
     pub fn octet_slice(&self) -> Option<&[u8]>
         ensures { IsSomeAnd result (λ octets. octets.now ≡ self.now.octets) }
     {
         Some(self.octets.as_slice())
     }
 
-    /// The octets, shared.
+    /// Returns the octets, shared.
     ///
     /// # Errors
     ///
-    /// Where there is no memory to share them.
+    /// Returns an error if memory runs out while sharing them.
     pub fn octet_bytes(&self) -> Result<Bytes, NoMemory>
         ensures { IfOk result (λ octets. octets ≡ self.now.octets) }
     {
         Ok(self.octets.clone()?)
     }
 
-    // What the type says of it, for the proof alone.
+    // What the type promises of its fields, for proofs only.
     pub(crate) fn see(&self)
         ensures bits { IsBits self.now }
         ensures octets { AreOctets self.now.octets }
@@ -135,8 +136,8 @@ impl BitString {
         let _slice = slice;
     }
 
-    /// An encoder of the bits of these octets but the last `unused`, as a BIT STRING. The condition
-    /// is that of [`new`](Self::new).
+    /// Creates an encoder of a BIT STRING of these octets, without the last `unused` bits. The
+    /// arguments have to meet the conditions of [`new`](Self::new).
     pub fn encode_slice<T: AsSlice<u8>>(value: T, unused: u8) -> BitSliceEncoder<T>
         requires { IsBits (record { unused = unused; octets = T.items value }) }
         ensures { result ≡ record { slice = value; unused = unused; tag = bit_string_tag } }
@@ -144,7 +145,7 @@ impl BitString {
         BitSliceEncoder::new(value, unused, Tag::BIT_STRING)
     }
 
-    /// The same under another tag.
+    /// Creates an encoder like [`encode_slice`](Self::encode_slice), but with another tag.
     pub fn encode_slice_as<T: AsSlice<u8>>(value: T, unused: u8, tag: Tag) -> BitSliceEncoder<T>
         requires { IsBits (record { unused = unused; octets = T.items value }) }
         ensures { result ≡ record { slice = value; unused = unused; tag = tag } }
@@ -155,12 +156,13 @@ impl BitString {
 
 #[tactic(auto, using(crate::specs::laws::Moved::untouched_is_moved))]
 impl BitString {
-    /// Takes the next value, which has to be a BIT STRING, primitive (8.6.2). Its octets are shared
-    /// with the source where that shares them.
+    /// Takes the next value, which has to be a primitive BIT STRING (8.6.2). Its octets are shared
+    /// with the source if the source shares them.
     ///
     /// # Errors
     ///
-    /// Those of [`skip_in`](Self::skip_in), and where there is no memory for the octets.
+    /// Returns the errors of [`skip_in`](Self::skip_in), and an error if there is no memory for the
+    /// octets.
     pub fn take_from<S: Source>(
         alloc: Global,
         constructed: &mut Constructed<'_, S>,
@@ -173,15 +175,20 @@ impl BitString {
         constructed.take_primitive_if(Tag::BIT_STRING, |octets| octets.take_bits(alloc))
     }
 
-    /// Passes over the next value, which has to be a BIT STRING, primitive (8.6.2).
+    /// Skips the next value, which has to be a primitive BIT STRING (8.6.2).
     ///
     /// # Errors
     ///
-    /// `ContentError::ExpectedTag` at the end and at a value of another tag: the content then stays
-    /// usable. Where the contents octets are no bit string in the mode, as in CER over 1000 octets
-    /// (9.2) or in CER and DER unused bits that aren't zero (11.2.1); where the value is constructed
-    /// or octets are no value; where an earlier value was refused; and where the source fails: the
-    /// content has then failed.
+    /// Returns `ContentError::ExpectedTag` at the end and at a value of another tag. The content
+    /// then stays usable.
+    ///
+    /// Returns an error, and the content has then failed, if
+    ///
+    /// - the contents octets are no bit string in the mode, for example in CER over 1000 octets
+    ///   (9.2), or in CER and DER unused bits that aren't zero (11.2.1);
+    /// - the value is constructed, or the octets are no value;
+    /// - an earlier value was refused;
+    /// - the source fails.
     pub fn skip_in<S: Source>(cons: &mut Constructed<'_, S>) -> Result<(), DecodeError<S::Error>>
         ensures moves { Moved S.stream cons }
         ensures took { TookOneAs S.stream cons bit_string_tag
@@ -190,13 +197,13 @@ impl BitString {
         cons.take_primitive_if(Tag::BIT_STRING, |octets| octets.skip_bits())
     }
 
-    /// Takes all contents octets as a bit string. They are shared with the source where that shares
-    /// them.
+    /// Takes all contents octets as a bit string. They are shared with the source if the source
+    /// shares them.
     ///
     /// # Errors
     ///
-    /// Those of [`skip_content`](Self::skip_content), and where there is no memory for the octets.
-    /// Then none is taken.
+    /// Returns the errors of [`skip_content`](Self::skip_content), and an error if there is no
+    /// memory for the octets. No octet is taken then.
     pub fn from_content<S: Source>(
         alloc: Global,
         content: &mut Content<'_, S>,
@@ -210,12 +217,13 @@ impl BitString {
         content.take_bits(alloc)
     }
 
-    /// Passes over all contents octets, which have to be those of a bit string.
+    /// Skips all contents octets, which have to be those of a bit string.
     ///
     /// # Errors
     ///
-    /// Where they are no bit string in the mode, where fewer come than are owed, where the source
-    /// fails, and where the content is that of a constructed value. Then none is taken.
+    /// Returns an error, and takes no octet, if the contents octets are no bit string in the mode,
+    /// if there are fewer than the length promises, if the source fails, or if the content is that
+    /// of a constructed value.
     pub fn skip_content<S: Source>(
         content: &mut Content<'_, S>,
     ) -> Result<(), DecodeError<S::Error>>
@@ -228,7 +236,7 @@ impl BitString {
     }
 }
 
-/// The clone has the same octets, and as many unused bits.
+/// The clone has the same octets and the same number of unused bits.
 impl Clone for BitString {
     ghost is_clone = { λ x y. y ≡ x };
 
@@ -240,7 +248,7 @@ impl Clone for BitString {
     }
 }
 
-/// Bit strings are equal where their octets are, and as many bits are unused. Unused bits are
+/// Bit strings are equal if their octets and their numbers of unused bits are. Unused bits are
 /// compared too.
 impl PartialEq for BitString {
     ghost eq = { λ x y. nat_eq x.unused y.unused && pointwise nat_eq x.octets y.octets };
@@ -256,7 +264,7 @@ impl Eq for BitString {
     ghost laws = { Prim.search (comparing, rules) };
 }
 
-/// The octets of a bit string, in order.
+/// An iterator over the octets of a bit string, in order.
 #[derive(Clone, Debug, Drop)]
 pub struct BitStringIter<'a>(std::slice::Iter<'a, u8>);
 

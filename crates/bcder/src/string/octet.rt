@@ -27,27 +27,27 @@ use std::convert::AsRef;
 use std::marker::Model;
 pub use wrapped::WrappingOctetStringEncoder;
 
-/// Where the contents octets of a segment stand among octets that are captured.
+/// The place of a segment's contents octets among captured octets.
 #[derive(Clone, Copy, Debug, Drop)]
 struct Segment {
     start: usize,
     len: usize,
 }
 
-/// How the octets of a string came.
+/// The octets of a string, in the form in which they came.
 #[derive(Debug, Drop)]
 enum Octets {
     /// In one piece.
     Whole(Bytes),
 
-    /// In segments, which stand in captured octets; a table tells where.
+    /// In segments among captured octets. A table says where they are.
     Cut(Captured, Vec<Segment>),
 }
 
 /// An octet string (X.690, 8.7).
 ///
 /// It is kept as it came: in one piece, or cut into segments (8.7.3). Two strings with the same
-/// octets are equal, whether they were cut or not.
+/// octets are equal, however they were cut.
 #[derive(Debug, Drop)]
 pub struct OctetString {
     octets: Octets,
@@ -73,7 +73,7 @@ impl Model for OctetString {
 }
 
 impl OctetString {
-    /// A string with these octets, in one piece.
+    /// Creates a string with these octets, in one piece.
     pub fn new(octets: Bytes) -> OctetString
         ensures { result ≡ whole octets }
     {
@@ -82,7 +82,7 @@ impl OctetString {
         }
     }
 
-    /// A string that was cut into segments, which stand in captured octets.
+    /// Creates a string that was cut into segments, which are among captured octets.
     fn of_segments(captured: Captured, segments: Vec<Segment>) -> OctetString
         requires { IsTable captured.mode captured.octets segments.items }
         ensures { result ≡ cut captured (segments_at captured.octets segments.items) }
@@ -92,7 +92,7 @@ impl OctetString {
         }
     }
 
-    /// The octets, if they came in one piece.
+    /// Returns the octets, if they came in one piece.
     pub fn as_slice(&self) -> Option<&[u8]>
         ensures { MatchOption result (IsCut self.now) (λ octets. self.now ≡ whole octets.now) }
     {
@@ -102,7 +102,7 @@ impl OctetString {
         }
     }
 
-    /// How many octets there are, in all parts.
+    /// Returns the number of octets, in all parts.
     pub fn len(&self) -> usize
         ensures { result ≡ length (octets_of self.now) }
     {
@@ -120,7 +120,7 @@ impl OctetString {
         }
     }
 
-    /// Whether there is no octet, in any part.
+    /// Returns whether there are no octets, in any part.
     pub fn is_empty(&self) -> bool
         ensures { IsTrue result ↔ (octets_of self.now ≡ []) }
     {
@@ -143,7 +143,7 @@ impl Clone for OctetString {
     }
 }
 
-/// It lends itself.
+/// Borrows the string itself.
 impl AsRef<OctetString> for OctetString {
     fn as_ref(&self) -> &OctetString
         ensures { result.now ≡ self.now }

@@ -22,10 +22,10 @@ use std::marker::{Model, PhantomData};
 use std::ops::Deref;
 pub use utf8::Utf8CharSet;
 
-/// A string of the characters of a set (X.690, 8.23).
+/// A string of characters of a set (X.690, 8.23).
 ///
 /// It is an octet string whose octets spell characters of the set. Two strings with the same octets
-/// are equal, whether they were cut or not.
+/// are equal, however they were cut.
 #[derive(Debug, Drop)]
 pub struct RestrictedString<L: CharSet> {
     octets: OctetString,
@@ -44,7 +44,7 @@ impl<L: CharSet> Model for RestrictedString<L> {
     ghost invariant = { λ s. IsOfSet L.step (octets_of s.octets) };
 }
 
-/// A string of Unicode's characters, in UTF-8 (RFC 3629).
+/// A string of Unicode characters, in UTF-8 (RFC 3629).
 pub type Utf8String = RestrictedString<Utf8CharSet>;
 
 /// A string of digits and spaces (X.680, 41.2).
@@ -57,11 +57,11 @@ pub type PrintableString = RestrictedString<PrintableCharSet>;
 pub type Ia5String = RestrictedString<Ia5CharSet>;
 
 impl<L: CharSet> RestrictedString<L> {
-    /// A string of the set with these octets, as they came.
+    /// Creates a string of the set with these octets, as they came.
     ///
     /// # Errors
     ///
-    /// Where they spell no characters of the set. The octets are then dropped.
+    /// Returns an error if the octets spell no characters of the set. The octets are then dropped.
     pub fn new(octets: OctetString) -> Result<Self, CharSetError>
         ensures { MatchResult result
             (λ s. (s ≡ octets) × IsOfSet L.step (octets_of octets))
@@ -74,7 +74,7 @@ impl<L: CharSet> RestrictedString<L> {
         })
     }
 
-    /// The octets, as they came.
+    /// Returns the octets, as they came.
     pub fn octet_string(&self) -> &OctetString
         ensures octets { result.now ≡ self.now }
         ensures accepted { IsOfSet L.step (octets_of self.now) }
@@ -95,7 +95,7 @@ impl<L: CharSet> Clone for RestrictedString<L> {
     }
 }
 
-/// It lends its octets, as they came.
+/// Borrows the octets, as they came.
 impl<L: CharSet> AsRef<OctetString> for RestrictedString<L> {
     fn as_ref(&self) -> &OctetString
         ensures { result.now ≡ self.now }
@@ -104,7 +104,7 @@ impl<L: CharSet> AsRef<OctetString> for RestrictedString<L> {
     }
 }
 
-/// It lends its octets, as they came.
+/// Borrows the octets, as they came.
 impl<L: CharSet> Deref for RestrictedString<L> {
     type Target = OctetString;
 
@@ -115,7 +115,7 @@ impl<L: CharSet> Deref for RestrictedString<L> {
     }
 }
 
-/// Its octets, in the parts of the octet string.
+/// Iterates over the octets, in the parts of the octet string.
 impl<'a, L: CharSet> IntoIterator for &'a RestrictedString<L> {
     type Item = &'a [u8];
 

@@ -13,7 +13,7 @@ use crate::tag::Tag;
 use std::convert::AsSlice;
 use std::io;
 
-/// The octets that it holds, whether they end with a subidentifier or not.
+/// Encodes the octets that the identifier holds, even if they don't end with a subidentifier.
 impl<T: AsSlice<u8>> PrimitiveContent for Oid<T> {
     ghost own_tag = { record { class = universal; number = 6 } };
 

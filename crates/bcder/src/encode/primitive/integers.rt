@@ -1,4 +1,4 @@
-//! Contents octets of the integers of Rust (X.690, 8.3).
+//! Contents octets of Rust's integers (X.690, 8.3).
 ghost use Rattle.std.specs.Prelude.{pos};
 ghost use Rattle.bcder.specs.x690.Identifier.{universal};
 ghost use Rattle.bcder.specs.x690.Integer.{integer_octets};
@@ -17,7 +17,7 @@ use crate::mode::Mode;
 use crate::tag::Tag;
 use std::io;
 
-/// How many octets an unsigned integer has.
+/// Returns the number of contents octets of an unsigned integer.
 #[inline(always)]
 fn unsigned_len(x: u128) -> Result<usize, EncodeError>
     ensures { SizeOfContents (Exactly (integer_octets (pos x))) ⊥ result }
@@ -25,7 +25,7 @@ fn unsigned_len(x: u128) -> Result<usize, EncodeError>
     Ok(Octets::of(false, x).len())
 }
 
-/// Writes the octets of an unsigned integer.
+/// Writes the contents octets of an unsigned integer.
 #[inline(always)]
 fn write_unsigned<W: io::Write>(x: u128, target: &mut W) -> Result<(), WriteError>
     ensures { WritesContents W.contents target (Exactly (integer_octets (pos x))) ⊥ result }
@@ -33,7 +33,7 @@ fn write_unsigned<W: io::Write>(x: u128, target: &mut W) -> Result<(), WriteErro
     write_all(target, Octets::of(false, x).as_slice())
 }
 
-/// How many octets an integer has.
+/// Returns the number of contents octets of a signed integer.
 #[inline(always)]
 fn signed_len(x: i128) -> Result<usize, EncodeError>
     ensures { SizeOfContents (Exactly (integer_octets x)) ⊥ result }
@@ -41,7 +41,7 @@ fn signed_len(x: i128) -> Result<usize, EncodeError>
     Ok(Octets::of_signed(x).len())
 }
 
-/// Writes the octets of an integer.
+/// Writes the contents octets of a signed integer.
 #[inline(always)]
 fn write_signed<W: io::Write>(x: i128, target: &mut W) -> Result<(), WriteError>
     ensures { WritesContents W.contents target (Exactly (integer_octets x)) ⊥ result }
@@ -62,8 +62,8 @@ fn put_any_unsigned<W: io::Write>(
     put_short(tag, Octets::of(false, x), target, why)
 }
 
-/// Writes an unsigned integer as a value. The octets of a larger one are put together anew, so that
-/// those of a small one need not stand in memory.
+/// Writes an unsigned integer as a value. The octets of a larger one are made anew, so that those
+/// of a small one need not be in memory.
 #[inline(always)]
 fn put_unsigned<W: io::Write>(
     x: u128,
@@ -85,7 +85,7 @@ fn put_unsigned<W: io::Write>(
     put_five(identifier, contents, target, why)
 }
 
-/// Writes an integer of any size as a value.
+/// Writes a signed integer of any size as a value.
 fn put_any_signed<W: io::Write>(
     x: i128,
     tag: Tag,
@@ -98,7 +98,7 @@ fn put_any_signed<W: io::Write>(
     put_short(tag, Octets::of_signed(x), target, why)
 }
 
-/// Writes an integer as a value, as `put_unsigned`.
+/// Writes a signed integer as a value, like `put_unsigned`.
 #[inline(always)]
 fn put_signed<W: io::Write>(
     x: i128,

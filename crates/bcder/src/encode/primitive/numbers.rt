@@ -19,7 +19,7 @@ use crate::tag::Tag;
 use std::convert::AsSlice;
 use std::io;
 
-/// How many octets an integer has.
+/// Returns the number of contents octets of an integer.
 #[inline(always)]
 fn integer_len(x: &Integer) -> Result<usize, EncodeError>
     ensures { SizeOfContents (Exactly (integer_octets x.now)) ⊥ result }
@@ -27,7 +27,7 @@ fn integer_len(x: &Integer) -> Result<usize, EncodeError>
     Ok(AsSlice::as_slice(x).len())
 }
 
-/// Writes the octets of an integer.
+/// Writes the contents octets of an integer.
 fn write_integer<W: io::Write>(x: &Integer, target: &mut W) -> Result<(), WriteError>
     ensures { WritesContents W.contents target (Exactly (integer_octets x.now)) ⊥ result }
 {
@@ -51,7 +51,7 @@ fn put_integer<W: io::Write>(
     put_number(tag, AsSlice::as_slice(x), target, why)
 }
 
-/// The octets that it keeps, which are the smallest of the number.
+/// Encodes the octets that the integer holds, which are the smallest of its number.
 impl PrimitiveContent for &'_ Integer {
     ghost own_tag = { record { class = universal; number = 2 } };
 
@@ -87,7 +87,7 @@ impl PrimitiveContent for &'_ Integer {
     ghost lawful = { λ x _. Exactly_lawful (integer_octets x.now) (integer_octets_are x.now) };
 }
 
-/// The octets that it keeps, which are the smallest of the number.
+/// Encodes the octets that the integer holds, which are the smallest of its number.
 impl PrimitiveContent for &'_ Unsigned {
     ghost own_tag = { record { class = universal; number = 2 } };
 

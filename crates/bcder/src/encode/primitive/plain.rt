@@ -19,7 +19,7 @@ use crate::mode::Mode;
 use crate::tag::Tag;
 use std::io;
 
-/// No octets (8.8).
+/// Encodes NULL, as no octets (8.8).
 impl PrimitiveContent for () {
     ghost own_tag = { record { class = universal; number = 5 } };
 
@@ -53,7 +53,7 @@ impl PrimitiveContent for () {
     ghost lawful = { λ _ _. Exactly_lawful [] AreOctets-nil };
 }
 
-/// One octet: `FF` for true, `00` for false (8.2, 11.1).
+/// Encodes a boolean as one octet: `FF` for true, `00` for false (8.2, 11.1).
 impl PrimitiveContent for bool {
     ghost own_tag = { record { class = universal; number = 1 } };
 
@@ -91,7 +91,7 @@ impl PrimitiveContent for bool {
     ghost lawful = { λ x _. Exactly_lawful (truth_octets x) (truth_octets_are x) };
 }
 
-/// How many octets there are.
+/// Returns the number of octets.
 #[inline(always)]
 pub(crate) fn octets_len(octets: &[u8]) -> Result<usize, EncodeError>
     ensures { SizeOfContents (ExactlyOctets octets.now) ⊥ result }
@@ -123,7 +123,7 @@ pub(crate) fn put_octets<W: io::Write>(
     put_contents(tag, octets, target, why)
 }
 
-/// Whether a primitive string may have so many contents octets (9.2).
+/// Returns whether a primitive string may have `len` contents octets in the mode (9.2).
 #[inline(always)]
 pub(crate) fn fits_primitive(mode: Mode, len: usize) -> bool
     ensures { result ≡ fits_primitive mode len }
@@ -134,7 +134,7 @@ pub(crate) fn fits_primitive(mode: Mode, len: usize) -> bool
     }
 }
 
-/// How many octets a string has, if the mode has a primitive one of so many.
+/// Returns the number of octets of a string, if a primitive one may have that many in the mode.
 #[inline(always)]
 fn string_len(octets: &[u8], mode: Mode) -> Result<usize, EncodeError>
     ensures { SizeOfContents (PieceMeans LongCerPrimitive mode octets.now) ⊥ result }
@@ -146,7 +146,7 @@ fn string_len(octets: &[u8], mode: Mode) -> Result<usize, EncodeError>
     }
 }
 
-/// Writes the octets of a string, if the mode has a primitive one of so many.
+/// Writes the octets of a string, if a primitive one may have that many in the mode.
 fn write_string<W: io::Write>(octets: &[u8], mode: Mode, target: &mut W) -> Result<(), WriteError>
     ensures { WritesContents W.contents target
         (PieceMeans LongCerPrimitive mode octets.now) ⊥ result }
@@ -176,7 +176,7 @@ fn put_string<W: io::Write>(
     put_contents(tag, octets, target, why)
 }
 
-/// These octets (8.7), in CER at most 1000 (9.2).
+/// Encodes the octets themselves (8.7), in CER at most 1000 (9.2).
 impl PrimitiveContent for &'_ [u8] {
     ghost own_tag = { record { class = universal; number = 4 } };
 

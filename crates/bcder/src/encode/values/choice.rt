@@ -1,4 +1,4 @@
-//! Encoders of values that may be there, and of one of several.
+//! Encoders of optional values, and of one of several.
 ghost use Rattle.bcder.specs.calls.Joined.{NoValues};
 ghost use Rattle.bcder.specs.calls.Noted.{ReadsNone};
 ghost use Rattle.bcder.specs.calls.Choices.{OptionMeans, OptionLacks, OptionReads, OptionCan};
@@ -14,7 +14,7 @@ use crate::encode::{EncodeError, WriteError};
 use crate::mode::Mode;
 use std::io;
 
-/// No values.
+/// An encoder of no values.
 #[derive(Clone, Copy, Debug)]
 pub struct Nothing;
 
@@ -52,7 +52,7 @@ impl Values for Nothing {
     ghost lawful = { λ x mode can. NoValues_lawful mode };
 }
 
-/// The values of what is there, and else none.
+/// Encodes `Some` as the values of what is in it, and `None` as no values.
 impl<V: Values> Values for Option<V> {
     ghost means = { λ x mode. OptionMeans (λ v. V.means v mode) x };
 

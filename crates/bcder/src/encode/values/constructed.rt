@@ -22,7 +22,7 @@ use crate::mode::Mode;
 use crate::tag::Tag;
 use std::io;
 
-/// One constructed value: a tag, and the values inside it.
+/// An encoder of one constructed value: a tag, and an encoder of the values inside.
 #[derive(Clone, Copy, Debug, Drop)]
 pub struct Constructed<V> {
     tag: Tag,
@@ -30,7 +30,7 @@ pub struct Constructed<V> {
 }
 
 impl<V> Constructed<V> {
-    /// The value with the tag and the values of `inner` inside it.
+    /// Creates an encoder of a value with the tag and the values of `inner` inside.
     pub fn new(tag: Tag, inner: V) -> Self
         ensures { result ≡ record { tag = tag; inner = inner } }
     {
@@ -38,35 +38,35 @@ impl<V> Constructed<V> {
     }
 }
 
-/// A SEQUENCE of the values.
+/// Creates an encoder of a SEQUENCE of the values.
 pub fn sequence<V>(inner: V) -> Constructed<V>
     ensures { result ≡ record { tag = sequence_tag; inner = inner } }
 {
     Constructed::new(Tag::SEQUENCE, inner)
 }
 
-/// A SEQUENCE of the values under another tag.
+/// Creates an encoder of a SEQUENCE of the values with another tag.
 pub fn sequence_as<V>(tag: Tag, inner: V) -> Constructed<V>
     ensures { result ≡ record { tag = tag; inner = inner } }
 {
     Constructed::new(tag, inner)
 }
 
-/// A SET of the values, in the order that they have.
+/// Creates an encoder of a SET of the values, in the order that they have.
 pub fn set<V>(inner: V) -> Constructed<V>
     ensures { result ≡ record { tag = set_tag; inner = inner } }
 {
     Constructed::new(Tag::SET, inner)
 }
 
-/// A SET of the values under another tag.
+/// Creates an encoder of a SET of the values with another tag.
 pub fn set_as<V>(tag: Tag, inner: V) -> Constructed<V>
     ensures { result ≡ record { tag = tag; inner = inner } }
 {
     Constructed::new(tag, inner)
 }
 
-/// The size of a constructed value with `len` contents octets.
+/// Returns the size of a constructed value with `len` contents octets.
 #[inline(always)]
 pub(crate) fn enclosed_size(tag: Tag, mode: Mode, len: usize) -> Result<usize, EncodeError>
     ensures { EnclosedSize mode tag len result }
@@ -74,7 +74,8 @@ pub(crate) fn enclosed_size(tag: Tag, mode: Mode, len: usize) -> Result<usize, E
     size_behind(tag.encoded_len(), tag, mode, len)
 }
 
-/// The same, where it is known how many octets the identifier has.
+/// Returns the size of a constructed value with `len` contents octets, if its identifier is known
+/// to have `identifier` octets.
 #[inline(always)]
 #[tactic(auto, unfolding(crate::specs::x690::Octets::definite_length))]
 fn size_behind(identifier: usize, _tag: Tag, mode: Mode, len: usize) -> Result<usize, EncodeError>
@@ -101,8 +102,8 @@ fn size_behind(identifier: usize, _tag: Tag, mode: Mode, len: usize) -> Result<u
     }
 }
 
-/// How many contents octets a constructed value has that is written next, or why it has no
-/// encoding. The sizes inside are noted where they are told.
+/// Returns the number of contents octets of a constructed value that is written next, or its
+/// refusal. Notes the sizes inside that length octets need.
 fn measure_contents<V: Values>(
     tag: Tag,
     inner: &V,
@@ -123,8 +124,8 @@ fn measure_contents<V: Values>(
     Ok(contents)
 }
 
-/// How many contents octets a constructed value has. That is noted where it has to be told, in
-/// front of the sizes inside.
+/// Returns the number of contents octets of a constructed value. If length octets need it, it is
+/// noted ahead of the sizes inside.
 #[inline(always)]
 fn note_contents<V: Values>(inner: &V, mode: Mode, sizes: &mut Sizes) -> Result<usize, EncodeError>
     requires { V.can_encode inner.now }
@@ -139,7 +140,8 @@ fn note_contents<V: Values>(inner: &V, mode: Mode, sizes: &mut Sizes) -> Result<
     }
 }
 
-/// The size that a value tells, which is the next one that is left. In CER none is told.
+/// Returns the next size that is left, for the length octets of a value. In CER none is needed, and
+/// it returns 0.
 #[inline(always)]
 fn next_size(mode: Mode, sizes: &mut SizesLeft<'_>) -> Option<usize>
     ensures { TakesContents mode sizes.old.sizes.now result sizes.new.sizes.now }
@@ -150,7 +152,7 @@ fn next_size(mode: Mode, sizes: &mut SizesLeft<'_>) -> Option<usize>
     }
 }
 
-/// Writes the value in CER, where its end is marked (X.690, 9.1).
+/// Writes the value in CER, with end-of-contents octets (X.690, 9.1).
 fn put_indefinite<V: Values, W: io::Write>(
     value: &Constructed<V>,
     sizes: &mut SizesLeft<'_>,
@@ -171,7 +173,7 @@ fn put_indefinite<V: Values, W: io::Write>(
     put_all(target, &[0x00, 0x00], why)
 }
 
-/// Writes the value in BER or DER, where its length is told (X.690, 10.1).
+/// Writes the value in BER or DER, with a definite length (X.690, 10.1).
 fn put_definite<V: Values, W: io::Write>(
     value: &Constructed<V>,
     size: usize,
@@ -194,7 +196,7 @@ fn put_definite<V: Values, W: io::Write>(
     value.inner.write_known(mode, sizes, target, why)
 }
 
-/// Writes the value with these values inside, which have `size` octets where that is told.
+/// Writes the value. What is inside has `size` octets if the length octets need the size.
 #[inline(always)]
 fn put_enclosed<V: Values, W: io::Write>(
     value: &Constructed<V>,
@@ -220,7 +222,7 @@ fn put_enclosed<V: Values, W: io::Write>(
     }
 }
 
-/// Writes a value that is known to have an encoding, and whose size isn't noted: it is measured
+/// Writes a value that is known to have an encoding, but whose size isn't noted. It is measured
 /// once more, and the sizes inside are noted anew.
 fn put_measured<V: Values, W: io::Write>(
     value: &Constructed<V>,

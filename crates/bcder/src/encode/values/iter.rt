@@ -3,7 +3,7 @@ ghost use Rattle.std.specs.Prelude.{◌≡◌};
 
 use crate::encode::values::iterated::Iter;
 
-/// The items of `value`, one after the other.
+/// Creates an encoder of the items of `value`, one after the other.
 pub fn iter<T: IntoIterator + Clone>(value: T) -> Iter<T>
     ensures { result ≡ record { value = value } }
 {

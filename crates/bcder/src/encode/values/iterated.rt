@@ -14,28 +14,28 @@ use crate::encode::{EncodeError, WriteError};
 use crate::mode::Mode;
 use std::io;
 
-/// The items of an iterator, one after the other.
+/// An encoder of the items of an iterator, one after the other.
 ///
-/// Each call goes over the items of a clone. It may be asked where every clone gives the same
-/// finite list.
+/// Each call goes over the items of a clone. Calls require that every clone gives the same finite
+/// list.
 #[derive(Clone, Debug, Drop)]
 pub struct Iter<T> {
     value: T,
 }
 
 impl<T: IntoIterator + Clone> Iter<T> {
-    /// The items of `value`.
+    /// Creates an encoder of the items of `value`.
     pub fn new(value: T) -> Self
         ensures { result ≡ record { value = value } }
     {
         Iter { value }
     }
 
-    /// The items, of a clone.
+    /// Returns the items, from a clone.
     ///
     /// # Errors
     ///
-    /// `NoMemory` where the clone was refused: never, where a clone can't fail.
+    /// Returns `NoMemory` if cloning fails, which never happens if a clone can't fail.
     pub fn items(&self) -> Result<T::IntoIter, NoMemory>
         ensures items { IfOk result (λ i. (t : T) × T.is_clone self.now.value t × T.into_iter_gives t i) }
         ensures refused { OnErr result (T.is_infallible self.now.value → ⊥) }

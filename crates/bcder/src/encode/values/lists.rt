@@ -1,4 +1,4 @@
-//! Lists of encoders: their values one after the other.
+//! Lists of encoders: their values, one after the other.
 ghost use Rattle.std.specs.Prelude.{Any, All, IfOk};
 ghost use Rattle.bcder.specs.calls.Joined.{EachOf, Joined};
 ghost use Rattle.bcder.specs.calls.Encoders.{SizeOfValues};
@@ -15,7 +15,8 @@ use crate::encode::{EncodeError, WriteError};
 use crate::mode::Mode;
 use std::io;
 
-/// How many octets an item has. The sizes that it tells are noted, while there is room.
+/// Returns the number of octets of an item. Notes the sizes that its length octets need, while
+/// there is room.
 #[inline(always)]
 fn note_item<V: Values>(item: &V, mode: Mode, sizes: &mut Sizes) -> Result<usize, EncodeError>
     requires { V.can_encode item.now }

@@ -1,4 +1,4 @@
-//! The items of a slice, each encoded as what a closure gives for it.
+//! The items of a slice, each encoded as what a closure returns for it.
 ghost use Rattle.std.specs.Prelude.{◌≡◌, All, Any};
 ghost use Rattle.bcder.specs.calls.Encoders.{HasEncoding, SizeOfValues, WritesParts, into_result};
 ghost use Rattle.bcder.specs.calls.Joined.{EachOf, Joined};
@@ -17,10 +17,10 @@ use std::convert::AsSlice;
 use std::io;
 use std::marker::PhantomData;
 
-/// The items of a slice, each encoded as what a closure gives for it.
+/// An encoder of the items of a slice, each encoded as what a closure returns for it.
 ///
-/// It may be asked where the closure may be called on every item and gives each item one meaning.
-/// Of a closure that states nothing that is known from its body.
+/// Calls require that the closure may be called on every item, and gives each item one meaning. For
+/// a closure without clauses this is known from its body.
 #[derive(Drop)]
 pub struct Slice<T, F, U, V> {
     value: T,
@@ -29,7 +29,7 @@ pub struct Slice<T, F, U, V> {
 }
 
 impl<T: AsSlice<U>, F: Fn(&U) -> V, U, V: Values> Slice<T, F, U, V> {
-    /// The items of `value`, each encoded as what `f` gives for it.
+    /// Creates an encoder of the items of `value`, each as what `f` returns for it.
     pub fn new(value: T, f: F) -> Self
         ensures value { result.value ≡ value }
         ensures closure { result.f ≡ f }
@@ -42,7 +42,7 @@ impl<T: AsSlice<U>, F: Fn(&U) -> V, U, V: Values> Slice<T, F, U, V> {
     }
 }
 
-/// What the closure gives for an item.
+/// Returns what the closure returns for an item.
 fn call_on<U, V, F: Fn(&U) -> V>(f: &F, item: &U) -> V
     requires { TakesItem F.Fn f.now item.now }
     ensures { Gives F.Fn f.now item.now result }
@@ -50,7 +50,7 @@ fn call_on<U, V, F: Fn(&U) -> V>(f: &F, item: &U) -> V
     f(item)
 }
 
-/// The size of an item, or why it has no encoding.
+/// Returns the size of an item, or its refusal.
 fn item_len<U, V: Values + Drop, F: Fn(&U) -> V>(
     f: &F,
     item: &U,

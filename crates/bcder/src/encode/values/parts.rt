@@ -1,4 +1,4 @@
-//! Encoders one after the other.
+//! Encoders, one after the other.
 ghost use Rattle.std.specs.Prelude.{◌≡◌, ℕ, ◌+◌, ⊤, ◌⊎◌, List, [], IfOk};
 ghost use Rattle.bcder.specs.declared.mode.Mode.{Mode};
 ghost use Rattle.bcder.specs.calls.Meaning.{Meaning, IsLawful};
@@ -16,7 +16,7 @@ use crate::encode::{EncodeError, WriteError};
 use crate::mode::Mode;
 use std::io;
 
-/// Encoders that are written one after the other. What they mean isn't refused for its size.
+/// Encoders that are written one after the other. Their meaning isn't refused for its size.
 pub(crate) trait Parts {
     ghost all: { Self → Mode → Meaning → Type 0 };
 
@@ -26,12 +26,12 @@ pub(crate) trait Parts {
 
     ghost can_encode: { Self → Type 0 };
 
-    /// The sum of the sizes, or `None` where it passes `usize`.
+    /// Returns the sum of the sizes, or `None` if it exceeds `usize`.
     fn parts_len(&self, mode: Mode) -> Result<Option<usize>, EncodeError>
         requires { can_encode self.now }
         ensures { TellsSum (all self.now mode) (may_lack self.now mode) result };
 
-    /// The sum of the sizes, which are noted where they have to be told.
+    /// Returns the sum of the sizes, and notes the sizes that length octets need.
     #[inline(always)]
     fn note_parts(&self, mode: Mode, sizes: &mut Sizes) -> Result<Option<usize>, EncodeError>
         requires { can_encode self.now }
@@ -42,7 +42,7 @@ pub(crate) trait Parts {
         self.parts_len(mode)
     }
 
-    /// Writes the parts where it is known that none is refused.
+    /// Writes the parts, none of which is refused.
     fn write_parts<W: io::Write>(
         &self,
         mode: Mode,
@@ -61,7 +61,7 @@ pub(crate) trait Parts {
     ghost all_lawful: { (x : Self) (mode : Mode) → can_encode x → IsLawful mode (all x mode) };
 }
 
-/// The size of the parts, or why there is no encoding.
+/// Returns the size of the parts, or the refusal.
 pub(crate) fn joined_len<P: Parts>(parts: &P, mode: Mode) -> Result<usize, EncodeError>
     requires { P.can_encode parts.now }
     ensures { SizeOfValues (Joined (P.all parts.now mode)) (P.may_lack parts.now mode) result }
@@ -72,7 +72,7 @@ pub(crate) fn joined_len<P: Parts>(parts: &P, mode: Mode) -> Result<usize, Encod
     }
 }
 
-/// The same. The sizes that have to be told are noted.
+/// Returns the size of the parts, or the refusal, and notes the sizes that length octets need.
 #[inline(always)]
 pub(crate) fn note_joined<P: Parts>(
     parts: &P,
@@ -90,8 +90,8 @@ pub(crate) fn note_joined<P: Parts>(
     }
 }
 
-/// The size of parts that are written next, or why there is no encoding. The sizes that they tell
-/// are noted: in CER none, where no constructed value tells one.
+/// Returns the size of parts that are written next, or the refusal. Notes the sizes that their
+/// length octets need: none in CER, since no constructed value has a definite length.
 #[inline(always)]
 fn measure_joined<P: Parts>(parts: &P, mode: Mode, sizes: &mut Sizes) -> Result<usize, EncodeError>
     requires can { P.can_encode parts.now }
@@ -106,7 +106,7 @@ fn measure_joined<P: Parts>(parts: &P, mode: Mode, sizes: &mut Sizes) -> Result<
     }
 }
 
-/// Writes the parts, if none of them is refused and their sizes have a sum.
+/// Writes the parts, if none of them is refused and the sum of their sizes fits.
 pub(crate) fn write_joined<P: Parts, W: io::Write>(
     parts: &P,
     mode: Mode,
@@ -123,7 +123,7 @@ pub(crate) fn write_joined<P: Parts, W: io::Write>(
     into_result(outcome, why)
 }
 
-/// Writes the parts where it is known that there is an encoding.
+/// Writes parts that are known to have an encoding.
 pub(crate) fn write_known_parts<P: Parts, W: io::Write>(
     parts: &P,
     mode: Mode,
@@ -142,7 +142,7 @@ pub(crate) fn write_known_parts<P: Parts, W: io::Write>(
     parts.write_parts(mode, sizes, target, why)
 }
 
-/// A sum of sizes with one more.
+/// Adds a size to a sum of sizes.
 #[inline(always)]
 pub(crate) fn add_len(sum: Option<usize>, len: usize) -> Option<usize>
     ensures { (k : ℕ) → IsSum sum k → IsSum result (k + len) }
@@ -153,7 +153,7 @@ pub(crate) fn add_len(sum: Option<usize>, len: usize) -> Option<usize>
     }
 }
 
-/// No part.
+/// No parts.
 #[derive(Clone, Copy)]
 pub(crate) struct End;
 
@@ -190,7 +190,7 @@ impl Parts for End {
     ghost all_lawful = { λ _ mode _. NoValues_lawful mode };
 }
 
-/// A part and those after it.
+/// A part, and those after it.
 #[derive(Clone, Copy)]
 pub(crate) struct Chain<'a, V, R> {
     pub(super) first: &'a V,
@@ -271,7 +271,7 @@ impl<R: Parts> Parts for &'_ R {
     ghost all_lawful = { λ x mode can. R.all_lawful x.now mode can };
 }
 
-/// Four parts and those after them.
+/// Four parts, and those after them.
 #[derive(Clone, Copy)]
 pub(crate) struct Four<'a, A, B, C, D, R> {
     pub(super) a: &'a A,

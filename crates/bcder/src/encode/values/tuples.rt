@@ -1,4 +1,4 @@
-//! Tuples of encoders: their values one after the other.
+//! Tuples of encoders: their values, one after the other.
 ghost use Rattle.std.specs.Prelude.{◌⊎◌, ⊤};
 ghost use Rattle.bcder.specs.calls.Joined.{Then, NoValues, Joined};
 ghost use Rattle.bcder.specs.calls.Noted.{ReadsNone, ReadsThen};

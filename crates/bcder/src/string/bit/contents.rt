@@ -4,17 +4,17 @@ ghost use Rattle.bcder.specs.x690.BitString.{AreCleared, BitShape, IsBits, MayHa
 
 use crate::mode::Mode;
 
-/// More octets than a bit string has, so that a `usize` counts its bits.
+/// More octets than any bit string has, so that a `usize` can count its bits.
 const TOO_MANY: usize = 1 << 61;
 
-/// Whether so many bits of these octets can be unused.
+/// Returns whether `unused` bits of these octets can be unused.
 fn is_bits(unused: u8, octets: &[u8]) -> bool
     ensures { IsTrue result ↔ IsBits (record { unused = unused; octets = octets.now }) }
 {
     unused <= 7 && (unused == 0 || !octets.is_empty()) && octets.len() < TOO_MANY
 }
 
-/// The octet with so many bits at its end set to zero.
+/// Returns the octet with its last `unused` bits set to zero.
 pub(super) fn cleared_octet(unused: u8, octet: u8) -> u8
     ensures { result ≡ octet / 2 ^ unused * 2 ^ unused }
 {
@@ -25,7 +25,7 @@ pub(super) fn cleared_octet(unused: u8, octet: u8) -> u8
     }
 }
 
-/// Whether the unused bits are zero.
+/// Returns whether the unused bits are zero.
 pub(super) fn is_cleared(unused: u8, octets: &[u8]) -> bool
     ensures { IsTrue result ↔ AreCleared unused octets.now }
 {
@@ -35,7 +35,7 @@ pub(super) fn is_cleared(unused: u8, octets: &[u8]) -> bool
     }
 }
 
-/// Whether a mode has such a bit string in a primitive value.
+/// Returns whether the mode allows such a bit string in a primitive value.
 fn may_have(mode: Mode, unused: u8, octets: &[u8]) -> bool
     ensures { IsTrue result ↔ MayHave mode (record { unused = unused; octets = octets.now }) }
 {
@@ -46,7 +46,7 @@ fn may_have(mode: Mode, unused: u8, octets: &[u8]) -> bool
     }
 }
 
-/// Whether octets are contents octets of a bit string.
+/// Returns whether octets are contents octets of a bit string.
 pub(crate) fn is_bit_string(mode: Mode, contents: &[u8]) -> bool
     ensures { IsTrue result ↔ BitShape mode contents.now }
 {

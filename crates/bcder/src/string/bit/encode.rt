@@ -15,7 +15,7 @@ use crate::tag::Tag;
 use std::convert::AsSlice;
 use std::io;
 
-/// An encoder of one primitive value: the bits of octets, of whose last some may be unused.
+/// An encoder of one primitive value: the bits of octets, the last of which may have unused bits.
 #[derive(Clone, Debug, Drop)]
 pub struct BitSliceEncoder<T> {
     slice: T,
@@ -24,7 +24,7 @@ pub struct BitSliceEncoder<T> {
 }
 
 impl<T> BitSliceEncoder<T> {
-    /// The encoder with these parts.
+    /// Creates the encoder from its parts.
     pub(super) fn new(slice: T, unused: u8, tag: Tag) -> Self
         ensures { result ≡ record { slice = slice; unused = unused; tag = tag } }
     {
@@ -95,7 +95,7 @@ impl PrimitiveContent for BitSlice<'_> {
 }
 
 impl<T: AsSlice<u8>> BitSliceEncoder<T> {
-    /// The contents octets.
+    /// Returns the contents octets.
     fn contents(&self) -> BitSlice<'_>
         ensures unused { result.unused ≡ self.now.unused }
         ensures octets { result.octets.now ≡ T.items self.now.slice }
@@ -107,8 +107,8 @@ impl<T: AsSlice<u8>> BitSliceEncoder<T> {
     }
 }
 
-/// One primitive value (8.6.2): in BER with unused bits as they stand, in CER and DER with these
-/// zero (11.2.1). In CER it has at most 1000 contents octets (9.2).
+/// Encodes the bits as one primitive value (8.6.2). Unused bits are written as they are in BER, and
+/// as zero in CER and DER (11.2.1). In CER there are at most 1000 contents octets (9.2).
 impl<T: AsSlice<u8>> Values for BitSliceEncoder<T> {
     ghost means = { λ x mode. ValueMeans x.tag (primitive_meaning x.tag)
         (BitsMean LongCerBitString mode

@@ -25,7 +25,7 @@ use crate::mode::Mode;
 use crate::tag::Tag;
 use std::io;
 
-/// The last octet as the mode has it written, where so many of its bits are unused (11.2.1).
+/// Returns the last octet as the mode has it written, if `unused` of its bits are unused (11.2.1).
 fn written_octet(mode: Mode, unused: u8, last: u8) -> u8
     ensures { (front : List ℕ) →
         (as_written mode (record { unused = unused; octets = front ++ last ∷ [] })).octets
@@ -37,8 +37,8 @@ fn written_octet(mode: Mode, unused: u8, last: u8) -> u8
     }
 }
 
-/// Writes the octets with the bits. They are written at once where the unused bits stand as the
-/// mode wants them, and else the last one apart.
+/// Writes the octets of the bits. They are written at once if the unused bits already are as the
+/// mode requires, otherwise the last octet is written separately.
 fn put_octets<W: io::Write>(
     unused: u8,
     octets: &[u8],
@@ -63,7 +63,8 @@ fn put_octets<W: io::Write>(
     }
 }
 
-/// How many contents octets a bit string has, if the mode has a primitive one of so many (9.2).
+/// Returns the number of contents octets of a bit string, if a primitive one may have that many in
+/// the mode (9.2).
 pub(super) fn bits_len(
     _unused: u8,
     octets: &[u8],
@@ -82,7 +83,7 @@ pub(super) fn bits_len(
     }
 }
 
-/// Writes the contents octets of a bit string, if the mode has a primitive one of so many.
+/// Writes the contents octets of a bit string, if a primitive one may have that many in the mode.
 pub(super) fn write_bits<W: io::Write>(
     unused: u8,
     octets: &[u8],
@@ -99,7 +100,7 @@ pub(super) fn write_bits<W: io::Write>(
     into_result(outcome, why)
 }
 
-/// The same with a slot for the error.
+/// Writes the contents octets of a bit string like `write_bits`, and stores the error in a slot.
 fn put_bits<W: io::Write>(
     unused: u8,
     octets: &[u8],
@@ -134,7 +135,7 @@ fn put_contents<W: io::Write>(
     put_octets(unused, octets, mode, target, why)
 }
 
-/// Adds the octets with the bits to those of a value.
+/// Appends the octets of the bits to those of a value.
 fn add_octets(unused: u8, octets: &[u8], mode: Mode, buffer: &mut Buffer)
     requires { buffer.old.len + length octets.now ≤ 73 }
     ensures { buffered buffer.new ≡ buffered buffer.old
@@ -147,7 +148,7 @@ fn add_octets(unused: u8, octets: &[u8], mode: Mode, buffer: &mut Buffer)
 }
 
 /// Writes a bit string with at most 64 contents octets as a primitive value, by one call of the
-/// target's `write`, if that takes all of it.
+/// target's `write` if that takes all of it.
 fn put_few<W: io::Write>(
     unused: u8,
     octets: &[u8],
@@ -169,8 +170,8 @@ fn put_few<W: io::Write>(
     put_all(target, buffer.as_slice(), why)
 }
 
-/// Writes a bit string as a primitive value, by one call of the target's `write` or by two or
-/// three, where it takes all of each.
+/// Writes a bit string as a primitive value, by one to three calls of the target's `write` if each
+/// takes all it gets.
 pub(super) fn put_value<W: io::Write>(
     unused: u8,
     octets: &[u8],
@@ -193,7 +194,7 @@ pub(super) fn put_value<W: io::Write>(
     put_octets(unused, octets, mode, target, why)
 }
 
-/// The same of what is meant.
+/// Writes a bit string like `put_value`, from what its encoder means.
 pub(super) fn put_meant<W: io::Write>(
     unused: u8,
     octets: &[u8],
@@ -213,8 +214,8 @@ pub(super) fn put_meant<W: io::Write>(
     put_value(unused, octets, tag, len, mode, target, why)
 }
 
-/// The unused count, and the octets: in BER with unused bits as they stand, in CER and DER with
-/// these zero (11.2.1). In CER there are at most 1000 contents octets (9.2).
+/// Encodes the number of unused bits, and the octets. Unused bits are written as they are in BER,
+/// and as zero in CER and DER (11.2.1). In CER there are at most 1000 contents octets (9.2).
 impl PrimitiveContent for BitString {
     ghost own_tag = { record { class = universal; number = 3 } };
 

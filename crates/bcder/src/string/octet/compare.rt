@@ -1,4 +1,4 @@
-//! Octet strings are equal and in order by their octets, whether they were cut or not.
+//! Equality and order of octet strings: by their octets, however they were cut.
 ghost use Rattle.std.specs.Prelude.{◌≡◌, ◌↔◌, ◌++◌, [], Some, IsTrue, nat_eq};
 ghost use Rattle.std.specs.Cmp.{partial_equiv_from_equiv, on_per, on_equiv, on_po, on_total};
 ghost use Rattle.std.specs.Cmp.Lexicographic.{pointwise, slice_cmp, nat_list_eq_equiv};
@@ -12,7 +12,7 @@ ghost use Rattle.bcder.specs.calls.StringOctets.{octets_of};
 use super::{OctetString, OctetStringIter};
 use std::cmp::Ordering;
 
-/// What is left of a part, or else the next part that isn't empty.
+/// Returns what is left of a part, or the next part that isn't empty if nothing is left.
 #[inline(always)]
 pub(super) fn front<'a>(mut part: &'a [u8], parts: &mut OctetStringIter<'a>) -> &'a [u8]
     ensures joined { result.now ++ concat parts.new ≡ part.entry.now ++ concat parts.old }
@@ -27,8 +27,8 @@ pub(super) fn front<'a>(mut part: &'a [u8], parts: &mut OctetStringIter<'a>) -> 
     part
 }
 
-/// The order of two rows of octets, each cut into parts. As many octets are compared at once as
-/// stand in one part on both sides.
+/// Compares two sequences of octets, each cut into parts. It compares as many octets at once as are
+/// in one part on both sides.
 fn compare(mut ones: OctetStringIter<'_>, mut others: OctetStringIter<'_>) -> Ordering
     ensures { result ≡ slice_cmp nat_cmp (concat ones.entry) (concat others.entry) }
 {
@@ -49,7 +49,7 @@ fn compare(mut ones: OctetStringIter<'_>, mut others: OctetStringIter<'_>) -> Or
     }
 }
 
-/// Whether two rows of octets are equal, each cut into parts.
+/// Returns whether two sequences of octets, each cut into parts, are equal.
 #[tactic(auto, using(crate::proofs::Comparing::equal_told))]
 fn equal(ones: OctetStringIter<'_>, others: OctetStringIter<'_>) -> bool
     ensures { result ≡ pointwise nat_eq (concat ones.entry) (concat others.entry) }
@@ -58,7 +58,7 @@ fn equal(ones: OctetStringIter<'_>, others: OctetStringIter<'_>) -> bool
 }
 
 impl OctetString {
-    /// Whether the octets are these.
+    /// Returns whether the octets equal those of a slice.
     #[tactic(auto, using(crate::proofs::Comparing::same_told, crate::proofs::Comparing::parts_joined, crate::proofs::Comparing::piece_joined))]
     pub fn eq_octets(&self, octets: &[u8]) -> bool
         ensures { IsTrue result ↔ (octets_of self.now ≡ octets.now) }
@@ -69,8 +69,8 @@ impl OctetString {
         }
     }
 
-    /// The order of the octets and of others: the first that differ decide, and else what is
-    /// shorter is less.
+    /// Compares the octets with others. The first octets that differ decide; if there are none, the
+    /// shorter sequence is less.
     pub fn cmp_octets(&self, octets: &[u8]) -> Ordering
         ensures { result ≡ slice_cmp nat_cmp (octets_of self.now) octets.now }
     {
@@ -81,7 +81,7 @@ impl OctetString {
     }
 }
 
-/// Strings are equal where their octets are.
+/// Strings are equal if their octets are.
 impl PartialEq for OctetString {
     ghost eq = { λ x y. pointwise nat_eq (octets_of x) (octets_of y) };
 
@@ -109,7 +109,7 @@ impl PartialOrd for OctetString {
     }
 }
 
-/// The first octets that differ decide, and else the shorter string is less.
+/// The first octets that differ decide. If there are none, the shorter string is less.
 impl Ord for OctetString {
     ghost cmp = { λ x y. slice_cmp nat_cmp (octets_of x) (octets_of y) };
 

@@ -17,12 +17,13 @@ use crate::mode::Mode;
 use crate::tag::Tag;
 use std::io;
 
-/// An octet string as an encoder: `T` is the string, or a reference to it.
+/// An encoder of an octet string. `T` is the string, or a reference to it.
 ///
-/// In BER it is written as it came: one primitive value, or where it was cut into segments a
-/// constructed value with these inside, of definite length (8.7.3). In DER it is one primitive
-/// value (10.2). In CER it is one of at most 1000 octets, and else a constructed value with
-/// segments of 1000 octets, the last with those that are left (9.2).
+/// - In BER the string is written as it came: as one primitive value, or, if it was cut into
+///   segments, as a constructed value of definite length with these inside (8.7.3).
+/// - In DER it is one primitive value (10.2).
+/// - In CER it is one primitive value of at most 1000 octets. A longer string is a constructed
+///   value with segments of 1000 octets, the last with the octets that are left (9.2).
 #[derive(Clone, Debug, Drop)]
 pub struct OctetStringEncoder<T> {
     value: T,
@@ -30,28 +31,28 @@ pub struct OctetStringEncoder<T> {
 }
 
 impl OctetString {
-    /// The string as an OCTET STRING.
+    /// Creates an encoder of the string as an OCTET STRING.
     pub fn encode(self) -> OctetStringEncoder<OctetString>
         ensures { result ≡ record { value = self; tag = octet_string_tag } }
     {
         self.encode_as(Tag::OCTET_STRING)
     }
 
-    /// The string with another tag.
+    /// Creates an encoder of the string with another tag.
     pub fn encode_as(self, tag: Tag) -> OctetStringEncoder<OctetString>
         ensures { result ≡ record { value = self; tag = tag } }
     {
         OctetStringEncoder { value: self, tag }
     }
 
-    /// A reference to the string as an OCTET STRING.
+    /// Creates an encoder of a reference to the string, as an OCTET STRING.
     pub fn encode_ref(&self) -> OctetStringEncoder<&OctetString>
         ensures { result ≡ record { value = self.entry; tag = octet_string_tag } }
     {
         self.encode_ref_as(Tag::OCTET_STRING)
     }
 
-    /// A reference to the string with another tag.
+    /// Creates an encoder of a reference to the string, with another tag.
     pub fn encode_ref_as(&self, tag: Tag) -> OctetStringEncoder<&OctetString>
         ensures { result ≡ record { value = self.entry; tag = tag } }
     {
@@ -59,7 +60,7 @@ impl OctetString {
     }
 }
 
-// What a string is made of, for the proof alone.
+// What a string is made of, for proofs only.
 pub(crate) fn see_string(string: &OctetString)
     ensures { IsMadeUp string.now }
 {
@@ -72,7 +73,7 @@ pub(crate) fn see_string(string: &OctetString)
     }
 }
 
-/// How many octets the string has, or why it has no encoding.
+/// Returns the number of octets of the value, or its refusal.
 fn size_of(string: &OctetString, tag: Tag, mode: Mode) -> Result<usize, EncodeError>
     ensures { SizeOfValues (StringMeans tag string.now mode) ⊥ result }
 {

@@ -1,4 +1,4 @@
-//! Octet strings are hashed by their octets, whether they were cut or not.
+//! Hashing of octet strings: by their octets, however they were cut.
 ghost use Rattle.std.specs.Prelude.{◌≡◌, ◌+◌, ◌≤◌, ◌<◌, ◌++◌, [], length};
 ghost use Rattle.std.specs.Cmp.Lexicographic.{bytes_decides};
 ghost use Rattle.std.specs.List.{concat, fold};
@@ -11,17 +11,17 @@ use super::{OctetString, OctetStringIter};
 use std::hash::{Hash, Hasher};
 use std::marker::Model;
 
-/// How many octets a hasher is handed at once.
+/// The number of octets that a hasher gets at once.
 const BLOCK: usize = 64;
 
-/// Octets of several parts, put together to be handed to a hasher at once.
+/// Octets of several parts, put together for a hasher.
 #[derive(Drop)]
 struct Block {
     octets: [u8; 64],
     len: usize,
 }
 
-/// The clauses see the octets that there are.
+/// The clauses see the octets that it holds.
 impl Model for Block {
     ghost use Rattle.std.specs.Prelude.{ℕ, List, take, ◌≤◌};
 
@@ -33,7 +33,7 @@ impl Model for Block {
 }
 
 impl Block {
-    /// None yet.
+    /// Returns an empty block.
     fn new() -> Block
         ensures { result ≡ [] }
     {
@@ -43,21 +43,21 @@ impl Block {
         }
     }
 
-    /// How many more there is room for.
+    /// Returns the number of octets for which there is room.
     fn room(&self) -> usize
         ensures { length self.now + result ≡ 64 }
     {
         BLOCK - self.len
     }
 
-    /// Takes all out.
+    /// Removes all octets.
     fn clear(&mut self)
         ensures { self.new ≡ [] }
     {
         self.len = 0;
     }
 
-    /// Adds octets behind those that there are.
+    /// Appends octets.
     fn add(&mut self, octets: &[u8])
         requires { length self.old + length octets.now ≤ 64 }
         ensures { self.new ≡ self.old ++ octets.now }
@@ -68,7 +68,7 @@ impl Block {
         self.len = end;
     }
 
-    /// All of them.
+    /// Returns all octets.
     fn as_slice(&self) -> &[u8]
         ensures { result.now ≡ self.now }
     {
@@ -76,7 +76,7 @@ impl Block {
     }
 }
 
-/// Hands over octets that stand in one piece.
+/// Writes octets in one piece to a hasher.
 fn write_whole<H: Hasher>(mut octets: &[u8], state: &mut H)
     ensures { state.new ≡ fold H.write state.old (blocks octets.entry.now) }
 {
@@ -90,7 +90,7 @@ fn write_whole<H: Hasher>(mut octets: &[u8], state: &mut H)
     }
 }
 
-/// Puts together a block from a part, which isn't empty, and those behind it. Answers what is left
+/// Fills a block from a part, which isn't empty, and from the parts after it. Returns what is left
 /// of a part.
 fn fill<'a>(block: &mut Block, mut part: &'a [u8], parts: &mut OctetStringIter<'a>) -> &'a [u8]
     requires empty { block.old ≡ [] }
@@ -111,8 +111,8 @@ fn fill<'a>(block: &mut Block, mut part: &'a [u8], parts: &mut OctetStringIter<'
     part
 }
 
-/// Hands over octets that stand in parts: from a part, where a block lies within it, and else put
-/// together.
+/// Writes octets in parts to a hasher. A block within one part is written from there, any other is
+/// put together first.
 fn write_parts<H: Hasher>(mut parts: OctetStringIter<'_>, state: &mut H)
     ensures { state.new ≡ fold H.write state.old (blocks (concat parts.entry)) }
 {
@@ -131,7 +131,7 @@ fn write_parts<H: Hasher>(mut parts: OctetStringIter<'_>, state: &mut H)
     }
 }
 
-/// A hasher is handed the number of octets, and then these in blocks of 64.
+/// A hasher gets the number of octets, and then the octets in blocks of 64.
 impl Hash for OctetString {
     ghost hash_input = { λ s. hashed (octets_of s) };
 

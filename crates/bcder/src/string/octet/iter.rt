@@ -10,16 +10,16 @@ use super::{OctetString, Octets, Segment};
 use std::alloc::AllocError;
 use std::marker::Model;
 
-/// The parts of an octet string, in their order.
+/// An iterator over the parts of an octet string, in order.
 ///
-/// A string in one piece is one part, or none where it is empty. Of one that came in segments each
-/// is a part, empty ones too.
+/// A string in one piece has one part, or none if it is empty. In a string that came in segments
+/// each segment is a part, even an empty one.
 #[derive(Debug, Drop)]
 pub struct OctetStringIter<'a> {
-    /// The octets of a string in one piece, until they are given out.
+    /// The octets of a string in one piece, until they are returned.
     front: &'a [u8],
 
-    /// The octets that segments stand in, and where those stand that are still to come.
+    /// The octets in which the segments are, and the places of the segments that are still to come.
     octets: &'a [u8],
     segments: &'a [Segment],
 }
@@ -37,7 +37,7 @@ impl<'a> Model for OctetStringIter<'a> {
     ghost invariant = { λ i. AreWithin i.octets.now i.segments.now };
 }
 
-/// The octets of a segment.
+/// Returns the octets of a segment.
 #[inline(always)]
 fn octets_at<'a>(octets: &'a [u8], segment: Segment) -> &'a [u8]
     requires { segment.start + segment.len ≤ length octets.now }
@@ -47,7 +47,7 @@ fn octets_at<'a>(octets: &'a [u8], segment: Segment) -> &'a [u8]
 }
 
 impl<'a> OctetStringIter<'a> {
-    /// The parts of octets in one piece.
+    /// Returns the parts of octets in one piece.
     pub(super) fn of_piece(octets: &'a [u8]) -> OctetStringIter<'a>
         ensures { result ≡ piece octets.now }
     {
@@ -58,7 +58,7 @@ impl<'a> OctetStringIter<'a> {
         }
     }
 
-    /// Whether there is no octet in any part.
+    /// Returns whether there are no octets, in any part.
     pub(super) fn is_empty(self) -> bool
         ensures { IsTrue result ↔ (concat self.entry ≡ []) }
     {
@@ -70,7 +70,7 @@ impl<'a> OctetStringIter<'a> {
         true
     }
 
-    /// Segments that stand in octets.
+    /// Returns the parts of segments among octets.
     pub(super) fn of_segments(octets: &'a [u8], segments: &'a [Segment]) -> OctetStringIter<'a>
         requires { AreWithin octets.now segments.now }
         ensures { result ≡ segments_at octets.now segments.now }
@@ -84,8 +84,9 @@ impl<'a> OctetStringIter<'a> {
 }
 
 impl OctetString {
-    /// The parts, in their order: the octets of a string in one piece, unless it is empty, and each
-    /// segment of one that was cut (X.690, 8.7.3), empty ones too.
+    /// Returns an iterator over the parts, in order. A string in one piece has its octets as one
+    /// part, unless it is empty. A string that was cut (X.690, 8.7.3) has each segment as a part,
+    /// even an empty one.
     pub fn iter(&self) -> OctetStringIter<'_>
         ensures { result ≡ parts self.now }
     {
@@ -99,7 +100,7 @@ impl OctetString {
         }
     }
 
-    /// The octets, in their order, those of one part behind those of another.
+    /// Returns the octets in order, those of one part after those of another.
     pub fn octets(&self) -> OctetStringOctets<'_>
         ensures octets { result.octets ≡ octets_of self.now }
         ensures whole { result.is_whole ≡ is_in_one_piece self.now }
@@ -127,7 +128,7 @@ impl<'a> IntoIterator for &'a OctetString {
     }
 }
 
-/// The clone has the same parts to come, and takes no memory.
+/// The clone has the same parts to come, and allocates nothing.
 impl Clone for OctetStringIter<'_> {
     ghost is_clone = { λ i copy. copy ≡ i };
 
@@ -167,19 +168,19 @@ impl<'a> Iterator for OctetStringIter<'a> {
     }
 }
 
-/// The octets of an octet string, in their order.
+/// An iterator over the octets of an octet string, in order.
 #[derive(Debug, Drop)]
 pub struct OctetStringOctets<'a> {
-    /// A part, and how many of its octets were given out, so that a step over one is a step of one
-    /// number.
+    /// A part, and the number of its octets that were returned, so that a step over one octet
+    /// changes one number only.
     part: &'a [u8],
     given: usize,
 
-    /// The parts behind it.
+    /// The parts after it.
     parts: OctetStringIter<'a>,
 }
 
-/// The clauses see the octets that are still to come, and whether no part is behind them.
+/// The clauses see the octets that are still to come, and whether no part is after them.
 impl<'a> Model for OctetStringOctets<'a> {
     ghost use Rattle.std.specs.Prelude.{◌++◌, ◌≤◌, length, drop};
     ghost use Rattle.std.specs.List.{concat};
@@ -196,7 +197,7 @@ impl<'a> Model for OctetStringOctets<'a> {
 }
 
 impl<'a> OctetStringOctets<'a> {
-    /// Octets that stand in one piece.
+    /// Creates an iterator over octets in one piece.
     pub fn new(octets: &'a [u8]) -> OctetStringOctets<'a>
         ensures octets { result.octets ≡ octets.now }
         ensures whole { IsTrue result.is_whole }
@@ -208,8 +209,8 @@ impl<'a> OctetStringOctets<'a> {
         }
     }
 
-    /// The octets that are still to come, if they are known to stand in one piece: no segment is
-    /// behind them.
+    /// Returns the octets that are still to come, if they are known to be in one piece, that is, if
+    /// no segment is after them.
     ///
     /// It returns `Some` for a string that came in one piece, and at the last segment of one that
     /// was cut.
@@ -224,14 +225,14 @@ impl<'a> OctetStringOctets<'a> {
         Some(&self.part[self.given..])
     }
 
-    /// What is left of a part, and the parts behind it.
+    /// Returns what is left of a part, and the parts after it.
     pub(crate) fn into_parts(self) -> (&'a [u8], OctetStringIter<'a>)
         ensures { self.entry.octets ≡ result.0.now ++ concat result.1 }
     {
         (&self.part[self.given..], self.parts)
     }
 
-    /// Octets, and parts behind them.
+    /// Creates an iterator over octets and the parts after them.
     pub(crate) fn from_parts(part: &'a [u8], parts: OctetStringIter<'a>) -> OctetStringOctets<'a>
         ensures { result.octets ≡ part.now ++ concat parts.entry }
     {
@@ -242,7 +243,7 @@ impl<'a> OctetStringOctets<'a> {
         }
     }
 
-    /// Takes the octets that stand in one piece in front, as long as there are any.
+    /// Takes the next octets that are in one piece, while there are any.
     pub(crate) fn next_piece(&mut self) -> Option<&'a [u8]>
         ensures { MatchOption result ((self.old.octets ≡ []) × (self.new.octets ≡ []))
             (λ piece. (self.old.octets ≡ piece.now ++ self.new.octets)
@@ -260,7 +261,7 @@ impl<'a> OctetStringOctets<'a> {
     }
 }
 
-/// The clone has the same octets to come, and takes no memory.
+/// The clone has the same octets to come, and allocates nothing.
 impl Clone for OctetStringOctets<'_> {
     ghost is_clone = { λ o copy. copy ≡ o };
 

@@ -8,7 +8,7 @@ use bytes::Bytes;
 use std::alloc::Global;
 
 impl OctetString {
-    /// The octets, copied into one block.
+    /// Returns the octets, copied into one block.
     fn joined(&self, alloc: Global) -> Result<Bytes, NoMemory>
         ensures { IfOk result (λ octets. octets ≡ octets_of self.now) }
     {
@@ -19,11 +19,12 @@ impl OctetString {
         Ok(Bytes::from_vec(octets)?)
     }
 
-    /// The octets in one piece. They are shared where they came so, and else copied once.
+    /// Returns the octets in one piece. They are shared if they came in one piece, and otherwise
+    /// copied once.
     ///
     /// # Errors
     ///
-    /// Where there is no memory to share or copy them.
+    /// Returns an error if there is no memory to share or copy them.
     pub fn to_bytes(&self, alloc: Global) -> Result<Bytes, NoMemory>
         ensures { IfOk result (λ octets. octets ≡ octets_of self.now) }
     {
@@ -33,11 +34,13 @@ impl OctetString {
         }
     }
 
-    /// The octets in one piece. They are the string's own where they came so, and else copied once.
+    /// Returns the octets in one piece. They are the string's own if they came in one piece, and
+    /// otherwise copied once.
     ///
     /// # Errors
     ///
-    /// Where the string was cut and there is no memory for a copy. The string is then dropped.
+    /// Returns an error if the string was cut and there is no memory for a copy. The string is then
+    /// dropped.
     pub fn into_bytes(self, alloc: Global) -> Result<Bytes, NoMemory>
         ensures octets { IfOk result (λ octets. octets ≡ octets_of self) }
         ensures memory { OnErr result (IsCut self) }

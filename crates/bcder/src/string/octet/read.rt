@@ -15,7 +15,7 @@ use crate::tag::Tag;
 use bytes::Bytes;
 use std::alloc::Global;
 
-/// Whether a string in one piece may have so many octets in a mode (9.2).
+/// Returns whether a string in one piece may have `len` octets in a mode (9.2).
 #[inline(always)]
 pub(crate) fn may_be_whole(mode: Mode, len: usize) -> bool
     ensures { IsTrue result ↔ (mode ≡ Mode.Cer → len ≤ 1000) }
@@ -27,7 +27,7 @@ pub(crate) fn may_be_whole(mode: Mode, len: usize) -> bool
     }
 }
 
-/// Takes all contents octets as those of a string in one piece, which in CER has 1000 at most.
+/// Takes all contents octets as those of a string in one piece, which has at most 1000 in CER.
 #[tactic(auto, using(crate::proofs::moves))]
 #[inline(always)]
 pub(crate) fn take_piece<S: Source>(
@@ -73,8 +73,8 @@ pub(crate) fn from_constructed<S: Source>(
 
 #[tactic(auto, using(crate::specs::laws::Moved::untouched_is_moved))]
 impl OctetString {
-    /// Takes the next value if it has this tag, as a string. Each form has a closure of its own, so
-    /// that a string in one piece is made where it is answered.
+    /// Takes the next value as a string, if it has this tag. Each form has its own closure, so that
+    /// a string in one piece is made where it is returned.
     #[inline(always)]
     pub(crate) fn take_opt_if<S: Source>(
         alloc: Global,
@@ -105,8 +105,8 @@ impl OctetString {
     ///
     /// # Errors
     ///
-    /// Those of [`take_opt_from`](Self::take_opt_from), and `ContentError::ExpectedTag` where that
-    /// answers `None`: the content then stays usable.
+    /// Returns the errors of [`take_opt_from`](Self::take_opt_from), and
+    /// `ContentError::ExpectedTag` if that returns `None`. The content then stays usable.
     #[inline(always)]
     pub fn take_from<S: Source>(
         alloc: Global,
@@ -122,21 +122,27 @@ impl OctetString {
         }
     }
 
-    /// Takes the next value if it is an OCTET STRING, or answers `None` at the end and at a value
-    /// of another tag, which stays.
+    /// Takes the next value if it is an OCTET STRING. Returns `None` at the end and at a value of
+    /// another tag, which stays.
     ///
-    /// A string in one piece shares its octets with the source where that shares them. Of one that
-    /// is cut into segments (X.690, 8.7.3) the encodings of these are captured, and a table tells
-    /// where each stands; the segments may be nested to any depth. In CER it has two segments or
-    /// more, each of 1000 octets but the last, which has 1 to 1000, and one in one piece has 1000
-    /// at most (9.2). In DER it is in one piece (10.2).
+    /// A string in one piece shares its octets with the source if the source shares them. If the
+    /// string is cut into segments (X.690, 8.7.3), their encodings are captured, and a table says
+    /// where each segment is. Segments may be nested to any depth.
+    ///
+    /// In CER a string in one piece has at most 1000 octets. A string that is cut has two segments
+    /// or more, each of 1000 octets but the last, which has 1 to 1000 (9.2). In DER a string is in
+    /// one piece (10.2).
     ///
     /// # Errors
     ///
-    /// Where a value of the tag stands there that is no octet string in the content's mode, or
-    /// octets that are no value; where an earlier value was refused; where the source fails; and
-    /// where there is no memory for the octets, for the table, or for a segment that is open at a
-    /// depth of four or more. The content has then failed.
+    /// Returns an error, and the content has then failed, if
+    ///
+    /// - the next value has the tag but is no octet string in the content's mode, or the octets are
+    ///   no value;
+    /// - an earlier value was refused;
+    /// - the source fails;
+    /// - there is no memory for the octets, for the table, or for a segment that is open at a depth
+    ///   of four or more.
     #[inline(always)]
     pub fn take_opt_from<S: Source>(
         alloc: Global,
@@ -152,9 +158,9 @@ impl OctetString {
     ///
     /// # Errors
     ///
-    /// Where the content is that of no octet string in its mode, as [`take_opt_from`] says; where
-    /// an earlier value was refused; where the source fails; and where there is no memory. Some of
-    /// the content may then have been taken.
+    /// Returns an error if the content is that of no octet string in its mode (see
+    /// [`take_opt_from`]), if an earlier value was refused, if the source fails, or if memory runs
+    /// out. Some of the content may then have been taken.
     ///
     /// [`take_opt_from`]: Self::take_opt_from
     pub fn from_content<S: Source>(

@@ -1,5 +1,5 @@
-//! Which octets are segments of an octet string (X.690, 8.7.3, 9.2), and where these stand. The
-//! headers are passed one after the other, however they are nested: no stack is kept.
+//! Which octets are segments of an octet string (X.690, 8.7.3, 9.2), and where the segments are.
+//! The headers are read one after the other, however they are nested, without a stack.
 ghost use Rattle.std.specs.Prelude.{◌≡◌, ◌+◌, ◌≤◌, length, IfOk, OnErr, IfSome};
 ghost use Rattle.std.specs.Prelude.{IfNone, MatchOption};
 ghost use Rattle.bcder.specs.steps.Answers.{Answers};
@@ -16,14 +16,15 @@ use crate::mode::Mode;
 use crate::tag::Tag;
 use std::alloc::Global;
 
-/// How many octets each segment but the last has in CER (9.2).
+/// The number of octets in each segment but the last in CER (9.2).
 pub(super) const FULL: usize = 1000;
 
 /// The identifier octet of a primitive OCTET STRING (8.1.2).
 const OCTET_STRING: u8 = 0x04;
 
-/// The octets after the primitive segment at the front, and how many octets it holds; or those
-/// after the header of a constructed segment, or after end-of-contents octets.
+/// Returns the octets after the first primitive segment, and how many octets the segment holds. If
+/// the octets begin with the header of a constructed segment or with end-of-contents octets, it
+/// returns what follows these, and no number.
 #[tactic(auto, unfolding(crate::specs::steps::Segments::read_segment))]
 #[inline(never)]
 fn any_segment_at(mode: Mode, octets: &[u8]) -> Option<(Option<usize>, &[u8])>
@@ -50,7 +51,7 @@ fn any_segment_at(mode: Mode, octets: &[u8]) -> Option<(Option<usize>, &[u8])>
     }
 }
 
-/// The size of the primitive segment at the front and how many octets it holds, if its header has
+/// Returns the size of the first primitive segment and how many octets it holds, if its header has
 /// two octets (8.1.3.4) and all of it is here.
 #[inline(always)]
 fn short_segment(octets: &[u8]) -> Option<(usize, usize)>
@@ -71,7 +72,8 @@ fn short_segment(octets: &[u8]) -> Option<(usize, usize)>
     }
 }
 
-/// The same, if its header has four octets, as that of a segment of 256 to 65,535 octets has in CER
+/// Returns the size of the first primitive segment and how many octets it holds, if its header has
+/// four octets and all of it is here. Segments of 256 to 65,535 octets have such a header in CER
 /// and DER (8.1.3.5, 10.1).
 #[inline(always)]
 fn long_segment(octets: &[u8]) -> Option<(usize, usize)>
@@ -92,8 +94,8 @@ fn long_segment(octets: &[u8]) -> Option<(usize, usize)>
     }
 }
 
-/// What [`any_segment_at`] answers, with room for it that is cleared here, and not before the first
-/// looks.
+/// Calls [`any_segment_at`]. Space for its result is cleared here, and not before the faster checks
+/// of `segment_at`.
 #[inline(always)]
 fn apart_at(mode: Mode, octets: &[u8]) -> Option<(Option<usize>, &[u8])>
     ensures { Answers result (read_segment mode octets.now) }
@@ -102,7 +104,8 @@ fn apart_at(mode: Mode, octets: &[u8]) -> Option<(Option<usize>, &[u8])>
     found
 }
 
-/// The same, with first looks for a primitive segment with a header of two octets, or of four.
+/// Returns what [`any_segment_at`] does, but first checks for a primitive segment with a header of
+/// two octets, or of four.
 #[inline(always)]
 fn segment_at(mode: Mode, octets: &[u8]) -> Option<(Option<usize>, &[u8])>
     ensures { Answers result (read_segment mode octets.now) }
@@ -116,7 +119,7 @@ fn segment_at(mode: Mode, octets: &[u8]) -> Option<(Option<usize>, &[u8])>
     }
 }
 
-/// How many primitive segments there are, where all values are segments in BER (8.7.3.2).
+/// Returns the number of primitive segments, if all values are segments in BER (8.7.3.2).
 fn count_nested(octets: &[u8]) -> Option<usize>
     requires { AreWhole Mode.Ber octets.now }
     ensures found { IfSome result (λ _. AreCut Mode.Ber octets.now) }
@@ -137,7 +140,7 @@ fn count_nested(octets: &[u8]) -> Option<usize>
     Some(count)
 }
 
-/// How many segments there are, where they are those of a string in CER: two or more, each
+/// Returns the number of segments, if they are those of a string in CER: two or more, each
 /// primitive, and of 1000 octets but the last, which has 1 to 1000 (9.2).
 fn count_pieces(octets: &[u8]) -> Option<usize>
     requires { AreWhole Mode.Cer octets.now }
@@ -164,7 +167,7 @@ fn count_pieces(octets: &[u8]) -> Option<usize>
     if count < 2 { None } else { Some(count) }
 }
 
-/// Where the primitive segments stand, of which there are so many.
+/// Returns the places of the primitive segments, of which there are `count`.
 fn fill(alloc: Global, mode: Mode, octets: &[u8], count: usize) -> Result<Vec<Segment>, NoMemory>
     requires { AreCut mode octets.now }
     ensures { IfOk result (λ table. IsTable mode octets.now table.items) }
@@ -185,8 +188,8 @@ fn fill(alloc: Global, mode: Mode, octets: &[u8], count: usize) -> Result<Vec<Se
     Ok(table)
 }
 
-/// The table of the segments that these octets are, or none where they are no segments of a
-/// constructed string in the mode. Memory is asked for once, and only where they are.
+/// Returns the table of the segments that these octets are, or `None` if they are no segments of a
+/// constructed string in the mode. It allocates once, and only if they are.
 pub(super) fn table_of(
     alloc: Global,
     mode: Mode,
@@ -214,7 +217,7 @@ mod tests {
     use crate::Mode;
     use crate::string::octet::{OctetString, Octets};
 
-    /// Whether a string was cut into segments of these places and lengths.
+    /// Returns whether a string was cut into segments of these places and lengths.
     fn stands_at(string: &OctetString, places: &[(usize, usize)]) -> bool {
         let Octets::Cut(_, table) = &string.octets else {
             return false;
@@ -233,7 +236,7 @@ mod tests {
         segments.next().is_none()
     }
 
-    /// Empty segments stand behind headers of their own, in front of that of the last one.
+    /// Empty segments come after headers of their own, before the header of the last one.
     #[tactic(auto, using(crate::specs::laws::Moved::untouched_is_moved))]
     #[test]
     fn places_of_empty_segments(rt: HostRuntime) {

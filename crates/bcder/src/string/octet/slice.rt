@@ -15,10 +15,11 @@ use crate::tag::Tag;
 use std::convert::AsSlice;
 use std::io;
 
-/// An octet string of the octets of a slice, as an encoder.
+/// An encoder of an octet string of the octets of a slice.
 ///
-/// In BER and DER it is one primitive value. In CER it is one of at most 1000 octets, and else a
-/// constructed value with segments of 1000 octets, the last with those that are left (9.2).
+/// In BER and DER the string is one primitive value. In CER it is one primitive value of at most
+/// 1000 octets. A longer string is a constructed value with segments of 1000 octets, the last with
+/// the octets that are left (9.2).
 #[derive(Clone, Debug, Drop)]
 pub struct OctetSliceEncoder<T> {
     slice: T,
@@ -26,14 +27,14 @@ pub struct OctetSliceEncoder<T> {
 }
 
 impl OctetString {
-    /// The octets of a slice as an OCTET STRING.
+    /// Creates an encoder of the octets of a slice as an OCTET STRING.
     pub fn encode_slice<T: AsSlice<u8>>(value: T) -> OctetSliceEncoder<T>
         ensures { result ≡ record { slice = value; tag = octet_string_tag } }
     {
         OctetString::encode_slice_as(value, Tag::OCTET_STRING)
     }
 
-    /// The octets of a slice as an octet string with a tag.
+    /// Creates an encoder of the octets of a slice as an octet string with a tag.
     pub fn encode_slice_as<T: AsSlice<u8>>(value: T, tag: Tag) -> OctetSliceEncoder<T>
         ensures { result ≡ record { slice = value; tag = tag } }
     {
@@ -42,7 +43,7 @@ impl OctetString {
 }
 
 impl<T: AsSlice<u8>> OctetSliceEncoder<T> {
-    // That it holds octets, for the proof alone.
+    // What the slice holds are octets, for proofs only.
     pub(crate) fn see(&self)
         ensures { AreOctets (T.items self.now.slice) }
     {

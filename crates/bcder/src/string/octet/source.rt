@@ -22,15 +22,15 @@ use std::marker::Model;
 /// Segments that are still to come.
 #[derive(Debug, Drop)]
 struct Behind {
-    /// The octets that they stand in.
+    /// The octets in which the segments are.
     octets: Bytes,
 
-    /// Where segments stand, and how many of them have come.
+    /// The places of the segments, and how many segments have come.
     segments: Vec<Segment>,
     next: usize,
 }
 
-/// The clauses see the octets of each, and those that they stand in.
+/// The clauses see the octets of each segment, and those in which the segments are.
 impl Model for Behind {
     ghost use Rattle.std.specs.Prelude.{◌≤◌, length, drop};
     ghost use Rattle.bcder.specs.steps.SegmentTable.{segments_at, AreWithin};
@@ -48,7 +48,7 @@ impl Model for Behind {
 }
 
 impl Behind {
-    /// Segments, none of which has come.
+    /// Creates a list of segments, none of which has come.
     fn new(octets: Bytes, segments: Vec<Segment>) -> Behind
         requires { AreWithin octets segments.items }
         ensures { result
@@ -61,28 +61,28 @@ impl Behind {
         }
     }
 
-    /// Their octets, in their order.
+    /// Returns the octets of the segments, in order.
     fn iter(&self) -> OctetStringIter<'_>
         ensures { result ≡ self.now.parts }
     {
         OctetStringIter::of_segments(self.octets.as_slice(), &self.segments[self.next..])
     }
 
-    /// Whether there is no octet left in any of them.
+    /// Returns whether no octet is left in any of them.
     fn is_empty(&self) -> bool
         ensures { IsTrue result ↔ (concat self.now.parts ≡ []) }
     {
         self.iter().is_empty()
     }
 
-    /// The octets that they stand in, shared.
+    /// Returns the octets in which the segments are, shared.
     fn share(&self) -> Result<Bytes, NoMemory>
         ensures { IfOk result (λ octets. octets ≡ self.now.octets) }
     {
         Ok(self.octets.clone()?)
     }
 
-    /// Where the next one stands.
+    /// Returns the place of the next segment.
     #[inline(always)]
     fn next(&mut self) -> Option<Segment>
         ensures { MatchOption result
@@ -99,7 +99,7 @@ impl Behind {
         Some(segment)
     }
 
-    /// Passes over the first ones.
+    /// Skips the first `count` segments.
     fn pass(&mut self, count: usize)
         requires { count ≤ length self.old.parts }
         ensures { self.new
@@ -108,9 +108,10 @@ impl Behind {
         self.next += count;
     }
 
-    /// Joins octets with those of the first segments behind them, in one block, and says how many
-    /// segments these are: at least `len` octets, and twice as many as there were, unless fewer are
-    /// left. So whoever asks for one octet more each time doesn't copy all of them each time.
+    /// Joins `front` with the octets of the first segments after it in one block, and returns the
+    /// number of these segments. The block has at least `len` octets, and at least twice as many as
+    /// `front`, unless fewer are left. So a caller that asks for one octet more each time doesn't
+    /// have all of them copied each time.
     fn join(&self, front: &[u8], len: usize) -> Result<(Bytes, usize), NoMemory>
         ensures { IfOk result (λ r. IsJoined front.now self.now.parts len r.0 r.1) }
     {
@@ -128,7 +129,7 @@ impl Behind {
     }
 }
 
-/// Has the next segment stand in front, where nothing does and the block is that of the segments.
+/// Makes the next segment the front, if the front is empty and is in the block of the segments.
 #[inline(always)]
 fn move_on(front: &mut Chunk, behind: &mut Behind)
     requires { SharesBlock front.old (Some behind.old) }
@@ -144,8 +145,8 @@ fn move_on(front: &mut Chunk, behind: &mut Behind)
     }
 }
 
-/// Makes at least `len` octets stand in front, or all that there are. It takes no memory where none
-/// are behind.
+/// Makes the front hold at least `len` octets, or all that there are. It allocates nothing if there
+/// are none after it.
 #[inline(never)]
 fn refill(front: &mut Chunk, behind: &mut Behind, len: usize) -> Result<(), NoMemory>
     requires shares { SharesBlock front.old (Some behind.old) }
@@ -180,14 +181,14 @@ fn refill(front: &mut Chunk, behind: &mut Behind, len: usize) -> Result<(), NoMe
 
 /// A source over the octets of an octet string.
 ///
-/// It lends the part in front, and joins parts in a block of its own where more is asked for than
-/// one part holds. Only that can fail, for want of memory.
+/// It lends the part that comes next. If more is requested than one part holds, it joins parts in a
+/// block of its own. Only that can fail, if memory runs out.
 #[derive(Debug, Drop)]
 pub struct OctetStringSource {
     front: Chunk,
     behind: Option<Behind>,
 
-    /// How many octets of the string there are up to the end of those in front.
+    /// The number of octets of the string up to the end of the front.
     reached: usize,
     faults: u64,
     ghost stands: { SharesBlock front behind },
@@ -201,7 +202,7 @@ impl OctetStringSource {
     ghost use Rattle.bcder.specs.calls.StringStream.{source_stream};
     ghost use Rattle.bcder.specs.steps.StringSources.{FillsFront};
 
-    /// A source over octets in one piece.
+    /// Creates a source over octets in one piece.
     fn of_piece(octets: Bytes) -> OctetStringSource
         ensures { source_stream result ≡ string_stream (whole octets) }
     {
@@ -215,7 +216,7 @@ impl OctetStringSource {
         }
     }
 
-    /// A source over the octets of segments.
+    /// Creates a source over the octets of segments.
     fn of_segments(captured: Captured, segments: Vec<Segment>) -> OctetStringSource
         requires { IsTable captured.mode captured.octets segments.items }
         ensures { source_stream result
@@ -232,7 +233,7 @@ impl OctetStringSource {
         }
     }
 
-    /// Makes at least `len` octets stand in front, or all that there are.
+    /// Makes the front hold at least `len` octets, or all that there are.
     #[inline(never)]
     fn fill(&mut self, len: usize) -> Result<(), NoMemory>
         ensures { FillsFront len self result }
@@ -254,7 +255,7 @@ impl OctetStringSource {
     }
 }
 
-/// The rest is the octets that are left.
+/// The rest of the source is the octets that are left.
 impl Source for OctetStringSource {
     type Error = NoMemory;
 
@@ -274,8 +275,8 @@ impl Source for OctetStringSource {
         Pos::from(self.reached - self.front.len())
     }
 
-    /// It fails only where fewer than `len` octets are at hand and others are to come. So it never
-    /// fails over octets in one piece.
+    /// Fails only if fewer than `len` octets are at hand and others are to come. So it never fails
+    /// over octets in one piece.
     #[inline(always)]
     fn request(&mut self, len: usize) -> Result<usize, NoMemory>
         ensures ok { IfOk result (λ k. Provides len k (source_stream self.new)) }
@@ -317,7 +318,7 @@ impl Source for OctetStringSource {
     }
 }
 
-/// The octets are given from position 0.
+/// The octets come from position 0 on.
 impl IntoSource for OctetString {
     type Source = OctetStringSource;
 

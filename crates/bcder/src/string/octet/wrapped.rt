@@ -23,12 +23,13 @@ use crate::tag::Tag;
 use std::alloc::Global;
 use std::io;
 
-/// An OCTET STRING of the encoding of values, as an encoder.
+/// An encoder of an OCTET STRING that contains the encoding of values.
 ///
-/// Its octets are those that the values have in a mode of their own. In BER and DER it is one
-/// primitive value. In CER it is one of at most 1000 octets, and else a constructed value with
-/// segments of 1000 octets, the last with those that are left (9.2); the octets are then gathered
-/// in memory before they are written, and otherwise they are written straight to the target.
+/// The values have a mode of their own, and their encoding in it is the octets of the string. In
+/// BER and DER the string is one primitive value. In CER it is one primitive value of at most 1000
+/// octets. A longer string is a constructed value with segments of 1000 octets, the last with the
+/// octets that are left (9.2). Only then are the octets gathered in memory before they are written;
+/// otherwise they are written straight to the target.
 #[derive(Clone, Debug, Drop)]
 pub struct WrappingOctetStringEncoder<V> {
     values: V,
@@ -37,7 +38,7 @@ pub struct WrappingOctetStringEncoder<V> {
 }
 
 impl OctetString {
-    /// The encoding of values in a mode, as an OCTET STRING.
+    /// Creates an encoder of an OCTET STRING that contains the encoding of values in a mode.
     pub fn encode_wrapped<V: Values>(
         alloc: Global,
         mode: Mode,
@@ -54,7 +55,7 @@ impl OctetString {
     }
 }
 
-/// How many octets the string has, or why it has no encoding.
+/// Returns the number of octets of the string's encoding, or its refusal.
 fn wrapped_len<V: Values>(values: &V, inner: Mode, mode: Mode) -> Result<usize, EncodeError>
     requires { V.can_encode values.now }
     ensures { SizeOfValues (WrappedMeans octet_string_tag mode (V.means values.now inner))
@@ -64,7 +65,7 @@ fn wrapped_len<V: Values>(values: &V, inner: Mode, mode: Mode) -> Result<usize, 
     string_len(Tag::OCTET_STRING, mode, len)
 }
 
-/// How many octets stand inside the string, or why it has no encoding. The sizes inside are noted.
+/// Returns the number of octets inside the string, or its refusal. Notes the sizes inside.
 fn inside_len<V: Values>(
     values: &V,
     inner: Mode,
@@ -80,8 +81,8 @@ fn inside_len<V: Values>(
     Ok(len)
 }
 
-/// Writes a primitive value with the encoding inside, which has `len` octets: up to 64 by one call
-/// of the target's `write`, if that takes all of it.
+/// Writes a primitive value with the encoding inside, which has `len` octets. Up to 64 octets are
+/// written by one call of the target's `write`, if that takes all of it.
 fn put_straight<V: Values, W: io::Write>(
     values: &V,
     inner: Mode,
@@ -135,7 +136,7 @@ fn put_gathered<V: Values, W: io::Write>(
     }
 }
 
-/// Writes the string, which is known to have an encoding, of `len` octets inside.
+/// Writes the string, which is known to have an encoding, with `len` octets inside.
 fn put_wrapped<V: Values, W: io::Write>(
     wrapped: &WrappingOctetStringEncoder<V>,
     len: usize,
@@ -172,7 +173,7 @@ fn put_wrapped<V: Values, W: io::Write>(
     }
 }
 
-/// Writes a string that is known to have an encoding, and whose size isn't noted: it is measured
+/// Writes a string that is known to have an encoding, but whose size isn't noted. It is measured
 /// once more, and the sizes inside are noted anew.
 fn put_measured<V: Values, W: io::Write>(
     wrapped: &WrappingOctetStringEncoder<V>,
@@ -208,7 +209,8 @@ impl<V: Values> Values for WrappingOctetStringEncoder<V> {
 
     ghost can_encode = { λ x. V.can_encode x.values };
 
-    /// As for every encoder. Nothing is gathered, so memory lacks only where it does for the values.
+    /// Returns the number of octets, like any encoder. Nothing is gathered, so memory runs out only
+    /// if it may for the values.
     fn encoded_len(&self, mode: Mode) -> Result<usize, EncodeError>
         requires { V.can_encode self.now.values }
         ensures sized { SizeOfValues

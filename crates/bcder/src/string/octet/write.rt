@@ -24,7 +24,7 @@ use crate::mode::Mode;
 use crate::tag::Tag;
 use std::io;
 
-/// Whether that many octets are cut into segments (9.2).
+/// Returns whether `len` octets are cut into segments (9.2).
 #[inline(always)]
 pub(super) fn is_cut(mode: Mode, len: usize) -> bool
     ensures { result ≡ is_cut mode len }
@@ -35,7 +35,7 @@ pub(super) fn is_cut(mode: Mode, len: usize) -> bool
     }
 }
 
-/// How many octets the segments of `len` octets have.
+/// Returns the number of octets of the segments of `len` octets.
 fn segments_len(len: usize) -> Option<usize>
     requires { 0 < len }
     ensures { IsSum result (segments_size len) }
@@ -45,7 +45,7 @@ fn segments_len(len: usize) -> Option<usize>
     len.checked_add(4 * full + 1 + Length::Definite(last).octet_count())
 }
 
-/// The size of a value that is cut into segments.
+/// Returns the size of a value that is cut into segments.
 #[cold]
 fn cut_len(tag: Tag, len: usize) -> Result<usize, EncodeError>
     requires { 0 < len }
@@ -60,7 +60,7 @@ fn cut_len(tag: Tag, len: usize) -> Result<usize, EncodeError>
     }
 }
 
-/// How many octets a string of `len` octets has, or why it has no encoding.
+/// Returns the number of octets of the encoding of a string of `len` octets, or its refusal.
 #[inline(always)]
 pub(super) fn string_len(tag: Tag, mode: Mode, len: usize) -> Result<usize, EncodeError>
     ensures { (w : List ℕ) → AreOctets w → len ≡ length w
@@ -76,14 +76,14 @@ pub(super) fn string_len(tag: Tag, mode: Mode, len: usize) -> Result<usize, Enco
 /// How far octets are written in segments.
 #[derive(Clone, Copy)]
 struct Progress {
-    /// Octets that are still to come in the segment that was begun.
+    /// The number of octets that are still to come in the segment that was begun.
     left: usize,
 
-    /// Octets that are still to come behind it.
+    /// The number of octets that are still to come after it.
     behind: usize,
 }
 
-/// Begins a segment of 1000 octets, or of those that there are, where none was begun.
+/// Begins a segment of 1000 octets, or of those that there are, if none was begun.
 fn begin_segment<W: io::Write>(
     progress: Progress,
     target: &mut W,
@@ -109,7 +109,7 @@ fn begin_segment<W: io::Write>(
     })
 }
 
-/// Writes a part, in the segment that was begun and in those behind it.
+/// Writes a part, in the segment that was begun and in those after it.
 fn put_part<W: io::Write>(
     progress: Progress,
     part: &[u8],
@@ -188,7 +188,7 @@ fn put_parts<W: io::Write>(
     Ok(())
 }
 
-/// Adds the octets of the parts to those of a value.
+/// Appends the octets of the parts to those of a value.
 fn add_parts(parts: OctetStringIter<'_>, buffer: &mut Buffer)
     requires { buffer.old.len + length (concat parts) ≤ 73 }
     ensures { buffered buffer.new ≡ buffered buffer.old ++ concat parts.entry }
@@ -198,8 +198,8 @@ fn add_parts(parts: OctetStringIter<'_>, buffer: &mut Buffer)
     }
 }
 
-/// Writes a primitive value with at most 64 contents octets, by one call of the target's `write`,
-/// if that takes all of it.
+/// Writes a primitive value with at most 64 contents octets, by one call of the target's `write` if
+/// that takes all of it.
 fn put_few<W: io::Write>(
     tag: Tag,
     len: usize,
@@ -219,7 +219,8 @@ fn put_few<W: io::Write>(
     put_all(target, buffer.as_slice(), why)
 }
 
-/// Writes a primitive value: one of more than 64 contents octets each part by itself.
+/// Writes a primitive value. If it has more than 64 contents octets, each part is written by
+/// itself.
 fn put_whole<W: io::Write>(
     tag: Tag,
     len: usize,
@@ -239,7 +240,7 @@ fn put_whole<W: io::Write>(
     put_parts(parts, target, why)
 }
 
-/// Writes the string of the octets of the parts, where it is known that it has an encoding.
+/// Writes the string of the octets of the parts, which is known to have an encoding.
 pub(super) fn put_string<W: io::Write>(
     tag: Tag,
     mode: Mode,
@@ -260,7 +261,7 @@ pub(super) fn put_string<W: io::Write>(
     }
 }
 
-/// How many octets these have as a string.
+/// Returns the number of octets of these octets' encoding as a string.
 pub(super) fn octets_len(tag: Tag, octets: &[u8], mode: Mode) -> Result<usize, EncodeError>
     ensures { SizeOfValues (OctetsMean tag octets.now mode) ⊥ result }
 {

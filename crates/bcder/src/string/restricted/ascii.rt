@@ -15,15 +15,16 @@ use crate::tag::Tag;
 use std::alloc::Global;
 use std::borrow::CowSlice;
 
-/// A set of ASCII's characters.
+/// A set of ASCII characters.
 trait AsciiSet {
     ghost test: { ℕ → Bool };
 
-    /// Whether an octet is a character of the set.
+    /// Returns whether an octet is a character of the set.
     fn has(octet: u8) -> bool
         ensures { result ≡ test octet };
 
-    /// Whether each octet is a character of the set. All are looked at, so that many can be at once.
+    /// Returns whether each octet is a character of the set. It looks at all octets, so that it can
+    /// look at many at once.
     fn has_all(octets: &[u8]) -> bool
         ensures { IsTrue result ↔ IsOfSet (one_octet_step test) octets.now }
     {
@@ -37,7 +38,7 @@ trait AsciiSet {
     ghost ascii: { (b : ℕ) → test b ≡ true → b < 128 };
 }
 
-/// Takes the next octet, which is the character of its number.
+/// Takes the next octet, which is the character with its number.
 #[inline(always)]
 fn next_char_of<S: AsciiSet>(
     octets: &mut OctetStringOctets<'_>,
@@ -56,7 +57,7 @@ fn next_char_of<S: AsciiSet>(
     }
 }
 
-/// Looks at the octets piece by piece, as they stand.
+/// Checks the octets piece by piece, as they came.
 fn check_of<S: AsciiSet>(octets: OctetStringOctets<'_>) -> Result<(), CharSetError>
     ensures { Checks (one_octet_step S.test) octets.entry.octets result }
 {
@@ -69,7 +70,7 @@ fn check_of<S: AsciiSet>(octets: OctetStringOctets<'_>) -> Result<(), CharSetErr
     Ok(())
 }
 
-/// The octets of the text itself, where they are characters of the set.
+/// Returns the octets of the text itself, if they are characters of the set.
 fn from_str_of<S: AsciiSet>(text: &str) -> Result<CowSlice<'_, u8>, StringError>
     ensures { SpellsText (one_octet_step S.test) ⊥ text.now result }
 {
@@ -80,7 +81,7 @@ fn from_str_of<S: AsciiSet>(text: &str) -> Result<CowSlice<'_, u8>, StringError>
     }
 }
 
-/// The text that the octets are, where they stand in one piece.
+/// Returns the text that the octets are, if they are in one piece.
 fn as_text_of<'a, S: AsciiSet>(octets: &OctetStringOctets<'a>) -> Option<&'a str>
     requires { IsOfSet (one_octet_step S.test) octets.now.octets }
     ensures { IfSome result (λ text.
@@ -135,13 +136,13 @@ impl TextCharSet for NumericCharSet {
     ghost texts = { ascii_texts is_numeric numeric_ascii };
 }
 
-/// An octet is a character.
+/// The octet is a character of the set.
 const X: bool = true;
 
-/// It is none.
+/// The octet is no character of the set.
 const O: bool = false;
 
-/// Which octets are characters of a PrintableString, 32 a line.
+/// Which octets are characters of a PrintableString, 32 per line.
 static PRINTABLE: [bool; 256] = [
     O, O, O, O, O, O, O, O, O, O, O, O, O, O, O, O, O, O, O, O, O, O, O, O, O, O, O, O, O, O, O, O,
     X, O, O, O, O, O, O, X, X, X, O, X, X, X, X, X, X, X, X, X, X, X, X, X, X, X, X, O, O, X, O, X,
@@ -153,8 +154,8 @@ static PRINTABLE: [bool; 256] = [
     O, O, O, O, O, O, O, O, O, O, O, O, O, O, O, O, O, O, O, O, O, O, O, O, O, O, O, O, O, O, O, O,
 ];
 
-/// The characters of a PrintableString: letters, digits, space and `' ( ) + , - . / : = ?`
-/// (X.680, 41).
+/// The characters of a PrintableString: letters, digits, space and `' ( ) + , - . / : = ?` (X.680,
+/// 41).
 #[derive(Clone, Debug, Drop)]
 pub struct PrintableCharSet;
 

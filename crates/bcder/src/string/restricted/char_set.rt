@@ -15,7 +15,7 @@ use std::borrow::CowSlice;
 use std::error::Error;
 use std::{fmt, str};
 
-/// Octets spell no characters of a set.
+/// The error that octets spell no characters of a set.
 #[derive(Clone, Copy, Debug, PartialEq, Eq)]
 pub struct CharSetError;
 
@@ -31,10 +31,10 @@ impl fmt::Display for CharSetError {
 
 impl Error for CharSetError {}
 
-/// Why a text has no octets in a set.
+/// The reason why a text has no octets in a set.
 #[derive(Clone, Copy, Debug, PartialEq, Eq)]
 pub enum StringError {
-    /// The set hasn't all its characters.
+    /// The set doesn't have all characters of the text.
     CharSet,
 
     /// There is no memory for the octets.
@@ -101,47 +101,47 @@ impl<T: Drop> From<AllocFailed<T>> for StringError {
     }
 }
 
-/// A character set: which characters the octets of a restricted character string spell (X.690,
+/// A character set: says which characters the octets of a restricted character string spell (X.690,
 /// 8.23).
 ///
-/// What a set is to the clauses is a step: from octets to the character that they begin with and
-/// the octets behind it. Octets are a string of the set where steps lead from them to their end.
+/// To the clauses a set is a step: from octets to the character that they begin with, and the
+/// octets after it. Octets are a string of the set if steps lead from them to their end.
 pub trait CharSet {
     /// The tag of the strings of this set.
     const TAG: Tag;
 
-    /// The same, to the clauses.
+    /// The tag of the strings of this set, for the clauses.
     ghost TAG: { TagValue };
 
-    /// How a character is read from the front of octets, where one stands there.
+    /// How a character is read from the beginning of octets, if there is one.
     ghost step: { Step };
 
-    /// Whether memory may lack for the octets of a text: it doesn't, where an implementation
-    /// doesn't say.
+    /// Whether memory may run out for the octets of a text. By default it may not.
     ghost may_lack: { Type 0 } = { ⊥ };
 
-    /// Takes the next character, or answers `None` at the end.
+    /// Takes the next character, or returns `None` at the end.
     ///
     /// # Errors
     ///
-    /// Where octets are left that begin with no character. Some of them may then have been taken.
+    /// Returns an error if octets are left that begin with no character. Some of them may have been
+    /// taken then.
     fn next_char(octets: &mut OctetStringOctets<'_>) -> Result<Option<char>, CharSetError>
         ensures { NextChar step octets.old.octets result octets.new.octets };
 
-    /// The octets that spell a text: the text's own, where they are the same, or others.
+    /// Returns the octets that spell a text: the text's own if they are the same, or others.
     ///
     /// # Errors
     ///
-    /// `CharSet` where the set hasn't all characters of the text; `NoMemory` where there is no memory
-    /// for octets that aren't the text's own.
+    /// Returns `CharSet` if the set doesn't have all characters of the text, and `NoMemory` if
+    /// there is no memory for octets that aren't the text's own.
     fn from_str(alloc: Global, text: &str) -> Result<CowSlice<'_, u8>, StringError>
         ensures { SpellsText step may_lack text.now result };
 
-    /// Whether octets spell characters of the set, up to their end.
+    /// Checks that octets spell characters of the set, up to their end.
     ///
     /// # Errors
     ///
-    /// Where they don't.
+    /// Returns an error if they don't.
     fn check(octets: OctetStringOctets<'_>) -> Result<(), CharSetError>
         ensures { Checks step octets.entry.octets result }
     {
@@ -150,8 +150,8 @@ pub trait CharSet {
         Ok(())
     }
 
-    /// The text of the characters that octets spell, where it is at hand. A set whose strings are
-    /// text as they stand lends the octets, which are then shown at once.
+    /// Returns the text of the characters that octets spell, if it is at hand. A set whose strings
+    /// are text as they are lends the octets, which are then displayed at once.
     #[doc(hidden)]
     fn as_text<'a>(_octets: &OctetStringOctets<'a>) -> Option<&'a str>
         requires { IsOfSet step _octets.now.octets }
@@ -161,17 +161,17 @@ pub trait CharSet {
         None
     }
 
-    /// A character takes at least one octet, and is one of Unicode's.
+    /// A character takes at least one octet, and is a Unicode character.
     ghost lawful: { IsStep step };
 }
 
-/// A character set whose strings are text as they stand: their octets are UTF-8 (RFC 3629), of the
+/// A character set whose strings are text as they are: their octets are the UTF-8 (RFC 3629) of the
 /// characters that they spell.
 pub trait TextCharSet: CharSet {
     ghost texts: { AreTexts Self.step };
 }
 
-/// The octets as a text, where they are known to stand in one piece.
+/// Returns the octets as a text, if they are known to be in one piece.
 #[inline(always)]
 pub(super) fn text_of<'a>(octets: &OctetStringOctets<'a>) -> Option<&'a str>
     requires { IsUtf8 octets.now.octets }

@@ -10,13 +10,13 @@ use std::alloc::AllocError;
 use std::fmt;
 use std::marker::{Model, PhantomData};
 
-/// The characters of a restricted string, in their order.
+/// An iterator over the characters of a restricted string, in order.
 #[derive(Debug, Drop)]
 pub struct RestrictedStringChars<'a, L: CharSet> {
     /// What is left of a string that is at hand as a text.
     text: Option<&'a str>,
 
-    /// What is left of any other.
+    /// What is left of any other string.
     octets: OctetStringOctets<'a>,
 
     set: PhantomData<L>,
@@ -37,8 +37,8 @@ impl<'a, L: CharSet> Model for RestrictedStringChars<'a, L> {
 }
 
 impl<L: CharSet> RestrictedString<L> {
-    /// The characters, in their order. Octets of one character may stand in two segments (X.690,
-    /// 8.23.6).
+    /// Returns an iterator over the characters, in order. The octets of one character may be in two
+    /// segments (X.690, 8.23.6).
     pub fn chars(&self) -> RestrictedStringChars<'_, L>
         ensures { Spells L.step (octets_of self.now) result }
     {
@@ -51,7 +51,7 @@ impl<L: CharSet> RestrictedString<L> {
     }
 }
 
-/// The clone has the same characters to come, and takes no memory.
+/// The clone has the same characters to come, and allocates nothing.
 impl<L: CharSet> Clone for RestrictedStringChars<'_, L> {
     ghost is_clone = { λ i copy. copy ≡ i };
 
@@ -92,7 +92,7 @@ impl<L: CharSet> Iterator for RestrictedStringChars<'_, L> {
     }
 }
 
-/// Its characters, as text.
+/// Displays the characters.
 impl<L: CharSet> fmt::Display for RestrictedString<L> {
     ghost use Rattle.std.specs.Prelude.{Some, encode_utf8_all};
 

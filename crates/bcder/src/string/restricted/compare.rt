@@ -1,4 +1,4 @@
-//! Restricted strings are equal, in order and hashed by their octets, as octet strings are.
+//! Equality, order and hash of restricted strings: by their octets, like octet strings.
 ghost use Rattle.std.specs.Prelude.{Some, nat_eq};
 ghost use Rattle.std.specs.Cmp.{partial_equiv_from_equiv, on_per, on_equiv, on_po, on_total};
 ghost use Rattle.std.specs.Cmp.Lexicographic.{pointwise, slice_cmp, nat_list_eq_equiv};
@@ -14,7 +14,7 @@ use super::{CharSet, RestrictedString};
 use std::cmp::Ordering;
 use std::hash::{Hash, Hasher};
 
-/// Strings are equal where their octets are.
+/// Strings are equal if their octets are.
 impl<L: CharSet> PartialEq for RestrictedString<L> {
     ghost eq = { λ x y. pointwise nat_eq (octets_of x) (octets_of y) };
 
@@ -39,7 +39,7 @@ impl<L: CharSet> PartialOrd for RestrictedString<L> {
     }
 }
 
-/// The first octets that differ decide, and else the shorter string is less.
+/// The first octets that differ decide. If there are none, the shorter string is less.
 impl<L: CharSet> Ord for RestrictedString<L> {
     ghost cmp = { λ x y. slice_cmp nat_cmp (octets_of x) (octets_of y) };
 
@@ -54,7 +54,7 @@ impl<L: CharSet> Ord for RestrictedString<L> {
     }
 }
 
-/// A hasher is handed what it is of the octet string.
+/// The hash is that of the octet string.
 impl<L: CharSet> Hash for RestrictedString<L> {
     ghost hash_input = { λ s. hashed (octets_of s) };
 

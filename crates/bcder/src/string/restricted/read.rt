@@ -34,7 +34,7 @@ fn take_accepted<L: CharSet, S: Source>(
 
 #[tactic(auto, using(crate::specs::laws::Moved::untouched_is_moved))]
 impl<L: CharSet> RestrictedString<L> {
-    /// A string that was read from values, if its octets spell characters of the set.
+    /// Returns a string that was read from values, if its octets spell characters of the set.
     #[inline(always)]
     fn accept<S: Source>(
         values: &Constructed<'_, S>,
@@ -73,8 +73,8 @@ impl<L: CharSet> RestrictedString<L> {
     ///
     /// # Errors
     ///
-    /// Those of [`take_opt_from`](Self::take_opt_from), and `ContentError::ExpectedTag` where that
-    /// answers `None`: the content then stays usable.
+    /// Returns the errors of [`take_opt_from`](Self::take_opt_from), and
+    /// `ContentError::ExpectedTag` if that returns `None`. The content then stays usable.
     #[inline(always)]
     pub fn take_from<S: Source>(
         alloc: Global,
@@ -90,17 +90,17 @@ impl<L: CharSet> RestrictedString<L> {
         }
     }
 
-    /// Takes the next value if it has the set's tag, or answers `None` at the end and at a value of
+    /// Takes the next value if it has the set's tag. Returns `None` at the end and at a value of
     /// another tag, which stays.
     ///
-    /// The value is read as an OCTET STRING is (X.690, 8.23.3): it may be cut into segments, whose
-    /// tag is that of OCTET STRING, and its octets spell characters of the set, which may go on from
-    /// one segment to the next.
+    /// The value is read like an OCTET STRING (X.690, 8.23.3): it may be cut into segments, which
+    /// have the tag of OCTET STRING. Its octets spell characters of the set, and a character may
+    /// continue from one segment to the next.
     ///
     /// # Errors
     ///
-    /// Those of `OctetString::take_opt_from`, and where the octets spell no characters of the set.
-    /// The content has then failed.
+    /// Returns the errors of `OctetString::take_opt_from`, and an error if the octets spell no
+    /// characters of the set. The content has then failed.
     #[inline(always)]
     pub fn take_opt_from<S: Source>(
         alloc: Global,
@@ -136,8 +136,8 @@ impl<L: CharSet> RestrictedString<L> {
     ///
     /// # Errors
     ///
-    /// Those of `OctetString::from_content`, and where the octets spell no characters of the set.
-    /// Some of the content may then have been taken.
+    /// Returns the errors of `OctetString::from_content`, and an error if the octets spell no
+    /// characters of the set. Some of the content may then have been taken.
     pub fn from_content<S: Source>(
         alloc: Global,
         content: &mut Content<'_, S>,

@@ -14,7 +14,7 @@ use std::borrow::CowSlice;
 use std::marker::PhantomData;
 
 impl<L: CharSet> RestrictedString<L> {
-    /// A string of octets that the set accepts, in one piece.
+    /// Creates a string of octets that the set accepts, in one piece.
     pub(super) fn of_bytes(octets: Bytes) -> Self
         requires { IsOfSet L.step octets }
         ensures { result ≡ whole octets }
@@ -25,15 +25,15 @@ impl<L: CharSet> RestrictedString<L> {
         }
     }
 
-    /// The string of a text, in one piece.
+    /// Creates the string of a text, in one piece.
     ///
-    /// Where the set's octets of the text are the text's own, they are those of the `String`, which
-    /// aren't copied.
+    /// If the set's octets of the text are the text's own, the string keeps those of the `String`,
+    /// which aren't copied.
     ///
     /// # Errors
     ///
-    /// `CharSet` where the set hasn't all characters of the text; `NoMemory` where there is no memory
-    /// for the octets. The text is then dropped.
+    /// Returns `CharSet` if the set doesn't have all characters of the text, and `NoMemory` if
+    /// there is no memory for the octets. The text is then dropped.
     pub fn from_string(alloc: Global, text: String) -> Result<Self, StringError>
         ensures { MakesText L.step L.may_lack (string_bytes text) result }
     {
@@ -50,12 +50,12 @@ impl<L: CharSet> RestrictedString<L> {
         }
     }
 
-    /// The string of a text, in one piece.
+    /// Creates the string of a text, in one piece.
     ///
     /// # Errors
     ///
-    /// `CharSet` where the set hasn't all characters of the text; `NoMemory` where there is no memory
-    /// for the octets.
+    /// Returns `CharSet` if the set doesn't have all characters of the text, and `NoMemory` if
+    /// there is no memory for the octets.
     pub fn from_str(alloc: Global, text: &str) -> Result<Self, StringError>
         ensures { MakesText L.step L.may_lack text.now result }
     {
@@ -68,11 +68,13 @@ impl<L: CharSet> RestrictedString<L> {
         }
     }
 
-    /// The octets in one piece. They are the string's own where they came so, and else copied once.
+    /// Returns the octets in one piece. They are the string's own if they came in one piece, and
+    /// otherwise copied once.
     ///
     /// # Errors
     ///
-    /// Where the string was cut and there is no memory for a copy. The string is then dropped.
+    /// Returns an error if the string was cut and there is no memory for a copy. The string is then
+    /// dropped.
     pub fn into_bytes(self, alloc: Global) -> Result<Bytes, NoMemory>
         ensures octets { IfOk result (λ octets. octets ≡ octets_of self) }
         ensures memory { OnErr result (IsCut self) }
@@ -82,8 +84,8 @@ impl<L: CharSet> RestrictedString<L> {
 }
 
 impl<L: TextCharSet> RestrictedString<L> {
-    /// The characters as a text, if the string came in one piece: its octets, which aren't copied
-    /// and aren't checked again.
+    /// Returns the characters as a text, if the string came in one piece. The text is its octets,
+    /// which are neither copied nor checked again.
     pub fn as_str(&self) -> Option<&str>
         ensures { MatchOption result (IsCut self.now)
             (λ text. (self.now ≡ whole text.now) × Spells L.step text.now (chars text.now)) }

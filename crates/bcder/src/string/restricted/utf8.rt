@@ -13,21 +13,21 @@ use std::alloc::Global;
 use std::borrow::CowSlice;
 use std::str;
 
-/// What the first of several octets tells of a character.
+/// What the first of several octets says about a character.
 #[derive(Clone, Copy, Debug)]
 struct Lead {
     /// Its bits of the character.
     bits: u32,
 
-    /// The second octet is one of these.
+    /// The range of the second octet.
     low: u8,
     high: u8,
 
-    /// How many tails stand behind the second octet, 80 to BF each.
+    /// The number of tails after the second octet, 80 to BF each.
     tails: u8,
 }
 
-/// What an octet tells, if it is the first of several (RFC 3629, 4).
+/// Returns what an octet says about a character, if it is the first of several (RFC 3629, 4).
 #[inline(always)]
 fn lead_of(octet: u8) -> Option<Lead>
     ensures told { MatchOption result (lead octet ≡ None) (λ l. lead octet
@@ -54,7 +54,7 @@ fn lead_of(octet: u8) -> Option<Lead>
     })
 }
 
-/// Takes an octet of a range, which has six more bits of a character.
+/// Takes an octet in a range, which has six more bits of a character.
 #[inline(always)]
 fn take_octet(
     octets: &mut OctetStringOctets<'_>,
@@ -83,7 +83,7 @@ fn take_octet(
     }
 }
 
-/// Takes the octets behind the first of several.
+/// Takes the octets after the first of several.
 #[inline(always)]
 fn take_behind(octets: &mut OctetStringOctets<'_>, lead: Lead) -> Result<u32, CharSetError>
     requires few { (lead.bits < 32) × (lead.tails < 3) }
@@ -104,7 +104,8 @@ fn take_behind(octets: &mut OctetStringOctets<'_>, lead: Lead) -> Result<u32, Ch
     take_octet(octets, code, 0x80, 0xBF)
 }
 
-/// How many octets in front are UTF-8: characters, as far as they stand there whole.
+/// Returns the length of a prefix of the octets that is UTF-8: the whole characters at the
+/// beginning.
 fn utf8_len(octets: &[u8]) -> usize
     ensures { (result ≤ length octets.now) × IsUtf8 (take result octets.now) }
 {
@@ -114,7 +115,7 @@ fn utf8_len(octets: &[u8]) -> usize
     }
 }
 
-/// Whether many octets are UTF-8. Of those that aren't ASCII, 64 are looked at in a step.
+/// Returns whether many octets are UTF-8. Unless all are ASCII, 64 of them are checked in a step.
 #[tactic(auto, using(crate::proofs::Utf8::ascii_text))]
 #[inline(never)]
 fn is_long_text(octets: &[u8]) -> bool
@@ -123,7 +124,7 @@ fn is_long_text(octets: &[u8]) -> bool
     octets.is_ascii() || simdutf8::is_utf8(octets)
 }
 
-/// Whether octets are UTF-8.
+/// Returns whether octets are UTF-8.
 #[inline(always)]
 fn is_text(octets: &[u8]) -> bool
     ensures { IsTrue result ↔ IsUtf8 octets.now }
@@ -192,8 +193,7 @@ impl TextCharSet for Utf8CharSet {
     ghost texts = { utf8_text };
 }
 
-/// Looks at the octets part by part, and takes what doesn't stand whole in one character by
-/// character.
+/// Checks the octets part by part. A character that isn't whole in one part is taken by itself.
 #[inline(never)]
 fn check_parts(octets: OctetStringOctets<'_>) -> Result<(), CharSetError>
     ensures { Checks utf8_step octets.entry.octets result }

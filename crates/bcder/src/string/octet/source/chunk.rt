@@ -1,4 +1,4 @@
-//! The octets of a string that stand in front of those to come.
+//! The octets of a string that come before those still to come.
 ghost use Rattle.std.specs.Prelude.{◌≡◌, ◌==◌, ◌+◌, ◌≤◌, [], true, false, length, drop};
 ghost use Rattle.std.specs.Prelude.{slice_range, IfOk};
 ghost use Rattle.bcder.specs.steps.SegmentTable.{segment_at};
@@ -8,17 +8,17 @@ use crate::string::octet::Segment;
 use bytes::Bytes;
 use std::marker::Model;
 
-/// Octets that stand in a block. Those that are passed over stay there, so that a step over one is
-/// a step of one number.
+/// Octets in a block. Octets that are skipped stay in the block, so that a step over one changes
+/// one number only.
 #[derive(Debug, Drop)]
 pub(super) struct Chunk {
     block: Bytes,
 
-    /// Where they stand in it.
+    /// The place of the octets in the block.
     start: usize,
     end: usize,
 
-    /// Whether the segments to come stand in the same block.
+    /// Whether the segments to come are in the same block.
     is_shared: bool,
 }
 
@@ -39,7 +39,7 @@ impl Model for Chunk {
 }
 
 impl Chunk {
-    /// All octets of a block of their own.
+    /// Creates a chunk of all octets of a block of their own.
     pub(super) fn of_block(block: Bytes) -> Chunk
         ensures { result ≡ record { block = block; octets = block; is_shared = false } }
     {
@@ -52,7 +52,7 @@ impl Chunk {
         }
     }
 
-    /// None of the octets that segments stand in.
+    /// Creates an empty chunk in the block in which the segments are.
     pub(super) fn before_segments(block: Bytes) -> Chunk
         ensures { result ≡ record { block = block; octets = []; is_shared = true } }
     {
@@ -64,7 +64,7 @@ impl Chunk {
         }
     }
 
-    /// Whether the segments to come stand in the same block.
+    /// Returns whether the segments to come are in the same block.
     #[inline(always)]
     pub(super) fn is_shared(&self) -> bool
         ensures { result ≡ self.now.is_shared }
@@ -72,7 +72,7 @@ impl Chunk {
         self.is_shared
     }
 
-    /// How many octets there are.
+    /// Returns the number of octets.
     #[inline(always)]
     pub(super) fn len(&self) -> usize
         ensures { result ≡ length self.now.octets }
@@ -80,7 +80,7 @@ impl Chunk {
         self.end - self.start
     }
 
-    /// Whether there is none.
+    /// Returns whether there are no octets.
     #[inline(always)]
     pub(super) fn is_empty(&self) -> bool
         ensures { result ≡ (length self.now.octets == 0) }
@@ -88,7 +88,7 @@ impl Chunk {
         self.len() == 0
     }
 
-    /// The octets.
+    /// Returns the octets.
     #[inline(always)]
     pub(super) fn as_slice(&self) -> &[u8]
         ensures { result.now ≡ self.now.octets }
@@ -96,7 +96,7 @@ impl Chunk {
         &self.block.as_slice()[self.start..self.end]
     }
 
-    /// Some of the octets, shared.
+    /// Returns some of the octets, shared.
     pub(super) fn slice(&self, start: usize, end: usize) -> Result<Bytes, NoMemory>
         requires start_le_end { start ≤ end }
         requires in_bounds { end ≤ length self.now.octets }
@@ -106,7 +106,7 @@ impl Chunk {
         Ok(self.block.slice(self.start + start..self.start + end)?)
     }
 
-    /// Passes over the first ones.
+    /// Skips the first octets.
     #[inline(always)]
     pub(super) fn advance(&mut self, len: usize)
         requires { len ≤ length self.old.octets }
@@ -119,7 +119,7 @@ impl Chunk {
         self.start += len;
     }
 
-    /// Has a segment that stands in the block take their place.
+    /// Replaces the octets by a segment in the same block.
     #[inline(always)]
     pub(super) fn move_to(&mut self, segment: Segment)
         requires { segment.start + segment.len ≤ length self.old.block }
