@@ -51,8 +51,8 @@ impl<'a, S: Source> Content<'a, S> {
     ///
     /// # Errors
     ///
-    /// Returns an error if octets are owed, or if the content is that of a constructed value, which
-    /// then stays as it is.
+    /// Returns an error if the length promises octets, or if the content is that of a constructed
+    /// value, which then stays as it is.
     pub fn to_null(&mut self) -> Result<(), DecodeError<S::Error>>
         ensures moves { MovedContent S.stream self }
         ensures read { ReadContent S.stream self IsNull result }

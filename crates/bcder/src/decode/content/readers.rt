@@ -156,8 +156,8 @@ impl<'a, S: Source> Primitive<'a, S> {
     ///
     /// # Errors
     ///
-    /// Returns an error if the octets aren't such a value, if fewer octets come than are owed, or
-    /// if the source fails. No octet is then taken.
+    /// Returns an error if the octets aren't such a value, if fewer octets come than the length
+    /// promises, or if the source fails. No octet is then taken.
     #[inline]
     pub fn to_bool(&mut self) -> Result<bool, DecodeError<S::Error>>
         ensures moves { MovedOctets S.stream self }
@@ -181,7 +181,8 @@ impl<'a, S: Source> Primitive<'a, S> {
     ///
     /// # Errors
     ///
-    /// Returns an error if octets are owed, or if no length is known. No octet is then taken.
+    /// Returns an error if the length promises octets, or if no length is known. No octet is then
+    /// taken.
     #[inline(always)]
     pub fn to_null(&mut self) -> Result<(), DecodeError<S::Error>>
         ensures moves { MovedOctets S.stream self }
@@ -203,8 +204,8 @@ impl<'a, S: Source> Primitive<'a, S> {
     ///
     /// # Errors
     ///
-    /// Returns an error if fewer octets come than are owed, if the source fails, or if memory runs
-    /// out. No octet is then taken.
+    /// Returns an error if fewer octets come than the length promises, if the source fails, or if
+    /// memory runs out. No octet is then taken.
     #[inline(always)]
     pub fn take_all(&mut self, alloc: Global) -> Result<Bytes, DecodeError<S::Error>>
         ensures moves { MovedOctets S.stream self }
@@ -272,8 +273,8 @@ impl<'a, S: Source> Primitive<'a, S> {
     ///
     /// # Errors
     ///
-    /// Returns the closure's error. Also returns an error if fewer octets come than are owed, or if
-    /// the source fails. No octet is then taken.
+    /// Returns the closure's error. Also returns an error if fewer octets come than the length
+    /// promises, or if the source fails. No octet is then taken.
     #[inline(always)]
     pub fn with_slice_all<F, T: Drop>(&mut self, op: F) -> Result<T, DecodeError<S::Error>>
     where
@@ -300,8 +301,8 @@ impl<'a, S: Source> Primitive<'a, S> {
     ///
     /// # Errors
     ///
-    /// Returns an error if fewer octets come than are owed, or if the source fails. The closure is
-    /// then not called.
+    /// Returns an error if fewer octets come than the length promises, or if the source fails. The
+    /// closure is then not called.
     #[inline(always)]
     pub fn slice_all<F, T: Drop>(&mut self, op: F) -> Result<T, DecodeError<S::Error>>
     where
@@ -322,7 +323,7 @@ impl<'a, S: Source> Primitive<'a, S> {
     /// # Errors
     ///
     /// Returns an error if the octets aren't the contents octets of such an integer, if fewer
-    /// octets come than are owed, or if the source fails. No octet is then taken.
+    /// octets come than the length promises, or if the source fails. No octet is then taken.
     #[inline(always)]
     pub fn to_i8(&mut self) -> Result<i8, DecodeError<S::Error>>
         ensures moves { MovedOctets S.stream self }
@@ -481,7 +482,7 @@ impl<'a, S: Source> Primitive<'a, S> {
     }
 }
 
-/// The octets of a primitive value are a source: those that are owed and come.
+/// The octets of a primitive value are a source: those that the length promises and that come.
 impl<'a, S: Source> Source for Primitive<'a, S> {
     type Error = S::Error;
 

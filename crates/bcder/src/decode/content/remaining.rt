@@ -21,7 +21,7 @@ impl<'a, S: Source> Primitive<'a, S> {
         }
     }
 
-    /// Passes over all octets that are owed.
+    /// Passes over all octets that the length still promises.
     ///
     /// # Errors
     ///

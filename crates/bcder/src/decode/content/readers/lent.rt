@@ -32,8 +32,8 @@ impl<'a, 'b, S: LendingSource<'b>> Primitive<'a, S> {
     ///
     /// # Errors
     ///
-    /// Returns an error if fewer octets come than are owed, or if the source fails. No octet is
-    /// then taken.
+    /// Returns an error if fewer octets come than the length promises, or if the source fails. No
+    /// octet is then taken.
     #[inline(always)]
     pub fn take_slice_all(&mut self) -> Result<&'b [u8], DecodeError<S::Error>>
         ensures moves { MovedOctets S.stream self }

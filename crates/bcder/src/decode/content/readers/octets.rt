@@ -12,8 +12,8 @@ impl<'a, S: Source> Primitive<'a, S> {
     ///
     /// # Errors
     ///
-    /// Returns an error if no octet is owed or comes, or if the source fails. No octet is then
-    /// taken.
+    /// Returns an error if the value has no octets left, if none comes, or if the source fails. No
+    /// octet is then taken.
     pub fn take_u8(&mut self) -> Result<u8, DecodeError<S::Error>>
         ensures moves { MovedOctets S.stream self }
         ensures took { TookOctet S.stream self result }
@@ -21,7 +21,7 @@ impl<'a, S: Source> Primitive<'a, S> {
         self.source.take_u8()
     }
 
-    /// Takes the next octet, or returns `None` if no octet is owed or comes.
+    /// Takes the next octet, or returns `None` if the value has no octets left or none comes.
     ///
     /// # Errors
     ///
@@ -33,8 +33,8 @@ impl<'a, S: Source> Primitive<'a, S> {
         self.source.take_opt_u8()
     }
 
-    /// Passes over `len` octets, or over all that are owed and come if these are fewer, and returns
-    /// how many were passed.
+    /// Passes over `len` octets, or over all that are left of the value and come if these are
+    /// fewer, and returns how many were passed.
     ///
     /// # Errors
     ///
