@@ -170,8 +170,7 @@ fn is_list_within(mode: Mode, octets: &[u8], levels: usize) -> bool
 /// The maximum number of levels of calls for values that can be read without such calls, too.
 const LEVELS: usize = 64;
 
-/// Returns how many octets the first value has, if it is all here and has no more than `LEVELS`
-/// levels.
+/// Returns how many octets the first value has, if it is all here and no deeper than `LEVELS`.
 #[inline(always)]
 pub(crate) fn size_within(mode: Mode, octets: &[u8]) -> Option<usize>
     ensures { IfSome result (λ n. BeginsWhole mode octets.now n) }

@@ -86,8 +86,8 @@ where
     (result, cons.state, cons.marked)
 }
 
-/// Takes the octets that were passed from the borrowed source, and returns that source as well. A
-/// refusal takes none.
+/// Takes the octets that were passed over out of the borrowed source, and returns that source as
+/// well. A refusal takes none.
 fn take_passed<'a, S: Source>(
     mut capture: CaptureSource<'a, S>,
     alloc: Global,

@@ -31,7 +31,7 @@ impl<'a, S: Source> Constructed<'a, S> {
         self.source.limit()
     }
 
-    /// Calls the closure on the content until it returns `None`.
+    /// Calls the closure on the content again and again, until it returns `None`.
     ///
     /// This is the loop over a SEQUENCE OF or a SET OF:
     ///
@@ -78,7 +78,8 @@ impl<'a, S: Source> Constructed<'a, S> {
         Err(self.refusal("steps without an end"))
     }
 
-    /// Calls the closure on the content until it returns `None`, and returns the results in order.
+    /// Calls the closure on the content again and again until it returns `None`, and returns the
+    /// results in order.
     ///
     /// These are the values of a SEQUENCE OF or a SET OF:
     ///

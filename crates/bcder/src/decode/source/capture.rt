@@ -56,7 +56,7 @@ impl<'a, S: Source> CaptureSource<'a, S> {
         CaptureSource { source, pos: 0 }
     }
 
-    /// Takes the octets that were passed over from the borrowed source, and returns them.
+    /// Takes the octets that were passed over out of the borrowed source, and returns them.
     ///
     /// They have to be available there, as they are after a request and the calls of `advance` that
     /// it allows.
