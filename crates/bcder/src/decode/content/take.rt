@@ -78,7 +78,7 @@ impl<'a, S: Source> Constructed<'a, S> {
 
     /// Returns a refusal at the current position as a result.
     ///
-    /// It is a call of its own, so that no stack space is cleared for an error if nothing is
+    /// It is a function of its own, so that no stack space is cleared for an error if nothing is
     /// refused.
     #[inline(always)]
     pub(super) fn answer_refusal<T>(&self, text: &'static str) -> Result<T, DecodeError<S::Error>>
@@ -104,8 +104,8 @@ impl<'a, S: Source> Constructed<'a, S> {
         }
     }
 
-    /// Returns the error for a stop as a result. It is a call of its own for the same reason as
-    /// `answer_refusal`.
+    /// Returns the error for a stop as a result. It is a function of its own for the same reason
+    /// as `answer_refusal`.
     #[inline(always)]
     pub(super) fn answer_stop<T>(&self, stop: Stop<S::Error>) -> Result<T, DecodeError<S::Error>>
         ensures { IsErrAnd result (λ e. cause_of e ≡ stop_cause stop) }

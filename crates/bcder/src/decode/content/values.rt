@@ -91,8 +91,8 @@ impl<'a, S: Source> Constructed<'a, S> {
     /// Takes the next value if it has this tag, or returns `None`.
     ///
     /// The result is `None` at the end of the content, if the source has no more octets, and if the
-    /// next value has another tag. Nothing is taken then, so a later call can take what is there. A
-    /// call with `Tag::END_OF_VALUE` takes end-of-contents octets (X.690, 8.1.5).
+    /// next value has another tag. Nothing is taken then, so a later call can take what is there.
+    /// Only a call with `Tag::END_OF_VALUE` takes end-of-contents octets (X.690, 8.1.5).
     ///
     /// The closure gets the value's content, open and in this content's mode. It has to take all of
     /// it, and its result is returned.
