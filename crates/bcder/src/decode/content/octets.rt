@@ -17,7 +17,7 @@ impl<'a, S: Source> Constructed<'a, S> {
     /// Takes the next value, which has to be primitive, or returns `None` at the end of the
     /// content.
     ///
-    /// The closure gets the value's tag and its contents octets. Otherwise it works like
+    /// The closure gets the value's tag and its contents octets. Otherwise this call works like
     /// [`take_opt_value`](Self::take_opt_value).
     ///
     /// # Errors
@@ -77,7 +77,7 @@ impl<'a, S: Source> Constructed<'a, S> {
     /// Takes the next value if it has this tag, or returns `None`. A value with this tag has to be
     /// primitive.
     ///
-    /// The closure gets the value's contents octets. Otherwise it works like
+    /// The closure gets the value's contents octets. Otherwise this call works like
     /// [`take_opt_value_if`](Self::take_opt_value_if).
     ///
     /// # Errors

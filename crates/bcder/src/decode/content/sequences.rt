@@ -17,7 +17,7 @@ impl<'a, S: Source> Constructed<'a, S> {
     /// Takes the next value, which has to be constructed, or returns `None` at the end of the
     /// content.
     ///
-    /// The closure gets the value's tag and the values inside it. Otherwise it works like
+    /// The closure gets the value's tag and the values inside it. Otherwise this call works like
     /// [`take_opt_value`](Self::take_opt_value).
     ///
     /// # Errors
@@ -77,7 +77,7 @@ impl<'a, S: Source> Constructed<'a, S> {
     /// Takes the next value if it has this tag, or returns `None`. A value with this tag has to be
     /// constructed.
     ///
-    /// The closure gets the values inside it. Otherwise it works like
+    /// The closure gets the values inside it. Otherwise this call works like
     /// [`take_opt_value_if`](Self::take_opt_value_if).
     ///
     /// # Errors
