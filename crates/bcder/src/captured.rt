@@ -1,4 +1,4 @@
-//! Values that are kept as their octets.
+//! Values that are kept as their encodings.
 ghost use Rattle.std.specs.Prelude.{◌≡◌, [], IfOk, OnErr};
 ghost use Rattle.bcder.specs.calls.Captured.{AreWhole, kept_stream};
 ghost use Rattle.bcder.specs.calls.Captured.{CallableOnKept, LawfulOnKept, DecodesPart};
@@ -23,8 +23,8 @@ use std::ops::Deref;
 
 /// A list of values, kept as their encodings in a mode, one after the other (X.690, 8.1.1).
 ///
-/// The octets are shared: a clone copies none. It remembers the position where they began in the
-/// source that they come from, for messages.
+/// The octets are shared: a clone copies none. For messages, the position is kept where they began
+/// in the source that they come from.
 #[derive(Drop)]
 pub struct Captured {
     octets: Bytes,
@@ -42,7 +42,7 @@ impl Model for Captured {
     ghost invariant = { λ c. AreWhole c.mode c.octets };
 }
 
-/// The octets in a vector: those of the block itself, where nothing else shares it, or a copy.
+/// Returns the octets in a vector, without a copy if nothing else shares their block.
 fn into_vec(alloc: Global, octets: Bytes) -> Result<Vec<u8>, NoMemory>
     ensures { IfOk result (λ v. v.items ≡ octets) }
 {
@@ -56,7 +56,7 @@ fn into_vec(alloc: Global, octets: Bytes) -> Result<Vec<u8>, NoMemory>
 }
 
 impl Captured {
-    /// Octets that are encodings in a mode, which began at a position.
+    /// Creates captured values from their encodings in a mode, and the position where these began.
     pub(crate) fn new(octets: Bytes, mode: Mode, start: Pos) -> Captured
         requires { AreWhole mode octets }
         ensures mode { result.mode ≡ mode }
@@ -70,7 +70,7 @@ impl Captured {
         }
     }
 
-    /// No values, in a mode, at position 0.
+    /// Creates a list of no values, in a mode, at position 0.
     pub fn empty(_alloc: Global, mode: Mode) -> Captured
         ensures mode { result.mode ≡ mode }
         ensures octets { result.octets ≡ [] }
@@ -83,15 +83,15 @@ impl Captured {
         }
     }
 
-    /// The values of an encoder, in a mode, at position 0.
+    /// Captures the values of an encoder, in a mode, at position 0.
     ///
     /// The octets are what the encoder writes in the mode: an encoding of its values, in CER and
-    /// DER the only one (X.690, 9.1, 10.1). Memory for them is asked for once.
+    /// DER the only one (X.690, 9.1, 10.1). Memory for them is requested once.
     ///
     /// # Errors
     ///
-    /// Those of the encoder's `encoded_len`, and `NoMemory` where there are octets and no memory
-    /// for them.
+    /// Returns the errors of the encoder's `encoded_len`, and `NoMemory` if there are octets and
+    /// memory runs out for them.
     pub fn from_values<V: Values + Drop>(
         alloc: Global,
         mode: Mode,
@@ -108,20 +108,21 @@ impl Captured {
         }
     }
 
-    /// A builder without values, in a mode.
+    /// Creates a builder without values, in a mode.
     pub fn builder(alloc: Global, mode: Mode) -> CapturedBuilder
         ensures { result ≡ none_kept mode }
     {
         CapturedBuilder::new(alloc, mode)
     }
 
-    /// A builder with these values, behind which more can be put. It begins at position 0.
+    /// Turns this into a builder with these values, to which more can be added. It begins at
+    /// position 0.
     ///
-    /// The octets are copied where they are shared.
+    /// The octets are copied if they are shared.
     ///
     /// # Errors
     ///
-    /// Where there is no memory for the copy.
+    /// Returns `NoMemory` if memory runs out for the copy.
     pub fn into_builder(self, alloc: Global) -> Result<CapturedBuilder, NoMemory>
         ensures { IfOk result (λ b. b ≡ from_start self) }
     {
@@ -135,12 +136,12 @@ impl Captured {
 
     /// Decodes the values, in the mode that they are kept in.
     ///
-    /// The closure is handed all of them, as [`Mode::decode`] hands them over. Octets that it
-    /// leaves aren't looked at.
+    /// The closure gets all of them, as with [`Mode::decode`]. Octets that it leaves aren't looked
+    /// at.
     ///
     /// # Errors
     ///
-    /// Those of [`Constructed::decode`].
+    /// Returns the errors of [`Constructed::decode`].
     pub fn decode<F, T: Drop>(self, op: F) -> Result<T, DecodeError<Infallible>>
     where
         F: FnOnce(&mut Constructed<'_, BytesSource>) -> Result<T, DecodeError<Infallible>>,
@@ -157,14 +158,15 @@ impl Captured {
         Constructed::decode(self, mode, op)
     }
 
-    /// Decodes the values at the front, and keeps those behind them.
+    /// Decodes the first values, and keeps the others.
     ///
-    /// The closure is handed all values. What it leaves is kept, in the mode as before, and begins
-    /// where it begins in the source.
+    /// The closure gets all values. What it leaves is kept, in the same mode as before, and at the
+    /// position where it begins in the source.
     ///
     /// # Errors
     ///
-    /// Those of [`Constructed::decode_lent`], and want of memory. The values are then as they were.
+    /// Returns the errors of [`Constructed::decode_lent`], and an error if memory runs out. The
+    /// values are then as they were.
     pub fn decode_partial<F, T: Drop>(&mut self, op: F) -> Result<T, DecodeError<Infallible>>
     where
         F: FnOnce(&mut Constructed<'_, &mut BytesSource>) -> Result<T, DecodeError<Infallible>>,
@@ -185,7 +187,7 @@ impl Captured {
         Ok(value)
     }
 
-    /// The octets.
+    /// Returns the octets.
     pub fn into_bytes(self) -> Bytes
         ensures value { result ≡ self.octets }
         ensures whole { AreWhole self.mode result }
@@ -193,7 +195,7 @@ impl Captured {
         self.octets
     }
 
-    /// The octets, lent.
+    /// Lends the octets.
     pub fn as_slice(&self) -> &[u8]
         ensures value { result.now ≡ self.now.octets }
         ensures whole { AreWhole self.now.mode result.now }
@@ -201,11 +203,11 @@ impl Captured {
         self.octets.as_slice()
     }
 
-    /// The octets, shared.
+    /// Returns the octets, shared.
     ///
     /// # Errors
     ///
-    /// Where there is no memory to share them.
+    /// Returns `NoMemory` if memory runs out for sharing them.
     pub fn bytes(&self) -> Result<Bytes, NoMemory>
         ensures value { IfOk result (λ b. b ≡ self.now.octets) }
         ensures whole { IfOk result (λ b. AreWhole self.now.mode b) }
@@ -214,7 +216,7 @@ impl Captured {
     }
 }
 
-/// It shows its octets.
+/// Dereferences to the octets.
 impl Deref for Captured {
     type Target = Bytes;
 
@@ -225,7 +227,7 @@ impl Deref for Captured {
     }
 }
 
-/// It lends its octets.
+/// Lends the octets.
 impl AsRef<Bytes> for Captured {
     fn as_ref(&self) -> &Bytes
         ensures { result.now ≡ self.now.octets }
@@ -234,7 +236,7 @@ impl AsRef<Bytes> for Captured {
     }
 }
 
-/// It lends its octets.
+/// Lends the octets.
 impl AsSlice<u8> for Captured {
     ghost items = { λ c. c.octets };
 
@@ -243,7 +245,7 @@ impl AsSlice<u8> for Captured {
     }
 }
 
-/// The octets are given from the position where they began.
+/// Gives the octets from the position where they began.
 impl IntoSource for Captured {
     type Source = BytesSource;
 
@@ -267,7 +269,7 @@ impl Clone for Captured {
     }
 }
 
-/// The octets in hexadecimal, in groups of four.
+/// Writes the octets in hexadecimal, in groups of four.
 impl fmt::Debug for Captured {
     fn fmt<W: fmt::Write>(&self, f: &mut fmt::Formatter<W>) -> fmt::Result {
         write!(f, "[ ")?;

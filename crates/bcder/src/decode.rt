@@ -1,4 +1,4 @@
-//! Decoding: sources of octets, errors, and content.
+//! Decoding: sources of octets, content, and errors.
 mod content;
 mod error;
 pub(crate) mod header;

@@ -13,17 +13,17 @@ use crate::mode::Mode;
 
 pub(crate) mod write;
 
-/// What length octets say.
+/// The meaning of length octets.
 #[derive(Clone, Copy, PartialEq, Eq)]
 pub(crate) enum Length {
     /// The number of contents octets (8.1.3.3).
     Definite(usize),
 
-    /// The contents octets end at end-of-contents octets (8.1.3.6).
+    /// The contents octets end with end-of-contents octets (8.1.3.6).
     Indefinite,
 }
 
-/// The number that at most four octets are.
+/// Returns the big-endian number of at most four octets.
 fn number_of(octets: &[u8]) -> usize
     requires { length octets.now ≤ 4 }
     ensures value { result ≡ big_endian octets.now }
@@ -40,7 +40,8 @@ fn number_of(octets: &[u8]) -> usize
     }
 }
 
-/// Whether that many octets may tell the number: in CER and DER no fewer can (9.1, 10.1).
+/// Returns whether a length may have `count` octets: in CER and DER only if no fewer suffice (9.1,
+/// 10.1).
 #[tactic(auto, using(crate::proofs::nat_tests), unfolding(crate::specs::steps::Reading::may_tell))]
 fn may_tell(mode: Mode, count: usize, len: usize) -> bool
     requires some { 1 ≤ count }
@@ -58,7 +59,7 @@ fn may_tell(mode: Mode, count: usize, len: usize) -> bool
     }
 }
 
-/// The length that the first `count` octets are, and the octets after them (8.1.3.5).
+/// Returns the length that the first `count` octets mean, and the octets that follow (8.1.3.5).
 #[tactic(auto, using(crate::proofs::nat_tests), unfolding(crate::specs::steps::Reading::read_long))]
 fn long_at(mode: Mode, count: usize, octets: &[u8]) -> Option<(Length, &[u8])>
     requires { 1 ≤ count }
@@ -79,7 +80,7 @@ fn long_at(mode: Mode, count: usize, octets: &[u8]) -> Option<(Length, &[u8])>
     }
 }
 
-/// The length at the front, and the octets after it.
+/// Reads length octets, and returns the length and the octets that follow.
 #[tactic(auto, using(crate::proofs::nat_tests), unfolding(crate::specs::steps::Reading::read_length))]
 #[inline(always)]
 pub(crate) fn length_at(mode: Mode, octets: &[u8]) -> Option<(Length, &[u8])>
@@ -99,8 +100,8 @@ pub(crate) fn length_at(mode: Mode, octets: &[u8]) -> Option<(Length, &[u8])>
     }
 }
 
-/// What octets that hold no length octets violate, whatever identifier octets stand before them.
-/// `None` is for those that may begin some.
+/// Returns what octets violate that don't begin with length octets, or `None` if they may be the
+/// beginning of some. This holds whatever identifier octets come before them.
 #[tactic(auto, using(crate::proofs::Violations::length_violated))]
 pub(crate) fn length_violation(mode: Mode, octets: &[u8]) -> Option<Violation>
     requires { read_length mode octets.now ≡ None }
@@ -127,7 +128,7 @@ pub(crate) fn length_violation(mode: Mode, octets: &[u8]) -> Option<Violation>
     }
 }
 
-/// The octets after the end marker at the front.
+/// Returns the octets after the end-of-contents octets that come first.
 #[tactic(auto, unfolding(crate::specs::steps::Reading::read_end))]
 pub(crate) fn after_end(mode: Mode, octets: &[u8]) -> Option<&[u8]>
     ensures { MatchOption result

@@ -1,8 +1,8 @@
 //! Reading and writing data in the Basic, Canonical and Distinguished Encoding Rules of ASN.1
 //! (ITU-T X.690).
 //!
-//! What every call promises is written in its contract, over the definitions in `specs/`, and is
-//! proved. The README says crate by crate what that comes to.
+//! The contract of each call says what it promises, in terms of the definitions in `specs/`. The
+//! contracts are proved. The README sums up what they guarantee.
 #![tactic(auto)]
 
 pub mod captured;

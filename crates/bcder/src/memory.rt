@@ -1,9 +1,9 @@
-//! Want of memory.
+//! Running out of memory.
 use std::alloc::{AllocError, AllocFailed};
 use std::error::Error;
 use std::fmt;
 
-/// A growth was refused: there is no memory for it.
+/// The error for running out of memory.
 #[derive(Clone, Copy, Debug, PartialEq, Eq)]
 pub struct NoMemory;
 

@@ -1,4 +1,4 @@
-//! The three sets of encoding rules.
+//! The encoding rules of X.690.
 ghost use Rattle.std.specs.Prelude.{◌≡◌, ◌↔◌, ◌≤◌, ◌++◌, ℕ, List, IsTrue, IfOk, IfErr};
 ghost use Rattle.bcder.specs.calls.Decoding.{CallableOnAll, LawfulOnAll, CallableOnLent};
 ghost use Rattle.bcder.specs.calls.Decoding.{LawfulOnLent};
@@ -8,28 +8,30 @@ ghost use Rattle.bcder.specs.calls.Views.{of_constructed};
 
 use crate::decode::{Constructed, DecodeError, IntoSource, Source};
 
-/// A set of encoding rules of X.690.
+/// The encoding rules of X.690 that data is read or written by.
 #[derive(Clone, Copy, Debug, Default, PartialEq, Eq)]
 pub enum Mode {
-    /// The Basic Encoding Rules (clause 8): several encodings for one value.
+    /// The Basic Encoding Rules (clause 8): a value may have several encodings.
     #[default]
     Ber,
 
-    /// The Canonical Encoding Rules (clause 9): one encoding for each value, constructed values in
-    /// the indefinite form.
+    /// The Canonical Encoding Rules (clause 9): each value has one encoding, and constructed values
+    /// have the indefinite form.
     Cer,
 
-    /// The Distinguished Encoding Rules (clause 10): one encoding for each value, all lengths
-    /// definite.
+    /// The Distinguished Encoding Rules (clause 10): each value has one encoding, and all lengths
+    /// are definite.
     Der,
 }
 
 impl Mode {
-    /// Decodes the values at the front of a source in this mode, as [`Constructed::decode`] does.
+    /// Decodes values from the start of a source in this mode.
+    ///
+    /// See [`Constructed::decode`].
     ///
     /// # Errors
     ///
-    /// Those of `Constructed::decode`.
+    /// Returns the errors of `Constructed::decode`.
     pub fn decode<I: IntoSource, F, T: Drop>(
         self,
         source: I,
@@ -48,12 +50,14 @@ impl Mode {
         Constructed::decode(source, self, op)
     }
 
-    /// Decodes all values of a source in this mode, as [`Constructed::decode_all`] does: octets
-    /// behind those that the closure takes are refused.
+    /// Decodes all values of a source in this mode.
+    ///
+    /// Octets that follow the values that the closure takes are refused. See
+    /// [`Constructed::decode_all`].
     ///
     /// # Errors
     ///
-    /// Those of `Constructed::decode_all`.
+    /// Returns the errors of `Constructed::decode_all`.
     pub fn decode_all<I: IntoSource, F, T: Drop>(
         self,
         source: I,
@@ -74,12 +78,13 @@ impl Mode {
         Constructed::decode_all(source, self, op)
     }
 
-    /// Decodes the values at the front of a borrowed source in this mode, as
-    /// [`Constructed::decode_lent`] does.
+    /// Decodes values from the start of a borrowed source in this mode.
+    ///
+    /// See [`Constructed::decode_lent`].
     ///
     /// # Errors
     ///
-    /// Those of `Constructed::decode_lent`.
+    /// Returns the errors of `Constructed::decode_lent`.
     pub fn decode_lent<S: Source, F, T: Drop>(
         self,
         source: &mut S,
@@ -99,21 +104,21 @@ impl Mode {
         Constructed::decode_lent(source, self, op)
     }
 
-    /// Whether these are the Basic Encoding Rules.
+    /// Returns whether these are the Basic Encoding Rules.
     pub fn is_ber(self) -> bool
         ensures { IsTrue result ↔ (self ≡ Mode.Ber) }
     {
         self == Mode::Ber
     }
 
-    /// Whether these are the Canonical Encoding Rules.
+    /// Returns whether these are the Canonical Encoding Rules.
     pub fn is_cer(self) -> bool
         ensures { IsTrue result ↔ (self ≡ Mode.Cer) }
     {
         self == Mode::Cer
     }
 
-    /// Whether these are the Distinguished Encoding Rules.
+    /// Returns whether these are the Distinguished Encoding Rules.
     pub fn is_der(self) -> bool
         ensures { IsTrue result ↔ (self ≡ Mode.Der) }
     {

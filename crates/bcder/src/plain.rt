@@ -1,6 +1,8 @@
-//! The plain reader: values at the front of a slice of octets, without memory (X.690, 8.1.1). It
-//! loops over values side by side, and calls itself for values inside values of definite length, no
-//! deeper than it is told. What the rest of the crate reads from sources is compared with it.
+//! The plain reader: reads the values at the start of a slice of octets, without allocating (X.690,
+//! 8.1.1).
+//!
+//! It loops over values side by side. It calls itself for values inside values of definite length,
+//! down to a given depth. What the rest of the crate reads from sources is compared with it.
 ghost use Rattle.std.specs.Prelude.{◌≡◌, ℕ, ◌+◌, ◌<◌, ◌≤◌, ◌↔◌, List, [], ◌∷◌, ◌++◌, length};
 ghost use Rattle.std.specs.Prelude.{Bool, false, IsTrue, IsFalse};
 ghost use Rattle.std.specs.Prelude.{Option, Some, None, IfSome, IfNone, MatchOption};
@@ -20,8 +22,8 @@ use crate::length::{Length, after_end};
 use crate::mode::Mode;
 use crate::tag::Tag;
 
-/// How many octets the value at the front has, if it is primitive, has one identifier octet and one
-/// length octet (8.1.2.2, 8.1.3.4), and is all here. No mode refuses it.
+/// Returns how many octets the first value has, if it is primitive, has one identifier octet and
+/// one length octet (8.1.2.2, 8.1.3.4), and is all here. No mode refuses it.
 #[inline(always)]
 pub(crate) fn short_size(octets: &[u8]) -> Option<usize>
     ensures some { IfSome result (λ n. 2 ≤ n) }
@@ -42,8 +44,9 @@ pub(crate) fn short_size(octets: &[u8]) -> Option<usize>
     }
 }
 
-/// The same, if it is primitive, has one identifier octet and three length octets for a length that
-/// no mode has fewer for (8.1.3.5, 10.1), and is all here.
+/// Returns how many octets the first value has, if it is primitive, has one identifier octet and
+/// three length octets, for a length that needs three in every mode (8.1.3.5, 10.1), and is all
+/// here.
 #[inline(always)]
 fn long_size(octets: &[u8]) -> Option<usize>
     ensures fits { IfSome result (λ n. n ≤ length octets.now) }
@@ -64,9 +67,11 @@ fn long_size(octets: &[u8]) -> Option<usize>
     }
 }
 
-/// The octets after the value at the front, in which no more than so many levels of values of
-/// definite length are read: each takes a call. `None` says that there is none, or that it is
-/// deeper. Values of indefinite length that are open are counted, and take none.
+/// Returns the octets after the first value, of which at most `levels` levels of values of definite
+/// length are read.
+///
+/// Each of these levels takes a level of calls. Open values of indefinite length are only counted,
+/// and take none. `None` means that there is no value, or that it is deeper.
 #[cycle(plain)]
 #[inline(never)]
 fn value_within(mode: Mode, octets: &[u8], levels: usize) -> Option<&[u8]>
@@ -102,8 +107,8 @@ fn value_within(mode: Mode, octets: &[u8], levels: usize) -> Option<&[u8]>
     Some(rest)
 }
 
-/// The octets after the value at the front, or after its header if it is of indefinite length,
-/// which is told too.
+/// Returns the octets after the first value, or after its header if it has the indefinite length,
+/// and whether it has.
 #[cycle(plain)]
 #[inline(always)]
 fn front_within(mode: Mode, octets: &[u8], levels: usize) -> Option<(bool, &[u8])>
@@ -140,7 +145,8 @@ fn front_within(mode: Mode, octets: &[u8], levels: usize) -> Option<(bool, &[u8]
     }
 }
 
-/// Whether the octets are values up to the last one. `false` says that they aren't, or are deeper.
+/// Returns whether the octets are a list of values. `false` means that they aren't, or that they
+/// are deeper.
 #[cycle(plain)]
 #[inline(always)]
 fn is_list_within(mode: Mode, octets: &[u8], levels: usize) -> bool
@@ -161,10 +167,10 @@ fn is_list_within(mode: Mode, octets: &[u8], levels: usize) -> bool
     true
 }
 
-/// How many levels are read of what can be read without calls, too.
+/// The maximum number of levels of calls for values that can be read without such calls, too.
 const LEVELS: usize = 64;
 
-/// How many octets the value at the front has, if it is all here and no deeper than that.
+/// Returns how many octets the first value has, if it is all here and no deeper than `LEVELS`.
 #[inline(always)]
 pub(crate) fn size_within(mode: Mode, octets: &[u8]) -> Option<usize>
     ensures { IfSome result (λ n. BeginsWhole mode octets.now n) }
@@ -175,7 +181,7 @@ pub(crate) fn size_within(mode: Mode, octets: &[u8]) -> Option<usize>
     }
 }
 
-/// The identifier octets and length octets of a value, and what stands behind them.
+/// The header of a value: its identifier octets and length octets, with the octets that follow.
 #[derive(Clone, Copy)]
 pub struct Front<'a> {
     /// The tag of the value.
@@ -184,10 +190,10 @@ pub struct Front<'a> {
     /// Whether the encoding is constructed.
     pub constructed: bool,
 
-    /// The number of contents octets; none where end-of-contents octets end them.
+    /// The number of contents octets, or `None` if end-of-contents octets end them.
     pub len: Option<usize>,
 
-    /// The octets behind the length octets: the contents, and what follows the value.
+    /// The octets after the length octets: the contents, and what follows the value.
     pub rest: &'a [u8],
 }
 
@@ -201,8 +207,10 @@ fn number_told(form: Form) -> Option<usize>
     }
 }
 
-/// The header at the front (X.690, 8.1.2, 8.1.3): none where no front of the octets is the header
-/// of a value in the mode. Whether the contents are complete isn't looked at.
+/// Returns the header at the start of the octets (X.690, 8.1.2, 8.1.3).
+///
+/// Returns `None` if no prefix of the octets is the header of a value in the mode. Whether the
+/// contents are complete isn't checked.
 pub fn front_at<'a>(mode: Mode, octets: &'a [u8]) -> Option<Front<'a>>
     ensures found { IfSome result
         (λ f.
@@ -223,8 +231,9 @@ pub fn front_at<'a>(mode: Mode, octets: &'a [u8]) -> Option<Front<'a>>
     })
 }
 
-/// The octets after the end-of-contents octets at the front (X.690, 8.1.5): none where no front of
-/// the octets is an end in the mode.
+/// Returns the octets after the end-of-contents octets at the start (X.690, 8.1.5).
+///
+/// Returns `None` if no prefix of the octets is an end in the mode.
 pub fn end_at(mode: Mode, octets: &[u8]) -> Option<&[u8]>
     ensures found { IfSome result
         (λ rest. (w : List ℕ) × IsEndOfContents mode w × (octets.now ≡ w ++ rest.now)) }
@@ -234,7 +243,7 @@ pub fn end_at(mode: Mode, octets: &[u8]) -> Option<&[u8]>
     after_end(mode, octets)
 }
 
-/// The octets after the value at the front, with room for the answer that is cleared here.
+/// Returns the octets after the first value. The stack space of the result is cleared here.
 #[inline(always)]
 fn value_at(mode: Mode, octets: &[u8]) -> Option<&[u8]>
     ensures read { IfSome result (λ r. after_tree mode octets.now ≡ Some r.now) }
@@ -244,8 +253,9 @@ fn value_at(mode: Mode, octets: &[u8]) -> Option<&[u8]>
     rest
 }
 
-/// The octets after the value at the front: none where no front of the octets is an encoding in the
-/// mode.
+/// Returns the octets after the first value.
+///
+/// Returns `None` if no prefix of the octets is an encoding in the mode.
 #[inline(always)]
 pub fn skip_one(mode: Mode, octets: &[u8]) -> Option<&[u8]>
     ensures found { IfSome result
@@ -261,7 +271,8 @@ pub fn skip_one(mode: Mode, octets: &[u8]) -> Option<&[u8]>
     }
 }
 
-/// Whether the octets are the encodings of a list of values in the mode, one after the other.
+/// Returns whether the octets are the encodings of a list of values in the mode, one after the
+/// other.
 pub fn is_list(mode: Mode, octets: &[u8]) -> bool
     ensures { IsTrue result ↔ (ts : Trees) × AreEncodings mode ts octets.now }
 {

@@ -27,8 +27,9 @@ enum Class {
     Private,
 }
 
-/// A tag: a class, and a number of at most 2097151, so that it is spelled in at most four
-/// identifier octets (8.1.2).
+/// A tag: a class, and a number of at most 2097151 (8.1.2).
+///
+/// With this limit, at most four identifier octets spell a tag.
 #[derive(Clone, Copy, Debug, PartialEq, Eq)]
 pub struct Tag {
     class: Class,
@@ -309,7 +310,7 @@ impl Tag {
         number: 6,
     };
 
-    /// The universal tag with this number, which is at most 2097151.
+    /// Returns the universal tag with this number, which has to be at most 2097151.
     pub fn universal(number: u32) -> Self
         requires { number ≤ 2097151 }
         ensures { result ≡ record { class = universal_class; number = number } }
@@ -320,7 +321,7 @@ impl Tag {
         }
     }
 
-    /// The application tag with this number, which is at most 2097151.
+    /// Returns the application tag with this number, which has to be at most 2097151.
     pub fn application(number: u32) -> Self
         requires { number ≤ 2097151 }
         ensures { result ≡ record { class = application_class; number = number } }
@@ -331,7 +332,7 @@ impl Tag {
         }
     }
 
-    /// The context-specific tag with this number, which is at most 2097151.
+    /// Returns the context-specific tag with this number, which has to be at most 2097151.
     pub fn ctx(number: u32) -> Self
         requires { number ≤ 2097151 }
         ensures { result ≡ record { class = context_specific_class; number = number } }
@@ -342,7 +343,7 @@ impl Tag {
         }
     }
 
-    /// The private tag with this number, which is at most 2097151.
+    /// Returns the private tag with this number, which has to be at most 2097151.
     pub fn private(number: u32) -> Self
         requires { number ≤ 2097151 }
         ensures { result ≡ record { class = private_class; number = number } }
@@ -353,35 +354,35 @@ impl Tag {
         }
     }
 
-    /// Whether this is a tag of the universal class.
+    /// Returns whether this is a tag of the universal class.
     pub fn is_universal(self) -> bool
         ensures { IsTrue result ↔ (self.class ≡ universal_class) }
     {
         self.class == Class::Universal
     }
 
-    /// Whether this is a tag of the application class.
+    /// Returns whether this is a tag of the application class.
     pub fn is_application(self) -> bool
         ensures { IsTrue result ↔ (self.class ≡ application_class) }
     {
         self.class == Class::Application
     }
 
-    /// Whether this is a tag of the context-specific class.
+    /// Returns whether this is a tag of the context-specific class.
     pub fn is_context_specific(self) -> bool
         ensures { IsTrue result ↔ (self.class ≡ context_specific_class) }
     {
         self.class == Class::ContextSpecific
     }
 
-    /// Whether this is a tag of the private class.
+    /// Returns whether this is a tag of the private class.
     pub fn is_private(self) -> bool
         ensures { IsTrue result ↔ (self.class ≡ private_class) }
     {
         self.class == Class::Private
     }
 
-    /// The number of the tag within its class.
+    /// Returns the number of the tag within its class.
     pub fn number(self) -> u32
         ensures value { result ≡ self.number }
         ensures limit { result ≤ 2097151 }
@@ -389,7 +390,8 @@ impl Tag {
         self.number
     }
 
-    /// Whether a value may have this tag: every tag but that of the end-of-contents octets.
+    /// Returns whether a value may have this tag: every tag except that of the end-of-contents
+    /// octets.
     #[inline(always)]
     pub(crate) fn is_value(self) -> bool
         ensures { result ≡ is_value_tag self }
@@ -398,7 +400,7 @@ impl Tag {
     }
 }
 
-/// The class that bits 8 and 7 of the leading octet tell (8.1.2.2, table 1).
+/// Returns the class that bits 8 and 7 of the leading octet mean (8.1.2.2, table 1).
 #[tactic(auto, using(crate::proofs::nat_tests), unfolding(crate::specs::steps::Reading::class_of))]
 #[inline(always)]
 fn class_at(octet: u8) -> Class
@@ -415,8 +417,10 @@ fn class_at(octet: u8) -> Class
     }
 }
 
-/// A number from 31 on in base 128 at the front, most significant digit first and not 0 (8.1.2.4),
-/// and the octets after it.
+/// Reads a number from 31 on in base 128, with the most significant digit first and not 0
+/// (8.1.2.4).
+///
+/// Returns it with the octets that follow.
 #[tactic(auto, using(crate::proofs::nat_tests), unfolding(crate::specs::steps::Reading::read_number))]
 fn number_at(octets: &[u8]) -> Option<(u32, &[u8])>
     ensures limit { IfSome result (λ r. r.0 ≤ 2097151) }
@@ -436,7 +440,8 @@ fn number_at(octets: &[u8]) -> Option<(u32, &[u8])>
     }
 }
 
-/// The number whose digits before the octets are `high`, and the octets after it.
+/// Reads the rest of a number whose digits so far are `high`, and returns it with the octets that
+/// follow.
 #[tactic(auto, using(crate::proofs::nat_tests), unfolding(crate::specs::steps::Reading::second_digit))]
 fn second_digit(high: u32, octets: &[u8]) -> Option<(u32, &[u8])>
     requires { high < 128 }
@@ -455,7 +460,8 @@ fn second_digit(high: u32, octets: &[u8]) -> Option<(u32, &[u8])>
     }
 }
 
-/// The number whose digits before the octets are `high`, if one more ends it.
+/// Reads the rest of a number whose digits so far are `high`, if it is one digit, and returns it
+/// with the octets that follow.
 #[tactic(auto, using(crate::proofs::nat_tests), unfolding(crate::specs::steps::Reading::third_digit))]
 fn third_digit(high: u32, octets: &[u8]) -> Option<(u32, &[u8])>
     requires { high < 16384 }
@@ -468,7 +474,7 @@ fn third_digit(high: u32, octets: &[u8]) -> Option<(u32, &[u8])>
     }
 }
 
-/// The tag that a leading octet tells alone: its number is below 31 (8.1.2.2).
+/// Returns the tag of a leading octet that holds the whole tag: its number is below 31 (8.1.2.2).
 #[inline(always)]
 pub(crate) fn tag_of_leading(octet: u8) -> Tag
     requires { octet % 32 < 31 }
@@ -480,7 +486,7 @@ pub(crate) fn tag_of_leading(octet: u8) -> Tag
     }
 }
 
-/// The constructed mark of a leading octet, its bit 6 (8.1.2.5).
+/// Returns the constructed bit of a leading octet, bit 6 (8.1.2.5).
 #[tactic(auto, using(crate::proofs::nat_tests), unfolding(crate::specs::steps::Reading::is_marked),)]
 #[inline(always)]
 pub(crate) fn mark_of_leading(octet: u8) -> bool
@@ -489,7 +495,8 @@ pub(crate) fn mark_of_leading(octet: u8) -> bool
     octet % 64 >= 32
 }
 
-/// Whether an octet is the one identifier octet of a primitive value of a tag (8.1.2.2, 8.1.2.5).
+/// Returns whether an octet is the only identifier octet of a primitive value with a tag (8.1.2.2,
+/// 8.1.2.5).
 #[tactic(auto, using(crate::proofs::nat_tests))]
 #[inline(always)]
 pub(crate) fn leads_primitive(tag: Tag, octet: u8) -> bool
@@ -503,8 +510,7 @@ pub(crate) fn leads_primitive(tag: Tag, octet: u8) -> bool
         && !mark_of_leading(octet)
 }
 
-/// The tag and the constructed mark of the identifier octets at the front, and the octets after
-/// them.
+/// Reads identifier octets, and returns the tag, the constructed bit, and the octets that follow.
 #[tactic(auto, using(crate::proofs::nat_tests), unfolding(crate::specs::steps::Reading::read_identifier))]
 #[inline(always)]
 pub(crate) fn identifier_at(octets: &[u8]) -> Option<(Tag, bool, &[u8])>

@@ -1,4 +1,4 @@
-//! Values that are put one behind the other, as their octets.
+//! Putting values behind one another, as their octets.
 ghost use Rattle.std.specs.Prelude.{◌≡◌, ◌≢◌, [], IfOk, OnErr};
 ghost use Rattle.bcder.specs.calls.Captured.{AreWhole};
 ghost use Rattle.bcder.specs.calls.Gathered.{none_kept, kept_from_start, ExtendsBy};
@@ -15,14 +15,14 @@ use bytes::Bytes;
 use std::alloc::Global;
 use std::marker::Model;
 
-/// A list of values that more can be put behind, kept as their encodings in a mode.
+/// A list of values that can grow, kept as their encodings in a mode.
 #[derive(Drop)]
 pub struct CapturedBuilder {
     octets: Vec<u8>,
     mode: Mode,
 }
 
-/// It is what it would be captured as.
+/// In clauses a builder is what it would be captured as.
 impl Model for CapturedBuilder {
     ghost use Rattle.bcder.specs.calls.Captured.{Kept, AreWhole};
     ghost use Rattle.bcder.specs.calls.Gathered.{kept_from_start};
@@ -35,7 +35,7 @@ impl Model for CapturedBuilder {
 }
 
 impl CapturedBuilder {
-    /// Octets that are encodings in a mode.
+    /// Creates a builder from encodings in a mode.
     pub(super) fn from_octets(octets: Vec<u8>, mode: Mode) -> CapturedBuilder
         requires { AreWhole mode octets.items }
         ensures { result ≡ kept_from_start mode octets.items }
@@ -43,7 +43,7 @@ impl CapturedBuilder {
         CapturedBuilder { octets, mode }
     }
 
-    /// No values, in a mode.
+    /// Creates a builder without values, in a mode.
     #[tactic(auto, using(crate::proofs::Gathering::none_whole))]
     pub fn new(alloc: Global, mode: Mode) -> CapturedBuilder
         ensures { result ≡ none_kept mode }
@@ -51,11 +51,12 @@ impl CapturedBuilder {
         CapturedBuilder::from_octets(Vec::new(alloc), mode)
     }
 
-    /// No values, in a mode, with memory for encodings of `capacity` octets in all.
+    /// Creates a builder without values, in a mode, with memory for encodings of `capacity` octets
+    /// in all.
     ///
     /// # Errors
     ///
-    /// Where there is no such memory.
+    /// Returns `NoMemory` if memory runs out.
     #[tactic(auto, using(crate::proofs::Gathering::none_whole))]
     pub fn with_capacity(
         alloc: Global,
@@ -67,15 +68,15 @@ impl CapturedBuilder {
         Ok(CapturedBuilder::from_octets(Vec::with_capacity(alloc, capacity)?, mode))
     }
 
-    /// Puts the values of an encoder behind those that there are, in the builder's mode.
+    /// Puts the values of an encoder behind those of the builder, in the builder's mode.
     ///
     /// The octets that are added are what the encoder writes in that mode: an encoding of its
-    /// values, in CER and DER the only one (X.690, 9.1, 10.1). Memory for them is asked for once.
+    /// values, in CER and DER the only one (X.690, 9.1, 10.1). Memory for them is requested once.
     ///
     /// # Errors
     ///
-    /// Those of the encoder's `encoded_len`, and `NoMemory` where there are octets and no memory
-    /// for them. The values are then as they were.
+    /// Returns the errors of the encoder's `encoded_len`, and `NoMemory` if there are octets and
+    /// memory runs out for them. The values are then as they were.
     pub fn extend<V: Values + Drop>(&mut self, values: V) -> Result<(), EncodeError>
         requires { V.can_encode values }
         ensures extended { ExtendsBy (V.means values self.old.mode)
@@ -101,11 +102,11 @@ impl CapturedBuilder {
         }
     }
 
-    /// The values, captured, at position 0. No octet is copied.
+    /// Captures the values, at position 0. No octet is copied.
     ///
     /// # Errors
     ///
-    /// Where there are octets and no memory to share them.
+    /// Returns `NoMemory` if there are octets and memory runs out for sharing them.
     pub fn freeze(self) -> Result<Captured, NoMemory>
         ensures captured { IfOk result (λ c. c ≡ self) }
         ensures memory { OnErr result (self.octets ≢ []) }

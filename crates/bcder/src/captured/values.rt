@@ -12,10 +12,10 @@ use crate::encode::{EncodeError, Values, WriteError};
 use crate::mode::Mode;
 use std::io;
 
-/// The values that it holds, as their octets stand.
+/// Encodes the captured values, with their octets as they are.
 ///
-/// They are written in their own mode, and in BER, in which an encoding of CER or DER is one too.
-/// In CER and DER values of another mode are refused with `CapturedMode`, also where there are
+/// They are written in their own mode, and in BER, since an encoding in CER or DER is one in BER
+/// too. In CER and DER, values of another mode are refused with `CapturedMode`, even if there are
 /// none.
 impl Values for Captured {
     ghost means = { KeptMeans };
@@ -66,7 +66,7 @@ impl Captured {
     }
 }
 
-/// Whether values that are kept in one mode may be written in another.
+/// Returns whether values that are kept in one mode may be written in another.
 fn suits(own: Mode, mode: Mode) -> bool
     ensures { result ≡ suits own mode }
 {

@@ -1,4 +1,4 @@
-//! Content: the values inside a value, or at top level, and the octets inside a primitive value.
+//! Content: the values inside a value or at top level, and the octets inside a primitive value.
 ghost use Rattle.std.specs.Prelude.{◌≡◌, ◌≢◌, ℕ, ◌↔◌, true, IsTrue, Some};
 ghost use Rattle.bcder.specs.calls.Cause.{cause_of, position_of, of_content as of_refusal};
 ghost use Rattle.bcder.specs.calls.Content.{Octets};
@@ -30,20 +30,20 @@ use crate::decode::error::{ContentError, DecodeError};
 use crate::decode::source::{LimitedSource, Pos, Source};
 use crate::mode::Mode;
 
-/// How the end of values is known.
+/// How the end of a list of values is known.
 #[derive(Clone, Copy, Debug)]
 enum Kind {
     /// By the number of their octets.
     Definite,
 
-    /// By end-of-contents octets behind them.
+    /// By the end-of-contents octets that follow them.
     Indefinite,
 
     /// By the end of the source.
     Unbounded,
 }
 
-/// How far values were taken.
+/// How far the values were taken.
 #[derive(Clone, Copy, Debug)]
 enum State {
     /// The next value can be taken.
@@ -65,7 +65,7 @@ pub struct Primitive<'a, S> {
     start: Pos,
 }
 
-/// Values one after another: those inside a constructed value, or those at top level.
+/// A list of values: those inside a constructed value, or those at top level.
 #[derive(Debug, Drop)]
 pub struct Constructed<'a, S> {
     source: &'a mut LimitedSource<S>,
@@ -76,27 +76,29 @@ pub struct Constructed<'a, S> {
     start: Pos,
 }
 
-/// What is inside a value.
+/// The content of a value of either form.
 #[derive(Drop)]
 pub enum Content<'a, S> {
-    /// Of a primitive value.
+    /// The content of a primitive value.
     Primitive(Primitive<'a, S>),
 
-    /// Of a constructed value.
+    /// The content of a constructed value.
     Constructed(Constructed<'a, S>),
 }
 
 #[tactic(auto, using(crate::proofs::moves), unfolding(crate::specs::calls::Views::of_constructed))]
 impl<'a, S: Source> Constructed<'a, S> {
-    /// The rules that the content is read by.
+    /// Returns the encoding rules that the content is read by.
     pub fn mode(&self) -> Mode
         ensures { result ≡ (of_constructed S.stream self.now).mode }
     {
         self.mode
     }
 
-    /// Goes on under other rules. A change marks this content, and the content around it once this
-    /// is taken, as no longer known to be in its rules.
+    /// Sets the encoding rules that the rest of the content is read by.
+    ///
+    /// A change marks this content as no longer known to be in its own rules. Once this content is
+    /// taken, the content around it is marked as well.
     pub fn set_mode(&mut self, mode: Mode)
         ensures moves { Moved S.stream self }
         ensures mode { (after S.stream self).mode ≡ mode }
@@ -114,7 +116,7 @@ impl<'a, S: Source> Constructed<'a, S> {
         }
     }
 
-    /// A refusal of the values, at the position where they begin.
+    /// Returns an error that refuses these values, at the position where the content begins.
     pub fn content_err(&self, error: ContentError) -> DecodeError<S::Error>
         ensures cause { cause_of result ≡ of_refusal error }
         ensures position { position_of result ≡ Some self.now.start }
@@ -125,15 +127,17 @@ impl<'a, S: Source> Constructed<'a, S> {
 
 #[tactic(auto, using(crate::proofs::moves), unfolding(crate::specs::calls::Views::of_primitive))]
 impl<'a, S: Source> Primitive<'a, S> {
-    /// The rules that the content is read by.
+    /// Returns the encoding rules that the content is read by.
     pub fn mode(&self) -> Mode
         ensures { result ≡ (of_primitive S.stream self.now).mode }
     {
         self.mode
     }
 
-    /// Goes on under other rules. A change marks this content, and the content around it once this
-    /// is taken, as no longer known to be in its rules.
+    /// Sets the encoding rules that the rest of the content is read by.
+    ///
+    /// A change marks this content as no longer known to be in its own rules. Once this content is
+    /// taken, the content around it is marked as well.
     pub fn set_mode(&mut self, mode: Mode)
         ensures moves { MovedOctets S.stream self }
         ensures mode { (octets_after S.stream self).mode ≡ mode }
@@ -153,7 +157,7 @@ impl<'a, S: Source> Primitive<'a, S> {
         }
     }
 
-    /// A refusal of the octets, at the position where they begin.
+    /// Returns an error that refuses these octets, at the position where the content begins.
     pub fn content_err(&self, error: ContentError) -> DecodeError<S::Error>
         ensures cause { cause_of result ≡ of_refusal error }
         ensures position { position_of result ≡ Some self.now.start }
@@ -164,7 +168,7 @@ impl<'a, S: Source> Primitive<'a, S> {
 
 #[tactic(auto, unfolding(crate::specs::calls::Views::views))]
 impl<'a, S: Source> Content<'a, S> {
-    /// The rules that the content is read by.
+    /// Returns the encoding rules that the content is read by.
     pub fn mode(&self) -> Mode
         ensures { result ≡ (of_content S.stream self.now).mode }
     {
@@ -174,7 +178,7 @@ impl<'a, S: Source> Content<'a, S> {
         }
     }
 
-    /// Whether this is the contents octets of a primitive value.
+    /// Returns whether this is the content of a primitive value.
     pub fn is_primitive(&self) -> bool
         ensures { IsTrue result ↔ ((of_content S.stream self.now).kind ≡ Octets) }
     {
@@ -184,7 +188,7 @@ impl<'a, S: Source> Content<'a, S> {
         }
     }
 
-    /// Whether this is the values inside a constructed value.
+    /// Returns whether this is the content of a constructed value.
     pub fn is_constructed(&self) -> bool
         ensures { IsTrue result ↔ ((of_content S.stream self.now).kind ≢ Octets) }
     {
@@ -194,7 +198,7 @@ impl<'a, S: Source> Content<'a, S> {
         }
     }
 
-    /// A refusal of the content, at the position where it begins.
+    /// Returns an error that refuses this content, at the position where it begins.
     pub fn content_err(&self, error: ContentError) -> DecodeError<S::Error>
         ensures cause { cause_of result ≡ of_refusal error }
         ensures position { position_of result ≡ Some (content_start self.now) }

@@ -1,4 +1,4 @@
-//! Errors: why decoding failed.
+//! The errors of decoding.
 ghost use Rattle.std.specs.Prelude.{◌≡◌, ℕ, List, Some, IfSome, IsNone, IfOk, IfErr};
 ghost use Rattle.bcder.specs.calls.Cause.{Cause, of_source, of_content, of_memory, cause_of};
 ghost use Rattle.bcder.specs.calls.Cause.{position_of, memory_for_source};
@@ -14,17 +14,17 @@ use std::convert::Infallible;
 use std::error::Error;
 use std::fmt;
 
-/// A message of the user's own.
+/// A message that users define.
 pub trait Message: Drop {
-    /// What its text is.
+    /// The text of the message, for the clauses.
     ghost shown: { Self → List ℕ };
 
-    /// Its text.
+    /// Returns the text of the message.
     fn text(&self) -> &str
         ensures { result.now ≡ shown self.now };
 }
 
-/// Why content was refused.
+/// The reason that content was refused.
 #[derive(Drop)]
 pub enum ContentError {
     /// A fixed text. It isn't copied.
@@ -33,29 +33,29 @@ pub enum ContentError {
     /// A text that was put together.
     Owned(String),
 
-    /// Another tag was expected: this one.
+    /// This tag was expected, but wasn't there.
     ExpectedTag(Tag),
 
-    /// Another integer was expected: this one.
+    /// This integer was expected, but another was there.
     ExpectedInteger(u8),
 
-    /// The text of a message of the user's own.
+    /// The text of a message that users define.
     Boxed(String),
 }
 
 impl ContentError {
-    /// An error with a fixed text.
+    /// Creates an error with a fixed text.
     pub fn from_static(text: &'static str) -> ContentError
         ensures { result ≡ ContentError.Static text.now }
     {
         ContentError::Static(ByteStr::from_static(text))
     }
 
-    /// An error with the text of a message of the user's own, which is copied.
+    /// Creates an error with the text of a message that users define. The text is copied.
     ///
     /// # Errors
     ///
-    /// `NoMemory` where there is no memory for the text.
+    /// Returns `NoMemory` if memory runs out for the text.
     pub fn from_boxed(alloc: Global, message: Box<dyn Message>) -> Result<ContentError, NoMemory>
         ensures { IfOk result (λ e. IsBoxed e (shown message)) }
     {
@@ -84,7 +84,7 @@ impl From<String> for ContentError {
     }
 }
 
-/// Its text, `expected tag TAG` or `expected integer value N`.
+/// Writes the text, `expected tag TAG` or `expected integer value N`.
 impl fmt::Display for ContentError {
     ghost output = { content_text ⟦<Tag as fmt::Display>⟧.output };
 
@@ -105,7 +105,7 @@ impl fmt::Debug for ContentError {
     }
 }
 
-/// Why decoding failed.
+/// The reason that decoding failed.
 #[derive(Debug, Drop)]
 pub enum DecodeError<S> {
     /// The source failed.
@@ -114,12 +114,12 @@ pub enum DecodeError<S> {
     /// The content was refused, at a position in the source.
     Content { error: ContentError, pos: Pos },
 
-    /// There was no memory.
+    /// Memory ran out.
     NoMemory,
 }
 
 impl<S> DecodeError<S> {
-    /// The refusal of content for that reason, at that position.
+    /// Creates an error that refuses content for this reason, at this position.
     pub fn content(error: ContentError, pos: Pos) -> DecodeError<S>
         ensures cause { cause_of result ≡ of_content error }
         ensures position { position_of result ≡ Some pos }
@@ -127,14 +127,14 @@ impl<S> DecodeError<S> {
         DecodeError::Content { error, pos }
     }
 
-    /// Want of memory.
+    /// Creates the error for running out of memory.
     pub fn no_memory() -> DecodeError<S>
         ensures { cause_of result ≡ of_memory }
     {
         DecodeError::NoMemory
     }
 
-    /// Want of memory, of what was refused it: a growth, a push or a clone.
+    /// Creates the error for running out of memory from the error of a growth, a push or a clone.
     ///
     /// ```text
     /// match all.push(entry) {
@@ -148,7 +148,7 @@ impl<S> DecodeError<S> {
         DecodeError::NoMemory
     }
 
-    /// Whether there was no memory.
+    /// Returns whether memory ran out.
     pub fn is_memory(&self) -> bool
         ensures { result ≡ is_memory_cause (cause_of self.now) }
     {
@@ -158,7 +158,7 @@ impl<S> DecodeError<S> {
         }
     }
 
-    /// Whether the source failed.
+    /// Returns whether the source failed.
     pub fn is_source(&self) -> bool
         ensures { result ≡ is_source_cause (cause_of self.now) }
     {
@@ -168,7 +168,7 @@ impl<S> DecodeError<S> {
         }
     }
 
-    /// Why the content was refused, if it was.
+    /// Returns why the content was refused, if it was.
     pub fn content_error(&self) -> Option<&ContentError>
         ensures some { IfSome result (λ e. cause_of self.now ≡ of_content e.now) }
         ensures none { IsNone result → IsContentless (cause_of self.now) }
@@ -181,7 +181,7 @@ impl<S> DecodeError<S> {
 }
 
 impl DecodeError<Infallible> {
-    /// The same error for a source that can fail: with the same cause, at the same position.
+    /// Converts this into the error of a source that can fail, with the same cause and position.
     pub fn convert<S>(self) -> DecodeError<S>
         ensures cause { cause_of result ≡ cause_of self }
         ensures position { position_of result ≡ position_of self }
@@ -193,11 +193,11 @@ impl DecodeError<Infallible> {
         }
     }
 
-    /// Why the content was refused. The source can't have failed.
+    /// Returns why the content was refused. The source can't have failed.
     ///
     /// # Errors
     ///
-    /// `NoMemory` where there was no memory.
+    /// Returns `NoMemory` if memory ran out.
     pub fn into_content(self) -> Result<ContentError, NoMemory>
         ensures ok { IfOk result (λ e. cause_of self ≡ of_content e) }
         ensures err { IfErr result (λ _. cause_of self ≡ of_memory) }
@@ -211,9 +211,10 @@ impl DecodeError<Infallible> {
 }
 
 impl DecodeError<NoMemory> {
-    /// The same error for a source that can fail in other ways, as that of an octet string that is
-    /// decoded inside another source: at the same position, and a failure of the source is want of
-    /// memory.
+    /// Converts this into the error of a source that can fail in other ways, at the same position.
+    ///
+    /// Use it for an octet string that is decoded inside another source. A failure of the string's
+    /// source means that memory ran out, and becomes that.
     ///
     /// ```text
     /// match Mode::Der.decode(string, |cons| cons.take_u8()) {
@@ -243,7 +244,7 @@ impl<S> From<S> for DecodeError<S> {
     }
 }
 
-/// The source's text, `TEXT (at position N)` or `out of memory`.
+/// Writes the source's text, `TEXT (at position N)` or `out of memory`.
 impl<S: fmt::Display> fmt::Display for DecodeError<S> {
     ghost output = { decode_text S.output (content_text ⟦<Tag as fmt::Display>⟧.output) };
 

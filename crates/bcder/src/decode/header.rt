@@ -1,4 +1,4 @@
-//! Identifier and length octets (X.690, 8.1.2, 8.1.3), at the front of octets and of a source.
+//! Reading identifier octets and length octets (X.690, 8.1.2, 8.1.3) from octets and from a source.
 ghost use Rattle.std.specs.Prelude.{◌≡◌, ℕ, ◌+◌, ◌%◌, ◌<◌, ◌≤◌, List, ◌++◌, length, false, true};
 ghost use Rattle.std.specs.Prelude.{IsTrue, Some, None, IfSome, MatchOption, IfOk, OnOk, OnErr};
 ghost use Rattle.bcder.specs.calls.Changed.{SameFaults, MoreFaults, SameRest, SamePosition};
@@ -19,11 +19,11 @@ use crate::mode::Mode;
 use crate::tag::take::identifier_violation;
 use crate::tag::{Tag, identifier_at, mark_of_leading, tag_of_leading};
 
-/// The form of an encoding (X.690, 8.1.2.5), and what its length octets say.
+/// The form of an encoding (X.690, 8.1.2.5), and the meaning of its length octets.
 #[derive(Clone, Copy)]
 pub(crate) enum Form {
-    /// Primitive, of so many contents octets. The indefinite form has no primitive encoding
-    /// (8.1.3.2).
+    /// Primitive, with this number of contents octets. A primitive encoding never has the
+    /// indefinite form (8.1.3.2).
     Primitive(usize),
 
     /// Constructed.
@@ -37,37 +37,37 @@ pub(crate) struct Header {
     pub form: Form,
 }
 
-/// Which headers are looked for.
+/// Which headers to look for.
 #[derive(Clone, Copy)]
 pub(crate) enum Wanted {
-    /// Those of any tag.
+    /// Headers with any tag.
     Any,
 
-    /// Those of this tag.
+    /// Headers with this tag.
     Tagged(Tag),
 }
 
-/// What stands at the front of a source, where a header is looked for.
+/// What comes next in a source, if a header is looked for.
 #[derive(Drop)]
 pub(crate) enum Peeked {
     /// The source is at its end.
     Nothing,
 
-    /// The identifier octets of another tag than the one whose headers are looked for.
+    /// Identifier octets with a tag other than the wanted one.
     Other,
 
-    /// End-of-contents octets (8.1.5), and how many these are.
+    /// End-of-contents octets (8.1.5), and their number.
     End { size: usize },
 
-    /// The header of a value, and how many octets it has.
+    /// The header of a value, and the number of its octets.
     Front { header: Header, size: usize },
 
-    /// Octets that are none of these in the mode and no front of any, and what they violate.
+    /// Octets that are none of these in the mode and don't begin any, and what they violate.
     Refused(Violation),
 }
 
 impl Form {
-    /// Whether this is the constructed form.
+    /// Returns whether this is the constructed form.
     #[inline(always)]
     pub(crate) fn is_constructed(self) -> bool
         ensures { result ≡ is_constructed self }
@@ -79,8 +79,8 @@ impl Form {
     }
 }
 
-/// The form that a bit and length octets tell, if a mode allows the length (9.1, 10.1) and the form
-/// does (8.1.3.2).
+/// Returns the form that a constructed bit and a length mean, if the mode (9.1, 10.1) and the form
+/// (8.1.3.2) allow the length.
 #[tactic(auto, using(std::proofs::lemmas::Bool::Decides::nat_tests))]
 #[inline(always)]
 fn form_of(mode: Mode, constructed: bool, len: Length) -> Option<Form>
@@ -108,7 +108,7 @@ fn form_of(mode: Mode, constructed: bool, len: Length) -> Option<Form>
     }
 }
 
-/// The header of a value at the front, and the octets after it.
+/// Reads the header of a value, and returns it with the octets that follow.
 #[tactic(auto, unfolding(crate::specs::steps::Reading::read_header))]
 #[inline(always)]
 pub(crate) fn header_at(mode: Mode, octets: &[u8]) -> Option<(Header, &[u8])>
@@ -130,7 +130,7 @@ pub(crate) fn header_at(mode: Mode, octets: &[u8]) -> Option<(Header, &[u8])>
     }
 }
 
-/// What a form violates that a tag, a bit and length octets tell, if it has no header.
+/// Returns what a tag, a constructed bit and a length violate, if they don't form a header.
 fn form_violation(mode: Mode, tag: Tag, constructed: bool, len: Length) -> Violation
     requires { is_value_tag tag ≡ true → may_have mode constructed len ≡ false }
     ensures { (w : List ℕ) → HasHeaderOctets mode tag constructed len w → HasNoEnd mode w
@@ -151,7 +151,7 @@ fn form_violation(mode: Mode, tag: Tag, constructed: bool, len: Length) -> Viola
     }
 }
 
-/// Whether headers of a tag are looked for.
+/// Returns whether headers with a tag are looked for.
 #[inline(always)]
 fn is_wanted(wanted: &Wanted, tag: Tag) -> bool
     ensures yes { IsTrue result → IsAsked (asked wanted.now) tag }
@@ -163,8 +163,8 @@ fn is_wanted(wanted: &Wanted, tag: Tag) -> bool
     }
 }
 
-/// What the octets at hand tell of the header at their front, whatever follows them. `None` is
-/// where it depends on what follows.
+/// Returns what the octets at hand say about the header at their start, whatever follows them.
+/// Returns `None` if it depends on what follows.
 fn look(mode: Mode, wanted: &Wanted, octets: &[u8]) -> Option<Peeked>
     ensures { Sees mode (asked wanted.now) result octets.now }
 {
@@ -203,8 +203,8 @@ fn look(mode: Mode, wanted: &Wanted, octets: &[u8]) -> Option<Peeked>
     }
 }
 
-/// The tag of the primitive value whose header of two octets stands in front, and how many contents
-/// octets it has. No mode refuses it.
+/// Returns the tag of the primitive value whose header of two octets comes first, and how many
+/// contents octets it has. No mode refuses it.
 #[inline(always)]
 fn short_octets(octets: &[u8]) -> Option<(Tag, usize)>
     ensures { IfSome result (λ r. (mode : ModeValue) (x : List ℕ)
@@ -218,8 +218,10 @@ fn short_octets(octets: &[u8]) -> Option<(Tag, usize)>
     }
 }
 
-/// What is told by the leading octet, which tells the tag alone, and a length, in so many octets.
-/// The tag in the header is the one that is looked for, so that it is a constant where that is.
+/// Returns what comes next, given a leading octet that holds the whole tag, and a length. The
+/// header has `size` octets.
+///
+/// The tag in the header is the wanted one. So it is a constant if that is.
 #[inline(always)]
 fn short_front(mode: Mode, wanted: &Wanted, leading: u8, len: Length, size: usize) -> Option<Peeked>
     requires { leading % 32 < 31 }
@@ -250,8 +252,8 @@ fn short_front(mode: Mode, wanted: &Wanted, leading: u8, len: Length, size: usiz
     }
 }
 
-/// What four octets tell, if they are a header: a tag that the leading octet tells alone, and a
-/// length that needs three octets.
+/// Returns what four octets say, if they are a header: a leading octet that holds the whole tag,
+/// and a length that needs three octets.
 #[inline(always)]
 fn look_long(mode: Mode, wanted: &Wanted, octets: &[u8]) -> Option<Peeked>
     ensures { IfSome result (λ p. Shows mode (asked wanted.now) p octets.now) }
@@ -265,9 +267,10 @@ fn look_long(mode: Mode, wanted: &Wanted, octets: &[u8]) -> Option<Peeked>
     }
 }
 
-/// The tag of the primitive value at the front of a source, and how many contents octets it has, if
-/// its header has two octets and all of its octets are at hand. No mode refuses it. It asks for two
-/// octets, and takes none. An error is the source's own.
+/// Returns the tag of the next primitive value of a source, and how many contents octets it has, if
+/// its header has two octets and all of its octets are at hand.
+///
+/// No mode refuses it. It requests two octets, and takes none. An error is the source's own.
 #[inline(always)]
 pub(crate) fn peek_whole<S: Source>(source: &mut S) -> Result<Option<(Tag, usize)>, S::Error>
     ensures short { IfOk result (λ o. IfSome o (λ r. (mode : ModeValue)
@@ -290,13 +293,14 @@ pub(crate) fn peek_whole<S: Source>(source: &mut S) -> Result<Option<(Tag, usize
     }
 }
 
-/// What stands at the front of a source, where a header is looked for. It asks for no more octets
-/// than the header has, or than the identifier octets of another tag are, for two at least, and
-/// takes none. An error is the source's own.
+/// Returns what comes next in a source, if a header is looked for.
 ///
-/// Two octets are told first: a tag that the leading octet tells alone, and a definite length below
-/// 128. Where headers of any tag are looked for the length may be indefinite too, and
-/// end-of-contents octets are told before, so that what they are is a constant.
+/// It requests no more octets than the header has, or than the identifier octets of another tag
+/// are, but at least two. It takes none. An error is the source's own.
+///
+/// Headers of two octets are tried first: a leading octet that holds the whole tag, and a definite
+/// length below 128. If headers with any tag are looked for, the length may be indefinite too. Then
+/// end-of-contents octets are tried even before, so that their result is a constant.
 #[inline(always)]
 pub(crate) fn peek<S: Source>(
     source: &mut S,
@@ -332,8 +336,9 @@ pub(crate) fn peek<S: Source>(
     peek_on(source, mode, *wanted)
 }
 
-/// The same, whatever size the header has. One of four octets is looked for first, since most that
-/// aren't short have these.
+/// Returns what comes next in a source, whatever size the header has.
+///
+/// A header of four octets is tried first, since most headers that aren't short have four.
 #[cold]
 #[inline(never)]
 fn peek_long<S: Source>(source: &mut S, mode: Mode, wanted: Wanted) -> Result<Peeked, S::Error>
@@ -364,7 +369,8 @@ fn peek_long<S: Source>(source: &mut S, mode: Mode, wanted: Wanted) -> Result<Pe
     }
 }
 
-/// The same, with room for the answer that is cleared here, and not before the first look.
+/// Calls `peek_long`, with the stack space of the result cleared here and not before the first
+/// look.
 #[inline(always)]
 fn peek_on<S: Source>(source: &mut S, mode: Mode, wanted: Wanted) -> Result<Peeked, S::Error>
     ensures peeked { IfOk result (λ p. Peeks mode (asked wanted) p (S.stream source.new)) }

@@ -1,4 +1,4 @@
-//! Sources: where the octets that are decoded come from.
+//! Sources: where the octets to decode come from.
 ghost use Rattle.std.specs.Prelude.{◌≡◌, ℕ, ◌+◌, ◌-◌, ◌<◌, ◌≤◌, [], ◌∷◌};
 ghost use Rattle.std.specs.Prelude.{length, take, drop, min, slice_range};
 ghost use Rattle.std.specs.Prelude.{Some, IfOk, IfErr, OnOk, OnErr, MatchOption, IfNone};
@@ -27,29 +27,29 @@ pub use slice::SliceSource;
 use std::alloc::Global;
 use std::error::Error;
 
-/// Where octets come from.
+/// A source of octets.
 ///
-/// A source is the list of the octets to come, its rest. Some front of the rest is available: it
-/// can be looked at by `slice`, kept by `bytes` and passed over by `advance`. `request` makes more
-/// of it available, and is the one call that can fail.
+/// A source is the list of the octets to come, its rest. A prefix of the rest is available: `slice`
+/// lends it, `bytes` keeps it, and `advance` passes over it. `request` makes more of it available.
+/// It is the one call that can fail.
 ///
-/// The clauses are the laws that each implementation keeps: those of the five calls without a
-/// body, and that the rest is octets, fewer than `2^64` of them, of which those that are available
-/// are a front. The calls with a body follow from these and can't be replaced.
+/// The clauses are the laws that each implementation keeps. The five calls without a body have such
+/// clauses. Besides, the rest is octets, fewer than `2^64` of them, and the available octets are a
+/// prefix of it. The calls with a body follow from these and can't be replaced.
 pub trait Source {
-    /// Why a request failed.
+    /// The error of a failed request.
     type Error: Error;
 
-    /// What the source is to the clauses: the octets to come, how many of them are available, how
-    /// often a request failed, the position, and what no call changes.
+    /// The source in the terms of the clauses: the octets to come, how many of them are available,
+    /// how often a request failed, the position, and what no call changes.
     ghost stream: { Self → Stream };
 
-    /// The position of the first octet to come, for messages.
+    /// Returns the position of the first octet to come, for messages.
     fn pos(&self) -> Pos
         ensures { result ≡ (stream self.now).position };
 
-    /// Makes at least `len` octets available, or all that are left where these are fewer, and says
-    /// how many are.
+    /// Makes at least `len` octets available, or all that are left if these are fewer, and returns
+    /// how many are available.
     ///
     /// A failed request leaves the rest as it was, and at least as much of it available.
     fn request(&mut self, len: usize) -> Result<usize, Self::Error>
@@ -61,15 +61,15 @@ pub trait Source {
         ensures position { (stream self.new).position ≡ (stream self.old).position }
         ensures kept { (stream self.new).kept ≡ (stream self.old).kept };
 
-    /// The octets that are available, a front of the rest. There may be more of them than the last
-    /// request said.
+    /// Returns the available octets, a prefix of the rest. They may be more than the last request
+    /// returned.
     fn slice(&self) -> &[u8]
         ensures front { take (length result.now) (stream self.now).rest ≡ result.now }
         ensures enough { (stream self.now).avail ≤ length result.now };
 
-    /// The available octets from `start` to before `end`, as a value of their own.
+    /// Returns the available octets from `start` up to, but not including, `end`.
     ///
-    /// It answers `NoMemory` where there is no memory for them.
+    /// Returns `NoMemory` if memory runs out.
     fn bytes(&self, alloc: Global, start: usize, end: usize) -> Result<Bytes, NoMemory>
         requires start_le_end { start ≤ end }
         requires in_bounds { end ≤ (stream self.now).avail }
@@ -83,11 +83,11 @@ pub trait Source {
         ensures faults { (stream self.new).faults ≡ (stream self.old).faults }
         ensures kept { (stream self.new).kept ≡ (stream self.old).kept };
 
-    /// The rest is octets, and those that are available are a front of it.
+    /// The rest is octets, and the available octets are a prefix of it.
     ghost sound: { (x : Self) → IsSound (stream x) };
 
-    /// Passes over `len` octets, or over all that are left where these are fewer, and says over how
-    /// many. An error passes over none.
+    /// Passes over `len` octets, or over all that are left if these are fewer, and returns how many
+    /// were passed. An error passes over none.
     final fn skip(&mut self, len: usize) -> Result<usize, Self::Error>
     where
         Self: Sized,
@@ -105,7 +105,7 @@ pub trait Source {
         Ok(found)
     }
 
-    /// Takes the next octet. It refuses at the end, where there is none; an error takes none.
+    /// Takes the next octet. At the end of the source it returns an error. An error takes no octet.
     final fn take_u8(&mut self) -> Result<u8, DecodeError<Self::Error>>
     where
         Self: Sized,
@@ -129,7 +129,7 @@ pub trait Source {
         }
     }
 
-    /// Takes the next octet, or answers `None` at the end. An error takes none.
+    /// Takes the next octet, or returns `None` at the end of the source. An error takes no octet.
     final fn take_opt_u8(&mut self) -> Result<Option<u8>, Self::Error>
     where
         Self: Sized,
@@ -153,7 +153,7 @@ pub trait Source {
         Ok(Some(octet))
     }
 
-    /// The refusal of content for that reason, at the present position.
+    /// Returns an error that refuses content for this reason, at the current position.
     final fn content_err(&self, error: ContentError) -> DecodeError<Self::Error>
     where
         Self: Sized,
@@ -184,9 +184,9 @@ impl<T: Source> Source for &mut T {
         T::slice(&**self)
     }
 
-    /// The available octets from `start` to before `end`, as a value of their own.
+    /// Returns the available octets from `start` up to, but not including, `end`.
     ///
-    /// It answers `NoMemory` where there is no memory for them.
+    /// Returns `NoMemory` if memory runs out.
     fn bytes(&self, alloc: Global, start: usize, end: usize) -> Result<Bytes, NoMemory> {
         T::bytes(&**self, alloc, start, end)
     }

@@ -1,24 +1,25 @@
-//! Why a step over content stopped, in few octets. It becomes an error where it is answered.
+//! Why a step over content stopped, in few octets. It becomes an error when it is returned to
+//! users.
 ghost use Rattle.std.specs.Prelude.{◌≡◌};
 ghost use Rattle.bcder.specs.steps.StopCause.{reason_text};
 
 use crate::decode::violation::Violation;
 
-/// Why content was refused, where no octets tell it.
+/// The reason that content was refused, if it isn't in the octets.
 #[derive(Clone, Copy)]
 pub(crate) enum Reason {
     /// An earlier value was refused.
     Earlier,
 
-    /// A constructed value where a primitive one has to stand.
+    /// A value that has to be primitive is constructed.
     Constructed,
 
-    /// Values that a closure left in a constructed value.
+    /// A closure left values in a constructed value.
     ValuesLeft,
 }
 
 impl Reason {
-    /// What is said of it.
+    /// Returns the text of the error.
     pub(crate) fn text(self) -> &'static str
         ensures { result.now ≡ reason_text self }
     {
@@ -30,9 +31,9 @@ impl Reason {
     }
 }
 
-/// Why a step stopped.
+/// The reason that a step stopped.
 pub(crate) enum Stop<E> {
-    /// Octets were refused, and what they violate.
+    /// Octets were refused, and this is what they violate.
     Violated(Violation),
 
     /// Content was refused.
@@ -41,6 +42,6 @@ pub(crate) enum Stop<E> {
     /// The source failed.
     Source(E),
 
-    /// There was no memory for another open value.
+    /// Memory ran out for another open value.
     NoMemory,
 }

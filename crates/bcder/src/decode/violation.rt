@@ -1,10 +1,10 @@
-//! Which rule of headers octets violate (X.690, 8.1.2, 8.1.3, 8.1.5, 9.1, 10.1).
+//! The rules of headers that octets can violate (X.690, 8.1.2, 8.1.3, 8.1.5, 9.1, 10.1).
 ghost use Rattle.std.specs.Prelude.{◌≡◌, Some};
 ghost use Rattle.bcder.specs.calls.Violations.{violation_text};
 
 use std::fmt;
 
-/// Why no header of a value, and no end of the content, can be read in front of octets.
+/// The reason that octets begin neither with the header of a value nor with the end of the content.
 #[derive(Clone, Copy, Debug, PartialEq, Eq)]
 pub enum Violation {
     /// The octets end inside identifier octets or length octets, or between them.
@@ -13,13 +13,13 @@ pub enum Violation {
     /// The octets end before the content does.
     TruncatedContents,
 
-    /// The number of a tag isn't in the fewest octets (8.1.2.2, 8.1.2.4.2 c).
+    /// The number of a tag isn't encoded in the fewest octets (8.1.2.2, 8.1.2.4.2 c).
     TagNotFewest,
 
-    /// The number of a tag is larger than 2097151. X.690 has no limit, this crate has.
+    /// The number of a tag is larger than 2097151. This is a limit of the crate. X.690 has none.
     TagTooLarge,
 
-    /// The tag of end-of-contents octets, in front of other octets than theirs (8.1.5).
+    /// The tag of end-of-contents octets is followed by octets other than theirs (8.1.5).
     ReservedTag,
 
     /// The first length octet is FF (8.1.3.5 c).
@@ -28,27 +28,27 @@ pub enum Violation {
     /// More than four octets follow the first length octet. X.690 allows 126, this crate four.
     LengthTooLarge,
 
-    /// The length isn't in the fewest octets, in CER or DER (9.1, 10.1).
+    /// In CER or DER, the length isn't encoded in the fewest octets (9.1, 10.1).
     LengthNotFewest,
 
     /// A primitive value has the indefinite form (8.1.3.2).
     PrimitiveIndefinite,
 
-    /// A value has the indefinite form in DER (10.1).
+    /// In DER, a value has the indefinite form (10.1).
     IndefiniteInDer,
 
-    /// A constructed value has the definite form in CER (9.1).
+    /// In CER, a constructed value has the definite form (9.1).
     DefiniteInCer,
 
     /// A value has more octets than are left of the value around it (8.1.3.3).
     ValueTooLong,
 
-    /// End-of-contents octets stand in content that doesn't end at any (8.1.5).
+    /// End-of-contents octets come in content that doesn't end with any (8.1.5).
     StrayEnd,
 }
 
 impl Violation {
-    /// What an error says of it.
+    /// Returns the text of the error.
     pub fn text(self) -> &'static str
         ensures { result.now ≡ violation_text self }
     {
@@ -70,7 +70,7 @@ impl Violation {
     }
 }
 
-/// Its text.
+/// Writes the text of the error.
 impl fmt::Display for Violation {
     ghost output = { λ v. Some (violation_text v) };
 

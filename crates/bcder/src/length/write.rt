@@ -9,7 +9,7 @@ use crate::encode::EncodeError;
 use crate::encode::buffer::Buffer;
 
 impl Length {
-    /// Whether four octets tell it.
+    /// Returns whether four octets suffice for it.
     #[inline(always)]
     fn fits(self) -> bool
         ensures { result ≡ fits_length self }
@@ -20,7 +20,7 @@ impl Length {
         }
     }
 
-    /// How many octets it has.
+    /// Returns how many octets it has.
     #[tactic(auto, unfolding(crate::specs::x690::Octets::definite_length))]
     pub(crate) fn octet_count(self) -> usize
         requires { fits_length self ≡ true }
@@ -45,11 +45,11 @@ impl Length {
         }
     }
 
-    /// How many octets it has, in the fewest that there are for a definite length (10.1).
+    /// Returns how many octets it has: for a definite length, the fewest possible (10.1).
     ///
     /// # Errors
     ///
-    /// `LengthTooLarge` for a definite length of 2^32 or more.
+    /// Returns `LengthTooLarge` for a definite length of 2^32 or more.
     pub(crate) fn encoded_len(self) -> Result<usize, EncodeError>
         ensures size { SizeOfContents (LengthMeans self) ⊥ result }
         ensures limit { IfOk result (λ n. n < 6) }
@@ -61,7 +61,7 @@ impl Length {
         }
     }
 
-    /// The octet that it has, where it is one alone (8.1.3.4, 8.1.3.6).
+    /// Returns the length octet, if there is only one (8.1.3.4, 8.1.3.6).
     #[tactic(auto, unfolding(crate::specs::x690::Octets::definite_length))]
     #[inline(always)]
     pub(crate) fn single_octet(self) -> Option<u8>
@@ -73,7 +73,7 @@ impl Length {
         }
     }
 
-    /// Adds its octets to those of a header, the fewest that there are for a definite length
+    /// Adds its octets to those of a header. For a definite length these are the fewest possible
     /// (10.1).
     #[tactic(auto, unfolding(crate::specs::x690::Octets::definite_length))]
     #[inline(always)]

@@ -1,11 +1,11 @@
-//! How tags are shown.
+//! Displaying tags.
 ghost use Rattle.std.specs.Prelude.{◌≡◌, Some, option_map};
 ghost use Rattle.bcder.specs.calls.TagText.{universal_name, tag_text};
 
 use super::{Class, Tag};
 use std::fmt;
 
-/// The name of the type that a universal number stands for (X.680, 8.4).
+/// Returns the name of the type that a universal number stands for (X.680, 8.4).
 #[tactic(auto, using(crate::proofs::nat_tests), unfolding(crate::specs::calls::TagText::universal_name))]
 fn universal_name(number: u32) -> Option<&'static str>
     ensures { option_map (λ name. name.now) result ≡ universal_name number }
@@ -50,8 +50,8 @@ fn universal_name(number: u32) -> Option<&'static str>
     }
 }
 
-/// Writes the name of the type of a universal tag, if it has one, else the class and the number in
-/// brackets, as `[UNIVERSAL 15]`, `[APPLICATION 5]`, `[0]` or `[PRIVATE 5]`.
+/// Writes the name of the type of a universal tag, if it has one. Otherwise writes the class and
+/// the number in brackets, for example `[UNIVERSAL 15]`, `[APPLICATION 5]`, `[0]` or `[PRIVATE 5]`.
 impl fmt::Display for Tag {
     ghost output = { λ tag. Some (tag_text tag) };
 

@@ -17,23 +17,24 @@ ghost use Rattle.bcder.specs.steps.PeekTag.{PeeksTag, SeesTag};
 use super::{Tag, identifier_at};
 use crate::decode::{ContentError, DecodeError, Source, Violation};
 
-/// What identifier octets stand at the front of a source.
+/// The identifier octets that come next in a source.
 enum PeekedTag {
     /// The source is at its end.
     Nothing,
 
-    /// A tag, its constructed mark, and how many octets these are.
+    /// A tag, its constructed bit, and the number of these octets.
     Front {
         tag: Tag,
         constructed: bool,
         size: usize,
     },
 
-    /// Octets that begin no identifier octets, and what they violate.
+    /// Octets that don't begin identifier octets, and what they violate.
     Refused(Violation),
 }
 
-/// What octets that hold no identifier octets violate. `None` is for those that may begin some.
+/// Returns what octets violate that don't begin with identifier octets, or `None` if they may be
+/// the beginning of some.
 #[tactic(auto, using(crate::proofs::Violations::identifier_violated))]
 pub(crate) fn identifier_violation(octets: &[u8]) -> Option<Violation>
     requires { read_identifier octets.now ≡ None }
@@ -59,8 +60,8 @@ pub(crate) fn identifier_violation(octets: &[u8]) -> Option<Violation>
     }
 }
 
-/// What the octets at hand tell of the identifier octets at their front, whatever follows them.
-/// `None` is where it depends on what follows.
+/// Returns what the octets at hand say about the identifier octets at their start, whatever follows
+/// them. Returns `None` if it depends on what follows.
 fn look(octets: &[u8]) -> Option<PeekedTag>
     ensures { SeesTag result octets.now }
 {
@@ -77,8 +78,9 @@ fn look(octets: &[u8]) -> Option<PeekedTag>
     }
 }
 
-/// What identifier octets stand at the front of a source. It asks for no more octets than these
-/// are, and takes none. An error is the source's own.
+/// Returns which identifier octets come next in a source.
+///
+/// It requests no more octets than these are, and takes none. An error is the source's own.
 fn peek<S: Source>(source: &mut S) -> Result<PeekedTag, S::Error>
     ensures peeked { IfOk result (λ p. PeeksTag p (S.stream source.new)) }
     ensures no_fault { OnOk result (SameFaults S.stream source) }
@@ -103,7 +105,7 @@ fn peek<S: Source>(source: &mut S) -> Result<PeekedTag, S::Error>
     }
 }
 
-/// The refusal of octets that begin no identifier octets.
+/// Returns an error that refuses octets which don't begin identifier octets.
 #[cold]
 fn invalid<S: Source>(source: &S, violation: Violation) -> DecodeError<S::Error>
     ensures { IsRefusal result }
@@ -112,13 +114,15 @@ fn invalid<S: Source>(source: &S, violation: Violation) -> DecodeError<S::Error>
 }
 
 impl Tag {
-    /// Takes identifier octets (X.690, 8.1.2): the tag, and whether the encoding is constructed.
-    /// `None` is for a source at its end.
+    /// Takes identifier octets (X.690, 8.1.2), and returns the tag and whether the encoding is
+    /// constructed.
+    ///
+    /// Returns `None` if the source is at its end.
     ///
     /// # Errors
     ///
-    /// Where the octets in front are no identifier octets, and where the source fails. Then nothing
-    /// is taken.
+    /// Returns an error if the next octets aren't identifier octets, or if the source fails.
+    /// Nothing is then taken.
     pub fn take_opt_from<S: Source>(
         source: &mut S,
     ) -> Result<Option<(Tag, bool)>, DecodeError<S::Error>>
@@ -148,12 +152,13 @@ impl Tag {
         }
     }
 
-    /// Takes identifier octets (X.690, 8.1.2): the tag, and whether the encoding is constructed.
+    /// Takes identifier octets (X.690, 8.1.2), and returns the tag and whether the encoding is
+    /// constructed.
     ///
     /// # Errors
     ///
-    /// Where the octets in front are no identifier octets, where there are none, and where the
-    /// source fails. Then nothing is taken.
+    /// Returns an error if the next octets aren't identifier octets, if there are none, or if the
+    /// source fails. Nothing is then taken.
     #[tactic(auto, using(crate::proofs::Beginnings::end_begins_no_identifier))]
     pub fn take_from<S: Source>(source: &mut S) -> Result<(Tag, bool), DecodeError<S::Error>>
         ensures ok { IfOk result (λ r. IsTag r.0
@@ -181,14 +186,15 @@ impl Tag {
         }
     }
 
-    /// Takes the identifier octets (X.690, 8.1.2) of this tag, and answers whether the encoding is
-    /// constructed. `None` is for those of another tag and for a source at its end, and takes
-    /// nothing.
+    /// Takes the identifier octets (X.690, 8.1.2) of this tag, and returns whether the encoding is
+    /// constructed.
+    ///
+    /// Returns `None`, and takes nothing, if another tag comes next or the source is at its end.
     ///
     /// # Errors
     ///
-    /// Where the octets in front are no identifier octets, and where the source fails. Then nothing
-    /// is taken.
+    /// Returns an error if the next octets aren't identifier octets, or if the source fails.
+    /// Nothing is then taken.
     pub fn take_from_if<S: Source>(
         self,
         source: &mut S,

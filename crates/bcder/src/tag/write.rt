@@ -15,7 +15,7 @@ use crate::encode::target::write_octets;
 use std::io;
 
 impl Class {
-    /// Bits 8 and 7 of the leading octet (8.1.2.2, table 1).
+    /// Returns bits 8 and 7 of the leading octet (8.1.2.2, table 1).
     fn bits(self) -> u8
         ensures value { result ≡ class_bits (class_meant self) }
         ensures limit { result < 193 }
@@ -30,7 +30,7 @@ impl Class {
 }
 
 impl Tag {
-    /// How many identifier octets the tag has, in either form (8.1.2.2, 8.1.2.4): 1 to 4.
+    /// Returns how many identifier octets the tag has, in either form (8.1.2.2, 8.1.2.4): 1 to 4.
     pub fn encoded_len(self) -> usize
         ensures value { (form : Bool) → result ≡ length (identifier self form) }
         ensures limit { result < 5 }
@@ -46,8 +46,10 @@ impl Tag {
         }
     }
 
-    /// How many identifier octets a value with the tag has, or `None` for the tag of the
-    /// end-of-contents octets, which no value has. Of most tags one test tells both.
+    /// Returns how many identifier octets a value with the tag has.
+    ///
+    /// Returns `None` for the tag of the end-of-contents octets, which no value has. For most tags
+    /// one test decides both.
     #[inline(always)]
     pub(crate) fn value_len(self) -> Option<usize>
         ensures some { IfSome result (λ n. IsValueTag self
@@ -64,7 +66,7 @@ impl Tag {
         }
     }
 
-    /// The leading octet: class, form and five bits (8.1.2.2, 8.1.2.5).
+    /// Returns the leading octet: class, form and five bits (8.1.2.2, 8.1.2.5).
     #[inline(always)]
     fn leading(self, constructed: bool, low: u8) -> u8
         requires { low < 32 }
@@ -74,7 +76,7 @@ impl Tag {
         self.class.bits() + mark + low
     }
 
-    /// The identifier octet, where there is one alone (8.1.2.2).
+    /// Returns the identifier octet, if there is only one (8.1.2.2).
     #[inline(always)]
     pub(crate) fn single_octet(self, constructed: bool) -> Option<u8>
         ensures { IfSome result (λ octet. identifier self constructed ≡ octet ∷ []) }
@@ -87,12 +89,13 @@ impl Tag {
     }
 
     /// Writes the identifier octets of the tag, for a constructed or a primitive encoding (8.1.2).
+    ///
     /// Those of `Tag::END_OF_VALUE` are written too.
     ///
     /// # Errors
     ///
-    /// That of the target, or `WriteZero` where it took none of some octets. A front of the octets
-    /// was then written, and not all of them.
+    /// Returns the target's error, or `WriteZero` if the target accepted none of some octets. A
+    /// proper prefix of the octets was then written.
     pub fn write_encoded<W: io::Write>(self, constructed: bool, target: &mut W) -> io::Result<()>
         ensures ok { OnOk result (Appended W.contents target (identifier self constructed)) }
         ensures refused { OnErr result

@@ -1,4 +1,4 @@
-//! Octets read as the contents octets of a primitive value.
+//! Reading octets as the contents octets of a primitive value.
 ghost use Rattle.std.specs.Prelude.{◌≡◌, ◌≢◌, false, IsTrue, Some, length};
 ghost use Rattle.bcder.specs.calls.Alone.{IsAllOctets, RanAlone};
 ghost use Rattle.bcder.specs.declared.decode.content.State.TheVariants.{Open};
@@ -14,7 +14,7 @@ use crate::mode::Mode;
 use std::convert::Infallible;
 
 impl<'a, S: Source> Primitive<'a, S> {
-    /// Whether no octets are owed any more.
+    /// Returns whether no more octets are owed.
     #[tactic(auto, unfolding(crate::specs::calls::Views::of_primitive))]
     fn is_used_up(&self) -> bool
         ensures yes { IsTrue result → (of_primitive S.stream self.now).owed ≡ Some 0 }
@@ -27,7 +27,8 @@ impl<'a, S: Source> Primitive<'a, S> {
     }
 }
 
-/// Calls the closure on all octets up to the limit of a source, of which then none are left.
+/// Calls the closure on all octets up to the limit of a source, and returns an error if any are
+/// left.
 #[tactic(auto, unfolding(crate::specs::calls::Views::of_primitive))]
 fn run_over<S: Source, F, T: Drop>(
     source: &mut LimitedSource<S>,
@@ -67,13 +68,13 @@ where
 impl Primitive<'static, SliceSource<'static>> {
     ghost use Rattle.std.specs.Prelude.{length};
 
-    /// Hands octets to the closure, as the contents octets of a primitive value in a mode.
+    /// Calls the closure on octets, as the contents octets of a primitive value in a mode.
     ///
-    /// The closure has to take all of them. Its answer is answered.
+    /// The closure has to take all of them. Its result is returned.
     ///
     /// # Errors
     ///
-    /// The closure's refusal as it is; and a refusal where it leaves octets.
+    /// Returns the closure's error unchanged. Also returns an error if the closure leaves octets.
     pub fn decode_slice<'b, F, T: Drop>(
         octets: &'b [u8],
         mode: Mode,

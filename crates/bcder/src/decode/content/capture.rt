@@ -21,14 +21,14 @@ use crate::mode::Mode;
 use bytes::Bytes;
 use std::alloc::Global;
 
-/// The mode of what was passed: BER where a mode was changed.
+/// Returns the mode of what was passed: BER if a mode was changed.
 fn label(mode: Mode, marked: bool) -> Mode
     ensures { result ≡ label mode marked }
 {
     if marked { Mode::Ber } else { mode }
 }
 
-/// Whether the end-of-contents octets were taken between two states.
+/// Returns whether the end-of-contents octets were taken between two states.
 fn ends(before: State, after: State) -> bool
     ensures { IsTrue result ↔ ((before ≡ State.Open) × (after ≡ State.Ended)) }
 {
@@ -38,8 +38,10 @@ fn ends(before: State, after: State) -> bool
     }
 }
 
-/// Calls the closure on content over a source that captures what is passed over, in whatever state,
-/// and answers the state and the mark that it left too. The source below keeps all its octets.
+/// Calls the closure on content, in any state, over a source that captures what is passed.
+///
+/// Also returns the state and the mark that the closure left. The source below keeps all its
+/// octets.
 #[tactic(auto, unfolding(crate::specs::calls::Views::of_constructed))]
 #[inline(always)]
 fn run_capturing<S: Source, F>(
@@ -84,8 +86,8 @@ where
     (result, cons.state, cons.marked)
 }
 
-/// Takes the octets that were passed over from the source behind, and gives that one back. A
-/// refusal takes none.
+/// Takes the octets that were passed over out of the borrowed source, and returns that source as
+/// well. A refusal takes none.
 fn take_passed<'a, S: Source>(
     mut capture: CaptureSource<'a, S>,
     alloc: Global,
@@ -118,8 +120,8 @@ fn take_passed<'a, S: Source>(
     }
 }
 
-/// Calls the closure on what comes of a source up to a limit, and takes the octets that it passed
-/// over. A refusal takes none.
+/// Calls the closure on what comes of a source up to a limit, and takes the octets that it passed.
+/// A refusal takes none.
 #[inline(always)]
 fn capture_over<S: Source, F>(
     source: &mut S,
@@ -155,7 +157,7 @@ where
 }
 
 impl<'a, S: Source> Constructed<'a, S> {
-    /// Where the values to come begin.
+    /// Returns the position where the values to come begin.
     #[tactic(auto, unfolding(crate::specs::calls::Views::of_constructed))]
     fn position(&self) -> Pos
         ensures { result ≡ (of_constructed S.stream self.now).stream.position }
@@ -165,18 +167,22 @@ impl<'a, S: Source> Constructed<'a, S> {
 
     /// Calls the closure on this content, and captures the octets that it passes over.
     ///
-    /// The closure is handed content with the same values to come, in the same state and mode.
-    /// What it leaves of that is what is left of this, but for the mode, which stays. The octets
-    /// are shared with the source where that holds shared octets. End-of-contents octets that end
-    /// the content are taken, and are no part of what is captured (X.690, 8.1.5).
+    /// The closure gets content with the same values to come, in the same state and mode. What it
+    /// leaves of that is what is left of this content. Only the mode stays as it was. The octets
+    /// are shared with the source if the source holds shared octets. End-of-contents octets that
+    /// end the content are taken, but aren't captured (X.690, 8.1.5).
     ///
-    /// The octets are encodings in this content's mode, or in BER where the closure changed a mode.
+    /// The octets are encodings in this content's mode, or in BER if the closure changed a mode.
     ///
     /// # Errors
     ///
-    /// The closure's refusal as it is; and a refusal where it leaves failed content, as failed
-    /// content stays; where the source fails; and where there is no memory for the octets, of which
-    /// there is at least one. The content is then as it was, and open content can still be used.
+    /// Returns the closure's error unchanged. Also returns an error if
+    ///
+    /// - the closure leaves failed content (content that had failed before stays failed);
+    /// - the source fails;
+    /// - memory runs out for the octets, of which there is then at least one.
+    ///
+    /// The content is then as it was. If it was open, it can still be used.
     #[tactic(auto, unfolding(crate::specs::calls::Views::of_constructed))]
     pub fn capture<F>(&mut self, alloc: Global, op: F) -> Result<Captured, DecodeError<S::Error>>
     where

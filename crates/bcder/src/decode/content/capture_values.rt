@@ -1,4 +1,4 @@
-//! Capturing the next value, and all values.
+//! Capturing the next value, or all values.
 ghost use Rattle.bcder.specs.calls.CapturingValues.{CapturedOne, ExactlyOne, CapturedAll};
 ghost use Rattle.bcder.specs.calls.CapturingValues.{CapturesExactlyAll};
 ghost use Rattle.bcder.specs.calls.CapturingValues.{PassedOne, PassedToEnd};
@@ -28,16 +28,21 @@ fn pass_all<S: Source>(
 impl<'a, S: Source> Constructed<'a, S> {
     /// Captures the next value, which has to be there.
     ///
-    /// It is captured exactly where an encoding of a value stands in front, in the content's mode
-    /// (X.690, 8.1.1), unless the source fails or memory is wanted; and what is captured is that
-    /// encoding. All headers inside it are looked at. Values may be nested to any depth, as for
+    /// Unless the source fails or memory runs out, a value is captured exactly if its encoding
+    /// comes next, in the content's mode (X.690, 8.1.1). That encoding is what is captured. All
+    /// headers inside it are checked. Values may be nested to any depth, as for
     /// [`skip_one`](Self::skip_one).
     ///
     /// # Errors
     ///
-    /// Where no encoding of a value stands in front, as at the end of the content; where an earlier
-    /// value was refused; where the source fails; and where there is no memory for the octets or
-    /// for a value that is open at a depth of four or more. The content is then as it was.
+    /// Returns an error if
+    ///
+    /// - no encoding of a value comes next, as at the end of the content;
+    /// - an earlier value was refused;
+    /// - the source fails;
+    /// - memory runs out for the octets, or for a value that is open at a depth of four or more.
+    ///
+    /// The content is then as it was.
     pub fn capture_one(&mut self, alloc: Global) -> Result<Captured, DecodeError<S::Error>>
         ensures moves { Moved S.stream self }
         ensures captured { CapturedOne S.stream self result }
@@ -58,18 +63,22 @@ impl<'a, S: Source> Constructed<'a, S> {
         )
     }
 
-    /// Captures all values up to the end of the content, which may be none.
+    /// Captures all values up to the end of the content. There may be none.
     ///
-    /// They are captured exactly where the rest up to the end is encodings in the content's mode,
-    /// one after the other (X.690, 8.1.1), unless the source fails or memory is wanted. The content
-    /// is at its end then. Its end-of-contents octets, if any, are taken, and are no part of what
-    /// is captured (8.1.5).
+    /// Unless the source fails or memory runs out, they are captured exactly if the rest up to the
+    /// end is a list of encodings in the content's mode (X.690, 8.1.1). The content is then at its
+    /// end. Its end-of-contents octets, if any, are taken, but aren't captured (8.1.5).
     ///
     /// # Errors
     ///
-    /// Where the rest up to the end isn't encodings; where an earlier value was refused; where the
-    /// source fails; and where there is no memory for the octets or for a value that is open at a
-    /// depth of four or more. The content is then as it was.
+    /// Returns an error if
+    ///
+    /// - the rest up to the end isn't a list of encodings;
+    /// - an earlier value was refused;
+    /// - the source fails;
+    /// - memory runs out for the octets, or for a value that is open at a depth of four or more.
+    ///
+    /// The content is then as it was.
     pub fn capture_all(&mut self, alloc: Global) -> Result<Captured, DecodeError<S::Error>>
         ensures moves { Moved S.stream self }
         ensures captured { CapturedAll S.stream self result }

@@ -13,7 +13,7 @@ use crate::decode::error::DecodeError;
 use crate::decode::source::{IntoSource, LimitedSource, Source};
 use crate::mode::Mode;
 
-/// Calls the closure on content, which then has not failed.
+/// Calls the closure on content, and returns an error if the closure leaves it failed.
 #[tactic(auto, using(crate::proofs::moves_constructed_name), unfolding(crate::specs::calls::Views::views))]
 pub(super) fn run<S: Source, F, T: Drop>(
     cons: &mut Constructed<'_, S>,
@@ -78,18 +78,17 @@ where
 }
 
 impl<'a, S: Source + Drop> Constructed<'a, S> {
-    /// Decodes the values at the front of a source, in a mode.
+    /// Decodes values from the start of a source, in a mode.
     ///
-    /// The closure is handed all of the source as values up to its end, and answers. Octets that
-    /// it leaves aren't looked at.
+    /// The closure gets the whole source as values up to its end, and its result is returned.
+    /// Octets that the closure leaves aren't looked at.
     ///
-    /// The source is gone afterwards: [`decode_lent`](Self::decode_lent) decodes one that its
-    /// owner goes on with.
+    /// The source is consumed. To go on with it afterwards, use [`decode_lent`](Self::decode_lent).
     ///
     /// # Errors
     ///
-    /// The closure's refusal as it is; and a refusal where the closure leaves failed content, that
-    /// is, where it dropped the refusal of a value.
+    /// Returns the closure's error unchanged. Also returns an error if the closure leaves failed
+    /// content, that is, if it dropped the error of a value.
     pub fn decode<I, F, T: Drop>(source: I, mode: Mode, op: F) -> Result<T, DecodeError<S::Error>>
     where
         I: IntoSource<Source = S>,
@@ -105,14 +104,14 @@ impl<'a, S: Source + Drop> Constructed<'a, S> {
 }
 
 impl<'a, S: Source> Constructed<'a, S> {
-    /// Decodes the values at the front of a borrowed source, in a mode.
+    /// Decodes values from the start of a borrowed source, in a mode.
     ///
-    /// It is [`decode`](Self::decode) for a source that its owner goes on with: what is left of the
-    /// source is what the closure left, also where it refused.
+    /// This is [`decode`](Self::decode) for a source that its owner goes on using. What the closure
+    /// leaves of the source is left there, even if it refuses.
     ///
     /// # Errors
     ///
-    /// Those of `decode`.
+    /// Returns the errors of `decode`.
     pub fn decode_lent<F, T: Drop>(
         source: &mut S,
         mode: Mode,

@@ -1,4 +1,4 @@
-//! Decoding all values of a source, and all that contents octets hold.
+//! Decoding all values of a source, and all values inside contents octets.
 ghost use Rattle.std.specs.Prelude.{◌≡◌, IfOk, IfErr};
 ghost use Rattle.bcder.specs.calls.Calls.{MayBeCalledOn, IsLawfulOn};
 ghost use Rattle.bcder.specs.calls.Content.{Moves};
@@ -16,7 +16,7 @@ use crate::decode::error::DecodeError;
 use crate::decode::source::{IntoSource, LimitedSource, Source};
 use crate::mode::Mode;
 
-/// Calls the closure on content, of which then no octets are left.
+/// Calls the closure on content, and returns an error if octets are left.
 #[tactic(auto, using(crate::proofs::moves_constructed_name), unfolding(crate::specs::calls::Views::views))]
 fn run_to_end<S: Source, F, T: Drop>(
     cons: &mut Constructed<'_, S>,
@@ -47,13 +47,13 @@ where
 impl<'a, S: Source + Drop> Constructed<'a, S> {
     /// Decodes all values of a source, in a mode.
     ///
-    /// It is [`decode`](Self::decode), and the values that the closure takes have to reach up to
-    /// the end of the source.
+    /// This is [`decode`](Self::decode), but the closure has to take all values up to the end of
+    /// the source.
     ///
     /// # Errors
     ///
-    /// Those of `decode`; a refusal if octets are left behind the values, at the first of them; and
-    /// a failure of the source when it is asked for more.
+    /// Returns the errors of `decode`. Also returns an error if octets follow the values, at the
+    /// position of the first of them, or if the source fails when it is asked for more.
     pub fn decode_all<I, F, T: Drop>(
         source: I,
         mode: Mode,
@@ -84,15 +84,15 @@ impl<'a, S: Source + Drop> Constructed<'a, S> {
 impl<'a, S: Source> Primitive<'a, S> {
     /// Decodes all contents octets as values in a mode, and takes them.
     ///
-    /// An OCTET STRING often holds an encoding, as that of a certificate's extension does. The
-    /// closure is handed the octets as values up to their end, over the same source: positions go
-    /// on, and nothing is copied. The mode of the octets themselves stays as it is.
+    /// An OCTET STRING often holds an encoding, for example in an extension of a certificate. The
+    /// closure gets the octets as values up to their end, over the same source: positions go on,
+    /// and nothing is copied. The mode of the octets themselves stays as it is.
     ///
     /// # Errors
     ///
-    /// The closure's refusal as it is; a refusal if it leaves failed content; and a refusal if
-    /// octets are left behind the values, at the first of them. Some of the octets may then have
-    /// been taken.
+    /// Returns the closure's error unchanged. Also returns an error if the closure leaves failed
+    /// content, or if octets follow the values, at the position of the first of them. Some of the
+    /// octets may then have been taken.
     pub fn decode_all<F, T: Drop>(&mut self, mode: Mode, op: F) -> Result<T, DecodeError<S::Error>>
     where
         F: FnOnce(&mut Constructed<'_, S>) -> Result<T, DecodeError<S::Error>>,

@@ -1,5 +1,5 @@
-//! Reading primitive content as a number, null or a bit string, by a closure that takes content of
-//! either form.
+//! Reading the content of a primitive value as a number, null or bit string, in a closure that gets
+//! content of either form.
 ghost use Rattle.bcder.specs.x690.BitString.{IsBitString};
 ghost use Rattle.bcder.specs.x690.Number.{IsNumber};
 ghost use Rattle.bcder.specs.calls.ReadBits.{HoldBits, NoBits};
@@ -16,7 +16,7 @@ use std::alloc::Global;
 
 #[tactic(auto, using(crate::specs::laws::Moved::untouched_is_moved))]
 impl<'a, S: Source> Content<'a, S> {
-    /// Reads all octets as the number of a type, and takes them.
+    /// Reads all octets as a number of type `N`, and takes them.
     #[inline(always)]
     fn read_number<N: Number + Drop>(&mut self) -> Result<N, DecodeError<S::Error>>
         ensures moves { MovedContent S.stream self }
@@ -33,8 +33,8 @@ impl<'a, S: Source> Content<'a, S> {
     ///
     /// # Errors
     ///
-    /// `ContentError::ExpectedInteger` where they are another integer that a `u8` holds; and those
-    /// of [`to_u8`](Self::to_u8).
+    /// Returns `ContentError::ExpectedInteger` if they are another integer that a `u8` holds.
+    /// Returns the errors of [`to_u8`](Self::to_u8) as well.
     pub fn skip_u8_if(&mut self, expected: u8) -> Result<(), DecodeError<S::Error>>
         ensures moves { MovedContent S.stream self }
         ensures read { ReadContentBy S.stream self
@@ -47,12 +47,12 @@ impl<'a, S: Source> Content<'a, S> {
         }
     }
 
-    /// Makes sure that this is the content of a NULL (X.690, 8.8): primitive, and without octets.
+    /// Checks that this is the content of a NULL (X.690, 8.8): primitive, and without octets.
     ///
     /// # Errors
     ///
-    /// Where octets are owed, and where the content is that of a constructed value, which then
-    /// stays as it is.
+    /// Returns an error if the length promises octets, or if the content is that of a constructed
+    /// value, which then stays as it is.
     pub fn to_null(&mut self) -> Result<(), DecodeError<S::Error>>
         ensures moves { MovedContent S.stream self }
         ensures read { ReadContent S.stream self IsNull result }
@@ -64,7 +64,7 @@ impl<'a, S: Source> Content<'a, S> {
         }
     }
 
-    /// Takes all octets where they are a bit string's.
+    /// Takes all octets if they are contents octets of a bit string.
     pub(crate) fn take_bits(&mut self, alloc: Global) -> Result<BitString, DecodeError<S::Error>>
         ensures moves { MovedContent S.stream self }
         ensures read { ReadContentBy S.stream self
@@ -78,7 +78,7 @@ impl<'a, S: Source> Content<'a, S> {
         }
     }
 
-    /// Passes over all octets where they are a bit string's.
+    /// Passes over all octets if they are contents octets of a bit string.
     pub(crate) fn skip_bits(&mut self) -> Result<(), DecodeError<S::Error>>
         ensures moves { MovedContent S.stream self }
         ensures read { ReadContent S.stream self
@@ -91,12 +91,12 @@ impl<'a, S: Source> Content<'a, S> {
         }
     }
 
-    /// Reads all octets as an INTEGER (X.690, 8.3) that a `u8` holds, and takes them.
+    /// Reads all octets as an INTEGER (X.690, 8.3) that fits into a `u8`, and takes them.
     ///
     /// # Errors
     ///
-    /// Those of [`Primitive::to_u8`](super::Primitive::to_u8), and where the content is that of a
-    /// constructed value, which then stays as it is.
+    /// Returns the errors of [`Primitive::to_u8`](super::Primitive::to_u8), and an error if the
+    /// content is that of a constructed value, which then stays as it is.
     #[inline(always)]
     pub fn to_u8(&mut self) -> Result<u8, DecodeError<S::Error>>
         ensures moves { MovedContent S.stream self }
@@ -106,12 +106,12 @@ impl<'a, S: Source> Content<'a, S> {
         self.read_number()
     }
 
-    /// Reads all octets as an INTEGER (X.690, 8.3) that a `u16` holds, and takes them.
+    /// Reads all octets as an INTEGER (X.690, 8.3) that fits into a `u16`, and takes them.
     ///
     /// # Errors
     ///
-    /// Those of [`Primitive::to_u16`](super::Primitive::to_u16), and where the content is that of a
-    /// constructed value, which then stays as it is.
+    /// Returns the errors of [`Primitive::to_u16`](super::Primitive::to_u16), and an error if the
+    /// content is that of a constructed value, which then stays as it is.
     #[inline(always)]
     pub fn to_u16(&mut self) -> Result<u16, DecodeError<S::Error>>
         ensures moves { MovedContent S.stream self }
@@ -121,12 +121,12 @@ impl<'a, S: Source> Content<'a, S> {
         self.read_number()
     }
 
-    /// Reads all octets as an INTEGER (X.690, 8.3) that a `u32` holds, and takes them.
+    /// Reads all octets as an INTEGER (X.690, 8.3) that fits into a `u32`, and takes them.
     ///
     /// # Errors
     ///
-    /// Those of [`Primitive::to_u32`](super::Primitive::to_u32), and where the content is that of a
-    /// constructed value, which then stays as it is.
+    /// Returns the errors of [`Primitive::to_u32`](super::Primitive::to_u32), and an error if the
+    /// content is that of a constructed value, which then stays as it is.
     #[inline(always)]
     pub fn to_u32(&mut self) -> Result<u32, DecodeError<S::Error>>
         ensures moves { MovedContent S.stream self }
@@ -136,12 +136,12 @@ impl<'a, S: Source> Content<'a, S> {
         self.read_number()
     }
 
-    /// Reads all octets as an INTEGER (X.690, 8.3) that a `u64` holds, and takes them.
+    /// Reads all octets as an INTEGER (X.690, 8.3) that fits into a `u64`, and takes them.
     ///
     /// # Errors
     ///
-    /// Those of [`Primitive::to_u64`](super::Primitive::to_u64), and where the content is that of a
-    /// constructed value, which then stays as it is.
+    /// Returns the errors of [`Primitive::to_u64`](super::Primitive::to_u64), and an error if the
+    /// content is that of a constructed value, which then stays as it is.
     #[inline(always)]
     pub fn to_u64(&mut self) -> Result<u64, DecodeError<S::Error>>
         ensures moves { MovedContent S.stream self }

@@ -1,4 +1,4 @@
-//! What a closure makes of content of one form.
+//! Calling a closure on content of one form.
 ghost use Rattle.std.specs.Prelude.{◌≡◌, ◌≢◌, ◌⊎◌, Ok, Err, IfOk, IfErr};
 ghost use Rattle.bcder.specs.calls.Calls.{Answered, MayBeCalledOn, IsLawfulOn};
 ghost use Rattle.bcder.specs.calls.Cause.{IsRefusal};
@@ -12,11 +12,12 @@ use crate::decode::source::Source;
 
 #[tactic(auto, using(crate::proofs::moves))]
 impl<'a, S: Source> Content<'a, S> {
-    /// Calls the closure on the content of a primitive value, and answers what it answers.
+    /// Calls the closure on the content of a primitive value, and returns its result.
     ///
     /// # Errors
     ///
-    /// The closure's refusal; and where the value is constructed: its content then stays as it is.
+    /// Returns the closure's error. Also returns an error if the value is constructed. Its content
+    /// then stays as it is.
     pub fn as_primitive<F, T: Drop>(&mut self, op: F) -> Result<T, DecodeError<S::Error>>
     where
         F: FnOnce(&mut Primitive<'_, S>) -> Result<T, DecodeError<S::Error>>,
@@ -43,11 +44,12 @@ impl<'a, S: Source> Content<'a, S> {
         }
     }
 
-    /// Calls the closure on the content of a constructed value, and answers what it answers.
+    /// Calls the closure on the content of a constructed value, and returns its result.
     ///
     /// # Errors
     ///
-    /// The closure's refusal; and where the value is primitive: its content then stays as it is.
+    /// Returns the closure's error. Also returns an error if the value is primitive. Its content
+    /// then stays as it is.
     pub fn as_constructed<F, T: Drop>(&mut self, op: F) -> Result<T, DecodeError<S::Error>>
     where
         F: FnOnce(&mut Constructed<'_, S>) -> Result<T, DecodeError<S::Error>>,

@@ -1,4 +1,4 @@
-//! Taking the content of a value whose header was passed over.
+//! Taking the content of a value whose header was passed.
 ghost use Rattle.std.specs.Prelude.{◌≡◌, ◌||◌, true, false, None, Some, Ok, IfErr, IfOk, OnOk};
 ghost use Rattle.bcder.specs.calls.Calls.{AnswersDone, IsLawfulOn, MayBeCalledOn, RefusesContent};
 ghost use Rattle.bcder.specs.calls.Calls.{RefusesEnd, Untagged};
@@ -23,8 +23,8 @@ use crate::decode::source::{LimitedSource, Source};
 use crate::decode::stop::{Reason, Stop};
 use crate::length::Length;
 
-/// Limits the source to the content behind a length, and answers how the end of that is known
-/// (X.690, 8.1.3.2).
+/// Limits the source to the content behind a length, and returns how the end of that content is
+/// known (X.690, 8.1.3.2).
 #[inline(always)]
 pub(super) fn go_inside<S>(source: &mut LimitedSource<S>, len: Length) -> Kind
     ensures kind { result ≡ kind_behind len }
@@ -40,7 +40,7 @@ pub(super) fn go_inside<S>(source: &mut LimitedSource<S>, len: Length) -> Kind
     }
 }
 
-/// Gives the source the limit of the content around a value back, less what was passed over.
+/// Restores the limit of the content around a value in the source, less what was passed.
 #[inline(always)]
 fn go_outside<S>(source: &mut LimitedSource<S>, outer: Option<usize>, len: Length)
     ensures limit { source.new.limit ≡ limit_outside len outer source.old.limit }
@@ -51,8 +51,7 @@ fn go_outside<S>(source: &mut LimitedSource<S>, outer: Option<usize>, len: Lengt
     }
 }
 
-/// Gives the source the limit of the content around a value back, where all of its octets were
-/// taken.
+/// Restores the limit of the content around a value in the source, if all of its octets were taken.
 #[inline(always)]
 fn close<S>(source: &mut LimitedSource<S>, outer: Option<usize>, len: Length)
     requires fits { FitsOwed len outer }
@@ -69,15 +68,15 @@ fn close<S>(source: &mut LimitedSource<S>, outer: Option<usize>, len: Length)
     }
 }
 
-/// What a closure is handed inside a value, and has to leave at its end.
+/// Content that a closure gets inside a value, and has to leave at its end.
 trait Inside {
-    /// Why a request of the source failed.
+    /// The error of a failed request of the source.
     type Error;
 
-    /// What it is to the clauses.
+    /// The content in the terms of the clauses.
     ghost view: { Self → Reading };
 
-    /// Makes sure that this is at its end, and takes the marker there.
+    /// Checks that this is at its end, and takes the marker there.
     fn finish(&mut self) -> Result<(), DecodeError<Self::Error>>
         ensures moves { Moves (view self.old) (view self.new) }
         ensures marked { (view self.new).marked ≡ (view self.old).marked }
@@ -87,7 +86,7 @@ trait Inside {
         ensures refused { IfErr result (λ e.
             RefusesEnd cause_of (view self.old) e (view self.new)) };
 
-    /// Drops what a closure answered, where this isn't at its end.
+    /// Drops what a closure returned, when the content isn't at its end.
     #[inline(always)]
     fn let_go<T: Drop>(_value: T) {}
 }
@@ -126,8 +125,8 @@ impl<'a, S: Source> Inside for Constructed<'a, S> {
         }
     }
 
-    /// The same out of line, so that a large answer needs no place in memory where it isn't
-    /// dropped.
+    /// Drops what a closure returned. It is out of line, so that a large result needs no place in
+    /// memory if it isn't dropped.
     #[cold]
     #[inline(never)]
     fn let_go<T: Drop>(_value: T) {}
@@ -149,8 +148,8 @@ impl<'a, S: Source> Inside for Content<'a, S> {
 }
 
 impl<'a, S: Source> Constructed<'a, S> {
-    /// Makes sure that the content is at its end, and takes its marker. It is a call of its own, with
-    /// a stop in the place of an error.
+    /// Checks that the content is at its end, and takes its marker. It is a call of its own, and
+    /// returns a stop instead of an error.
     #[tactic(auto, using(crate::proofs::moves_constructed_name))]
     #[inline(never)]
     fn finish_slow(&mut self) -> Result<(), Stop<S::Error>>
@@ -171,7 +170,8 @@ impl<'a, S: Source> Constructed<'a, S> {
     }
 }
 
-/// Calls the closure on what is inside a value, which then is at its end.
+/// Calls the closure on what is inside a value, and returns an error if the closure doesn't leave
+/// it at its end.
 #[tactic(auto, using(crate::specs::laws::Moved::moved_twice_is_moved))]
 #[inline(always)]
 fn run<C: Inside, F, T: Drop>(inside: &mut C, op: F) -> Result<T, DecodeError<C::Error>>
@@ -200,8 +200,9 @@ where
     }
 }
 
-/// The same of content that is open, which is gone then. Answered is also whether the mode was
-/// changed, and the source is handed back.
+/// Calls the closure on open content that is inside a value, and consumes the content.
+///
+/// Also returns whether the mode was changed, and the source.
 #[inline(always)]
 fn run_over<'a, S: Source, F, T: Drop>(
     mut content: Content<'a, S>,
@@ -233,8 +234,8 @@ where
 
 #[tactic(auto, unfolding(crate::specs::calls::Views::views))]
 impl<'a, S: Source> Constructed<'a, S> {
-    /// Takes a value whose header was passed over, and which has to be primitive. The content is
-    /// usable again where it was taken.
+    /// Takes a value whose header was passed, and which has to be primitive. If it was taken, the
+    /// content is usable again.
     #[inline(always)]
     pub(crate) fn take_primitive_body<F, T: Drop>(
         &mut self,
@@ -281,7 +282,8 @@ impl<'a, S: Source> Constructed<'a, S> {
         Ok(Some(value))
     }
 
-    /// The same of a value that has to be constructed.
+    /// Takes a value whose header was passed, and which has to be constructed. If it was taken, the
+    /// content is usable again.
     #[inline(always)]
     pub(crate) fn take_constructed_body<F, T: Drop>(
         &mut self,
@@ -330,7 +332,8 @@ impl<'a, S: Source> Constructed<'a, S> {
         Ok(Some(value))
     }
 
-    /// The same of a value of either form.
+    /// Takes a value of either form whose header was passed. If it was taken, the content is usable
+    /// again.
     #[inline(always)]
     pub(super) fn take_body<F, T: Drop>(
         &mut self,

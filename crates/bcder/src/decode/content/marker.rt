@@ -11,10 +11,10 @@ use crate::plain::{end_at, is_list};
 use bytes::Bytes;
 use std::alloc::Global;
 
-/// Whether the octets are the encodings of a list of values.
+/// Returns whether the octets are the encodings of a list of values.
 ///
-/// They are passed over with a stack, so that no level of values takes a level of calls. Only where
-/// there is no memory for that stack does the plain reader look at them.
+/// They are skipped with a stack, so the depth of calls doesn't grow with the depth of values. The
+/// plain reader looks at them only if memory runs out for that stack.
 fn are_values(mode: Mode, alloc: Global, octets: &[u8]) -> bool
     ensures { IsTrue result ↔ (ts : Trees) × AreEncodings mode ts octets.now }
 {
@@ -34,7 +34,7 @@ fn are_values(mode: Mode, alloc: Global, octets: &[u8]) -> bool
     }
 }
 
-/// Whether the last octets, so many, are end-of-contents octets behind whole values.
+/// Returns whether the last `size` octets are end-of-contents octets behind whole values.
 fn ends_by(mode: Mode, alloc: Global, octets: &[u8], size: usize) -> bool
     ensures { IsTrue result ↔ EndsBy mode octets.now size }
 {
@@ -48,10 +48,10 @@ fn ends_by(mode: Mode, alloc: Global, octets: &[u8], size: usize) -> bool
     }
 }
 
-/// How many octets stand before the end-of-contents octets at the end.
+/// Returns how many octets come before the end-of-contents octets at the end.
 ///
-/// These are two octets. Only in BER can they be more, and only where they look like it are the
-/// values before them looked at again.
+/// The marker is two octets. Only in BER can it be longer. Only if the octets end like a longer one
+/// are the values before it looked at again.
 fn len_before_marker(mode: Mode, alloc: Global, octets: &[u8]) -> usize
     requires { (front : List ℕ) × EndsIn mode true octets.now front }
     ensures fits { result ≤ length octets.now }
@@ -65,7 +65,7 @@ fn len_before_marker(mode: Mode, alloc: Global, octets: &[u8]) -> usize
     octets.len() - 2
 }
 
-/// The octets without the marker behind them, if there is one. None are copied.
+/// Returns the octets without the marker behind them, if there is one. None are copied.
 pub(super) fn strip_marker(mode: Mode, alloc: Global, mut octets: Bytes, marker: bool) -> Bytes
     requires { (front : List ℕ) × EndsIn mode marker octets front }
     ensures { EndsIn mode marker octets result }

@@ -14,15 +14,16 @@ use crate::decode::source::Source;
 use crate::tag::Tag;
 
 impl<'a, S: Source> Constructed<'a, S> {
-    /// Takes the next value, which has to be primitive, or answers `None` at the end of the
+    /// Takes the next value, which has to be primitive, or returns `None` at the end of the
     /// content.
     ///
-    /// The closure is handed the value's tag and its contents octets. All else is as
-    /// [`take_opt_value`](Self::take_opt_value) has it.
+    /// The closure gets the value's tag and its contents octets. Otherwise this call works like
+    /// [`take_opt_value`](Self::take_opt_value).
     ///
     /// # Errors
     ///
-    /// Those of `take_opt_value`, and where the value is constructed: the content has then failed.
+    /// Returns the errors of `take_opt_value`, and an error if the value is constructed. The
+    /// content has then failed.
     #[inline(always)]
     pub fn take_opt_primitive<F, T: Drop>(
         &mut self,
@@ -51,12 +52,12 @@ impl<'a, S: Source> Constructed<'a, S> {
         )
     }
 
-    /// Takes the next value, which has to be there and primitive.
+    /// Takes the next value, which has to be there and to be primitive.
     ///
     /// # Errors
     ///
-    /// Those of [`take_opt_primitive`](Self::take_opt_primitive), and at the end of the content,
-    /// which then stays usable.
+    /// Returns the errors of [`take_opt_primitive`](Self::take_opt_primitive), and an error at the
+    /// end of the content, which then stays usable.
     #[inline(always)]
     pub fn take_primitive<F, T: Drop>(&mut self, op: F) -> Result<T, DecodeError<S::Error>>
     where
@@ -73,15 +74,16 @@ impl<'a, S: Source> Constructed<'a, S> {
         }
     }
 
-    /// Takes the next value if it has this tag, or answers `None`. It then has to be primitive.
+    /// Takes the next value if it has this tag, or returns `None`. A value with this tag has to be
+    /// primitive.
     ///
-    /// The closure is handed the value's contents octets. All else is as
-    /// [`take_opt_value_if`](Self::take_opt_value_if) has it.
+    /// The closure gets the value's contents octets. Otherwise this call works like
+    /// [`take_opt_value_if`](Self::take_opt_value_if).
     ///
     /// # Errors
     ///
-    /// Those of `take_opt_value_if`, and where the value of this tag is constructed: the content
-    /// has then failed.
+    /// Returns the errors of `take_opt_value_if`, and an error if the value with this tag is
+    /// constructed. The content has then failed.
     #[inline(always)]
     pub fn take_opt_primitive_if<F, T: Drop>(
         &mut self,
@@ -103,12 +105,12 @@ impl<'a, S: Source> Constructed<'a, S> {
         self.take_primitive_body(octets_header(tag, len), op)
     }
 
-    /// Takes the next value, which has to have this tag and be primitive.
+    /// Takes the next value, which has to have this tag and to be primitive.
     ///
     /// # Errors
     ///
-    /// Those of [`take_opt_primitive_if`](Self::take_opt_primitive_if), and
-    /// `ContentError::ExpectedTag` where that answers `None`: the content then stays usable.
+    /// Returns the errors of [`take_opt_primitive_if`](Self::take_opt_primitive_if), and
+    /// `ContentError::ExpectedTag` if that returns `None`. The content then stays usable.
     #[inline(always)]
     pub fn take_primitive_if<F, T: Drop>(
         &mut self,

@@ -27,7 +27,7 @@ use crate::mode::Mode;
 use bytes::Bytes;
 use std::alloc::Global;
 
-/// The truth value that contents octets are, if they are any (X.690, 8.2, 11.1).
+/// Returns the boolean that contents octets mean, if they mean one (X.690, 8.2, 11.1).
 #[inline(always)]
 fn truth_at(mode: Mode, octets: &[u8]) -> Option<bool>
     ensures { result ≡ truth mode octets.now }
@@ -46,7 +46,7 @@ fn truth_at(mode: Mode, octets: &[u8]) -> Option<bool>
 
 #[tactic(auto, using(crate::proofs::moves), unfolding(crate::specs::calls::Views::of_primitive))]
 impl<'a, S: Source> Primitive<'a, S> {
-    /// Asks for all octets that are owed, and says how many they are.
+    /// Requests all octets that are owed, and returns how many they are.
     #[inline(always)]
     fn request_all(&mut self) -> Result<usize, DecodeError<S::Error>>
         ensures moves { MovedOctets S.stream self }
@@ -78,7 +78,7 @@ impl<'a, S: Source> Primitive<'a, S> {
         }
     }
 
-    /// All octets that are owed, which are at hand.
+    /// Returns all octets that are owed, which have to be at hand.
     #[inline(always)]
     fn all(&self, len: usize) -> &[u8]
         requires found { HasAll len (of_primitive S.stream self.now) }
@@ -88,7 +88,7 @@ impl<'a, S: Source> Primitive<'a, S> {
         &self.source.slice()[..len]
     }
 
-    /// The same as a value of their own.
+    /// Returns all octets that are owed, which have to be at hand, as `Bytes`.
     fn bytes_of_all(&self, alloc: Global, len: usize) -> Result<Bytes, NoMemory>
         requires found { HasAll len (of_primitive S.stream self.now) }
         requires at_hand { len ≤ (of_primitive S.stream self.now).stream.avail }
@@ -97,7 +97,7 @@ impl<'a, S: Source> Primitive<'a, S> {
         self.source.bytes(alloc, 0, len)
     }
 
-    /// Lends them to the closure.
+    /// Lends all octets that are owed to the closure.
     #[inline(always)]
     fn lend_all<F, T: Drop>(&self, len: usize, op: F) -> T
     where
@@ -112,7 +112,7 @@ impl<'a, S: Source> Primitive<'a, S> {
         op(self.all(len))
     }
 
-    /// Passes over them.
+    /// Passes over all octets that are owed.
     #[inline(always)]
     fn pass_all(&mut self, len: usize)
         requires found { HasAll len (of_primitive S.stream self.old) }
@@ -132,7 +132,7 @@ impl<'a, S: Source> Primitive<'a, S> {
 
 #[tactic(auto, using(crate::proofs::moves, crate::proofs::Reading::refuses_missing))]
 impl<'a, S: Source> Primitive<'a, S> {
-    /// Reads all octets that are owed as the number of a type, and takes them.
+    /// Reads all octets that are owed as a number of type `N`, and takes them.
     #[inline]
     pub(super) fn read_number<N: Number>(&mut self) -> Result<N, DecodeError<S::Error>>
         ensures moves { MovedOctets S.stream self }
@@ -149,13 +149,15 @@ impl<'a, S: Source> Primitive<'a, S> {
         Ok(number)
     }
 
-    /// Reads all octets as a BOOLEAN (X.690, 8.2), and takes them: in BER one octet, 0 for false
-    /// and any other for true; in CER and DER true is `FF` (11.1).
+    /// Reads all octets as a BOOLEAN (X.690, 8.2), and takes them.
+    ///
+    /// In BER this is one octet: 0 is false, and any other is true. In CER and DER true is `FF`
+    /// (11.1).
     ///
     /// # Errors
     ///
-    /// Where the octets are no such value, where fewer come than are owed, and where the source
-    /// fails. Then none is taken.
+    /// Returns an error if the octets aren't such a value, if fewer octets come than the length
+    /// promises, or if the source fails. No octet is then taken.
     #[inline]
     pub fn to_bool(&mut self) -> Result<bool, DecodeError<S::Error>>
         ensures moves { MovedOctets S.stream self }
@@ -175,11 +177,12 @@ impl<'a, S: Source> Primitive<'a, S> {
         }
     }
 
-    /// Makes sure that there are no octets, as NULL has none (X.690, 8.8).
+    /// Checks that there are no octets, since NULL has none (X.690, 8.8).
     ///
     /// # Errors
     ///
-    /// Where octets are owed, and where no length is known. Then none is taken.
+    /// Returns an error if the length promises octets, or if no length is known. No octet is then
+    /// taken.
     #[inline(always)]
     pub fn to_null(&mut self) -> Result<(), DecodeError<S::Error>>
         ensures moves { MovedOctets S.stream self }
@@ -201,8 +204,8 @@ impl<'a, S: Source> Primitive<'a, S> {
     ///
     /// # Errors
     ///
-    /// Where fewer octets come than are owed, where the source fails, and where there is no memory
-    /// for them. Then none is taken.
+    /// Returns an error if fewer octets come than the length promises, if the source fails, or if
+    /// memory runs out. No octet is then taken.
     #[inline(always)]
     pub fn take_all(&mut self, alloc: Global) -> Result<Bytes, DecodeError<S::Error>>
         ensures moves { MovedOctets S.stream self }
@@ -221,7 +224,7 @@ impl<'a, S: Source> Primitive<'a, S> {
         }
     }
 
-    /// Takes all octets where they are an integer's.
+    /// Takes all octets if they are contents octets of an integer.
     #[inline(always)]
     pub(crate) fn take_integer(&mut self, alloc: Global) -> Result<Bytes, DecodeError<S::Error>>
         ensures moves { MovedOctets S.stream self }
@@ -243,7 +246,7 @@ impl<'a, S: Source> Primitive<'a, S> {
         }
     }
 
-    /// Takes all octets where they are those of an integer that isn't negative.
+    /// Takes all octets if they are contents octets of an integer that isn't negative.
     #[inline(always)]
     pub(crate) fn take_unsigned(&mut self, alloc: Global) -> Result<Bytes, DecodeError<S::Error>>
         ensures moves { MovedOctets S.stream self }
@@ -266,12 +269,12 @@ impl<'a, S: Source> Primitive<'a, S> {
         }
     }
 
-    /// Lends all octets to the closure, and takes them where it answers.
+    /// Lends all octets to the closure, takes them if it returns `Ok`, and returns its result.
     ///
     /// # Errors
     ///
-    /// The closure's refusal; where fewer octets come than are owed, and where the source fails.
-    /// Then none is taken.
+    /// Returns the closure's error. Also returns an error if fewer octets come than the length
+    /// promises, or if the source fails. No octet is then taken.
     #[inline(always)]
     pub fn with_slice_all<F, T: Drop>(&mut self, op: F) -> Result<T, DecodeError<S::Error>>
     where
@@ -294,12 +297,12 @@ impl<'a, S: Source> Primitive<'a, S> {
         }
     }
 
-    /// Lends all octets to the closure, and leaves them.
+    /// Lends all octets to the closure, leaves them, and returns its result.
     ///
     /// # Errors
     ///
-    /// Where fewer octets come than are owed, and where the source fails. The closure is then not
-    /// called.
+    /// Returns an error if fewer octets come than the length promises, or if the source fails. The
+    /// closure is then not called.
     #[inline(always)]
     pub fn slice_all<F, T: Drop>(&mut self, op: F) -> Result<T, DecodeError<S::Error>>
     where
@@ -315,12 +318,12 @@ impl<'a, S: Source> Primitive<'a, S> {
         Ok(self.lend_all(len, op))
     }
 
-    /// Reads all octets as an INTEGER (X.690, 8.3) that an `i8` holds, and takes them.
+    /// Reads all octets as an INTEGER (X.690, 8.3) that fits into an `i8`, and takes them.
     ///
     /// # Errors
     ///
-    /// Where the octets are no contents octets of such an integer, where fewer come than are owed,
-    /// and where the source fails. Then none is taken.
+    /// Returns an error if the octets aren't the contents octets of such an integer, if fewer
+    /// octets come than the length promises, or if the source fails. No octet is then taken.
     #[inline(always)]
     pub fn to_i8(&mut self) -> Result<i8, DecodeError<S::Error>>
         ensures moves { MovedOctets S.stream self }
@@ -329,11 +332,11 @@ impl<'a, S: Source> Primitive<'a, S> {
         self.read_number()
     }
 
-    /// Reads all octets as an INTEGER (X.690, 8.3) that an `i16` holds, and takes them.
+    /// Reads all octets as an INTEGER (X.690, 8.3) that fits into an `i16`, and takes them.
     ///
     /// # Errors
     ///
-    /// Those of [`to_i8`](Self::to_i8).
+    /// Returns the errors of [`to_i8`](Self::to_i8), for this type.
     #[inline(always)]
     pub fn to_i16(&mut self) -> Result<i16, DecodeError<S::Error>>
         ensures moves { MovedOctets S.stream self }
@@ -342,11 +345,11 @@ impl<'a, S: Source> Primitive<'a, S> {
         self.read_number()
     }
 
-    /// Reads all octets as an INTEGER (X.690, 8.3) that an `i32` holds, and takes them.
+    /// Reads all octets as an INTEGER (X.690, 8.3) that fits into an `i32`, and takes them.
     ///
     /// # Errors
     ///
-    /// Those of [`to_i8`](Self::to_i8).
+    /// Returns the errors of [`to_i8`](Self::to_i8), for this type.
     #[inline(always)]
     pub fn to_i32(&mut self) -> Result<i32, DecodeError<S::Error>>
         ensures moves { MovedOctets S.stream self }
@@ -355,11 +358,11 @@ impl<'a, S: Source> Primitive<'a, S> {
         self.read_number()
     }
 
-    /// Reads all octets as an INTEGER (X.690, 8.3) that an `i64` holds, and takes them.
+    /// Reads all octets as an INTEGER (X.690, 8.3) that fits into an `i64`, and takes them.
     ///
     /// # Errors
     ///
-    /// Those of [`to_i8`](Self::to_i8).
+    /// Returns the errors of [`to_i8`](Self::to_i8), for this type.
     #[inline(always)]
     pub fn to_i64(&mut self) -> Result<i64, DecodeError<S::Error>>
         ensures moves { MovedOctets S.stream self }
@@ -368,11 +371,11 @@ impl<'a, S: Source> Primitive<'a, S> {
         self.read_number()
     }
 
-    /// Reads all octets as an INTEGER (X.690, 8.3) that an `i128` holds, and takes them.
+    /// Reads all octets as an INTEGER (X.690, 8.3) that fits into an `i128`, and takes them.
     ///
     /// # Errors
     ///
-    /// Those of [`to_i8`](Self::to_i8).
+    /// Returns the errors of [`to_i8`](Self::to_i8), for this type.
     #[inline(always)]
     pub fn to_i128(&mut self) -> Result<i128, DecodeError<S::Error>>
         ensures moves { MovedOctets S.stream self }
@@ -381,11 +384,11 @@ impl<'a, S: Source> Primitive<'a, S> {
         self.read_number()
     }
 
-    /// Reads all octets as an INTEGER (X.690, 8.3) that a `u8` holds, and takes them.
+    /// Reads all octets as an INTEGER (X.690, 8.3) that fits into a `u8`, and takes them.
     ///
     /// # Errors
     ///
-    /// Those of [`to_i8`](Self::to_i8).
+    /// Returns the errors of [`to_i8`](Self::to_i8), for this type.
     #[inline(always)]
     pub fn to_u8(&mut self) -> Result<u8, DecodeError<S::Error>>
         ensures moves { MovedOctets S.stream self }
@@ -394,11 +397,11 @@ impl<'a, S: Source> Primitive<'a, S> {
         self.read_number()
     }
 
-    /// Reads all octets as an INTEGER (X.690, 8.3) that a `u16` holds, and takes them.
+    /// Reads all octets as an INTEGER (X.690, 8.3) that fits into a `u16`, and takes them.
     ///
     /// # Errors
     ///
-    /// Those of [`to_i8`](Self::to_i8).
+    /// Returns the errors of [`to_i8`](Self::to_i8), for this type.
     #[inline(always)]
     pub fn to_u16(&mut self) -> Result<u16, DecodeError<S::Error>>
         ensures moves { MovedOctets S.stream self }
@@ -407,11 +410,11 @@ impl<'a, S: Source> Primitive<'a, S> {
         self.read_number()
     }
 
-    /// Reads all octets as an INTEGER (X.690, 8.3) that a `u32` holds, and takes them.
+    /// Reads all octets as an INTEGER (X.690, 8.3) that fits into a `u32`, and takes them.
     ///
     /// # Errors
     ///
-    /// Those of [`to_i8`](Self::to_i8).
+    /// Returns the errors of [`to_i8`](Self::to_i8), for this type.
     #[inline(always)]
     pub fn to_u32(&mut self) -> Result<u32, DecodeError<S::Error>>
         ensures moves { MovedOctets S.stream self }
@@ -420,11 +423,11 @@ impl<'a, S: Source> Primitive<'a, S> {
         self.read_number()
     }
 
-    /// Reads all octets as an INTEGER (X.690, 8.3) that a `u64` holds, and takes them.
+    /// Reads all octets as an INTEGER (X.690, 8.3) that fits into a `u64`, and takes them.
     ///
     /// # Errors
     ///
-    /// Those of [`to_i8`](Self::to_i8).
+    /// Returns the errors of [`to_i8`](Self::to_i8), for this type.
     #[inline(always)]
     pub fn to_u64(&mut self) -> Result<u64, DecodeError<S::Error>>
         ensures moves { MovedOctets S.stream self }
@@ -433,11 +436,11 @@ impl<'a, S: Source> Primitive<'a, S> {
         self.read_number()
     }
 
-    /// Reads all octets as an INTEGER (X.690, 8.3) that a `u128` holds, and takes them.
+    /// Reads all octets as an INTEGER (X.690, 8.3) that fits into a `u128`, and takes them.
     ///
     /// # Errors
     ///
-    /// Those of [`to_i8`](Self::to_i8).
+    /// Returns the errors of [`to_i8`](Self::to_i8), for this type.
     #[inline(always)]
     pub fn to_u128(&mut self) -> Result<u128, DecodeError<S::Error>>
         ensures moves { MovedOctets S.stream self }
@@ -446,7 +449,7 @@ impl<'a, S: Source> Primitive<'a, S> {
         self.read_number()
     }
 
-    /// Makes sure that the octets are the INTEGER with this value, and takes them.
+    /// Checks that the octets are the INTEGER with this value, and takes them.
     #[inline(always)]
     pub(super) fn skip_u8_if(&mut self, expected: u8) -> Result<(), DecodeError<S::Error>>
         ensures moves { MovedOctets S.stream self }
@@ -469,7 +472,7 @@ impl<'a, S: Source> Primitive<'a, S> {
         }
     }
 
-    /// A refusal of what is not this number.
+    /// Returns an error that refuses a number other than this one.
     #[cold]
     fn wrong_number_error(&self, expected: u8) -> DecodeError<S::Error>
         ensures { cause_of result ≡ of_content (ContentError.ExpectedInteger expected) }
@@ -479,7 +482,7 @@ impl<'a, S: Source> Primitive<'a, S> {
     }
 }
 
-/// A primitive value's octets are a source: those that are owed and come.
+/// The octets of a primitive value are a source: those that the length promises and that come.
 impl<'a, S: Source> Source for Primitive<'a, S> {
     type Error = S::Error;
 
@@ -503,9 +506,9 @@ impl<'a, S: Source> Source for Primitive<'a, S> {
         self.source.slice()
     }
 
-    /// The available octets from `start` to before `end`, as a value of their own.
+    /// Returns the available octets from `start` up to, but not including, `end`.
     ///
-    /// It answers `NoMemory` where there is no memory for them.
+    /// Returns `NoMemory` if memory runs out.
     fn bytes(&self, alloc: Global, start: usize, end: usize) -> Result<Bytes, NoMemory> {
         self.source.bytes(alloc, start, end)
     }

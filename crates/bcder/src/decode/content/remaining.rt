@@ -1,4 +1,4 @@
-//! What remains of the octets of a primitive value.
+//! The octets that remain of a primitive value.
 ghost use Rattle.std.specs.Prelude.{◌≡◌, [], length, Some, IfErr, OnOk, OnErr};
 ghost use Rattle.bcder.specs.calls.Cause.{cause_of, IsRefusal};
 ghost use Rattle.bcder.specs.calls.Stream.{limit_or};
@@ -10,7 +10,7 @@ use crate::decode::error::{ContentError, DecodeError};
 use crate::decode::source::Source;
 
 impl<'a, S: Source> Primitive<'a, S> {
-    /// How many octets are still owed by the length of the value (X.690, 8.1.3.3).
+    /// Returns how many octets the length of the value still promises (X.690, 8.1.3.3).
     #[tactic(auto, unfolding(crate::specs::calls::Views::of_primitive))]
     pub fn remaining(&self) -> usize
         ensures { result ≡ limit_or (of_primitive S.stream self.now).owed 0 }
@@ -21,11 +21,11 @@ impl<'a, S: Source> Primitive<'a, S> {
         }
     }
 
-    /// Passes over all octets that are owed.
+    /// Passes over all octets that the length still promises.
     ///
     /// # Errors
     ///
-    /// Where fewer octets come or where the source fails. Then no octet is passed.
+    /// Returns an error if fewer octets come, or if the source fails. No octet is then passed.
     #[tactic(auto, using(crate::proofs::moves), unfolding(crate::specs::calls::Views::of_primitive))]
     #[inline(always)]
     pub fn skip_all(&mut self) -> Result<(), DecodeError<S::Error>>
@@ -64,7 +64,7 @@ impl<'a, S: Source> Primitive<'a, S> {
         }
     }
 
-    /// A refusal at the present position.
+    /// Returns an error that refuses the octets as too few, at the current position.
     #[cold]
     pub(super) fn too_few_octets(&self) -> DecodeError<S::Error>
         ensures { IsRefusal result }

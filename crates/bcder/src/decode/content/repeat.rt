@@ -9,7 +9,7 @@ use crate::decode::error::DecodeError;
 use crate::decode::source::Source;
 use std::alloc::Global;
 
-/// Whether as many octets are owed as before. Without a limit that isn't known.
+/// Returns whether as many octets are owed as before. Without a limit that isn't known.
 fn owes_as_before(before: Option<usize>, after: Option<usize>) -> bool
     ensures { IsTrue result ↔ OwesAsBefore before after }
 {
@@ -23,7 +23,7 @@ fn owes_as_before(before: Option<usize>, after: Option<usize>) -> bool
 }
 
 impl<'a, S: Source> Constructed<'a, S> {
-    /// How many octets are owed up to the nearest limit, if there is one.
+    /// Returns how many octets are owed up to the nearest limit, if there is one.
     #[tactic(auto, unfolding(crate::specs::calls::Views::of_constructed))]
     pub(super) fn owed(&self) -> Option<usize>
         ensures { result ≡ (of_constructed S.stream self.now).owed }
@@ -31,8 +31,9 @@ impl<'a, S: Source> Constructed<'a, S> {
         self.source.limit()
     }
 
-    /// Calls the closure over the content again and again while it answers `Some`, and ends where
-    /// it answers `None`: the loop over a SEQUENCE OF or a SET OF.
+    /// Calls the closure on the content again and again, until it returns `None`.
+    ///
+    /// This is the loop over a SEQUENCE OF or a SET OF:
     ///
     /// ```text
     /// let mut count = 0u64;
@@ -44,14 +45,17 @@ impl<'a, S: Source> Constructed<'a, S> {
     /// })?;
     /// ```
     ///
-    /// Each call finds the content as the one before left it. The content is left as the last call
-    /// left it, also where this refuses.
+    /// Each call gets the content as the call before left it. The content is left as the last call
+    /// left it, even if this returns an error.
     ///
     /// # Errors
     ///
-    /// The closure's refusal, which ends the loop. And where the closure answers `Some` and took no
-    /// octet, if the content is within a limit, as all content of a definite length is; without a
-    /// limit nothing tells what was taken, and it is refused after 2^64 - 1 answers of `Some`.
+    /// Returns the closure's error, which ends the loop. Also returns an error if
+    ///
+    /// - the content is within a limit, as all content of a definite length is, and the closure
+    ///   returns `Some` without taking an octet;
+    /// - the closure returns `Some` 2^64 - 1 times. Without a limit this is the only check, since
+    ///   it isn't known whether octets were taken.
     pub fn while_some<F>(&mut self, mut op: F) -> Result<(), DecodeError<S::Error>>
     where
         F: FnMut(&mut Constructed<'_, S>) -> Result<Option<()>, DecodeError<S::Error>>,
@@ -74,20 +78,22 @@ impl<'a, S: Source> Constructed<'a, S> {
         Err(self.refusal("steps without an end"))
     }
 
-    /// Calls the closure over the content again and again while it answers `Some`, and answers
-    /// what it answered, in that order: the values of a SEQUENCE OF or a SET OF.
+    /// Calls the closure on the content again and again until it returns `None`, and returns the
+    /// results in order.
+    ///
+    /// These are the values of a SEQUENCE OF or a SET OF:
     ///
     /// ```text
     /// let numbers = cons.take_sequence(|cons| cons.collect_some(alloc, |cons| cons.take_opt_u32()))?;
     /// ```
     ///
-    /// It calls the closure, and leaves the content, as [`while_some`](Self::while_some) does.
+    /// The closure is called, and the content is left, as by [`while_some`](Self::while_some).
     ///
     /// # Errors
     ///
-    /// The closure's refusal; where the closure answers `Some` and took no octet of content within
-    /// a limit; and where there is no memory for one more value. Each ends the loop, and the values
-    /// that were collected are dropped.
+    /// Returns the closure's error. Also returns an error if the closure returns `Some` without
+    /// taking an octet of content within a limit, or if memory runs out for one more result. Each
+    /// error ends the loop, and the results that were collected are dropped.
     pub fn collect_some<F, T: Drop>(
         &mut self,
         alloc: Global,

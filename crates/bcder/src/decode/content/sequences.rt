@@ -14,15 +14,16 @@ use crate::decode::source::Source;
 use crate::tag::Tag;
 
 impl<'a, S: Source> Constructed<'a, S> {
-    /// Takes the next value, which has to be constructed, or answers `None` at the end of the
+    /// Takes the next value, which has to be constructed, or returns `None` at the end of the
     /// content.
     ///
-    /// The closure is handed the value's tag and the values inside it. All else is as
-    /// [`take_opt_value`](Self::take_opt_value) has it.
+    /// The closure gets the value's tag and the values inside it. Otherwise this call works like
+    /// [`take_opt_value`](Self::take_opt_value).
     ///
     /// # Errors
     ///
-    /// Those of `take_opt_value`, and where the value is primitive: the content has then failed.
+    /// Returns the errors of `take_opt_value`, and an error if the value is primitive. The content
+    /// has then failed.
     #[inline(always)]
     pub fn take_opt_constructed<F, T: Drop>(
         &mut self,
@@ -51,12 +52,12 @@ impl<'a, S: Source> Constructed<'a, S> {
         )
     }
 
-    /// Takes the next value, which has to be there and constructed.
+    /// Takes the next value, which has to be there and to be constructed.
     ///
     /// # Errors
     ///
-    /// Those of [`take_opt_constructed`](Self::take_opt_constructed), and at the end of the
-    /// content, which then stays usable.
+    /// Returns the errors of [`take_opt_constructed`](Self::take_opt_constructed), and an error at
+    /// the end of the content, which then stays usable.
     #[inline(always)]
     pub fn take_constructed<F, T: Drop>(&mut self, op: F) -> Result<T, DecodeError<S::Error>>
     where
@@ -73,15 +74,16 @@ impl<'a, S: Source> Constructed<'a, S> {
         }
     }
 
-    /// Takes the next value if it has this tag, or answers `None`. It then has to be constructed.
+    /// Takes the next value if it has this tag, or returns `None`. A value with this tag has to be
+    /// constructed.
     ///
-    /// The closure is handed the values inside it. All else is as
-    /// [`take_opt_value_if`](Self::take_opt_value_if) has it.
+    /// The closure gets the values inside it. Otherwise this call works like
+    /// [`take_opt_value_if`](Self::take_opt_value_if).
     ///
     /// # Errors
     ///
-    /// Those of `take_opt_value_if`, and where the value of this tag is primitive: the content has
-    /// then failed.
+    /// Returns the errors of `take_opt_value_if`, and an error if the value with this tag is
+    /// primitive. The content has then failed.
     #[inline(always)]
     pub fn take_opt_constructed_if<F, T: Drop>(
         &mut self,
@@ -103,12 +105,12 @@ impl<'a, S: Source> Constructed<'a, S> {
         self.take_constructed_body(header, op)
     }
 
-    /// Takes the next value, which has to have this tag and be constructed.
+    /// Takes the next value, which has to have this tag and to be constructed.
     ///
     /// # Errors
     ///
-    /// Those of [`take_opt_constructed_if`](Self::take_opt_constructed_if), and
-    /// `ContentError::ExpectedTag` where that answers `None`: the content then stays usable.
+    /// Returns the errors of [`take_opt_constructed_if`](Self::take_opt_constructed_if), and
+    /// `ContentError::ExpectedTag` if that returns `None`. The content then stays usable.
     #[inline(always)]
     pub fn take_constructed_if<F, T: Drop>(
         &mut self,
@@ -131,11 +133,11 @@ impl<'a, S: Source> Constructed<'a, S> {
 
     /// Takes the next value, which has to be a SEQUENCE (X.690, 8.9, 8.10).
     ///
-    /// It is [`take_constructed_if`](Self::take_constructed_if) with `Tag::SEQUENCE`.
+    /// This is [`take_constructed_if`](Self::take_constructed_if) with `Tag::SEQUENCE`.
     ///
     /// # Errors
     ///
-    /// Those of `take_constructed_if`.
+    /// Returns the errors of `take_constructed_if`.
     #[inline(always)]
     pub fn take_sequence<F, T: Drop>(&mut self, op: F) -> Result<T, DecodeError<S::Error>>
     where
@@ -154,13 +156,13 @@ impl<'a, S: Source> Constructed<'a, S> {
         }
     }
 
-    /// Takes the next value if it is a SEQUENCE (X.690, 8.9, 8.10), or answers `None`.
+    /// Takes the next value if it is a SEQUENCE (X.690, 8.9, 8.10), or returns `None`.
     ///
-    /// It is [`take_opt_constructed_if`](Self::take_opt_constructed_if) with `Tag::SEQUENCE`.
+    /// This is [`take_opt_constructed_if`](Self::take_opt_constructed_if) with `Tag::SEQUENCE`.
     ///
     /// # Errors
     ///
-    /// Those of `take_opt_constructed_if`.
+    /// Returns the errors of `take_opt_constructed_if`.
     #[inline(always)]
     pub fn take_opt_sequence<F, T: Drop>(
         &mut self,
@@ -180,11 +182,11 @@ impl<'a, S: Source> Constructed<'a, S> {
 
     /// Takes the next value, which has to be a SET (X.690, 8.11, 8.12).
     ///
-    /// It is [`take_constructed_if`](Self::take_constructed_if) with `Tag::SET`.
+    /// This is [`take_constructed_if`](Self::take_constructed_if) with `Tag::SET`.
     ///
     /// # Errors
     ///
-    /// Those of `take_constructed_if`.
+    /// Returns the errors of `take_constructed_if`.
     #[inline(always)]
     pub fn take_set<F, T: Drop>(&mut self, op: F) -> Result<T, DecodeError<S::Error>>
     where
@@ -201,13 +203,13 @@ impl<'a, S: Source> Constructed<'a, S> {
         }
     }
 
-    /// Takes the next value if it is a SET (X.690, 8.11, 8.12), or answers `None`.
+    /// Takes the next value if it is a SET (X.690, 8.11, 8.12), or returns `None`.
     ///
-    /// It is [`take_opt_constructed_if`](Self::take_opt_constructed_if) with `Tag::SET`.
+    /// This is [`take_opt_constructed_if`](Self::take_opt_constructed_if) with `Tag::SET`.
     ///
     /// # Errors
     ///
-    /// Those of `take_opt_constructed_if`.
+    /// Returns the errors of `take_opt_constructed_if`.
     #[inline(always)]
     pub fn take_opt_set<F, T: Drop>(&mut self, op: F) -> Result<Option<T>, DecodeError<S::Error>>
     where

@@ -1,4 +1,4 @@
-//! Passing over values with a stack of limits, and a closure that is told of each.
+//! Skipping values with a stack of limits, and a closure that is called for each value.
 ghost use Rattle.std.specs.Prelude.{◌≡◌, ◌+◌, ◌^◌, ◌<◌, ◌≤◌, [], ◌∷◌, true, false, IfSome, OnOk};
 ghost use Rattle.std.specs.Prelude.{IfErr, IfNone, IfOk, OnErr};
 ghost use Rattle.bcder.specs.calls.Cause.{cause_of, of_content, of_memory, of_source};
@@ -42,22 +42,24 @@ struct Frame {
     indefinite_around: usize,
 }
 
-/// The values that are open. Those of definite length take memory, the others are counted.
+/// The open values. Those of definite length need memory, the others are only counted.
 #[derive(Drop)]
 struct OpenValues<'f> {
-    /// How many they are.
+    /// The number of open values.
     depth: usize,
 
-    /// How many of indefinite length are open inside the innermost of definite length.
+    /// How many values of indefinite length are open inside the innermost value of definite length.
     indefinite: usize,
 
-    /// Those of definite length, the innermost last. They stand apart, so that the numbers need no
-    /// place in memory.
+    /// The open values of definite length, the innermost last. They are behind a reference, so that
+    /// the numbers beside it need no place in memory.
     frames: &'f mut SmallVec<Frame, 4>,
 }
 
-/// Why passing over a value was interrupted. It stands apart from `Stop`, which has no room for a
-/// closure's error, that the loop would move at each value.
+/// Why skipping a value was interrupted.
+///
+/// This isn't part of `Stop`, which has no room for a closure's error. The loop would otherwise
+/// move that room at each value.
 enum Interrupt<E> {
     /// The closure refused a header.
     Closure(ContentError),
@@ -66,7 +68,7 @@ enum Interrupt<E> {
     Stopped(Stop<E>),
 }
 
-/// What is owed in all where so much is owed behind a value and so much in it.
+/// Returns the octets owed around a value, given those owed behind it and those left in it.
 #[inline(always)]
 fn limit_around(behind: Option<usize>, left: Option<usize>) -> Option<usize>
     requires { IfSome (limit_around behind left) (λ n. n < 2 ^ 64) }
@@ -78,7 +80,7 @@ fn limit_around(behind: Option<usize>, left: Option<usize>) -> Option<usize>
     }
 }
 
-/// Opens a value whose header was passed over, if there is memory for it.
+/// Opens a value whose header was passed, and returns whether there was memory for it.
 #[inline(always)]
 fn open<S>(cons: &mut Constructed<'_, S>, opened: &mut OpenValues<'_>, len: Length) -> bool
     requires counted { IsCounted opened.old }
@@ -121,7 +123,7 @@ fn open<S>(cons: &mut Constructed<'_, S>, opened: &mut OpenValues<'_>, len: Leng
     true
 }
 
-/// Goes on behind the innermost open value, which ended.
+/// Goes on behind the innermost open value, which has ended.
 #[inline(always)]
 fn leave<S>(cons: &mut Constructed<'_, S>, opened: &mut OpenValues<'_>)
     requires counted { IsCounted opened.old }
@@ -152,8 +154,8 @@ fn leave<S>(cons: &mut Constructed<'_, S>, opened: &mut OpenValues<'_>)
     cons.state = State::Open;
 }
 
-/// Gives the limit back that was there before the open values were entered, of which those of
-/// definite length are these.
+/// Restores the limit from before the open values were entered. The frames are those of definite
+/// length.
 #[inline(never)]
 fn unwind<S>(source: &mut LimitedSource<S>, frames: &mut SmallVec<Frame, 4>, outer: Option<usize>)
     requires { Counts outer (unwound (framed frames.old) source.old.limit) }
@@ -169,7 +171,7 @@ fn unwind<S>(source: &mut LimitedSource<S>, frames: &mut SmallVec<Frame, 4>, out
     }
 }
 
-/// Goes into the content of a value whose header was passed over: past its octets, or to the values
+/// Enters the content of a value whose header was passed: goes past its octets, or to the values
 /// inside it.
 #[inline(always)]
 fn go_into<S: Source>(
@@ -206,7 +208,7 @@ fn go_into<S: Source>(
     }
 }
 
-/// Passes over the content of a value whose header was passed over.
+/// Passes over the content of a value whose header was passed.
 #[inline(never)]
 fn skip_content<S: Source, F>(
     source: &mut LimitedSource<S>,
@@ -266,7 +268,7 @@ where
 }
 
 impl<'a, S: Source> Constructed<'a, S> {
-    /// The error that an interrupt is, at the present position.
+    /// Returns the error for an interrupt, at the current position.
     #[cold]
     fn interrupt_error(&self, interrupt: Interrupt<S::Error>) -> DecodeError<S::Error>
         ensures content { IsOfContent (interrupt_cause interrupt) → IsRefusal result }
@@ -280,9 +282,11 @@ impl<'a, S: Source> Constructed<'a, S> {
         }
     }
 
-    /// Passes over the header of the next value, if it is primitive, has a header of two octets,
-    /// and all of its octets are at hand, and answers its tag and how many contents octets it has.
-    /// Else nothing is taken. The source is asked once at most.
+    /// Passes over the header of the next value, if the value is primitive, has a header of two
+    /// octets, and is all at hand.
+    ///
+    /// Returns its tag and how many contents octets it has. Otherwise nothing is taken. The source
+    /// gets at most one request.
     #[tactic(auto, using(crate::specs::laws::Moved::untouched_is_moved), unfolding(crate::specs::calls::Views::views))]
     #[inline(always)]
     fn enter_at_hand(&mut self) -> Result<Option<(Tag, usize)>, Stop<S::Error>>
@@ -321,7 +325,7 @@ impl<'a, S: Source> Constructed<'a, S> {
         }
     }
 
-    /// As `skip_opt`, whatever stands in front.
+    /// Does what `skip_opt` does, whatever comes next.
     #[inline(never)]
     fn skip_next<F>(
         &mut self,
@@ -362,8 +366,11 @@ impl<'a, S: Source> Constructed<'a, S> {
         }
     }
 
-    /// The same, with room for the answer that is cleared here, and not before the first look. Each
-    /// arm makes its answer anew, so that the octets of an error are moved only where there is one.
+    /// Calls `skip_next`, with the stack space of the result cleared here and not before the first
+    /// look.
+    ///
+    /// Each arm builds its result anew, so that the octets of an error are moved only if there is
+    /// one.
     #[inline(always)]
     fn skip_next_on<F>(
         &mut self,
@@ -383,24 +390,33 @@ impl<'a, S: Source> Constructed<'a, S> {
         }
     }
 
-    /// Passes over the next value, or answers `None` at the end of the content, whose marker it
+    /// Passes over the next value, or returns `None` at the end of the content, whose marker it
     /// takes.
     ///
-    /// The closure is called with the tag, the form (true for constructed) and the depth of the
-    /// value and of each value inside it, before those inside it. It is called once the header was
-    /// read and is allowed, and before anything of the contents octets is looked at; it isn't
-    /// called for end-of-contents octets. Its refusal ends the skip and is answered as it is.
+    /// The closure is called for the value and for each value inside it, in preorder: a value
+    /// before those inside it. It gets the tag, the form (true for constructed) and the depth. It
+    /// is called when the header has been read and is allowed, before any contents octets are
+    /// looked at. It isn't called for end-of-contents octets. If it refuses, the skip ends and
+    /// returns that refusal unchanged.
     ///
-    /// A value is passed exactly where its encoding stands in front, in the content's mode (X.690,
-    /// 8.1.1), and the closure answers `Ok` each time. Of primitive values the contents octets
-    /// aren't looked at. Values may be nested to any depth: of those of definite length, each
-    /// beyond four that are open at a time takes memory. No level takes a level of calls.
+    /// Unless the source fails or memory runs out, a value is passed exactly if its encoding comes
+    /// next, in the content's mode (X.690, 8.1.1), and the closure returns `Ok` each time. Contents
+    /// octets of primitive values aren't looked at.
+    ///
+    /// Values may be nested to any depth. Each value of definite length that is open beyond the
+    /// first four needs memory. The depth of calls doesn't grow with the depth of values.
     ///
     /// # Errors
     ///
-    /// Where neither the encoding of a value nor the end stands in front; where the closure
-    /// refuses; where an earlier value was refused; where the source fails; where there is no
-    /// memory for an open value. The content has then failed, and every later take refuses.
+    /// Returns an error if
+    ///
+    /// - neither the encoding of a value nor the end comes next;
+    /// - the closure refuses;
+    /// - an earlier value was refused;
+    /// - the source fails;
+    /// - memory runs out for an open value.
+    ///
+    /// The content has then failed, and every later take refuses.
     #[inline(always)]
     pub fn skip_opt<F>(
         &mut self,
@@ -430,11 +446,12 @@ impl<'a, S: Source> Constructed<'a, S> {
 
     /// Passes over the next value, which has to be there.
     ///
-    /// The closure is called as that of [`skip_opt`](Self::skip_opt) is.
+    /// The closure is called as by [`skip_opt`](Self::skip_opt).
     ///
     /// # Errors
     ///
-    /// Those of `skip_opt`, and at the end of the content, which then stays usable.
+    /// Returns the errors of `skip_opt`, and an error at the end of the content, which then stays
+    /// usable.
     #[inline(always)]
     pub fn skip<F>(&mut self, alloc: Global, op: &mut F) -> Result<(), DecodeError<S::Error>>
     where
@@ -451,7 +468,7 @@ impl<'a, S: Source> Constructed<'a, S> {
         }
     }
 
-    /// As `skip_one`, by the stack alone.
+    /// Does what `skip_one` does, by the stack alone.
     #[inline(never)]
     fn skip_stacked(&mut self, alloc: Global) -> Result<Option<()>, DecodeError<S::Error>>
         ensures moves { Moves (before S.stream self) (after S.stream self) }
@@ -464,9 +481,11 @@ impl<'a, S: Source> Constructed<'a, S> {
         self.skip_opt(alloc, &mut all)
     }
 
-    /// As `skip_one`, whatever stands in front. It lends a copy of the content, and where no value
-    /// was passed the state of the copy is set: so content that is a local of a caller has no
-    /// address, and a loop over its values neither looks its state up nor its kind.
+    /// Does what `skip_one` does, whatever comes next.
+    ///
+    /// It lends a copy of the content, and sets the state of the original only if no value was
+    /// passed. So content that is a caller's local variable has no address, and a loop over its
+    /// values checks neither its state nor its kind.
     #[inline(always)]
     fn skip_copy(&mut self, alloc: Global) -> Result<Option<()>, DecodeError<S::Error>>
         ensures moves { Moves (before S.stream self) (after S.stream self) }
@@ -500,16 +519,16 @@ impl<'a, S: Source> Constructed<'a, S> {
         }
     }
 
-    /// Passes over the next value, or answers `None` at the end of the content, whose marker it
+    /// Passes over the next value, or returns `None` at the end of the content, whose marker it
     /// takes.
     ///
-    /// A value is passed as [`skip_opt`](Self::skip_opt) passes it with a closure that always
-    /// answers `Ok`.
+    /// A value is passed as by [`skip_opt`](Self::skip_opt) with a closure that always returns
+    /// `Ok`.
     ///
     /// # Errors
     ///
-    /// Where neither the encoding of a value nor the end stands in front; where an earlier value
-    /// was refused; where the source fails; where there is no memory for a value that is open at a
+    /// Returns an error if neither the encoding of a value nor the end comes next, if an earlier
+    /// value was refused, if the source fails, or if memory runs out for a value that is open at a
     /// depth of four or more. The content has then failed.
     #[inline(always)]
     pub fn skip_one(&mut self, alloc: Global) -> Result<Option<()>, DecodeError<S::Error>>
@@ -528,7 +547,7 @@ impl<'a, S: Source> Constructed<'a, S> {
     ///
     /// # Errors
     ///
-    /// Those of [`skip_one`](Self::skip_one).
+    /// Returns the errors of [`skip_one`](Self::skip_one).
     pub fn skip_all(&mut self, alloc: Global) -> Result<(), DecodeError<S::Error>>
         ensures moves { Moved S.stream self }
         ensures skipped { SkippedAll S.stream self result }

@@ -23,7 +23,7 @@ use crate::decode::violation::Violation;
 use crate::length::Length;
 use crate::tag::{Tag, leads_primitive};
 
-/// The header of a primitive value with so many contents octets.
+/// Returns the header of a primitive value with `len` contents octets.
 #[inline(always)]
 pub(super) fn octets_header(tag: Tag, len: usize) -> Header
     ensures { result ≡ octets_header tag len }
@@ -34,9 +34,11 @@ pub(super) fn octets_header(tag: Tag, len: usize) -> Header
     }
 }
 
-/// How many contents octets the value at the front of a source has, if it is primitive, has this
-/// tag and has a header of two octets. It asks for two octets, as the header of a value has at
-/// least, and takes none. An error is the source's own.
+/// Returns how many contents octets the next value of a source has, if it is primitive, has this
+/// tag and has a header of two octets.
+///
+/// It requests two octets, since every header has at least two, and takes none. An error is the
+/// source's own.
 #[inline(always)]
 fn peek_short<S: Source>(source: &mut S, tag: Tag) -> Result<Option<usize>, S::Error>
     ensures peeked { IfOk result (λ o. IfSome o (λ n. (mode : ModeValue)
@@ -56,7 +58,7 @@ fn peek_short<S: Source>(source: &mut S, tag: Tag) -> Result<Option<usize>, S::E
 }
 
 impl<'a, S: Source> Primitive<'a, S> {
-    /// A refusal at the present position.
+    /// Returns a refusal at the current position.
     #[cold]
     pub(crate) fn refusal(&self, text: &'static str) -> DecodeError<S::Error>
         ensures { IsRefusal result }
@@ -66,7 +68,7 @@ impl<'a, S: Source> Primitive<'a, S> {
 }
 
 impl<'a, S: Source> Constructed<'a, S> {
-    /// A refusal at the present position.
+    /// Returns a refusal at the current position.
     #[cold]
     pub(crate) fn refusal(&self, text: &'static str) -> DecodeError<S::Error>
         ensures { IsRefusal result }
@@ -74,8 +76,10 @@ impl<'a, S: Source> Constructed<'a, S> {
         self.source.content_err(ContentError::from_static(text))
     }
 
-    /// The same as an answer. It is a call of its own, so that no room for an error is cleared
-    /// where nothing is refused.
+    /// Returns a refusal at the current position as a result.
+    ///
+    /// It is a function of its own, so that no stack space is cleared for an error if nothing is
+    /// refused.
     #[inline(always)]
     pub(super) fn answer_refusal<T>(&self, text: &'static str) -> Result<T, DecodeError<S::Error>>
         ensures { IsErrAnd result IsRefusal }
@@ -83,7 +87,7 @@ impl<'a, S: Source> Constructed<'a, S> {
         Err(self.refusal(text))
     }
 
-    /// The error that a stop is, at the present position.
+    /// Returns the error for a stop, at the current position.
     #[cold]
     pub(crate) fn stop_error(&self, stop: Stop<S::Error>) -> DecodeError<S::Error>
         ensures { cause_of result ≡ stop_cause stop }
@@ -100,7 +104,8 @@ impl<'a, S: Source> Constructed<'a, S> {
         }
     }
 
-    /// The same as an answer, for the same reason.
+    /// Returns the error for a stop as a result. It is a function of its own for the same reason
+    /// as `answer_refusal`.
     #[inline(always)]
     pub(super) fn answer_stop<T>(&self, stop: Stop<S::Error>) -> Result<T, DecodeError<S::Error>>
         ensures { IsErrAnd result (λ e. cause_of e ≡ stop_cause stop) }
@@ -108,7 +113,7 @@ impl<'a, S: Source> Constructed<'a, S> {
         Err(self.stop_error(stop))
     }
 
-    /// A refusal of what is not this tag.
+    /// Returns an error that refuses what doesn't have this tag.
     #[cold]
     pub(crate) fn expected_tag_error(&self, tag: Tag) -> DecodeError<S::Error>
         ensures { NamesTag tag result }
@@ -116,7 +121,7 @@ impl<'a, S: Source> Constructed<'a, S> {
         self.source.content_err(ContentError::ExpectedTag(tag))
     }
 
-    /// Passes over the header of a value, whose octets have to be within what is owed. The content
+    /// Passes over the header of a value, whose octets have to fit into what is owed. The content
     /// has failed until the value is taken.
     #[tactic(auto, unfolding(crate::specs::calls::Views::of_constructed))]
     #[inline(always)]
@@ -175,9 +180,10 @@ impl<'a, S: Source> Constructed<'a, S> {
         Ok(())
     }
 
-    /// Passes over the next header, if it is one of those that are looked for. `None` is for
-    /// another tag, and for the end of the content, whose marker is taken where any header is
-    /// looked for. After a header the content has failed until the value is taken.
+    /// Passes over the next header, if it is a wanted one.
+    ///
+    /// Returns `None` for another tag and at the end of the content. The marker there is taken if
+    /// any header is wanted. After a header the content has failed until the value is taken.
     #[tactic(auto, using(crate::specs::laws::Moved::untouched_is_moved), unfolding(crate::specs::calls::Views::views))]
     #[inline(always)]
     pub(crate) fn next_header(&mut self, wanted: Wanted) -> Result<Option<Header>, Stop<S::Error>>
@@ -235,7 +241,7 @@ impl<'a, S: Source> Constructed<'a, S> {
         }
     }
 
-    /// Passes over the header of a primitive value that has two octets.
+    /// Passes over a header of two octets of a primitive value.
     #[inline(always)]
     fn enter_octets(&mut self, tag: Tag, len: usize) -> Result<Option<usize>, Stop<S::Error>>
         requires read { Fronts self.old.mode (octets_header tag len) 2
@@ -251,7 +257,7 @@ impl<'a, S: Source> Constructed<'a, S> {
         }
     }
 
-    /// Passes over the header of the next value if it has this tag, whatever size the header has.
+    /// Passes over the header of the next value if it has this tag, whatever the header's size.
     #[inline(always)]
     fn next_long_if(&mut self, tag: Tag) -> Result<Option<usize>, Stop<S::Error>>
         ensures moves { Moves (before S.stream self) (after S.stream self) }
@@ -271,9 +277,10 @@ impl<'a, S: Source> Constructed<'a, S> {
         }
     }
 
-    /// Passes over the header of the next value if it has this tag, and answers how many contents
-    /// octets it has. The value has to be primitive. The content has then failed until the value is
-    /// taken.
+    /// Passes over the header of the next value if it has this tag, and returns how many contents
+    /// octets it has.
+    ///
+    /// The value has to be primitive. The content has then failed until the value is taken.
     #[tactic(auto, using(crate::specs::laws::Moved::untouched_is_moved), unfolding(crate::specs::calls::Views::views))]
     #[inline(always)]
     pub(super) fn next_octets_if(&mut self, tag: Tag) -> Result<Option<usize>, Stop<S::Error>>
@@ -302,7 +309,7 @@ impl<'a, S: Source> Constructed<'a, S> {
     }
 }
 
-/// Gives the source the limit of the content around a value back, less what was passed over.
+/// Restores the limit of the content around a value in the source, less what was passed.
 #[inline(always)]
 pub(super) fn pop<S>(source: &mut LimitedSource<S>, outer: Option<usize>, len: usize)
     ensures limit { source.new.limit ≡ popped outer len source.old.limit }

@@ -14,7 +14,7 @@ use crate::tag::Tag;
 
 #[tactic(auto, using(crate::specs::laws::Moved::untouched_is_moved))]
 impl<'a, S: Source> Constructed<'a, S> {
-    /// Takes the next value, which has to be an INTEGER, as a number of a type.
+    /// Takes the next value, which has to be an INTEGER, as a number of type `N`.
     #[inline(always)]
     fn take_number<N: Number + Drop>(&mut self) -> Result<N, DecodeError<S::Error>>
         ensures moves { Moved S.stream self }
@@ -28,8 +28,8 @@ impl<'a, S: Source> Constructed<'a, S> {
     ///
     /// # Errors
     ///
-    /// Those of [`take_opt_bool`](Self::take_opt_bool), and `ContentError::ExpectedTag` where that
-    /// answers `None`: the content then stays usable.
+    /// Returns the errors of [`take_opt_bool`](Self::take_opt_bool), and
+    /// `ContentError::ExpectedTag` if that returns `None`. The content then stays usable.
     #[inline(always)]
     pub fn take_bool(&mut self) -> Result<bool, DecodeError<S::Error>>
         ensures moves { Moved S.stream self }
@@ -39,14 +39,21 @@ impl<'a, S: Source> Constructed<'a, S> {
         self.take_primitive_if(Tag::BOOLEAN, |octets| octets.to_bool())
     }
 
-    /// Takes the next value if it is a BOOLEAN (X.690, 8.2, 11.1), or answers `None` at the end and
-    /// at a value of another tag, which stays.
+    /// Takes the next value if it is a BOOLEAN (X.690, 8.2, 11.1).
+    ///
+    /// Returns `None` at the end of the content, and if the next value has another tag. That value
+    /// is not taken.
     ///
     /// # Errors
     ///
-    /// Where a value of the tag stands there whose contents octets are no truth value in the mode,
-    /// or octets that are no value; where an earlier value was refused; where the source fails. The
-    /// content has then failed.
+    /// Returns an error if
+    ///
+    /// - octets come next that aren't identifier octets, or that have the tag BOOLEAN but aren't a
+    ///   BOOLEAN that the mode allows;
+    /// - an earlier value was refused;
+    /// - the source fails.
+    ///
+    /// The content has then failed.
     #[inline(always)]
     pub fn take_opt_bool(&mut self) -> Result<Option<bool>, DecodeError<S::Error>>
         ensures moves { Moved S.stream self }
@@ -60,8 +67,8 @@ impl<'a, S: Source> Constructed<'a, S> {
     ///
     /// # Errors
     ///
-    /// Those of [`take_opt_null`](Self::take_opt_null), and `ContentError::ExpectedTag` where there
-    /// is none: the content then stays usable.
+    /// Returns the errors of [`take_opt_null`](Self::take_opt_null), and
+    /// `ContentError::ExpectedTag` if there is no NULL. The content then stays usable.
     #[inline(always)]
     pub fn take_null(&mut self) -> Result<(), DecodeError<S::Error>>
         ensures moves { Moved S.stream self }
@@ -70,13 +77,20 @@ impl<'a, S: Source> Constructed<'a, S> {
         self.take_primitive_if(Tag::NULL, |octets| octets.to_null())
     }
 
-    /// Takes the next value if it is a NULL (X.690, 8.8). At the end and at a value of another tag
-    /// nothing is taken.
+    /// Takes the next value if it is a NULL (X.690, 8.8).
+    ///
+    /// Nothing is taken at the end of the content, or if the next value has another tag.
     ///
     /// # Errors
     ///
-    /// Where a value of the tag stands there with contents octets, or octets that are no value;
-    /// where an earlier value was refused; where the source fails. The content has then failed.
+    /// Returns an error if
+    ///
+    /// - octets come next that aren't identifier octets, or that have the tag NULL but aren't a
+    ///   NULL that the mode allows, which has no contents octets;
+    /// - an earlier value was refused;
+    /// - the source fails.
+    ///
+    /// The content has then failed.
     #[inline(always)]
     pub fn take_opt_null(&mut self) -> Result<(), DecodeError<S::Error>>
         ensures moves { Moved S.stream self }
@@ -88,12 +102,12 @@ impl<'a, S: Source> Constructed<'a, S> {
         }
     }
 
-    /// Takes the next value, which has to be an INTEGER (X.690, 8.3) that a `u8` holds.
+    /// Takes the next value, which has to be an INTEGER (X.690, 8.3) that fits into a `u8`.
     ///
     /// # Errors
     ///
-    /// Those of [`take_opt_u8`](Self::take_opt_u8), and `ContentError::ExpectedTag` where that
-    /// answers `None`: the content then stays usable.
+    /// Returns the errors of [`take_opt_u8`](Self::take_opt_u8), and `ContentError::ExpectedTag` if
+    /// that returns `None`. The content then stays usable.
     #[inline(always)]
     pub fn take_u8(&mut self) -> Result<u8, DecodeError<S::Error>>
         ensures moves { Moved S.stream self }
@@ -102,14 +116,21 @@ impl<'a, S: Source> Constructed<'a, S> {
         self.take_number()
     }
 
-    /// Takes the next value if it is an INTEGER (X.690, 8.3) that a `u8` holds, or answers `None`
-    /// at the end and at a value of another tag, which stays.
+    /// Takes the next value if it is an INTEGER (X.690, 8.3), which then has to fit into a `u8`.
+    ///
+    /// Returns `None` at the end of the content, and if the next value has another tag. That value
+    /// is not taken.
     ///
     /// # Errors
     ///
-    /// Where a value of the tag stands there whose contents octets are no such integer, or octets
-    /// that are no value; where an earlier value was refused; where the source fails. The content
-    /// has then failed.
+    /// Returns an error if
+    ///
+    /// - octets come next that aren't identifier octets, or that have the tag INTEGER but aren't an
+    ///   INTEGER that the mode allows and a `u8` holds;
+    /// - an earlier value was refused;
+    /// - the source fails.
+    ///
+    /// The content has then failed.
     #[inline(always)]
     pub fn take_opt_u8(&mut self) -> Result<Option<u8>, DecodeError<S::Error>>
         ensures moves { Moved S.stream self }
@@ -118,12 +139,12 @@ impl<'a, S: Source> Constructed<'a, S> {
         self.take_opt_primitive_if(Tag::INTEGER, |octets| octets.to_u8())
     }
 
-    /// Takes the next value, which has to be an INTEGER (X.690, 8.3) that a `u16` holds.
+    /// Takes the next value, which has to be an INTEGER (X.690, 8.3) that fits into a `u16`.
     ///
     /// # Errors
     ///
-    /// Those of [`take_opt_u16`](Self::take_opt_u16), and `ContentError::ExpectedTag` where that
-    /// answers `None`: the content then stays usable.
+    /// Returns the errors of [`take_opt_u16`](Self::take_opt_u16), and `ContentError::ExpectedTag`
+    /// if that returns `None`. The content then stays usable.
     #[inline(always)]
     pub fn take_u16(&mut self) -> Result<u16, DecodeError<S::Error>>
         ensures moves { Moved S.stream self }
@@ -132,12 +153,14 @@ impl<'a, S: Source> Constructed<'a, S> {
         self.take_number()
     }
 
-    /// Takes the next value if it is an INTEGER (X.690, 8.3) that a `u16` holds, or answers `None`
-    /// at the end and at a value of another tag, which stays.
+    /// Takes the next value if it is an INTEGER (X.690, 8.3), which then has to fit into a `u16`.
+    ///
+    /// Returns `None` at the end of the content, and if the next value has another tag. That value
+    /// is not taken.
     ///
     /// # Errors
     ///
-    /// Those of [`take_opt_u8`](Self::take_opt_u8), for this type.
+    /// Returns the errors of [`take_opt_u8`](Self::take_opt_u8), for this type.
     #[inline(always)]
     pub fn take_opt_u16(&mut self) -> Result<Option<u16>, DecodeError<S::Error>>
         ensures moves { Moved S.stream self }
@@ -146,12 +169,12 @@ impl<'a, S: Source> Constructed<'a, S> {
         self.take_opt_primitive_if(Tag::INTEGER, |octets| octets.to_u16())
     }
 
-    /// Takes the next value, which has to be an INTEGER (X.690, 8.3) that a `u32` holds.
+    /// Takes the next value, which has to be an INTEGER (X.690, 8.3) that fits into a `u32`.
     ///
     /// # Errors
     ///
-    /// Those of [`take_opt_u32`](Self::take_opt_u32), and `ContentError::ExpectedTag` where that
-    /// answers `None`: the content then stays usable.
+    /// Returns the errors of [`take_opt_u32`](Self::take_opt_u32), and `ContentError::ExpectedTag`
+    /// if that returns `None`. The content then stays usable.
     #[inline(always)]
     pub fn take_u32(&mut self) -> Result<u32, DecodeError<S::Error>>
         ensures moves { Moved S.stream self }
@@ -160,12 +183,14 @@ impl<'a, S: Source> Constructed<'a, S> {
         self.take_number()
     }
 
-    /// Takes the next value if it is an INTEGER (X.690, 8.3) that a `u32` holds, or answers `None`
-    /// at the end and at a value of another tag, which stays.
+    /// Takes the next value if it is an INTEGER (X.690, 8.3), which then has to fit into a `u32`.
+    ///
+    /// Returns `None` at the end of the content, and if the next value has another tag. That value
+    /// is not taken.
     ///
     /// # Errors
     ///
-    /// Those of [`take_opt_u8`](Self::take_opt_u8), for this type.
+    /// Returns the errors of [`take_opt_u8`](Self::take_opt_u8), for this type.
     #[inline(always)]
     pub fn take_opt_u32(&mut self) -> Result<Option<u32>, DecodeError<S::Error>>
         ensures moves { Moved S.stream self }
@@ -174,12 +199,12 @@ impl<'a, S: Source> Constructed<'a, S> {
         self.take_opt_primitive_if(Tag::INTEGER, |octets| octets.to_u32())
     }
 
-    /// Takes the next value, which has to be an INTEGER (X.690, 8.3) that a `u64` holds.
+    /// Takes the next value, which has to be an INTEGER (X.690, 8.3) that fits into a `u64`.
     ///
     /// # Errors
     ///
-    /// Those of [`take_opt_u64`](Self::take_opt_u64), and `ContentError::ExpectedTag` where that
-    /// answers `None`: the content then stays usable.
+    /// Returns the errors of [`take_opt_u64`](Self::take_opt_u64), and `ContentError::ExpectedTag`
+    /// if that returns `None`. The content then stays usable.
     #[inline(always)]
     pub fn take_u64(&mut self) -> Result<u64, DecodeError<S::Error>>
         ensures moves { Moved S.stream self }
@@ -188,12 +213,14 @@ impl<'a, S: Source> Constructed<'a, S> {
         self.take_number()
     }
 
-    /// Takes the next value if it is an INTEGER (X.690, 8.3) that a `u64` holds, or answers `None`
-    /// at the end and at a value of another tag, which stays.
+    /// Takes the next value if it is an INTEGER (X.690, 8.3), which then has to fit into a `u64`.
+    ///
+    /// Returns `None` at the end of the content, and if the next value has another tag. That value
+    /// is not taken.
     ///
     /// # Errors
     ///
-    /// Those of [`take_opt_u8`](Self::take_opt_u8), for this type.
+    /// Returns the errors of [`take_opt_u8`](Self::take_opt_u8), for this type.
     #[inline(always)]
     pub fn take_opt_u64(&mut self) -> Result<Option<u64>, DecodeError<S::Error>>
         ensures moves { Moved S.stream self }
@@ -206,8 +233,8 @@ impl<'a, S: Source> Constructed<'a, S> {
     ///
     /// # Errors
     ///
-    /// Those of [`skip_opt_u8_if`](Self::skip_opt_u8_if), and `ContentError::ExpectedTag` where
-    /// there is none: the content then stays usable.
+    /// Returns the errors of [`skip_opt_u8_if`](Self::skip_opt_u8_if), and
+    /// `ContentError::ExpectedTag` if there is no INTEGER. The content then stays usable.
     #[inline(always)]
     pub fn skip_u8_if(&mut self, expected: u8) -> Result<(), DecodeError<S::Error>>
         ensures moves { Moved S.stream self }
@@ -217,13 +244,15 @@ impl<'a, S: Source> Constructed<'a, S> {
         self.take_primitive_if(Tag::INTEGER, |octets| octets.skip_u8_if(expected))
     }
 
-    /// Takes the next value if it is an INTEGER, which then has to have this value. At the end and
-    /// at a value of another tag nothing is taken.
+    /// Takes the next value if it is an INTEGER, which then has to have this value.
+    ///
+    /// Nothing is taken at the end of the content, or if the next value has another tag.
     ///
     /// # Errors
     ///
-    /// `ContentError::ExpectedInteger` where another integer that a `u8` holds stands there; and
-    /// those of [`take_opt_u8`](Self::take_opt_u8). The content has then failed.
+    /// Returns `ContentError::ExpectedInteger` if another integer comes next that a `u8` holds.
+    /// Returns the errors of [`take_opt_u8`](Self::take_opt_u8) as well. The content has then
+    /// failed.
     #[inline(always)]
     pub fn skip_opt_u8_if(&mut self, expected: u8) -> Result<(), DecodeError<S::Error>>
         ensures moves { Moved S.stream self }

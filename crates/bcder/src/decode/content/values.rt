@@ -13,14 +13,15 @@ use crate::decode::source::Source;
 use crate::tag::Tag;
 
 impl<'a, S: Source> Constructed<'a, S> {
-    /// Takes the next value, or answers `None` at the end of the content.
+    /// Takes the next value, or returns `None` at the end of the content.
     ///
-    /// The closure is handed the value's tag and its content, open and in this content's mode, and
-    /// has to take all of it. Its answer is answered. At the end the end-of-contents octets, if
-    /// any, are taken (X.690, 8.1.5).
+    /// The closure gets the value's tag and its content, open and in this content's mode. It has to
+    /// take all of the content, and its result is returned. At the end, the end-of-contents octets,
+    /// if any, are taken (X.690, 8.1.5).
     ///
-    /// A closure with up to two `?` needs no clause. One with more steps, a loop or a choice by the
-    /// form of content says that it moves the content, and so does a function that takes from it:
+    /// A closure with up to two `?` needs no clause. A closure with more steps, with a loop or with
+    /// a choice by the form of content says that it moves the content. So does a function that
+    /// takes from content:
     ///
     /// ```text
     /// |cons| ensures { Moved S.stream cons } { .. }
@@ -29,10 +30,15 @@ impl<'a, S: Source> Constructed<'a, S> {
     ///
     /// # Errors
     ///
-    /// Where neither the end nor the header of a value stands in front, allowed by the mode and
-    /// with no more octets than are owed (8.1.2, 8.1.3); where the closure refuses, or leaves
-    /// octets, values or failed content; where an earlier value was refused; where the source
-    /// fails. The content has then failed, and every later take refuses.
+    /// Returns an error if
+    ///
+    /// - the next octets are neither the end of the content nor the header of a value that the mode
+    ///   allows and that fits into what is left of the content (8.1.2, 8.1.3);
+    /// - the closure refuses, or leaves octets, values or failed content;
+    /// - an earlier value was refused;
+    /// - the source fails.
+    ///
+    /// The content has then failed, and every later take refuses.
     #[inline(always)]
     pub fn take_opt_value<F, T: Drop>(&mut self, op: F) -> Result<Option<T>, DecodeError<S::Error>>
     where
@@ -60,11 +66,12 @@ impl<'a, S: Source> Constructed<'a, S> {
 
     /// Takes the next value, which has to be there.
     ///
-    /// The closure is called as that of [`take_opt_value`](Self::take_opt_value) is.
+    /// The closure is called as by [`take_opt_value`](Self::take_opt_value).
     ///
     /// # Errors
     ///
-    /// Those of `take_opt_value`, and at the end of the content, which then stays usable.
+    /// Returns the errors of `take_opt_value`, and an error at the end of the content, which then
+    /// stays usable.
     #[inline(always)]
     pub fn take_value<F, T: Drop>(&mut self, op: F) -> Result<T, DecodeError<S::Error>>
     where
@@ -81,21 +88,27 @@ impl<'a, S: Source> Constructed<'a, S> {
         }
     }
 
-    /// Takes the next value if it has this tag, or answers `None`.
+    /// Takes the next value if it has this tag, or returns `None`.
     ///
-    /// `None` is for the end of the content, for a source that has no more octets, and for a value
-    /// of another tag. What stands there stays, so that a later call takes it; a call for
-    /// `Tag::END_OF_VALUE` takes end-of-contents octets (X.690, 8.1.5). The closure is handed the
-    /// value's content, open and in this content's mode, and has to take all of it. Its answer is
-    /// answered.
+    /// The result is `None` at the end of the content, if the source has no more octets, and if the
+    /// next value has another tag. Nothing is taken then, so a later call can take what is there.
+    /// Only a call with `Tag::END_OF_VALUE` takes end-of-contents octets (X.690, 8.1.5).
+    ///
+    /// The closure gets the value's content, open and in this content's mode. It has to take all of
+    /// it, and its result is returned.
     ///
     /// # Errors
     ///
-    /// Where octets stand in front that are no identifier octets, or those of this tag without a
-    /// header of a value that the mode allows, with no more octets than are owed (8.1.2, 8.1.3);
-    /// where the closure refuses, or leaves octets, values or failed content; where an earlier
-    /// value was refused; where the source fails. The content has then failed, and every later take
-    /// refuses.
+    /// Returns an error if
+    ///
+    /// - octets come next that aren't identifier octets;
+    /// - identifier octets of this tag come next, but not the header of a value that the mode
+    ///   allows and that fits into what is left of the content (8.1.2, 8.1.3);
+    /// - the closure refuses, or leaves octets, values or failed content;
+    /// - an earlier value was refused;
+    /// - the source fails.
+    ///
+    /// The content has then failed, and every later take refuses.
     #[inline(always)]
     pub fn take_opt_value_if<F, T: Drop>(
         &mut self,
@@ -119,12 +132,12 @@ impl<'a, S: Source> Constructed<'a, S> {
 
     /// Takes the next value, which has to have this tag.
     ///
-    /// The closure is called as that of [`take_opt_value_if`](Self::take_opt_value_if) is.
+    /// The closure is called as by [`take_opt_value_if`](Self::take_opt_value_if).
     ///
     /// # Errors
     ///
-    /// Those of `take_opt_value_if`, and `ContentError::ExpectedTag` where that answers `None`: the
-    /// content then stays usable.
+    /// Returns the errors of `take_opt_value_if`, and `ContentError::ExpectedTag` if that returns
+    /// `None`. The content then stays usable.
     #[inline(always)]
     pub fn take_value_if<F, T: Drop>(&mut self, tag: Tag, op: F) -> Result<T, DecodeError<S::Error>>
     where

@@ -1,4 +1,4 @@
-//! Walking over values, which looks at every header inside them.
+//! Walking over values, which checks every header inside them.
 ghost use Rattle.std.specs.Prelude.{◌≡◌, ◌≤◌, false, IfOk, IfSome, OnOk, OnErr};
 ghost use Rattle.bcder.specs.steps.StopCause.{stop_cause};
 ghost use Rattle.bcder.specs.calls.Stream.{Grew};
@@ -23,17 +23,17 @@ use crate::length::Length;
 use crate::mode::Mode;
 use crate::plain::{short_size, size_within};
 
-/// Passes over the next value, or answers `None` at the end of the content, whose marker it takes.
+/// Passes over the next value, or returns `None` at the end of the content, whose marker it takes.
 ///
-/// A value is passed exactly where an encoding of one stands in front, in the content's mode
-/// (X.690, 8.1.1), unless the source fails. Its identifier octets, length octets and
-/// end-of-contents octets and those of all values inside it are looked at. Contents octets of
-/// primitive values are not. No memory is taken, but a level of values may take a level of calls.
+/// Unless the source fails, a value is passed exactly if the encoding of one comes next, in the
+/// content's mode (X.690, 8.1.1). The identifier octets, length octets and end-of-contents octets
+/// of the value and of all values inside it are checked. Contents octets of primitive values are
+/// not looked at. Nothing is allocated, but each level of values may need a level of calls.
 ///
 /// # Errors
 ///
-/// Where neither the encoding of a value nor the end stands in front, where an earlier value was
-/// refused or where the source fails. The content has then failed.
+/// Returns an error if neither the encoding of a value nor the end comes next, if an earlier value
+/// was refused, or if the source fails. The content has then failed.
 #[tactic(auto, using(crate::specs::laws::Moved::moved_twice_is_moved))]
 #[inline(always)]
 pub fn walk<S: Source>(cons: &mut Constructed<'_, S>) -> Result<Option<()>, DecodeError<S::Error>>
@@ -51,18 +51,18 @@ pub fn walk<S: Source>(cons: &mut Constructed<'_, S>) -> Result<Option<()>, Deco
     }
 }
 
-/// Which values are looked for at hand.
+/// Which values at hand to look for.
 #[derive(Clone, Copy)]
 pub(super) enum Lookahead {
-    /// Primitive ones with a header of two octets.
+    /// Primitive values with a header of two octets.
     Short,
 
-    /// Those that take no more than some levels of calls.
+    /// Values that can be read within a limited number of levels of calls.
     Shallow,
 }
 
-/// How many octets the value at the front has, if it is one that is looked for and all of its
-/// octets are here.
+/// Returns how many octets the next value has, if it is one to look for and all of its octets are
+/// here.
 #[inline(always)]
 fn whole_size(mode: Mode, octets: &[u8], looked: Lookahead) -> Option<usize>
     ensures { IfSome result (λ n. BeginsWhole mode octets.now n) }
@@ -73,8 +73,11 @@ fn whole_size(mode: Mode, octets: &[u8], looked: Lookahead) -> Option<usize>
     }
 }
 
-/// The same of the value at the front of a source, of which nothing is taken. It asks for two
-/// octets, as the header of a value has at least. An error is the source's own.
+/// Returns how many octets the next value of a source has, if it is one to look for and all of its
+/// octets are at hand.
+///
+/// It requests two octets, since every header has at least two, and takes none. An error is the
+/// source's own.
 #[inline(always)]
 fn size_ahead<S: Source>(
     source: &mut S,
@@ -106,7 +109,7 @@ impl<'a, S: Source> Constructed<'a, S> {
         self.source.advance(size);
     }
 
-    /// How many octets the next value has, if it is one that is looked for and all of its octets
+    /// Returns how many octets the next value has, if it is one to look for and all of its octets
     /// are at hand. Nothing is taken.
     #[tactic(auto, unfolding(crate::specs::calls::Views::of_constructed))]
     #[inline(always)]
@@ -122,8 +125,8 @@ impl<'a, S: Source> Constructed<'a, S> {
         size_ahead(self.source, self.mode, looked)
     }
 
-    /// Passes over the next value in one go where it is one that is looked for and all of its
-    /// octets are at hand, and says whether it did. The source is asked once.
+    /// Passes over the next value in one go, if it is one to look for and all of its octets are at
+    /// hand, and returns whether it did. The source gets one request.
     #[tactic(auto, unfolding(crate::specs::calls::Views::of_constructed))]
     #[inline(always)]
     fn pass_ahead(&mut self, looked: Lookahead) -> Result<bool, Stop<S::Error>>
@@ -144,8 +147,10 @@ impl<'a, S: Source> Constructed<'a, S> {
         }
     }
 
-    /// The same of content in any state. The source is asked once at most, and not where no octets
-    /// are owed. Where there is no limit, that is asked once too.
+    /// Does what `pass_ahead` does, for content in any state.
+    ///
+    /// The source gets at most one request, and none if no octets are owed. If there is no limit,
+    /// that too is checked only once.
     #[tactic(auto, unfolding(crate::specs::calls::Views::of_constructed))]
     #[inline(always)]
     pub(super) fn pass_at_hand(&mut self, looked: Lookahead) -> Result<bool, Stop<S::Error>>
@@ -166,7 +171,8 @@ impl<'a, S: Source> Constructed<'a, S> {
         self.pass_ahead(looked)
     }
 
-    /// The same of a value that takes no more than some levels of calls, out of line.
+    /// Passes over the next value in one go, if it needs only a limited number of levels of calls.
+    /// This call is out of line.
     #[tactic(auto, using(crate::proofs::moves_constructed_name))]
     #[inline(never)]
     pub(super) fn pass_shallow(&mut self) -> Result<bool, Stop<S::Error>>
@@ -178,10 +184,11 @@ impl<'a, S: Source> Constructed<'a, S> {
     }
 }
 
-/// As `walk`, whatever stands in front, with a stop in the place of an error. It lends a copy of
-/// the content, and where no value was passed the state of the copy is set: so content that is a
-/// local of a caller has no address, and a loop over its values neither looks its state up nor its
-/// kind.
+/// Does what `walk` does, whatever comes next, but returns a stop instead of an error.
+///
+/// It lends a copy of the content, and sets the state of the original only if no value was passed.
+/// So content that is a caller's local variable has no address, and a loop over its values checks
+/// neither its state nor its kind.
 #[inline(always)]
 fn walk_copy<S: Source>(cons: &mut Constructed<'_, S>) -> Result<Option<()>, Stop<S::Error>>
     ensures moves { Between S.stream cons Moves }
@@ -208,7 +215,7 @@ fn walk_copy<S: Source>(cons: &mut Constructed<'_, S>) -> Result<Option<()>, Sto
     }
 }
 
-/// The same, out of line.
+/// Passes over the next value, whatever it is. This call is out of line.
 #[inline(never)]
 fn walk_any<S: Source>(cons: &mut Constructed<'_, S>) -> Result<Option<()>, Stop<S::Error>>
     ensures moves { Between S.stream cons Moves }
@@ -222,7 +229,7 @@ fn walk_any<S: Source>(cons: &mut Constructed<'_, S>) -> Result<Option<()>, Stop
     }
 }
 
-/// The same, header by header.
+/// Passes over the next value header by header.
 #[cycle(walk)]
 #[tactic(auto, unfolding(crate::specs::calls::Views::of_constructed))]
 #[inline(always)]
@@ -243,7 +250,7 @@ fn step<S: Source>(cons: &mut Constructed<'_, S>) -> Result<Option<()>, Stop<S::
     }
 }
 
-/// Passes over the content of a value whose header was passed over.
+/// Passes over the content of a value whose header was passed.
 #[cycle(walk)]
 #[tactic(auto, unfolding(crate::specs::calls::Views::of_constructed))]
 #[inline(always)]

@@ -10,8 +10,9 @@ use bytes::Bytes;
 use std::alloc::{AllocError, Global};
 use std::convert::Infallible;
 
-/// A source over shared octets, all of which are available. It never fails, and `bytes` shares the
-/// octets.
+/// A source over shared octets, all of which are available.
+///
+/// It never fails, and `bytes` shares the octets.
 #[derive(Debug, Drop)]
 pub struct BytesSource {
     octets: Bytes,
@@ -37,7 +38,7 @@ impl Clone for BytesSource {
 impl BytesSource {
     ghost use Rattle.bcder.specs.calls.Sources.{shared_rest, shared_start};
 
-    /// A source over `octets`, at position 0.
+    /// Creates a source over `octets`, at position 0.
     pub fn new(octets: Bytes) -> BytesSource
         ensures octets { shared_rest result ≡ octets }
         ensures start { shared_start result ≡ 0 }
@@ -45,7 +46,7 @@ impl BytesSource {
         BytesSource::with_offset(octets, Pos::default())
     }
 
-    /// A source over `octets`, at position `offset`.
+    /// Creates a source over `octets`, at position `offset`.
     pub fn with_offset(octets: Bytes, offset: Pos) -> BytesSource
         ensures octets { shared_rest result ≡ octets }
         ensures start { shared_start result ≡ offset }
@@ -59,25 +60,26 @@ impl BytesSource {
         }
     }
 
-    /// How many octets are left.
+    /// Returns how many octets are left.
     pub fn len(&self) -> usize
         ensures { result ≡ length (shared_rest self.now) }
     {
         self.octets.len()
     }
 
-    /// Whether no octets are left.
+    /// Returns whether no octets are left.
     pub fn is_empty(&self) -> bool
         ensures { IsTrue result ↔ (shared_rest self.now ≡ []) }
     {
         self.octets.is_empty()
     }
 
-    /// Takes the first `len` octets, of which there have to be as many, and answers them, shared.
+    /// Takes the first `len` octets and returns them, shared. At least `len` octets have to be
+    /// left.
     ///
     /// # Errors
     ///
-    /// Where there is no memory to share them. The source is then as it was.
+    /// Returns `NoMemory` if memory runs out for sharing them. The source is then as it was.
     pub fn split_to(&mut self, len: usize) -> Result<Bytes, NoMemory>
         requires { len ≤ length (shared_rest self.old) }
         ensures front { IfOk result (λ b. b ≡ take len (shared_rest self.old)) }
@@ -91,7 +93,7 @@ impl BytesSource {
         Ok(front)
     }
 
-    /// The octets that are left.
+    /// Returns the octets that are left.
     pub fn into_bytes(self) -> Bytes
         ensures { result ≡ shared_rest self }
     {

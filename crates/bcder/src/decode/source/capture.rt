@@ -1,4 +1,4 @@
-//! A source that can give back what is passed over.
+//! A source that keeps what is passed over.
 ghost use Rattle.std.specs.Prelude.{◌≡◌, true, ◌&&◌, nat_le, ℕ, ◌+◌, ◌-◌, ◌^◌, ◌<◌, ◌≤◌};
 ghost use Rattle.std.specs.Prelude.{List, [], ◌∷◌, ◌++◌, length, take, drop, slice_range};
 ghost use Rattle.std.specs.Prelude.{IfOk, IfErr, OnOk, OnErr};
@@ -11,8 +11,8 @@ use crate::NoMemory;
 use bytes::Bytes;
 use std::alloc::Global;
 
-// Takes the first `len` octets, which are available, or leaves the source as it was. No memory is
-// asked for if there are none.
+// Takes the first `len` octets, which have to be available, or leaves the source as it was.
+// Allocates nothing if `len` is 0.
 pub(super) fn take_front<S: Source>(
     source: &mut S,
     alloc: Global,
@@ -37,9 +37,9 @@ pub(super) fn take_front<S: Source>(
 
 /// A source that captures what is passed over.
 ///
-/// It borrows another source and gives that one's octets. What it passes over stays in the borrowed
-/// source, which only [`into_bytes`](Self::into_bytes) and [`skip`](Self::skip) advance. Where it
-/// is let go otherwise, the borrowed source has all its octets.
+/// It borrows another source and gives that source's octets. What it passes over stays in the
+/// borrowed source. Only [`into_bytes`](Self::into_bytes) and [`skip`](Self::skip) advance that
+/// source. If it is dropped instead, the borrowed source still has all its octets.
 #[derive(Drop)]
 pub struct CaptureSource<'a, S> {
     source: &'a mut S,
@@ -47,7 +47,7 @@ pub struct CaptureSource<'a, S> {
 }
 
 impl<'a, S: Source> CaptureSource<'a, S> {
-    /// A capturing source over `source`, which has passed over nothing.
+    /// Creates a capturing source over `source` that has passed over nothing.
     pub fn new(source: &'a mut S) -> CaptureSource<'a, S>
         ensures same_reference { borrow_of result ≡ source.entry.ghost_name }
         ensures source { behind result ≡ source.old }
@@ -56,15 +56,15 @@ impl<'a, S: Source> CaptureSource<'a, S> {
         CaptureSource { source, pos: 0 }
     }
 
-    /// The octets that were passed over. They leave the borrowed source.
+    /// Takes the octets that were passed over out of the borrowed source, and returns them.
     ///
     /// They have to be available there, as they are after a request and the calls of `advance` that
     /// it allows.
     ///
     /// # Errors
     ///
-    /// If there is no memory for them, of which there is at least one. The borrowed source is then
-    /// as it was.
+    /// Returns `NoMemory` if memory runs out for the octets, of which there is then at least one.
+    /// The borrowed source is then as it was.
     pub fn into_bytes(self, alloc: Global) -> Result<Bytes, NoMemory>
         requires { passed self ≤ (S.stream (behind self)).avail }
         ensures value { IfOk result
@@ -97,8 +97,8 @@ impl<'a, S: Source> CaptureSource<'a, S> {
         source.advance(pos);
     }
 
-    // As `into_bytes`, and the borrow, so that a caller knows what is behind it where `self` came
-    // out of another value.
+    // Does what `into_bytes` does, and returns the borrow too. So a caller whose `self` came out of
+    // another value knows what the borrow refers to.
     pub(crate) fn into_bytes_and_source(self, alloc: Global) -> (Result<Bytes, NoMemory>, &'a mut S)
         requires { passed self ≤ (S.stream (behind self)).avail }
         ensures same_reference { result.1.ghost_name ≡ borrow_of self.entry }
@@ -119,7 +119,7 @@ impl<'a, S: Source> CaptureSource<'a, S> {
         (taken, source)
     }
 
-    // Makes the octets that were passed over available once more.
+    // Makes the octets that were passed over available again.
     pub(crate) fn request_passed(&mut self) -> Result<(), S::Error>
         requires { passed self.old ≤ length (S.stream (behind self.old)).rest }
         ensures ok { OnOk result (passed self.new ≤ (S.stream (behind self.new)).avail) }
@@ -136,7 +136,7 @@ impl<'a, S: Source> CaptureSource<'a, S> {
         Ok(())
     }
 
-    // The borrowed source as it is, with all its octets.
+    // Returns the borrowed source as it is, with all its octets.
     pub(crate) fn into_source(self) -> &'a mut S
         ensures same_reference { result.ghost_name ≡ borrow_of self.entry }
         ensures value { result.now ≡ behind self.entry }
@@ -147,8 +147,8 @@ impl<'a, S: Source> CaptureSource<'a, S> {
 
 /// The rest is what follows the octets that were passed over.
 ///
-/// The laws hold in every state, also where fewer octets are available in the borrowed source than
-/// were passed over: then none are here.
+/// The laws hold in every state. If fewer octets are available in the borrowed source than were
+/// passed over, none are available here.
 impl<'a, S: Source> Source for CaptureSource<'a, S> {
     type Error = S::Error;
 
@@ -161,8 +161,10 @@ impl<'a, S: Source> Source for CaptureSource<'a, S> {
         self.source.pos() + Pos::from(self.pos)
     }
 
-    /// As for every source. What was passed over stays, and is available in the borrowed source
-    /// once a request has succeeded, so that [`into_bytes`](Self::into_bytes) may be called.
+    /// Makes octets available, like every source.
+    ///
+    /// What was passed over stays. Once a request has succeeded, it is available in the borrowed
+    /// source, so [`into_bytes`](Self::into_bytes) may be called.
     fn request(&mut self, len: usize) -> Result<usize, S::Error>
         ensures ok { IfOk result (λ k. Provides len k (capturing S.stream self.new)) }
         ensures no_fault { OnOk result
@@ -196,7 +198,7 @@ impl<'a, S: Source> Source for CaptureSource<'a, S> {
         self.source.bytes(alloc, self.pos + start, self.pos + end)
     }
 
-    /// As for every source. The borrowed source stays as it is.
+    /// Passes over available octets, like every source. The borrowed source stays as it is.
     fn advance(&mut self, len: usize)
         requires { len ≤ (capturing S.stream self.old).avail }
         ensures rest { (capturing S.stream self.new).rest
@@ -213,7 +215,7 @@ impl<'a, S: Source> Source for CaptureSource<'a, S> {
     }
 }
 
-/// The octets that the borrowed source lends, but for those that were passed over.
+/// Lends the octets that the borrowed source lends, without those that were passed over.
 impl<'a, 'b, S: LendingSource<'b>> LendingSource<'b> for CaptureSource<'a, S> {
     fn lent_slice(&self) -> &'b [u8] {
         let all = self.source.lent_slice();

@@ -1,19 +1,20 @@
-//! What can be made a source.
+//! Conversion into sources.
 ghost use Rattle.std.specs.Prelude.{◌≡◌};
 ghost use Rattle.bcder.specs.calls.Stream.{Stream, at_hand};
 
 use super::{BytesSource, SliceSource, Source};
 use bytes::Bytes;
 
-/// What a source can be made of.
+/// A value that can be made a source.
 pub trait IntoSource {
     /// The source that is made.
     type Source: Source;
 
-    /// What the source is to the clauses: the octets that it will give, and what is known of them.
+    /// The source in the terms of the clauses: the octets that it will give, and what is known of
+    /// them.
     ghost gives: { Self → Stream };
 
-    /// The source that gives these octets.
+    /// Returns the source that gives these octets.
     fn into_source(self) -> Self::Source
         ensures { Self.Source.stream result ≡ gives self };
 }
@@ -29,7 +30,7 @@ impl<T: Source> IntoSource for T {
     }
 }
 
-/// Shared octets are given from position 0.
+/// Shared octets, from position 0.
 impl IntoSource for Bytes {
     type Source = BytesSource;
 
@@ -40,7 +41,7 @@ impl IntoSource for Bytes {
     }
 }
 
-/// Borrowed octets are given from position 0.
+/// Borrowed octets, from position 0.
 impl<'a> IntoSource for &'a [u8] {
     type Source = SliceSource<'a>;
 

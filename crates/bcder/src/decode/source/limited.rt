@@ -1,4 +1,4 @@
-//! A source that is cut at a limit.
+//! A source with a limit.
 ghost use Rattle.std.specs.Prelude.{◌≡◌, true, ℕ, ◌+◌, ◌-◌, ◌^◌, ◌<◌, ◌≤◌, List, [], ◌∷◌, ◌++◌};
 ghost use Rattle.std.specs.Prelude.{length, take, drop, slice_range};
 ghost use Rattle.std.specs.Prelude.{Some, None, IsSome, IfOk, IfErr, OnOk, OnErr};
@@ -25,10 +25,10 @@ use bytes::Bytes;
 use std::alloc::Global;
 use std::mem;
 
-/// A source up to a limit: the front of the wrapped source's rest with at most that many octets.
+/// A source up to a limit: the longest prefix of the wrapped source's rest within that many octets.
 ///
-/// The limit counts the octets that may still be taken, so it falls by each that is passed over.
-/// Without a limit it is the wrapped source itself.
+/// The limit is the number of octets that may still be taken, so it falls by each octet that is
+/// passed. Without a limit this is the wrapped source itself.
 #[derive(Clone, Debug, Drop)]
 pub struct LimitedSource<S> {
     source: S,
@@ -36,7 +36,7 @@ pub struct LimitedSource<S> {
 }
 
 impl<S> LimitedSource<S> {
-    /// The source without a limit.
+    /// Creates a source without a limit.
     pub fn new(source: S) -> LimitedSource<S>
         ensures source { wrapped result ≡ source }
         ensures limit { limit_of result ≡ None }
@@ -47,23 +47,23 @@ impl<S> LimitedSource<S> {
         }
     }
 
-    /// The wrapped source.
+    /// Returns the wrapped source.
     pub fn unwrap(self) -> S
         ensures { result ≡ wrapped self }
     {
         self.source
     }
 
-    /// How many octets may still be taken, or `None` without a limit.
+    /// Returns how many octets may still be taken, or `None` without a limit.
     pub fn limit(&self) -> Option<usize>
         ensures { result ≡ limit_of self.now }
     {
         self.limit
     }
 
-    /// Sets a limit that isn't larger than the one there is, and answers that one.
+    /// Sets a limit that isn't larger than the current one, and returns the old one.
     ///
-    /// A limit can't be removed by it. [`set_limit`](Self::set_limit) sets any.
+    /// This can't remove a limit. [`set_limit`](Self::set_limit) sets any.
     pub fn limit_further(&mut self, limit: Option<usize>) -> Option<usize>
         requires { IsNoLooser limit (limit_of self.old) }
         ensures old { result ≡ limit_of self.old }
@@ -73,7 +73,7 @@ impl<S> LimitedSource<S> {
         mem::replace(&mut self.limit, limit)
     }
 
-    /// Sets a limit, or removes the one there is.
+    /// Sets a limit, or removes the current one.
     pub fn set_limit(&mut self, limit: Option<usize>)
         ensures limit { limit_of self.new ≡ limit }
         ensures source { wrapped self.new ≡ wrapped self.old }
@@ -83,11 +83,12 @@ impl<S> LimitedSource<S> {
 }
 
 impl<S: Source> LimitedSource<S> {
-    /// Passes over all octets up to the limit, of which there has to be one.
+    /// Passes over all octets up to the limit. There has to be a limit.
     ///
     /// # Errors
     ///
-    /// Where the wrapped source ends before the limit, and where it fails. Then no octet is passed.
+    /// Returns an error if the wrapped source ends before the limit, or if it fails. No octet is
+    /// then passed.
     pub fn skip_all(&mut self) -> Result<(), DecodeError<S::Error>>
         requires { IsSome (limit_of self.old) }
         ensures enough { OnOk result (ReachesLimit S.stream self.old) }
@@ -112,7 +113,7 @@ impl<S: Source> LimitedSource<S> {
         Ok(())
     }
 
-    /// Passes over so many octets, which the limit allows and which are at hand.
+    /// Passes over `len` octets, which have to be within the limit and at hand.
     #[inline(always)]
     pub(crate) fn pass_owed(&mut self, len: usize)
         requires owed { FitsOwed (Length.Definite len) self.old.limit }
@@ -129,7 +130,7 @@ impl<S: Source> LimitedSource<S> {
         }
     }
 
-    /// Passes over so many octets, which the limit allows. A refusal passes over none.
+    /// Passes over `len` octets, which have to be within the limit. A refusal passes over none.
     #[inline(always)]
     pub(crate) fn skip_owed(&mut self, len: usize) -> Result<(), Stop<S::Error>>
         requires { FitsOwed (Length.Definite len) self.old.limit }
@@ -158,12 +159,12 @@ impl<S: Source> LimitedSource<S> {
         }
     }
 
-    /// Takes all octets up to the limit, of which there has to be one.
+    /// Takes all octets up to the limit. There has to be a limit.
     ///
     /// # Errors
     ///
-    /// Where the wrapped source ends before the limit, where it fails, and where there is no memory
-    /// for the octets. Then none is taken.
+    /// Returns an error if the wrapped source ends before the limit, if it fails, or if memory runs
+    /// out for the octets. No octet is then taken.
     pub fn take_all(&mut self, alloc: Global) -> Result<Bytes, DecodeError<S::Error>>
         requires { IsSome (limit_of self.old) }
         ensures value { IfOk result
@@ -192,12 +193,12 @@ impl<S: Source> LimitedSource<S> {
         Ok(taken)
     }
 
-    /// Makes sure that no octets are left: that the limit is 0, or without a limit that the wrapped
+    /// Checks that no octets are left: that the limit is 0 or, without a limit, that the wrapped
     /// source is at its end.
     ///
     /// # Errors
     ///
-    /// Where octets are left, and where the wrapped source fails.
+    /// Returns an error if octets are left, or if the wrapped source fails.
     pub fn exhausted(&mut self) -> Result<(), DecodeError<S::Error>>
         ensures ok { OnOk result (HasNoneLeft S.stream self.old) }
         ensures no_fault { OnOk result (SameFaults (inside S.stream) self) }
@@ -224,7 +225,7 @@ impl<S: Source> LimitedSource<S> {
     }
 }
 
-/// The rest is the front of the wrapped rest up to the limit.
+/// The rest is the prefix of the wrapped rest up to the limit.
 impl<S: Source> Source for LimitedSource<S> {
     type Error = S::Error;
 
@@ -263,7 +264,7 @@ impl<S: Source> Source for LimitedSource<S> {
     }
 }
 
-/// The octets that the wrapped source lends, up to the limit.
+/// Lends the octets that the wrapped source lends, up to the limit.
 impl<'a, S: LendingSource<'a>> LendingSource<'a> for LimitedSource<S> {
     fn lent_slice(&self) -> &'a [u8] {
         let all = self.source.lent_slice();

@@ -6,10 +6,10 @@ use std::fmt;
 use std::marker::Model;
 use std::ops::Add;
 
-/// A position in a source: how many octets lie before it, counted from where the innermost source
-/// began or from the offset that this was given.
+/// A position in a source: the number of octets before it.
 ///
-/// It serves messages alone, since it stops at `usize::MAX`.
+/// It is counted from where the innermost source began, or from the offset that this source was
+/// given. It is for messages only, since it stops at `usize::MAX`.
 #[derive(Clone, Copy, Debug, Default)]
 pub struct Pos(usize);
 
@@ -29,7 +29,7 @@ impl From<usize> for Pos {
     }
 }
 
-/// Its number.
+/// The position as a number.
 impl From<Pos> for usize {
     ghost from_gives = { λ p n. n ≡ p };
 
@@ -38,7 +38,7 @@ impl From<Pos> for usize {
     }
 }
 
-/// The position so much further on, or `usize::MAX` where that is less.
+/// The sum of two positions, or `usize::MAX` if that is less.
 impl Add for Pos {
     type Output = Pos;
 

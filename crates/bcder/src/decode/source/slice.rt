@@ -10,7 +10,9 @@ use bytes::Bytes;
 use std::alloc::Global;
 use std::convert::Infallible;
 
-/// A source over borrowed octets, all of which are available. It never fails.
+/// A source over borrowed octets, all of which are available.
+///
+/// It never fails.
 #[derive(Clone, Copy, Debug)]
 pub struct SliceSource<'a> {
     octets: &'a [u8],
@@ -24,7 +26,7 @@ pub struct SliceSource<'a> {
 impl<'a> SliceSource<'a> {
     ghost use Rattle.bcder.specs.calls.Sources.{slice_rest, slice_start};
 
-    /// A source over `octets`, at position 0.
+    /// Creates a source over `octets`, at position 0.
     pub fn new(octets: &'a [u8]) -> SliceSource<'a>
         ensures octets { slice_rest result ≡ octets.now }
         ensures start { slice_start result ≡ 0 }
@@ -32,7 +34,7 @@ impl<'a> SliceSource<'a> {
         SliceSource::with_offset(octets, Pos::default())
     }
 
-    /// A source over `octets`, at position `offset`.
+    /// Creates a source over `octets`, at position `offset`.
     pub fn with_offset(octets: &'a [u8], offset: Pos) -> SliceSource<'a>
         ensures octets { slice_rest result ≡ octets.now }
         ensures start { slice_start result ≡ offset }
@@ -44,21 +46,21 @@ impl<'a> SliceSource<'a> {
         }
     }
 
-    /// How many octets are left.
+    /// Returns how many octets are left.
     pub fn len(&self) -> usize
         ensures { result ≡ length (slice_rest self.now) }
     {
         self.octets.len() - self.passed
     }
 
-    /// Whether no octets are left.
+    /// Returns whether no octets are left.
     pub fn is_empty(&self) -> bool
         ensures { IsTrue result ↔ (slice_rest self.now ≡ []) }
     {
         self.octets[self.passed..].is_empty()
     }
 
-    /// Takes the first `len` octets, of which there have to be as many, and answers them.
+    /// Takes the first `len` octets and returns them. At least `len` octets have to be left.
     pub fn split_to(&mut self, len: usize) -> &'a [u8]
         requires { len ≤ length (slice_rest self.old) }
         ensures front { result.now ≡ take len (slice_rest self.old) }
@@ -110,7 +112,7 @@ impl<'a> Source for SliceSource<'a> {
     }
 }
 
-/// The octets of the slice that are left.
+/// Lends the octets that are left of the slice.
 impl<'a> LendingSource<'a> for SliceSource<'a> {
     fn lent_slice(&self) -> &'a [u8] {
         &self.octets[self.passed..]

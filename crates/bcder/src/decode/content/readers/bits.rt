@@ -15,7 +15,7 @@ use std::alloc::Global;
 
 #[tactic(auto, using(crate::proofs::moves, crate::proofs::Reading::refuses_missing))]
 impl<'a, S: Source> Primitive<'a, S> {
-    /// Takes all octets where they are a bit string's.
+    /// Takes all octets if they are contents octets of a bit string.
     pub(crate) fn take_bits(&mut self, alloc: Global) -> Result<BitString, DecodeError<S::Error>>
         ensures moves { MovedOctets S.stream self }
         ensures read { ReadBy S.stream self
@@ -38,7 +38,7 @@ impl<'a, S: Source> Primitive<'a, S> {
         }
     }
 
-    /// Passes over all octets where they are a bit string's.
+    /// Passes over all octets if they are contents octets of a bit string.
     pub(crate) fn skip_bits(&mut self) -> Result<(), DecodeError<S::Error>>
         ensures moves { MovedOctets S.stream self }
         ensures read { ReadOctets S.stream self
@@ -59,7 +59,7 @@ impl<'a, S: Source> Primitive<'a, S> {
 
 #[tactic(auto, unfolding(crate::specs::calls::Views::of_primitive))]
 impl<'a, S: Source> Primitive<'a, S> {
-    /// All octets that are owed, which are at hand, as a bit string of its own.
+    /// Returns all octets that are owed, which have to be at hand, as a bit string.
     fn bits_of_all(&self, alloc: Global, len: usize) -> Result<BitString, NoMemory>
         requires found { HasAll len (of_primitive S.stream self.now) }
         requires at_hand { len ≤ (of_primitive S.stream self.now).stream.avail }

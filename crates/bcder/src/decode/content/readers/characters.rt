@@ -15,8 +15,8 @@ use std::alloc::Global;
 
 #[tactic(auto, using(crate::proofs::moves, crate::proofs::Reading::refuses_missing))]
 impl<'a, S: Source> Primitive<'a, S> {
-    /// Takes all octets if they spell characters of the set, which is looked at before a copy of
-    /// them is asked for.
+    /// Takes all octets if they spell characters of the set. This is checked before the octets are
+    /// copied.
     #[inline(always)]
     pub(crate) fn take_characters<L: CharSet>(
         &mut self,

@@ -14,7 +14,7 @@ use std::alloc::Global;
 
 #[tactic(auto, using(crate::proofs::moves, crate::proofs::Reading::refuses_missing))]
 impl<'a, S: Source> Primitive<'a, S> {
-    /// Takes all octets where they end with a subidentifier.
+    /// Takes all octets if they end with a subidentifier.
     #[inline(always)]
     pub(crate) fn take_identifier(&mut self, alloc: Global) -> Result<Bytes, DecodeError<S::Error>>
         ensures moves { MovedOctets S.stream self }
@@ -36,7 +36,7 @@ impl<'a, S: Source> Primitive<'a, S> {
         }
     }
 
-    /// Passes over all octets where they end with a subidentifier.
+    /// Passes over all octets if they end with a subidentifier.
     #[inline(always)]
     pub(crate) fn skip_identifier(&mut self) -> Result<(), DecodeError<S::Error>>
         ensures moves { MovedOctets S.stream self }
@@ -54,7 +54,7 @@ impl<'a, S: Source> Primitive<'a, S> {
         }
     }
 
-    /// Passes over all octets where they are these.
+    /// Passes over all octets if they are these.
     #[inline(always)]
     pub(crate) fn skip_same(&mut self, expected: &[u8]) -> Result<(), DecodeError<S::Error>>
         ensures moves { MovedOctets S.stream self }

@@ -7,7 +7,7 @@ use super::super::Primitive;
 use crate::decode::error::DecodeError;
 use crate::decode::source::LendingSource;
 
-/// The octets that the source lends, up to the end of the value.
+/// Lends the octets that the source lends, up to the end of the value.
 impl<'a, 'b, S: LendingSource<'b>> LendingSource<'b> for Primitive<'a, S> {
     fn lent_slice(&self) -> &'b [u8] {
         self.source.lent_slice()
@@ -16,7 +16,7 @@ impl<'a, 'b, S: LendingSource<'b>> LendingSource<'b> for Primitive<'a, S> {
 
 #[tactic(auto, using(crate::proofs::moves, crate::proofs::Reading::refuses_missing), unfolding(crate::specs::calls::Views::of_primitive))]
 impl<'a, 'b, S: LendingSource<'b>> Primitive<'a, S> {
-    /// All octets that are owed, which are at hand.
+    /// Returns all octets that are owed, which have to be at hand.
     #[inline(always)]
     fn lent_all(&self, len: usize) -> &'b [u8]
         requires found { HasAll len (of_primitive S.stream self.now) }
@@ -28,11 +28,12 @@ impl<'a, 'b, S: LendingSource<'b>> Primitive<'a, S> {
 
     /// Takes all octets, and returns them lent for as long as the octets of the source live.
     ///
-    /// Nothing is copied, and no memory is needed.
+    /// Nothing is copied or allocated.
     ///
     /// # Errors
     ///
-    /// Where fewer octets come than are owed, and where the source fails. Then none is taken.
+    /// Returns an error if fewer octets come than the length promises, or if the source fails. No
+    /// octet is then taken.
     #[inline(always)]
     pub fn take_slice_all(&mut self) -> Result<&'b [u8], DecodeError<S::Error>>
         ensures moves { MovedOctets S.stream self }

@@ -1,4 +1,4 @@
-//! Contents octets one by one, for readers of a user's own.
+//! Taking contents octets one by one, for readers that users write.
 ghost use Rattle.bcder.specs.calls.OctetTakes.{SkippedOctets, TookNextOctet, TookOctet};
 ghost use Rattle.bcder.specs.calls.Views.{MovedOctets};
 
@@ -12,7 +12,8 @@ impl<'a, S: Source> Primitive<'a, S> {
     ///
     /// # Errors
     ///
-    /// Where none is owed or comes, and where the source fails. Then none is taken.
+    /// Returns an error if the value has no octets left, if none comes, or if the source fails. No
+    /// octet is then taken.
     pub fn take_u8(&mut self) -> Result<u8, DecodeError<S::Error>>
         ensures moves { MovedOctets S.stream self }
         ensures took { TookOctet S.stream self result }
@@ -20,11 +21,11 @@ impl<'a, S: Source> Primitive<'a, S> {
         self.source.take_u8()
     }
 
-    /// Takes the next octet, or answers `None` where none is owed or comes.
+    /// Takes the next octet, or returns `None` if the value has no octets left or none comes.
     ///
     /// # Errors
     ///
-    /// Where the source fails. Then none is taken.
+    /// Returns an error if the source fails. No octet is then taken.
     pub fn take_opt_u8(&mut self) -> Result<Option<u8>, S::Error>
         ensures moves { MovedOctets S.stream self }
         ensures took { TookNextOctet S.stream self result }
@@ -32,12 +33,12 @@ impl<'a, S: Source> Primitive<'a, S> {
         self.source.take_opt_u8()
     }
 
-    /// Passes over `len` octets, or over all that are owed and come where these are fewer, and says
-    /// over how many.
+    /// Passes over `len` octets, or over all that are left of the value and come if these are
+    /// fewer, and returns how many were passed.
     ///
     /// # Errors
     ///
-    /// Where the source fails. Then none is passed.
+    /// Returns an error if the source fails. No octet is then passed.
     pub fn skip(&mut self, len: usize) -> Result<usize, S::Error>
         ensures moves { MovedOctets S.stream self }
         ensures passed { SkippedOctets S.stream self len result }
