@@ -25,4 +25,5 @@ pub returns-in-Err : goal.returns-in-Err
 returns-in-Err g c = λ x meant.
     let lawful = g.met.V.Values.lawful c.args.values.now c.args.inner c.requires.can in
     let inside = wrapped_inside octet_string_tag c.args.mode _ x meant in
-    same_answer (ap Err c.store_refusal.ensures) (lacks_more _ (not_kept (g.V.Values.means c.args.values.now c.args.inner)) (lacked _ lawful.one.same inside.0 x.octets inside.1 c.in-Err.ensures))
+    same_answer (ap Err c.store_refusal.ensures) (lacks_more _ (not_kept (g.V.Values.means c.args.values.now c.args.inner))
+    (lacked _ lawful.one.same inside.0 x.octets inside.1 c.in-Err.ensures))

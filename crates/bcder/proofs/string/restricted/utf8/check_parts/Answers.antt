@@ -10,17 +10,21 @@ use Rattle.bcder.proofs.string.restricted.utf8.check_parts.Goals as goal
 
 pub returns-in_err-next_char : goal.returns-in_err-next_char
 returns-in_err-next_char c =
-    let passed = text_passed c.args.octets.octets c.loop-rest.part.now (concat c.loop-rest.parts) c.from_parts-rest.result.octets _ c.utf8_len-len.ensures.1 (c.from_parts-rest.ensures ∙ ap (λ (w : List ℕ). w ++ concat c.loop-rest.parts) c.split_at.ensures.back) c.loop-rest.invariant in
-    stopped utf8_step c.args.octets.octets c.from_parts-rest.result.octets c.next_char.new.octets.octets _ c.from_residual.result c.from_residual.ensures.1 c.in_err-next_char.ensures passed
+    let passed = text_passed c.args.octets.octets c.loop-rest.part.now (concat c.loop-rest.parts) c.from_parts-rest.result.octets _ c.utf8_len-len.ensures.1
+    (c.from_parts-rest.ensures ∙ ap (λ (w : List ℕ). w ++ concat c.loop-rest.parts) c.split_at.ensures.back) c.loop-rest.invariant in
+    stopped utf8_step c.args.octets.octets c.from_parts-rest.result.octets c.next_char.new.octets.octets _ c.from_residual.result c.from_residual.ensures.1
+    c.in_err-next_char.ensures passed
 
 pub returns-then-is_none : goal.returns-then-is_none
 returns-then-is_none c =
-    let passed = text_passed c.args.octets.octets c.loop-rest.part.now (concat c.loop-rest.parts) c.from_parts-rest.result.octets _ c.utf8_len-len.ensures.1 (c.from_parts-rest.ensures ∙ ap (λ (w : List ℕ). w ++ concat c.loop-rest.parts) c.split_at.ensures.back) c.loop-rest.invariant in
+    let passed = text_passed c.args.octets.octets c.loop-rest.part.now (concat c.loop-rest.parts) c.from_parts-rest.result.octets _ c.utf8_len-len.ensures.1
+    (c.from_parts-rest.ensures ∙ ap (λ (w : List ℕ). w ++ concat c.loop-rest.parts) c.split_at.ensures.back) c.loop-rest.invariant in
     passed.1 (at_end utf8_step c.from_parts-rest.result.octets c.next_char.new.octets.octets _ (sym c.if-is_none.ensures) c.in_ok-next_char.ensures)
 
 pub loop-rest-smaller : goal.loop-rest-smaller
 loop-rest-smaller c =
-    let shorter = went_shorter utf8_step utf8_lawful c.from_parts-rest.result.octets c.next_char.new.octets.octets _ (sym c.if-is_none.ensures) c.in_ok-next_char.ensures in
+    let shorter = went_shorter utf8_step utf8_lawful c.from_parts-rest.result.octets c.next_char.new.octets.octets _ (sym c.if-is_none.ensures)
+    c.in_ok-next_char.ensures in
     let part = c.loop-rest.part.now in
     let more = concat c.loop-rest.parts in
     let len = c.utf8_len-len.result in
@@ -28,6 +32,8 @@ loop-rest-smaller c =
 
 pub loop-rest-preserved : goal.loop-rest-preserved
 loop-rest-preserved c =
-    let passed = text_passed c.args.octets.octets c.loop-rest.part.now (concat c.loop-rest.parts) c.from_parts-rest.result.octets _ c.utf8_len-len.ensures.1 (c.from_parts-rest.ensures ∙ ap (λ (w : List ℕ). w ++ concat c.loop-rest.parts) c.split_at.ensures.back) c.loop-rest.invariant in
+    let passed = text_passed c.args.octets.octets c.loop-rest.part.now (concat c.loop-rest.parts) c.from_parts-rest.result.octets _ c.utf8_len-len.ensures.1
+    (c.from_parts-rest.ensures ∙ ap (λ (w : List ℕ). w ++ concat c.loop-rest.parts) c.split_at.ensures.back) c.loop-rest.invariant in
     subst (λ (w : List ℕ). IsOfSet utf8_step c.args.octets.octets ↔ IsOfSet utf8_step w) c.into_parts.ensures
-    (went_on utf8_step utf8_lawful c.args.octets.octets c.from_parts-rest.result.octets c.next_char.new.octets.octets _ (sym c.if-is_none.ensures) c.in_ok-next_char.ensures passed)
+    (went_on utf8_step utf8_lawful c.args.octets.octets c.from_parts-rest.result.octets c.next_char.new.octets.octets _ (sym c.if-is_none.ensures)
+    c.in_ok-next_char.ensures passed)

@@ -5,7 +5,8 @@ use Rattle.bcder.proofs.string.restricted.chars.RestrictedStringCharsIterator.ne
 
 pub returns-in-Some-clause-steps : goal.returns-in-Some-clause-steps
 returns-in-Some-clause-steps g c =
-    yields_text g.L.CharSet.step chars_rest c.chars-chars.result c.next-next.new.self c.self.inside.text c.in-Some.text _ c.self.inside.octets.octets c.as_str.result.now c.next-next.result
+    yields_text g.L.CharSet.step chars_rest c.chars-chars.result c.next-next.new.self c.self.inside.text c.in-Some.text _ c.self.inside.octets.octets
+    c.as_str.result.now c.next-next.result
     c.in-Some.is c.self.invariant.0 c.self.view_is c.chars-chars.ensures.rest c.as_str.ensures c.next-next.ensures.steps.0
 
 pub returns-in-Some-clause-goes : goal.returns-in-Some-clause-goes
@@ -13,7 +14,8 @@ returns-in-Some-clause-goes g c = goes_on (λ cs. tt) _ _ _ (returns-in-Some-cla
 
 pub invariant_of-self-in-None : goal.invariant_of-self-in-None
 invariant_of-self-in-None g c =
-    (c.self.invariant.0, accepts_next g.L.CharSet.step g.met.L.CharSet.lawful c.self.inside.octets.octets c.next_char.new.octets.octets c.next_char.result c.next_char.ensures c.self.invariant.1)
+    (c.self.invariant.0, accepts_next g.L.CharSet.step g.met.L.CharSet.lawful c.self.inside.octets.octets c.next_char.new.octets.octets c.next_char.result
+    c.next_char.ensures c.self.invariant.1)
 
 pub returns-after-next_char-clause-steps : goal.returns-after-next_char-clause-steps
 returns-after-next_char-clause-steps g c =
