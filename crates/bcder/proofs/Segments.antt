@@ -1,11 +1,11 @@
 -- Values whose headers are passed one by one: what is left of them, and of the segments that they are.
-use Rattle.std.proofs.Common.{◌≡◌, ℕ, suc, ◌+◌, ◌-◌, ◌*◌, ◌<◌, ◌≤◌, Bool, true, false, List, [], ◌∷◌, ◌++◌, length, get_or, take, drop, Option, Some, None, refl, sym, ap, subst, ◌∙◌, append_assoc, append-nil, arith, inl, inr}
+use Rattle.std.proofs.Common.{◌≡◌, ℕ, suc, ◌+◌, ◌-◌, ◌*◌, ◌<◌, ◌≤◌, Bool, true, false, List, [], ◌∷◌, ◌++◌, length, get_or, take, drop, Option, Some, None, refl, sym, ap, subst, ◌∙◌, append_assoc, append-nil, arith, inl, inr, ap₂, take-append-drop}
 use Rattle.std.specs.Prelude.{nat_eq, slice_range}
 use Rattle.std.specs.List.{concat}
 use Rattle.std.proofs.lemmas.List.Folds.{concat-append}
 use Rattle.std.proofs.lemmas.Bool.{lt-ltb, le-ltb}
 use Rattle.std.proofs.lemmas.Bool.Decides.{nat_tests}
-use Rattle.std.proofs.lemmas.List.{length-append, map-append, take_at, drop_at}
+use Rattle.std.proofs.lemmas.List.{length-append, length-drop, length-map, length-take, map-append, take_at, drop_at}
 use Rattle.bcder.specs.declared.mode.Mode.{Mode}
 use Rattle.bcder.specs.declared.mode.Mode.TheVariants.{Ber, Cer, Der}
 use Rattle.bcder.specs.declared.length.Length.{Length}
@@ -699,3 +699,75 @@ pub fills_table : (mode : Mode) (w rest : List ℕ) (table : List Segment) → F
 fills_table mode w rest table c e =
     let z = none_left mode c.left rest c.items e in
     record { within = c.within; ordered = c.ordered; segmented = record { values = c.values; encode = c.encode; shape = c.shape; hold = c.parts ∙ ap (λ x. segments_at w table ++ parts_of x) z ∙ append-nil (segments_at w table) } }
+
+-- ---- octets have one table
+
+mark_read : (mode : Mode) (m x : List ℕ) → IsMark mode m → read_segment mode (m ++ x) ≡ Some (None, x)
+mark_read mode m x (inl h) = segment_at_header mode octet_string_tag true h.0 m x h.1 refl
+mark_read mode m x (inr e) = segment_at_end mode m x e
+
+piece_in_front : (mode : Mode) (h y : List ℕ) (n : ℕ) → IsHeader mode octet_string_tag false (Definite n) h → n ≤ length y → read_segment mode (h ++ y) ≡ Some (Some n, drop n y)
+piece_in_front mode h y n d l = segment_at_header mode octet_string_tag false (Definite n) h y d refl ∙ rw (le-ltb (length y) n l) refl
+
+-- marks and a header are passed in one way
+one_way : (mode : Mode) (ms ls : List (List ℕ)) (h k y z : List ℕ) (a b : ℕ) → AreMarks mode ms → AreMarks mode ls → IsHeader mode octet_string_tag false (Definite a) h → IsHeader mode octet_string_tag false (Definite b) k
+    → a ≤ length y → b ≤ length z → concat ms ++ (h ++ y) ≡ concat ls ++ (k ++ z) → (a ≡ b) × (length y ≡ length z)
+one_way mode [] [] h k y z a b p q d f l m e =
+    let s = some_pair _ _ _ _ (sym (piece_in_front mode h y a d l) ∙ ap (read_segment mode) e ∙ piece_in_front mode k z b f m) in
+    let same : a ≡ b = number_is a b s.0 in
+    (same, omega (arith, same, l, m, ap length s.1, length-drop a y, length-drop b z))
+one_way mode [] (r ∷ ls) h k y z a b p q d f l m e = absurd (
+    let s = some_pair _ _ _ _ (sym (piece_in_front mode h y a d l) ∙ ap (read_segment mode) (e ∙ append_assoc r (concat ls) (k ++ z)) ∙ mark_read mode r (concat ls ++ (k ++ z)) q.0) in
+    not_none a s.0)
+one_way mode (t ∷ ms) [] h k y z a b p q d f l m e = absurd (
+    let s = some_pair _ _ _ _ (sym (piece_in_front mode k z b f m) ∙ ap (read_segment mode) (sym e ∙ append_assoc t (concat ms) (h ++ y)) ∙ mark_read mode t (concat ms ++ (h ++ y)) p.0) in
+    not_none b s.0)
+one_way mode (t ∷ ms) (r ∷ ls) h k y z a b p q d f l m e =
+    let same = sym (append_assoc t (concat ms) (h ++ y)) ∙ e ∙ append_assoc r (concat ls) (k ++ z) in
+    let s = some_pair _ _ _ _ (sym (mark_read mode t (concat ms ++ (h ++ y)) p.0) ∙ ap (read_segment mode) same ∙ mark_read mode r (concat ls ++ (k ++ z)) q.0) in
+    one_way mode ms ls h k y z a b p.1 q.1 d f l m s.1
+
+module _ (mode : Mode) (w : List ℕ) (n : ℕ) where
+  -- what stands behind the header of the next segment
+  behind_next : Segment → List ℕ
+  behind_next s = drop (s.start - n) (drop n w)
+
+  next_there : (s : Segment) (c : IsNext mode w n s) → drop n w ≡ concat c.marks ++ (c.header ++ behind_next s)
+  unfolding behind_next
+  next_there s c = sym (take-append-drop (s.start - n) (drop n w)) ∙ ap (λ z. z ++ drop (s.start - n) (drop n w)) c.is ∙ append_assoc (concat c.marks) c.header (drop (s.start - n) (drop n w))
+
+  next_starts : (s : Segment) → IsNext mode w n s → n ≤ s.start
+  next_starts s c =
+      let two = header_size mode octet_string_tag false (Definite s.len) c.header c.is_header in
+      omega (arith, two, ap length c.is, length-append (concat c.marks) c.header, length-take (s.start - n) (drop n w))
+
+  next_behind : (s : Segment) → IsNext mode w n s → length (behind_next s) ≡ length w - s.start
+  unfolding behind_next
+  next_behind s c = (let l = next_starts s c in omega (arith, l, length-drop (s.start - n) (drop n w), length-drop n w))
+
+  one_next : (s r : Segment) → IsNext mode w n s → IsNext mode w n r → s.start + s.len ≤ length w → r.start + r.len ≤ length w → (s.start ≡ r.start) × (s.len ≡ r.len)
+  one_next s r c d l m =
+      let b = next_behind s c in
+      let e = next_behind r d in
+      let same = one_way mode c.marks d.marks c.header d.header (behind_next s) (behind_next r) s.len r.len c.are_marks d.are_marks c.is_header d.is_header (omega (arith, b, l)) (omega (arith, e, m)) (sym (next_there s c) ∙ next_there r d) in
+      (omega (arith, same.1, b, e, l, m), same.0)
+
+same_segment : (s r : Segment) → s.start ≡ r.start → s.len ≡ r.len → s ≡ r
+same_segment s r a b = rw (a, b) refl
+
+one_order : (mode : Mode) (w : List ℕ) (n : ℕ) (ss rs : List Segment) → AreInOrder mode w n ss → AreInOrder mode w n rs → AreWithin w ss → AreWithin w rs → length ss ≡ length rs → ss ≡ rs
+one_order mode w n [] [] p q h k e = refl
+one_order mode w n [] (r ∷ rs) p q h k e = absurd (omega (arith, e))
+one_order mode w n (s ∷ ss) [] p q h k e = absurd (omega (arith, e))
+one_order mode w n (s ∷ ss) (r ∷ rs) p q h k e =
+    let is = one_next mode w n s r p.0 q.0 h.0 k.0 in
+    let same : s ≡ r = same_segment s r is.0 is.1 in
+    let others : AreInOrder mode w (s.start + s.len) rs = subst (λ z. AreInOrder mode w (z.start + z.len) rs) (sym same) q.1 in
+    ap₂ (λ x y. x ∷ y) same (one_order mode w (s.start + s.len) ss rs p.1 others h.1 k.1 (omega (arith, e)))
+
+-- so a table that is one tells exactly where the segments stand
+pub one_table : (mode : Mode) (w : List ℕ) (ss rs : List Segment) → IsTable mode w ss → IsTable mode w rs → ss ≡ rs
+one_table mode w ss rs t u =
+    let values = one_list mode t.segmented.values u.segmented.values w t.segmented.encode u.segmented.encode in
+    let held = sym t.segmented.hold ∙ ap segments_of values ∙ u.segmented.hold in
+    one_order mode w 0 ss rs t.ordered u.ordered t.within u.within (sym (length-map ss (segment_at w)) ∙ ap length held ∙ length-map rs (segment_at w))
