@@ -32,7 +32,8 @@ never_refused M a only LongCerPrimitive r = (let h = only (Err LongCerPrimitive)
 abbrev pub number_means : {N : Type 0} → (N → ℤ) → Mode → Primitive N → Meaning → Type 0
 number_means value mode p = ValueMeans p.tag (primitive_meaning p.tag) (Exactly (integer_octets (value p.prim)))
 
-module _ {N : Type 0} (value : N → ℤ) (mode : Mode) (p q : Primitive N) (same : p ≡ q) (old new : Option (List ℕ)) (a : Encoded) (only : (m : Meaning) → number_means value mode q m → m ≡ Ok a) where
+module _ {N : Type 0} (value : N → ℤ) (mode : Mode) (p q : Primitive N) (same : p ≡ q) (old new : Option (List ℕ)) (a : Encoded)
+    (only : (m : Meaning) → number_means value mode q m → m ≡ Ok a) where
   only_of : (m : Meaning) → number_means value mode p m → m ≡ Ok a
   only_of m h = only m (subst (λ z. number_means value mode z m) same h)
 

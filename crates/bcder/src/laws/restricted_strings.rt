@@ -15,9 +15,9 @@ use crate::tag::Tag;
 
 /// What the encoders of a string of a set write is one string in the mode, with the octets of the
 /// string. Something is written of each with fewer than 2^32 contents octets, under each tag but
-/// that of end-of-contents octets. It is taken back by the set's `take_from` and `take_opt_from`, and by all that read as
-/// these do, as an equal string, unless the source fails, whose errors are of type `E`, or memory
-/// lacks.
+/// that of end-of-contents octets. It is taken back by the set's `take_from` and `take_opt_from`,
+/// and by all that read as these do, as an equal string, unless the source fails, whose errors are
+/// of type `E`, or memory lacks.
 pub fn a_string_is_taken_back<'a, L: CharSet, E>(
     string: &'a RestrictedString<L>,
     tag: Tag,

@@ -26,8 +26,8 @@ use bytes::Bytes;
 use std::convert::AsSlice;
 
 /// The unsigned integers of Rust are taken back by `Constructed::take_u8` to `take_u64`, a `u128`
-/// by `take_primitive_if` with a closure that calls `Primitive::to_u128`, and all by takes that read
-/// as these do, unless the source fails, whose errors are of type `E`.
+/// by `take_primitive_if` with a closure that calls `Primitive::to_u128`, and all by what reads as
+/// these do, unless the source fails, whose errors are of type `E`.
 pub fn unsigned_integers_are_taken_back<E>()
     ensures of_8_bits { AreTakenBack E (λ n. FitsUnsignedBits 8 (pos n)) integer_tag
         (λ _. IsUnsigned 8) (λ x. ⟦<Primitive<u8> as Values>⟧.means
