@@ -1,11 +1,11 @@
 -- Values whose headers are passed one by one: what is left of them, and of the segments that they are.
-use Rattle.std.proofs.Common.{◌≡◌, ℕ, suc, ◌+◌, ◌-◌, ◌*◌, ◌<◌, ◌≤◌, Bool, true, false, List, [], ◌∷◌, ◌++◌, length, get_or, take, drop, Option, Some, None, refl, sym, ap, subst, ◌∙◌, append_assoc, append-nil, arith, inl, inr}
+use Rattle.std.proofs.Common.{◌≡◌, ℕ, suc, ◌+◌, ◌-◌, ◌*◌, ◌<◌, ◌≤◌, Bool, true, false, List, [], ◌∷◌, ◌++◌, length, get_or, take, drop, Option, Some, None, refl, sym, ap, subst, ◌∙◌, append_assoc, append-nil, arith, inl, inr, ap₂, take-append-drop}
 use Rattle.std.specs.Prelude.{nat_eq, slice_range}
 use Rattle.std.specs.List.{concat}
 use Rattle.std.proofs.lemmas.List.Folds.{concat-append}
 use Rattle.std.proofs.lemmas.Bool.{lt-ltb, le-ltb}
 use Rattle.std.proofs.lemmas.Bool.Decides.{nat_tests}
-use Rattle.std.proofs.lemmas.List.{length-append, map-append, take_at, drop_at}
+use Rattle.std.proofs.lemmas.List.{length-append, length-drop, length-map, length-take, map-append, take_at, drop_at}
 use Rattle.bcder.specs.declared.mode.Mode.{Mode}
 use Rattle.bcder.specs.declared.mode.Mode.TheVariants.{Ber, Cer, Der}
 use Rattle.bcder.specs.declared.length.Length.{Length}
@@ -131,9 +131,14 @@ contents_there contents x = rw (le-ltb (length (contents ++ x)) (length contents
 
 -- at a value: a primitive segment; a constructed one, whose values stand behind the header; or no segment
 pub data Front (mode : Mode) (t : Tree) (w others : List ℕ) : Type 0 where
-  piece : (contents header : List ℕ) → t ≡ primitive octet_string_tag contents → w ≡ header ++ (contents ++ others) → IsHeader mode octet_string_tag false (Definite (length contents)) header → read_segment mode w ≡ Some (Some (length contents), others) → Front mode t w others
-  definite : (ts : Trees) (header contents : List ℕ) → t ≡ constructed octet_string_tag ts → AreEncodings mode ts contents → w ≡ header ++ (contents ++ others) → IsMark mode header → read_segment mode w ≡ Some (None, contents ++ others) → Front mode t w others
-  indefinite : (ts : Trees) (header contents end : List ℕ) → t ≡ constructed octet_string_tag ts → AreEncodings mode ts contents → IsEndOfContents mode end → w ≡ header ++ (contents ++ (end ++ others)) → IsMark mode header → read_segment mode w ≡ Some (None, contents ++ (end ++ others)) → Front mode t w others
+  piece : (contents header : List ℕ) → t ≡ primitive octet_string_tag contents → w ≡ header ++ (contents ++ others)
+      → IsHeader mode octet_string_tag false (Definite (length contents)) header → read_segment mode w ≡ Some (Some (length contents), others)
+      → Front mode t w others
+  definite : (ts : Trees) (header contents : List ℕ) → t ≡ constructed octet_string_tag ts → AreEncodings mode ts contents → w ≡ header ++ (contents ++ others)
+      → IsMark mode header → read_segment mode w ≡ Some (None, contents ++ others) → Front mode t w others
+  indefinite : (ts : Trees) (header contents end : List ℕ) → t ≡ constructed octet_string_tag ts → AreEncodings mode ts contents → IsEndOfContents mode end
+      → w ≡ header ++ (contents ++ (end ++ others)) → IsMark mode header → read_segment mode w ≡ Some (None, contents ++ (end ++ others))
+      → Front mode t w others
   other : read_segment mode w ≡ None → (IsSegment t → ⊥) → Front mode t w others
 
 header_before : (h c x w : List ℕ) → w ≡ h ++ c → w ++ x ≡ h ++ (c ++ x)
@@ -149,7 +154,9 @@ front_primitive mode t contents w x d = by_tag (is_octet_string t) refl
     there = header_before d.header contents x w d.is
 
     by_tag : (b : Bool) → is_octet_string t ≡ b → Front mode (primitive t contents) (w ++ x) x
-    by_tag true e = piece contents d.header (ap (λ z. primitive z contents) (is_tag t e)) there (subst (λ z. IsHeader mode z false (Definite (length contents)) d.header) (is_tag t e) d.is_header) (ap (read_segment mode) there ∙ segment_at_header mode t false _ d.header (contents ++ x) d.is_header e ∙ contents_there contents x)
+    by_tag true e = piece contents d.header (ap (λ z. primitive z contents) (is_tag t e)) there
+        (subst (λ z. IsHeader mode z false (Definite (length contents)) d.header) (is_tag t e) d.is_header)
+        (ap (read_segment mode) there ∙ segment_at_header mode t false _ d.header (contents ++ x) d.is_header e ∙ contents_there contents x)
     by_tag false e = other (ap (read_segment mode) there ∙ other_at_header mode t false _ d.header (contents ++ x) d.is_header e) (is_other t e)
 
 front_constructed : (mode : Mode) (t : Tag) (ts : Trees) (contents w x : List ℕ) → AreEncodings mode ts contents → IsFramed mode t contents w → Front mode (constructed t ts) (w ++ x) x
@@ -159,7 +166,9 @@ front_constructed mode t ts contents w x h (inl d) = by_tag (is_octet_string t) 
     there = header_before d.header contents x w d.is
 
     by_tag : (b : Bool) → is_octet_string t ≡ b → Front mode (constructed t ts) (w ++ x) x
-    by_tag true e = definite ts d.header contents (ap (λ z. constructed z ts) (is_tag t e)) h there (inl (Definite (length contents), subst (λ z. IsHeader mode z true (Definite (length contents)) d.header) (is_tag t e) d.is_header)) (ap (read_segment mode) there ∙ segment_at_header mode t true _ d.header (contents ++ x) d.is_header e)
+    by_tag true e = definite ts d.header contents (ap (λ z. constructed z ts) (is_tag t e)) h there
+        (inl (Definite (length contents), subst (λ z. IsHeader mode z true (Definite (length contents)) d.header) (is_tag t e) d.is_header))
+        (ap (read_segment mode) there ∙ segment_at_header mode t true _ d.header (contents ++ x) d.is_header e)
     by_tag false e = other (ap (read_segment mode) there ∙ other_at_header mode t true _ d.header (contents ++ x) d.is_header e) (λ s. is_other t e s.0)
 front_constructed mode t ts contents w x h (inr d) = by_tag (is_octet_string t) refl
   where
@@ -167,7 +176,9 @@ front_constructed mode t ts contents w x h (inr d) = by_tag (is_octet_string t) 
     there = end_before d.header contents d.end x w d.is
 
     by_tag : (b : Bool) → is_octet_string t ≡ b → Front mode (constructed t ts) (w ++ x) x
-    by_tag true e = indefinite ts d.header contents d.end (ap (λ z. constructed z ts) (is_tag t e)) h d.is_end there (inl (Indefinite, subst (λ z. IsHeader mode z true Indefinite d.header) (is_tag t e) d.is_header)) (ap (read_segment mode) there ∙ segment_at_header mode t true _ d.header (contents ++ (d.end ++ x)) d.is_header e)
+    by_tag true e = indefinite ts d.header contents d.end (ap (λ z. constructed z ts) (is_tag t e)) h d.is_end there
+        (inl (Indefinite, subst (λ z. IsHeader mode z true Indefinite d.header) (is_tag t e) d.is_header))
+        (ap (read_segment mode) there ∙ segment_at_header mode t true _ d.header (contents ++ (d.end ++ x)) d.is_header e)
     by_tag false e = other (ap (read_segment mode) there ∙ other_at_header mode t true _ d.header (contents ++ (d.end ++ x)) d.is_header e) (λ s. is_other t e s.0)
 
 pub front : (mode : Mode) (t : Tree) (w x : List ℕ) → IsEncoding mode t w → Front mode t (w ++ x) x
@@ -176,8 +187,11 @@ front mode (constructed t ts) w x h = front_constructed mode t ts h.0 w x h.1 h.
 
 -- at items: a primitive segment is passed; or a header or an end is, behind which the same segments are held; or they hold others than segments
 pub data Turn (mode : Mode) (is : Items) (w : List ℕ) : Type 0 where
-  passes : (contents header others : List ℕ) (more : Items) → is ≡ value (primitive octet_string_tag contents) more → w ≡ header ++ (contents ++ others) → IsHeader mode octet_string_tag false (Definite (length contents)) header → AreItems mode more others → read_segment mode w ≡ Some (Some (length contents), others) → Turn mode is w
-  goes : (header others : List ℕ) (more : Items) → parts_of is ≡ parts_of more → (HoldSegments is → HoldSegments more) → (HoldSegments more → HoldSegments is) → w ≡ header ++ others → IsMark mode header → AreItems mode more others → read_segment mode w ≡ Some (None, others) → Turn mode is w
+  passes : (contents header others : List ℕ) (more : Items) → is ≡ value (primitive octet_string_tag contents) more → w ≡ header ++ (contents ++ others)
+      → IsHeader mode octet_string_tag false (Definite (length contents)) header → AreItems mode more others
+      → read_segment mode w ≡ Some (Some (length contents), others) → Turn mode is w
+  goes : (header others : List ℕ) (more : Items) → parts_of is ≡ parts_of more → (HoldSegments is → HoldSegments more) → (HoldSegments more → HoldSegments is)
+      → w ≡ header ++ others → IsMark mode header → AreItems mode more others → read_segment mode w ≡ Some (None, others) → Turn mode is w
   stops : read_segment mode w ≡ None → (HoldSegments is → ⊥) → Turn mode is w
 
 turn_at : (mode : Mode) (t : Tree) (more : Items) (w x : List ℕ) → AreItems mode more x → Front mode t w x → Turn mode (value t more) w
@@ -262,8 +276,10 @@ pub passed_shorter : (mode : Mode) (is : Items) (w after : List ℕ) (found : Op
 passed_shorter mode is w after found h some r = of_turn (turn mode is w h some)
   where
     of_turn : Turn mode is w → length after + 2 ≤ length w
-    of_turn (passes contents header others more e split two k q) = subst (λ z. length z + 2 ≤ length w) (some_pair _ _ _ _ (sym q ∙ r)).1 (shorter_by header contents w others split (header_size _ _ _ _ _ two))
-    of_turn (goes header others more e f g split two k q) = subst (λ z. length z + 2 ≤ length w) (some_pair _ _ _ _ (sym q ∙ r)).1 (shorter header w others split (mark_size mode header two))
+    of_turn (passes contents header others more e split two k q) =
+        subst (λ z. length z + 2 ≤ length w) (some_pair _ _ _ _ (sym q ∙ r)).1 (shorter_by header contents w others split (header_size _ _ _ _ _ two))
+    of_turn (goes header others more e f g split two k q) =
+        subst (λ z. length z + 2 ≤ length w) (some_pair _ _ _ _ (sym q ∙ r)).1 (shorter header w others split (mark_size mode header two))
     of_turn (stops q n) = absurd (none_pair found after (sym q ∙ r))
 
 -- of values in BER, what is left behind those that were passed: all are segments where these are
@@ -533,17 +549,23 @@ within_more w [] s h k = (k, tt)
 within_more w (r ∷ ss) s h k = (h.0, within_more w ss s h.1 k)
 
 -- where contents octets stand
-contents_at : (w passed header contents after : List ℕ) (s : Segment) → w ≡ passed ++ (header ++ (contents ++ after)) → s.len ≡ length contents → s.start ≡ length w - length after - s.len → (segment_at w s ≡ contents) × (s.start + s.len ≤ length w) × (s.start ≡ length passed + length header)
+contents_at : (w passed header contents after : List ℕ) (s : Segment) → w ≡ passed ++ (header ++ (contents ++ after)) → s.len ≡ length contents
+    → s.start ≡ length w - length after - s.len → (segment_at w s ≡ contents) × (s.start + s.len ≤ length w) × (s.start ≡ length passed + length header)
 contents_at w passed header contents after s e l b =
     let is : w ≡ (passed ++ header) ++ (contents ++ after) = e ∙ sym (append_assoc passed header (contents ++ after)) in
     let size : length w ≡ length (passed ++ header) + (length contents + length after) = ap length is ∙ length-append (passed ++ header) (contents ++ after) ∙ ap (λ z. length (passed ++ header) + z) (length-append contents after) in
     let at : length (passed ++ header) ≡ s.start = omega (arith, size, l, b) in
     let n : length contents ≡ s.start + s.len - s.start = omega (arith, l) in
-    let d : drop s.start w ≡ contents ++ after = ap (drop s.start) is ∙ drop_at (passed ++ header) (contents ++ after) s.start at in
-    (ap (take (s.start + s.len - s.start)) d ∙ take_at contents after (s.start + s.len - s.start) n, omega (arith, size, l, at), omega (arith, at, length-append passed header))
+    let d : drop s.start w ≡ contents ++ after = ap (drop s.start) is ∙ drop_at (passed ++ header) (contents ++ after) s.start at in (
+      ap (take (s.start + s.len - s.start)) d
+          ∙ take_at contents after (s.start + s.len - s.start) n,
+      omega (arith, size, l, at),
+      omega (arith, at, length-append passed header),
+    )
 
 -- and what stands in front of them
-range_at : (w front middle behind : List ℕ) (n start : ℕ) → w ≡ front ++ (middle ++ behind) → length front ≡ n → start ≡ n + length middle → slice_range w n start ≡ middle
+range_at : (w front middle behind : List ℕ) (n start : ℕ) → w ≡ front ++ (middle ++ behind) → length front ≡ n → start ≡ n + length middle
+    → slice_range w n start ≡ middle
 range_at w front middle behind n start e at size =
     let d : drop n w ≡ middle ++ behind = ap (drop n) e ∙ drop_at front (middle ++ behind) n at in
     ap (take (start - n)) d ∙ take_at middle behind (start - n) (omega (arith, size))
@@ -564,7 +586,8 @@ end_at_last : (n : ℕ) (ss : List Segment) (s : Segment) → end_of n (ss ++ s 
 end_at_last n [] s = refl
 end_at_last n (r ∷ ss) s = end_at_last (r.start + r.len) ss s
 
-ordered_more : (mode : Mode) (w : List ℕ) (n : ℕ) (ss : List Segment) (s : Segment) → AreInOrder mode w n ss → IsNext mode w (end_of n ss) s → AreInOrder mode w n (ss ++ s ∷ [])
+ordered_more : (mode : Mode) (w : List ℕ) (n : ℕ) (ss : List Segment) (s : Segment) → AreInOrder mode w n ss → IsNext mode w (end_of n ss) s
+    → AreInOrder mode w n (ss ++ s ∷ [])
 ordered_more mode w n [] s h k = (k, tt)
 ordered_more mode w n (r ∷ ss) s h k = (h.0, ordered_more mode w (r.start + r.len) ss s h.1 k)
 
@@ -614,7 +637,8 @@ fills_room mode w rest after table n c some r = of_turn (turn mode c.left rest c
     of_turn (passes contents header others more e split two k q) =
         let p = some_pair _ _ _ _ (sym q ∙ r) in
         let l : length contents ≡ n = number_is _ _ p.0 in
-        let a : length w ≡ length c.front + (length (concat c.between) + length rest) = ap length c.split ∙ length-append c.front (concat c.between ++ rest) ∙ ap (λ z. length c.front + z) (length-append (concat c.between) rest) in
+        let a : length w ≡ length c.front + (length (concat c.between) + length rest) =
+        ap length c.split ∙ length-append c.front (concat c.between ++ rest) ∙ ap (λ z. length c.front + z) (length-append (concat c.between) rest) in
         let b : length rest ≡ length header + (length contents + length others) = ap length split ∙ length-append header (contents ++ others) ∙ ap (λ z. length header + z) (length-append contents others) in
         omega (arith, a, b, l, ap length p.1)
     of_turn (goes header others more e f g split two k q) = absurd (let p = some_pair _ _ _ _ (sym r ∙ q) in not_none _ p.0)
@@ -636,7 +660,8 @@ fills_goes mode w rest after table c some r = of_turn (turn mode c.left rest c.i
     of_turn (goes header others more e f g split mark k q) =
         let p = some_pair _ _ _ _ (sym q ∙ r) in
         let is : rest ≡ header ++ after = split ∙ ap (λ z. header ++ z) p.1 in
-        let joined : concat c.between ++ (header ++ after) ≡ concat (c.between ++ header ∷ []) ++ after = sym (append_assoc (concat c.between) header after) ∙ ap (λ z. z ++ after) (sym (joined_more c.between header)) in
+        let joined : concat c.between ++ (header ++ after) ≡ concat (c.between ++ header ∷ []) ++ after =
+        sym (append_assoc (concat c.between) header after) ∙ ap (λ z. z ++ after) (sym (joined_more c.between header)) in
         record {
           values = c.values;
           encode = c.encode;
@@ -664,10 +689,14 @@ fills_piece mode w rest after table s c some r b = of_turn (turn mode c.left res
         let n : length contents ≡ s.len = number_is _ _ p.0 in
         let is : rest ≡ header ++ (contents ++ after) = split ∙ ap (λ z. header ++ (contents ++ z)) p.1 in
         let passed : List ℕ = c.front ++ concat c.between in
-        let there : w ≡ passed ++ (header ++ (contents ++ after)) = c.split ∙ ap (λ z. c.front ++ (concat c.between ++ z)) is ∙ sym (append_assoc c.front (concat c.between) (header ++ (contents ++ after))) in
-        let behind : w ≡ c.front ++ ((concat c.between ++ header) ++ (contents ++ after)) = c.split ∙ ap (λ z. c.front ++ (concat c.between ++ z)) is ∙ ap (λ z. c.front ++ z) (sym (append_assoc (concat c.between) header (contents ++ after))) in
+        let there : w ≡ passed ++ (header ++ (contents ++ after)) =
+        c.split ∙ ap (λ z. c.front ++ (concat c.between ++ z)) is ∙ sym (append_assoc c.front (concat c.between) (header ++ (contents ++ after))) in
+        let behind : w ≡ c.front ++ ((concat c.between ++ header) ++ (contents ++ after)) =
+        c.split ∙ ap (λ z. c.front ++ (concat c.between ++ z)) is
+        ∙ ap (λ z. c.front ++ z) (sym (append_assoc (concat c.between) header (contents ++ after))) in
         let at = contents_at w passed header contents after s there (sym n) b in
-        let from : s.start ≡ end_of 0 table + length (concat c.between ++ header) = omega (arith, at.2, c.reached, length-append c.front (concat c.between), length-append (concat c.between) header) in
+        let from : s.start ≡ end_of 0 table + length (concat c.between ++ header) =
+        omega (arith, at.2, c.reached, length-append c.front (concat c.between), length-append (concat c.between) header) in
         let own : IsHeader mode octet_string_tag false (Definite s.len) header = subst (λ z. IsHeader mode octet_string_tag false (Definite z) header) n h in
         let t : segments_at w (table ++ s ∷ []) ≡ segments_at w table ++ contents ∷ [] = map-append (segment_at w) table (s ∷ []) ∙ ap (λ z. segments_at w table ++ z ∷ []) at.0 in
         record {
@@ -698,4 +727,98 @@ fills_piece mode w rest after table s c some r b = of_turn (turn mode c.left res
 pub fills_table : (mode : Mode) (w rest : List ℕ) (table : List Segment) → Fills mode w rest table → length rest ≡ 0 → IsTable mode w table
 fills_table mode w rest table c e =
     let z = none_left mode c.left rest c.items e in
-    record { within = c.within; ordered = c.ordered; segmented = record { values = c.values; encode = c.encode; shape = c.shape; hold = c.parts ∙ ap (λ x. segments_at w table ++ parts_of x) z ∙ append-nil (segments_at w table) } }
+    record {
+      within = c.within;
+      ordered = c.ordered;
+      segmented =
+          record {
+            values = c.values;
+            encode = c.encode;
+            shape = c.shape;
+            hold =
+                c.parts ∙ ap (λ x. segments_at w table ++ parts_of x) z ∙ append-nil (segments_at w table);
+          };
+    }
+
+-- ---- octets have one table
+
+mark_read : (mode : Mode) (m x : List ℕ) → IsMark mode m → read_segment mode (m ++ x) ≡ Some (None, x)
+mark_read mode m x (inl h) = segment_at_header mode octet_string_tag true h.0 m x h.1 refl
+mark_read mode m x (inr e) = segment_at_end mode m x e
+
+piece_in_front : (mode : Mode) (h y : List ℕ) (n : ℕ) → IsHeader mode octet_string_tag false (Definite n) h → n ≤ length y
+    → read_segment mode (h ++ y) ≡ Some (Some n, drop n y)
+piece_in_front mode h y n d l = segment_at_header mode octet_string_tag false (Definite n) h y d refl ∙ rw (le-ltb (length y) n l) refl
+
+-- marks and a header are passed in one way
+one_way : (mode : Mode) (ms ls : List (List ℕ)) (h k y z : List ℕ) (a b : ℕ) → AreMarks mode ms → AreMarks mode ls
+    → IsHeader mode octet_string_tag false (Definite a) h → IsHeader mode octet_string_tag false (Definite b) k
+    → a ≤ length y → b ≤ length z → concat ms ++ (h ++ y) ≡ concat ls ++ (k ++ z) → (a ≡ b) × (length y ≡ length z)
+one_way mode [] [] h k y z a b p q d f l m e =
+    let s = some_pair _ _ _ _ (sym (piece_in_front mode h y a d l) ∙ ap (read_segment mode) e ∙ piece_in_front mode k z b f m) in
+    let same : a ≡ b = number_is a b s.0 in
+    (same, omega (arith, same, l, m, ap length s.1, length-drop a y, length-drop b z))
+one_way mode [] (r ∷ ls) h k y z a b p q d f l m e = absurd (
+    let s = some_pair _ _ _ _
+    (sym (piece_in_front mode h y a d l) ∙ ap (read_segment mode) (e ∙ append_assoc r (concat ls) (k ++ z))
+    ∙ mark_read mode r (concat ls ++ (k ++ z)) q.0) in
+    not_none a s.0)
+one_way mode (t ∷ ms) [] h k y z a b p q d f l m e = absurd (
+    let s = some_pair _ _ _ _
+    (sym (piece_in_front mode k z b f m) ∙ ap (read_segment mode) (sym e ∙ append_assoc t (concat ms) (h ++ y))
+    ∙ mark_read mode t (concat ms ++ (h ++ y)) p.0) in
+    not_none b s.0)
+one_way mode (t ∷ ms) (r ∷ ls) h k y z a b p q d f l m e =
+    let same = sym (append_assoc t (concat ms) (h ++ y)) ∙ e ∙ append_assoc r (concat ls) (k ++ z) in
+    let s = some_pair _ _ _ _
+    (sym (mark_read mode t (concat ms ++ (h ++ y)) p.0) ∙ ap (read_segment mode) same ∙ mark_read mode r (concat ls ++ (k ++ z)) q.0) in
+    one_way mode ms ls h k y z a b p.1 q.1 d f l m s.1
+
+module _ (mode : Mode) (w : List ℕ) (n : ℕ) where
+  -- what stands behind the header of the next segment
+  behind_next : Segment → List ℕ
+  behind_next s = drop (s.start - n) (drop n w)
+
+  next_there : (s : Segment) (c : IsNext mode w n s) → drop n w ≡ concat c.marks ++ (c.header ++ behind_next s)
+  unfolding behind_next
+  next_there s c = sym (take-append-drop (s.start - n) (drop n w)) ∙ ap (λ z. z ++ drop (s.start - n) (drop n w)) c.is
+      ∙ append_assoc (concat c.marks) c.header (drop (s.start - n) (drop n w))
+
+  next_starts : (s : Segment) → IsNext mode w n s → n ≤ s.start
+  next_starts s c =
+      let two = header_size mode octet_string_tag false (Definite s.len) c.header c.is_header in
+      omega (arith, two, ap length c.is, length-append (concat c.marks) c.header, length-take (s.start - n) (drop n w))
+
+  next_behind : (s : Segment) → IsNext mode w n s → length (behind_next s) ≡ length w - s.start
+  unfolding behind_next
+  next_behind s c = (let l = next_starts s c in omega (arith, l, length-drop (s.start - n) (drop n w), length-drop n w))
+
+  one_next : (s r : Segment) → IsNext mode w n s → IsNext mode w n r → s.start + s.len ≤ length w → r.start + r.len ≤ length w
+      → (s.start ≡ r.start) × (s.len ≡ r.len)
+  one_next s r c d l m =
+      let b = next_behind s c in
+      let e = next_behind r d in
+      let same = one_way mode c.marks d.marks c.header d.header (behind_next s) (behind_next r) s.len r.len c.are_marks d.are_marks c.is_header d.is_header
+      (omega (arith, b, l)) (omega (arith, e, m)) (sym (next_there s c) ∙ next_there r d) in
+      (omega (arith, same.1, b, e, l, m), same.0)
+
+same_segment : (s r : Segment) → s.start ≡ r.start → s.len ≡ r.len → s ≡ r
+same_segment s r a b = rw (a, b) refl
+
+one_order : (mode : Mode) (w : List ℕ) (n : ℕ) (ss rs : List Segment) → AreInOrder mode w n ss → AreInOrder mode w n rs → AreWithin w ss → AreWithin w rs
+    → length ss ≡ length rs → ss ≡ rs
+one_order mode w n [] [] p q h k e = refl
+one_order mode w n [] (r ∷ rs) p q h k e = absurd (omega (arith, e))
+one_order mode w n (s ∷ ss) [] p q h k e = absurd (omega (arith, e))
+one_order mode w n (s ∷ ss) (r ∷ rs) p q h k e =
+    let is = one_next mode w n s r p.0 q.0 h.0 k.0 in
+    let same : s ≡ r = same_segment s r is.0 is.1 in
+    let others : AreInOrder mode w (s.start + s.len) rs = subst (λ z. AreInOrder mode w (z.start + z.len) rs) (sym same) q.1 in
+    ap₂ (λ x y. x ∷ y) same (one_order mode w (s.start + s.len) ss rs p.1 others h.1 k.1 (omega (arith, e)))
+
+-- so a table that is one tells exactly where the segments stand
+pub one_table : (mode : Mode) (w : List ℕ) (ss rs : List Segment) → IsTable mode w ss → IsTable mode w rs → ss ≡ rs
+one_table mode w ss rs t u =
+    let values = one_list mode t.segmented.values u.segmented.values w t.segmented.encode u.segmented.encode in
+    let held = sym t.segmented.hold ∙ ap segments_of values ∙ u.segmented.hold in
+    one_order mode w 0 ss rs t.ordered u.ordered t.within u.within (sym (length-map ss (segment_at w)) ∙ ap length held ∙ length-map rs (segment_at w))

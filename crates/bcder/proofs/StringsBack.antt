@@ -147,34 +147,47 @@ not_cut Ber w h = refl
 not_cut Cer w h = le-ltb 1000 (length w) h
 not_cut Der w h = refl
 
-whole_as_read : (mode : Mode) → mode ≢ Ber → (t : Tag) (contents w : List ℕ) → MayBeWhole mode contents → IsEncoding mode (primitive t contents) w → OctetsMean t (contents ++ []) mode (Ok (one_encoded (primitive t contents) w))
+whole_as_read : (mode : Mode) → mode ≢ Ber → (t : Tag) (contents w : List ℕ) → MayBeWhole mode contents → IsEncoding mode (primitive t contents) w
+    → OctetsMean t (contents ++ []) mode (Ok (one_encoded (primitive t contents) w))
 whole_as_read mode ne t contents w shape k =
     let d = k.1.is_header in
     let few = told_length mode t false (length contents) k.1.header d in
-    let same : w ≡ definite t false contents = one_spelling mode ne (primitive t contents) w (definite t false contents) k (primitive_written mode t contents d.is_value_tag k.0 few) in
-    let meant : OctetsMean t contents mode (Ok (one_encoded (primitive t contents) (definite t false contents))) = meant_whole t mode contents d.is_value_tag k.0 few (not_cut mode contents shape) in
-    subst (λ u. OctetsMean t u mode (Ok (one_encoded (primitive t contents) w))) (sym (append-nil contents)) (subst (λ u. OctetsMean t contents mode (Ok (one_encoded (primitive t contents) u))) (sym same) meant)
+    let same : w ≡ definite t false contents =
+    one_spelling mode ne (primitive t contents) w (definite t false contents) k (primitive_written mode t contents d.is_value_tag k.0 few) in
+    let meant : OctetsMean t contents mode (Ok (one_encoded (primitive t contents) (definite t false contents))) =
+    meant_whole t mode contents d.is_value_tag k.0 few (not_cut mode contents shape) in
+    subst (λ u. OctetsMean t u mode (Ok (one_encoded (primitive t contents) w))) (sym (append-nil contents))
+    (subst (λ u. OctetsMean t contents mode (Ok (one_encoded (primitive t contents) u))) (sym same) meant)
 
 framed_tag : (mode : Mode) (t : Tag) (contents w : List ℕ) → IsFramed mode t contents w → IsValueTag t
 framed_tag mode t contents w (inl d) = d.is_header.is_value_tag
 framed_tag mode t contents w (inr d) = d.is_header.is_value_tag
 
-cut_as_read : Cer ≢ Ber → (t : Tag) (ts : Trees) (w : List ℕ) → AreSegmentsIn Cer ts → IsEncoding Cer (constructed t ts) w → length w < 2 ^ 64 → OctetsMean t (concat (segments_of ts)) Cer (Ok (one_encoded (constructed t ts) w))
+cut_as_read : Cer ≢ Ber → (t : Tag) (ts : Trees) (w : List ℕ) → AreSegmentsIn Cer ts → IsEncoding Cer (constructed t ts) w → length w < 2 ^ 64
+    → OctetsMean t (concat (segments_of ts)) Cer (Ok (one_encoded (constructed t ts) w))
 cut_as_read ne t ts w shape k short =
     let u : List ℕ = concat (segments_of ts) in
     let inside : Encoded = segments_in_cer u in
     let more : 1000 < length u = over_1000 ts shape in
     let o : AreOctets u = parts_octets Cer k.0 (segments_of ts) (record { values = ts; encode = k.1; shape = shape; hold = refl }) in
     let v : IsValueTag t = framed_tag Cer t k.0 w k.2 in
-    let spelled : IsEncoding Cer (constructed t inside.values) (enclosed Cer t inside.octets) = cer_written t inside.values inside.octets v (segments_encode (full_segments (length u)) u o (omega arith)) in
-    let one : constructed t inside.values ≡ constructed t ts = one_string Cer ne (constructed t inside.values) (constructed t ts) (segments_shape (full_segments (length u)) u (omega (arith, more)) (omega (arith, more)) (omega (arith, more))) shape refl (segments_hold (full_segments (length u)) u) in
-    let same : enclosed Cer t inside.octets ≡ w = one_spelling Cer ne (constructed t ts) (enclosed Cer t inside.octets) w (subst (λ z. IsEncoding Cer z (enclosed Cer t inside.octets)) one spelled) k in
-    let fits : fits_enclosed Cer t (length inside.octets) ≡ true = lt-ltb (enclosed_size Cer t (length inside.octets)) (2 ^ 64) (omega (arith, short, ap length same, enclosed-length Cer t inside.octets)) in
-    let meant : OctetsMean t u Cer (Ok (one_encoded (constructed t inside.values) (enclosed Cer t inside.octets))) = meant_cut t u v o (lt-ltb 1000 (length u) more) fits in
+    let spelled : IsEncoding Cer (constructed t inside.values) (enclosed Cer t inside.octets) =
+    cer_written t inside.values inside.octets v (segments_encode (full_segments (length u)) u o (omega arith)) in
+    let one : constructed t inside.values ≡ constructed t ts =
+    one_string Cer ne (constructed t inside.values) (constructed t ts)
+    (segments_shape (full_segments (length u)) u (omega (arith, more)) (omega (arith, more)) (omega (arith, more))) shape refl
+    (segments_hold (full_segments (length u)) u) in
+    let same : enclosed Cer t inside.octets ≡ w =
+    one_spelling Cer ne (constructed t ts) (enclosed Cer t inside.octets) w (subst (λ z. IsEncoding Cer z (enclosed Cer t inside.octets)) one spelled) k in
+    let fits : fits_enclosed Cer t (length inside.octets) ≡ true =
+    lt-ltb (enclosed_size Cer t (length inside.octets)) (2 ^ 64) (omega (arith, short, ap length same, enclosed-length Cer t inside.octets)) in
+    let meant : OctetsMean t u Cer (Ok (one_encoded (constructed t inside.values) (enclosed Cer t inside.octets))) =
+    meant_cut t u v o (lt-ltb 1000 (length u) more) fits in
     subst (λ z. OctetsMean t u Cer (Ok (one_encoded z w))) one (subst (λ z. OctetsMean t u Cer (Ok (one_encoded (constructed t inside.values) z))) same meant)
 
 -- the octets of a value that was read mean this value, with the octets that it was read from
-meant_as_read : (mode : Mode) → mode ≢ Ber → (t : Tree) (w : List ℕ) → IsOctetString mode t → IsEncoding mode t w → length w < 2 ^ 64 → OctetsMean (tag_of t) (flat t) mode (Ok (one_encoded t w))
+meant_as_read : (mode : Mode) → mode ≢ Ber → (t : Tree) (w : List ℕ) → IsOctetString mode t → IsEncoding mode t w → length w < 2 ^ 64
+    → OctetsMean (tag_of t) (flat t) mode (Ok (one_encoded t w))
 meant_as_read Ber ne t w shape k short = absurd (ne refl)
 meant_as_read Der ne (constructed t ts) w shape k short = absurd shape
 meant_as_read Der ne (primitive t contents) w shape k short = whole_as_read Der ne t contents w shape k
@@ -183,8 +196,10 @@ meant_as_read Cer ne (constructed t ts) w shape k short = cut_as_read ne t ts w 
 
 pub written_as_read : (s : StringOctets) → WrittenAsRead s (λ tag. StringMeans tag s)
 written_as_read s mode ne t w m k =
-    let means : StringMeans (tag_of t) s mode ≡ OctetsMean (tag_of t) (flat t) mode = by_octets (tag_of t) s mode (not_ber mode ne) ∙ ap (λ u. OctetsMean (tag_of t) u mode) (means_flat mode t s m.1) in
-    let meant : length w < 2 ^ 64 → StringMeans (tag_of t) s mode (Ok (one_encoded t w)) = λ short. subst (λ (M : Meaning → Type 0). M (Ok (one_encoded t w))) (sym means) (meant_as_read mode ne t w m.0 k short) in
+    let means : StringMeans (tag_of t) s mode ≡ OctetsMean (tag_of t) (flat t) mode =
+    by_octets (tag_of t) s mode (not_ber mode ne) ∙ ap (λ u. OctetsMean (tag_of t) u mode) (means_flat mode t s m.1) in
+    let meant : length w < 2 ^ 64 → StringMeans (tag_of t) s mode (Ok (one_encoded t w)) =
+    λ short. subst (λ (M : Meaning → Type 0). M (Ok (one_encoded t w))) (sym means) (meant_as_read mode ne t w m.0 k short) in
     record {
       meant = meant;
       only = λ short n h. (StringMeans_lawful (tag_of t) s mode).one.same n (Ok (one_encoded t w)) h (meant short);

@@ -168,8 +168,10 @@ exactly_taken {T} {X} n Means mode x w some few octets short back =
 pub unsigned_taken : {X : Type 0} (bits n : ℕ) (mode : Mode) → FitsUnsignedBits bits (pos n) → n < 2 ^ 128 → IsTakenBack X integer_tag (IsUnsigned bits) mode (ValueMeans integer_tag (primitive_meaning integer_tag) (Exactly (integer_octets (pos n)))) n
 unsigned_taken {X} bits n mode h k = exactly_taken {X = X} 2 (IsUnsigned bits) mode n (integer_octets (pos n)) (omega arith) (omega arith) (integer_octets_are (pos n)) (short_integer (pos n) k) (unsigned_read bits n h)
 
-pub signed_taken : {X : Type 0} (w : Width) (z : ℤ) (mode : Mode) → FitsSigned w z → HasMagnitude z → IsTakenBack X integer_tag (IsSigned w) mode (ValueMeans integer_tag (primitive_meaning integer_tag) (Exactly (integer_octets z))) z
-signed_taken {X} w z mode h k = exactly_taken {X = X} 2 (IsSigned w) mode z (integer_octets z) (omega arith) (omega arith) (integer_octets_are z) (short_integer z k) (signed_read w z h)
+pub signed_taken : {X : Type 0} (w : Width) (z : ℤ) (mode : Mode) → FitsSigned w z → HasMagnitude z
+    → IsTakenBack X integer_tag (IsSigned w) mode (ValueMeans integer_tag (primitive_meaning integer_tag) (Exactly (integer_octets z))) z
+signed_taken {X} w z mode h k =
+    exactly_taken {X = X} 2 (IsSigned w) mode z (integer_octets z) (omega arith) (omega arith) (integer_octets_are z) (short_integer z k) (signed_read w z h)
 
 truth_short : (b : Bool) → length (truth_octets b) ≤ 17
 truth_short true = omega arith

@@ -226,10 +226,20 @@ unfolding of_primitive
 octets_form stream x = (refl, refl)
 
 -- a take of a tag by a closure that reads what contents octets mean takes a value as that
-module _ {S T X : Type 0} (stream : S → Stream) (sound : (x : S) → IsSound (stream x)) (tag : Tag) (Means : List ℕ → T → Type 0) (Refuses : List ℕ → DecodeError X → Type 0) (post : MutBor (Primitive S) → Result T (DecodeError X) → MutBor (Primitive S) → Type 0)
-    (reads : (p : MutBor (Primitive S)) (r : Result T (DecodeError X)) (q : MutBor (Primitive S)) → post p r q → Reads Means Refuses (of_primitive stream p.now) r (of_primitive stream q.now)) (c d : Constructed S) where
-  pub reader_takes_one : (r : Result T (DecodeError X)) → Takes (of_primitive stream) (Untagged post) (Some true) (tagged tag) (of_constructed stream c) r (of_constructed stream d) → TakesOneAs tag Means Refuses (of_constructed stream c) r (of_constructed stream d)
-  reader_takes_one r h = one_as (of_primitive stream) (Untagged post) tag (λ _. Means) (λ _. Refuses) (octets_form stream) (λ t p s q x. reads p s q x) (of_constructed stream c) (of_constructed stream d) r (within_constructed stream sound c) h
+module _ {S T X : Type 0} (stream : S → Stream) (sound : (x : S) → IsSound (stream x)) (tag : Tag) (Means : List ℕ → T → Type 0)
+    (Refuses : List ℕ → DecodeError X → Type 0) (post : MutBor (Primitive S) → Result T (DecodeError X) → MutBor (Primitive S) → Type 0)
+    (reads : (p : MutBor (Primitive S)) (r : Result T (DecodeError X)) (q : MutBor (Primitive S)) → post p r q
+    → Reads Means Refuses (of_primitive stream p.now) r (of_primitive stream q.now)) (c d : Constructed S) where
+  pub reader_takes_one : (r : Result T (DecodeError X))
+      → Takes (of_primitive stream) (Untagged post) (Some true) (tagged tag) (of_constructed stream c) r (of_constructed stream d)
+      → TakesOneAs tag Means Refuses (of_constructed stream c) r (of_constructed stream d)
+  reader_takes_one r h =
+      one_as (of_primitive stream) (Untagged post) tag (λ _. Means) (λ _. Refuses) (octets_form stream) (λ t p s q x. reads p s q x) (of_constructed stream c)
+      (of_constructed stream d) r (within_constructed stream sound c) h
 
-  pub reader_takes_next : (r : Result (Option T) (DecodeError X)) → TakesNext (of_primitive stream) (Untagged post) (Some true) (tagged tag) (of_constructed stream c) r (of_constructed stream d) → TakesNextAs tag Means Refuses (of_constructed stream c) r (of_constructed stream d)
-  reader_takes_next r h = next_as (of_primitive stream) (Untagged post) tag (λ _. Means) (λ _. Refuses) (octets_form stream) (λ t p s q x. reads p s q x) (of_constructed stream c) (of_constructed stream d) r (within_constructed stream sound c) h
+  pub reader_takes_next : (r : Result (Option T) (DecodeError X))
+      → TakesNext (of_primitive stream) (Untagged post) (Some true) (tagged tag) (of_constructed stream c) r (of_constructed stream d)
+      → TakesNextAs tag Means Refuses (of_constructed stream c) r (of_constructed stream d)
+  reader_takes_next r h =
+      next_as (of_primitive stream) (Untagged post) tag (λ _. Means) (λ _. Refuses) (octets_form stream) (λ t p s q x. reads p s q x) (of_constructed stream c)
+      (of_constructed stream d) r (within_constructed stream sound c) h

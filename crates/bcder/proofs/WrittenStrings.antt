@@ -49,13 +49,16 @@ segments_shape (suc n) w more some few = ((refl, length-take-le 1000 w (omega ar
 
 -- ---- what has an encoding
 
-pub meant_whole : (t : Tag) (mode : Mode) (w : List ℕ) → IsValueTag t → AreOctets w → length w < 2 ^ 32 → is_cut mode (length w) ≡ false → OctetsMean t w mode (Ok (primitive_encoded t w))
+pub meant_whole : (t : Tag) (mode : Mode) (w : List ℕ) → IsValueTag t → AreOctets w → length w < 2 ^ 32 → is_cut mode (length w) ≡ false
+    → OctetsMean t w mode (Ok (primitive_encoded t w))
 meant_whole t mode w v o short is = inr (v, (Ok w, (refl, o), rw (is, lt-ltb (length w) (2 ^ 32) short) refl))
 
-pub meant_cut : (t : Tag) (w : List ℕ) → IsValueTag t → AreOctets w → is_cut Cer (length w) ≡ true → fits_enclosed Cer t (length (segments_in_cer w).octets) ≡ true → OctetsMean t w Cer (Ok (constructed_encoded Cer t (segments_in_cer w)))
+pub meant_cut : (t : Tag) (w : List ℕ) → IsValueTag t → AreOctets w → is_cut Cer (length w) ≡ true
+    → fits_enclosed Cer t (length (segments_in_cer w).octets) ≡ true → OctetsMean t w Cer (Ok (constructed_encoded Cer t (segments_in_cer w)))
 meant_cut t w v o is fits = inr (v, (Ok w, (refl, o), rw (is, fits) refl))
 
-at_most_five : (a b c d : Bool) (u v x y z : List ℕ) → length u ≤ 5 → length v ≤ 5 → length x ≤ 5 → length y ≤ 5 → length z ≤ 5 → length (if a then u else if b then v else if c then x else if d then y else z) ≤ 5
+at_most_five : (a b c d : Bool) (u v x y z : List ℕ) → length u ≤ 5 → length v ≤ 5 → length x ≤ 5 → length y ≤ 5 → length z ≤ 5
+    → length (if a then u else if b then v else if c then x else if d then y else z) ≤ 5
 at_most_five true b c d u v x y z h k l m n = h
 at_most_five false true c d u v x y z h k l m n = k
 at_most_five false false true d u v x y z h k l m n = l
@@ -66,15 +69,20 @@ few_length_octets : (n : ℕ) → length (definite_length n) ≤ 5
 unfolding definite_length
 few_length_octets n = at_most_five (nat_lt n 0x80) (nat_lt n 0x100) (nat_lt n 0x10000) (nat_lt n 0x1000000)
     (n ∷ []) (0x81 ∷ n ∷ []) (0x82 ∷ (n / 0x100) ∷ (n % 0x100) ∷ []) (0x83 ∷ (n / 0x10000) ∷ (n / 0x100 % 0x100) ∷ (n % 0x100) ∷ [])
-    (0x84 ∷ (n / 0x1000000) ∷ (n / 0x10000 % 0x100) ∷ (n / 0x100 % 0x100) ∷ (n % 0x100) ∷ []) (omega arith) (omega arith) (omega arith) (omega arith) (omega arith)
+    (0x84 ∷ (n / 0x1000000) ∷ (n / 0x10000 % 0x100) ∷ (n / 0x100 % 0x100) ∷ (n % 0x100) ∷ []) (omega arith) (omega arith) (omega arith) (omega arith)
+    (omega arith)
 
 -- segments of fewer than 2^32 octets fit a value
 segments_fit : (t : Tag) (n : ℕ) → n < 2 ^ 32 → fits_enclosed Cer t (segments_size n) ≡ true
-segments_fit t n short = lt-ltb (enclosed_size Cer t (segments_size n)) (2 ^ 64) (omega (arith, short, header-length t true Indefinite, identifier_size t true, few_length_octets (n - 1000 * full_segments n)))
+segments_fit t n short =
+    lt-ltb (enclosed_size Cer t (segments_size n)) (2 ^ 64)
+    (omega (arith, short, header-length t true Indefinite, identifier_size t true, few_length_octets (n - 1000 * full_segments n)))
 
-meant_at : (t : Tag) (mode : Mode) (w : List ℕ) (b : Bool) → is_cut mode (length w) ≡ b → IsValueTag t → AreOctets w → length w < 2 ^ 32 → HasEncoding (OctetsMean t w mode)
+meant_at : (t : Tag) (mode : Mode) (w : List ℕ) (b : Bool) → is_cut mode (length w) ≡ b → IsValueTag t → AreOctets w → length w < 2 ^ 32
+    → HasEncoding (OctetsMean t w mode)
 meant_at t mode w false is v o short = (primitive_encoded t w, meant_whole t mode w v o short is)
-meant_at t Cer w true is v o short = (constructed_encoded Cer t (segments_in_cer w), meant_cut t w v o is (ap (fits_enclosed Cer t) (segments-length w) ∙ segments_fit t (length w) short))
+meant_at t Cer w true is v o short =
+    (constructed_encoded Cer t (segments_in_cer w), meant_cut t w v o is (ap (fits_enclosed Cer t) (segments-length w) ∙ segments_fit t (length w) short))
 meant_at t Ber w true is v o short = cc
 meant_at t Der w true is v o short = cc
 
@@ -92,7 +100,11 @@ string_meant t Cer (whole w) made = octets_meant t Cer w made
 string_meant t Der (whole w) made = octets_meant t Der w made
 string_meant t Ber (cut kept ps) made =
     let inside : Encoded = record { values = made.values; octets = kept.octets } in
-    λ v short. (constructed_encoded Ber t inside, constructed_given t Ber (KeptMeans kept Ber) inside (all_suit_ber kept.mode, made.encode, refl) (lt-ltb (length kept.octets) (2 ^ 32) short) v)
+    λ v short. (
+      constructed_encoded Ber t inside,
+      constructed_given t Ber (KeptMeans kept Ber) inside (all_suit_ber kept.mode, made.encode, refl)
+          (lt-ltb (length kept.octets) (2 ^ 32) short) v,
+    )
 string_meant t Cer (cut kept ps) made = octets_meant t Cer (concat ps) (parts_octets kept.mode kept.octets ps made)
 string_meant t Der (cut kept ps) made = octets_meant t Der (concat ps) (parts_octets kept.mode kept.octets ps made)
 
@@ -188,7 +200,8 @@ written_alike t mode r s ne same m h =
 pub wrapped_written : (t : Tag) (mode inner : Mode) (M : Meaning → Type 0) → IsLawful inner M → (x : Encoded) → M (Ok x) → WritesString t mode x.octets (WrappedMeans t mode M)
 wrapped_written t mode inner M lawful x holds e m = octets_written t mode x.octets e (wrapped_taken t mode M lawful.one x holds (lawful_octets inner lawful x holds) (Ok e) m)
 
-pub wrapped_meant : (t : Tag) (mode inner : Mode) (M : Meaning → Type 0) → IsLawful inner M → (x : Encoded) → M (Ok x) → WritesShort t (length x.octets) (WrappedMeans t mode M)
+pub wrapped_meant : (t : Tag) (mode inner : Mode) (M : Meaning → Type 0) → IsLawful inner M → (x : Encoded) → M (Ok x)
+    → WritesShort t (length x.octets) (WrappedMeans t mode M)
 wrapped_meant t mode inner M lawful x holds v short =
     let e = octets_meant t mode x.octets (lawful_octets inner lawful x holds) v short in
     (e.0, wrapped_given t mode M x holds (Ok e.0) e.1)

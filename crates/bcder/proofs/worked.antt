@@ -5,3 +5,4 @@ pub mod Lengths
 pub mod Values
 pub mod Headings
 pub mod ObjectIdentifiers
+pub mod CutStrings

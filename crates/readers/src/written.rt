@@ -11,7 +11,10 @@ use std::alloc::Global;
 use std::process::Abort;
 use std::test::Fail;
 use user::decode_extensions;
-use writers::{Part, Request, Text, write_and_read, write_each, write_numbers, write_request};
+use writers::{
+    Part, Request, Text, write_and_read, write_and_read_signed, write_each, write_numbers,
+    write_request,
+};
 
 /// What a request asks for, made with openssl: a name of two attributes, a key on the curve
 /// prime256v1, and a password.
@@ -66,6 +69,8 @@ fn a_request_is_that_of_openssl(rt: HostRuntime) -> Result<(), Fail> {
 #[test]
 fn a_number_is_read_from_what_was_written(rt: HostRuntime) {
     holds(&rt, write_and_read(rt.alloc(), 300, Mode::Cer).is_ok());
+    let signed = write_and_read_signed(rt.alloc(), -129, Mode::Der);
+    holds(&rt, signed.is_ok_and(|read| read == -129));
 }
 
 #[test]

@@ -1,6 +1,6 @@
 -- What was written of a number.
 use Rattle.std.proofs.Common.{◌≡◌, ℕ, List, Option, refl, subst, inl, inr}
-use Rattle.std.specs.Prelude.{pos, Result, Ok, Err, IfErr}
+use Rattle.std.specs.Prelude.{ℤ, Result, Ok, Err, IfErr}
 use Rattle.std.specs.Io.KnownBytes.{Appends}
 use Rattle.std.specs.declared.string.ParseError.{Infallible}
 use Rattle.bcder.specs.declared.encode.error.EncodeError.{EncodeError}
@@ -29,21 +29,22 @@ never_refused M a only LongCerBitString r = (let h = only (Err LongCerBitString)
 never_refused M a only LongCerPrimitive r = (let h = only (Err LongCerPrimitive) (r.meant (λ e. cc)) in cc)
 
 -- what the encoder of a number means
-abbrev pub number_means : Mode → Primitive ℕ → Meaning → Type 0
-number_means mode p = ValueMeans p.tag (primitive_meaning p.tag) (Exactly (integer_octets (pos p.prim)))
+abbrev pub number_means : {N : Type 0} → (N → ℤ) → Mode → Primitive N → Meaning → Type 0
+number_means value mode p = ValueMeans p.tag (primitive_meaning p.tag) (Exactly (integer_octets (value p.prim)))
 
-module _ (mode : Mode) (p q : Primitive ℕ) (same : p ≡ q) (old new : Option (List ℕ)) (a : Encoded) (only : (m : Meaning) → number_means mode q m → m ≡ Ok a) where
-  only_of : (m : Meaning) → number_means mode p m → m ≡ Ok a
-  only_of m h = only m (subst (λ z. number_means mode z m) same h)
+module _ {N : Type 0} (value : N → ℤ) (mode : Mode) (p q : Primitive N) (same : p ≡ q) (old new : Option (List ℕ)) (a : Encoded)
+    (only : (m : Meaning) → number_means value mode q m → m ≡ Ok a) where
+  only_of : (m : Meaning) → number_means value mode p m → m ≡ Ok a
+  only_of m h = only m (subst (λ z. number_means value mode z m) same h)
 
-  pub refused_target : (r : Result (Unit {0}) WriteError) → Writes encoded_octets (number_means mode p) ⊥ old new r → IfErr r IsOfTarget
+  pub refused_target : (r : Result (Unit {0}) WriteError) → Writes encoded_octets (number_means value mode p) ⊥ old new r → IfErr r IsOfTarget
   refused_target (Ok u) w = tt
   refused_target (Err (Target e)) w = tt
   refused_target (Err (Refused e)) (inl w) = absurd (w.wrote.done.1)
-  refused_target (Err (Refused e)) (inr n) = absurd (never_refused (number_means mode p) a only_of n.error n.refuses)
+  refused_target (Err (Refused e)) (inr n) = absurd (never_refused (number_means value mode p) a only_of n.error n.refuses)
 
-  pub written : Writes encoded_octets (number_means mode p) ⊥ old new (Ok tt) → Appends old new a.octets
-  written w = written_as_meant (number_means mode p) ⊥ old new a only_of w
+  pub written : Writes encoded_octets (number_means value mode p) ⊥ old new (Ok tt) → Appends old new a.octets
+  written w = written_as_meant (number_means value mode p) ⊥ old new a only_of w
 
 nothing_is_infallible : Infallible → ⊥
 nothing_is_infallible e = elim e [ ]

@@ -2,11 +2,17 @@
 #![tactic(auto, using(bcder::specs::laws::Moved::untouched_is_moved))]
 
 ghost use Rattle.std.specs.Prelude.{◌≡◌, IfOk, IfErr};
+ghost use Rattle.std.specs.Int.{w32};
+ghost use Rattle.bcder.specs.x690.Identifier.{integer_tag};
+ghost use Rattle.bcder.specs.calls.Readers.{IsSigned};
+ghost use Rattle.bcder.specs.calls.Typed.{TookOneAs};
+ghost use Rattle.bcder.specs.calls.Views.{Moved};
 ghost use Rattle.writers.specs.Numbers.{IsOfTarget};
 
-use bcder::Mode;
+use bcder::decode::{Constructed, DecodeError, Source};
 use bcder::encode::{PrimitiveContent, Values, WriteError};
-use bcder::laws::taken_back::unsigned_integers_are_taken_back;
+use bcder::laws::taken_back::{signed_integers_are_taken_back, unsigned_integers_are_taken_back};
+use bcder::{Mode, Tag};
 use std::alloc::Global;
 use std::convert::Infallible;
 
@@ -23,6 +29,36 @@ pub fn write_and_read(alloc: Global, number: u32, mode: Mode) -> Result<u32, Wri
     let mut octets = Vec::new(alloc);
     number.encode().write_encoded(mode, &mut octets)?;
     match mode.decode(octets.as_slice(), |cons| cons.take_u32()) {
+        Ok(read) => Ok(read),
+        Err(_) => unreachable!(),
+    }
+}
+
+/// Takes the next value, which has to be an INTEGER that an `i32` holds.
+///
+/// # Errors
+///
+/// Those of `Constructed::take_u32`, by the range of `i32`.
+pub fn take_i32<S: Source>(cons: &mut Constructed<'_, S>) -> Result<i32, DecodeError<S::Error>>
+    ensures moves { Moved S.stream cons }
+    ensures took { TookOneAs S.stream cons integer_tag (IsSigned w32) result }
+{
+    cons.take_primitive_if(Tag::INTEGER, |octets| octets.to_i32())
+}
+
+/// Writes a number that may be negative, and reads it from what was written.
+///
+/// # Errors
+///
+/// `Target` where there is no memory for the octets.
+pub fn write_and_read_signed(alloc: Global, number: i32, mode: Mode) -> Result<i32, WriteError>
+    ensures number { IfOk result (λ read. read ≡ number) }
+    ensures refused { IfErr result IsOfTarget }
+{
+    signed_integers_are_taken_back::<Infallible>();
+    let mut octets = Vec::new(alloc);
+    number.encode().write_encoded(mode, &mut octets)?;
+    match mode.decode(octets.as_slice(), |cons| take_i32(cons)) {
         Ok(read) => Ok(read),
         Err(_) => unreachable!(),
     }

@@ -85,4 +85,5 @@ pub record IsAsRead (t : Tree) (w : List ℕ) (M : Meaning → Type 0) : Type 0 
 
 -- where the string s was read in CER or DER, an encoder of it writes, under its tag, what was read
 abbrev pub WrittenAsRead : StringOctets → (Tag → Mode → Meaning → Type 0) → Type 0
-WrittenAsRead s means = (mode : Mode) → mode ≢ Ber → (t : Tree) (w : List ℕ) → MeansString mode t s → IsEncoding mode t w → IsAsRead t w (means (tag_of t) mode)
+WrittenAsRead s means =
+    (mode : Mode) → mode ≢ Ber → (t : Tree) (w : List ℕ) → MeansString mode t s → IsEncoding mode t w → IsAsRead t w (means (tag_of t) mode)

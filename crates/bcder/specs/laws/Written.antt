@@ -77,7 +77,8 @@ pub primitive_written : (mode : Mode) (t : Tag) (contents : List ℕ) → IsValu
 primitive_written mode t contents v o h = (o, definite_written mode t false contents v (primitive_allowed mode (length contents)) h)
 
 -- in CER of any number of contents octets
-pub cer_written : (t : Tag) (ts : Trees) (contents : List ℕ) → IsValueTag t → AreEncodings Cer ts contents → IsEncoding Cer (constructed t ts) (enclosed Cer t contents)
+pub cer_written : (t : Tag) (ts : Trees) (contents : List ℕ) → IsValueTag t → AreEncodings Cer ts contents
+    → IsEncoding Cer (constructed t ts) (enclosed Cer t contents)
 cer_written t ts contents v e = (contents, e, inr (indefinite_written Cer t contents v refl))
 
 pub constructed_written : (mode : Mode) (t : Tag) (ts : Trees) (contents : List ℕ) → IsValueTag t → fits_enclosed mode t (length contents) ≡ true → AreEncodings mode ts contents → IsEncoding mode (constructed t ts) (enclosed mode t contents)
