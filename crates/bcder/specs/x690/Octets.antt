@@ -20,7 +20,7 @@ abbrev pub length_octets : Length → List ℕ
 length_octets (Definite n) = definite_length n
 length_octets Indefinite = 0x80 ∷ []
 
--- whether length octets can be written: a definite length below 2 ^ 32 has four at most behind the first
+-- whether length octets can tell a length: the indefinite form, or a definite length below 2 ^ 32 in four octets
 abbrev pub fits_length : Length → Bool
 fits_length (Definite n) = nat_lt n (2 ^ 32)
 fits_length Indefinite = true
