@@ -152,8 +152,8 @@ module _ {S : Type 0} (stream : S → Stream) (c : Both (MutBor (Constructed S))
     abbrev pub CapturedAll : Type 0
     CapturedAll = CapturesBy CapturesValues HasOthers HasValuesOrDeep (before stream c) r (after stream c)
 
-    -- unless the source failed or memory ran out, all values are captured if the rest up to the end is encodings, or if the content has
-    -- ended
+    -- unless the source failed or memory ran out, all values are captured if the rest up to the end is encodings,
+    -- or if the content has ended
     abbrev pub CapturesExactlyAll : Type 0
     CapturesExactlyAll = (Grew (before stream c).stream.faults (after stream c).stream.faults → ⊥) → (WantsMemory r → ⊥) → (HasValues (before stream c) → (before stream c).state ≡ Open → IsOk r) × ((before stream c).state ≡ Ended → IsOk r)
 

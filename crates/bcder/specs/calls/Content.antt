@@ -122,7 +122,7 @@ abbrev pub IsAsked : Asked → Tag → Type 0
 IsAsked any t = t ≡ t
 IsAsked (tagged u) t = t ≡ u
 
--- as many octets as the length promises are owed
+-- the length fits into what is owed
 abbrev pub FitsOwed : Length → Option ℕ → Type 0
 FitsOwed (Definite n) (Some o) = n ≤ o
 FitsOwed (Definite n) None = n ≡ n

@@ -123,7 +123,7 @@ GathersContents M lacks (Err e) = RefusesToKeep (λ w. w) M lacks e
 
 -- ---- lengths and headers alone
 
--- the octets of a length, if it fits in four
+-- the octets of a length; refused if it does not fit in four octets
 abbrev pub LengthMeans : Length → ContentsMeaning → Type 0
 LengthMeans len (Ok w) = (fits_length len ≡ true) × (w ≡ length_octets len)
 LengthMeans len (Err e) = (fits_length len ≡ false) × (e ≡ LengthTooLarge)

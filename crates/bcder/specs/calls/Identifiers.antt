@@ -11,7 +11,7 @@ use Rattle.bcder.specs.calls.IdentifierText.{between_dots, AreComponentTexts, Is
 abbrev pub NoFewer : Type 0
 NoFewer = (v w : List ℕ) → IsWhole v → IsWhole w → subidentifier_number v ≡ subidentifier_number w → slice_index v 0 ≢ 0x80 → length v ≤ length w
 
--- a number has only one subidentifier that doesn't begin with 80, or that is that short
+-- a number has only one subidentifier that doesn't begin with 80, and only one of each length
 abbrev pub OneFewest : Type 0
 OneFewest = (v w : List ℕ) → IsWhole v → IsWhole w → subidentifier_number v ≡ subidentifier_number w → slice_index v 0 ≢ 0x80 → slice_index w 0 ≢ 0x80 → v ≡ w
 

@@ -36,7 +36,7 @@ HasSize M n = (e : Encoded) → M (Ok e) → n ≡ length e.octets
 abbrev pub ReadsInside : (Meaning → Type 0) → (List ℕ → List ℕ → Type 0) → List ℕ → List ℕ → Type 0
 ReadsInside M R left after = (size : ℕ) × (behind : List ℕ) × (left ≡ size ∷ behind) × HasSize M size × Reads R behind after
 
--- the size of what M says in a constructed value, which in CER has none, and then what R reads
+-- the size of M, the content of a constructed value, and then what R reads; in CER, which has no such size, only what R reads
 abbrev pub ReadsContents : Mode → (Meaning → Type 0) → (List ℕ → List ℕ → Type 0) → List ℕ → List ℕ → Type 0
 ReadsContents Cer M R = Reads R
 ReadsContents mode M R = ReadsInside M R

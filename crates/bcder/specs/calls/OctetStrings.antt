@@ -14,7 +14,7 @@ use Rattle.bcder.specs.calls.Valued.{tag_of}
 abbrev pub PrimitiveInDer : Type 0
 PrimitiveInDer = (t : Tree) → IsOctetString Der t → t ≡ primitive (tag_of t) (flat t)
 
--- in CER an octet string is primitive if it has at most 1000 octets (9.2)
+-- in CER an octet string is primitive exactly if it has at most 1000 octets (9.2)
 abbrev pub PrimitiveInCer : Type 0
 PrimitiveInCer = (t : Tree) → IsOctetString Cer t → (length (flat t) ≤ 1000) × (t ≡ primitive (tag_of t) (flat t)) ⊎ (1000 < length (flat t)) × (ts : Trees) × (t ≡ constructed (tag_of t) ts)
 

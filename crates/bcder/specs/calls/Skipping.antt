@@ -53,7 +53,7 @@ Steps F E = F → Tag → Bool → ℕ → Result (Unit {0}) E → F → Type 0
 abbrev pub Called : {F E : Type 0} → Steps F E → F → List Heading → F → Type 0
 Called step f calls g = FoldsTo (λ p h q. step p h.tag h.constructed h.depth (Ok tt) q) f calls g
 
--- f, as calls before made it, refused a heading with x
+-- f, as the calls before left it, refused a heading with x
 abbrev pub Refused : {F E : Type 0} → Steps F E → F → Heading → E → F → Type 0
 Refused step f h x g = step f h.tag h.constructed h.depth (Err x) g
 

@@ -14,7 +14,7 @@ wrapped s = s.source
 abbrev pub limit_of : {S : Type 0} → LimitedSource S → Option ℕ
 limit_of s = s.limit
 
--- the number of octets up to the limit, if there is one
+-- the number of octets up to the limit, or 0 if there is none
 abbrev pub owed : {S : Type 0} → LimitedSource S → ℕ
 owed s = limit_or s.limit 0
 

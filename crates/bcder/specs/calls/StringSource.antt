@@ -20,7 +20,7 @@ abbrev pub block_behind : List ℕ → Option ToCome → List ℕ
 block_behind w None = w
 block_behind w (Some behind) = behind.octets
 
--- octets that are said to share a block with the segments to come do
+-- octets that are said to share a block with the segments to come do share it
 abbrev pub SharesBlock : InBlock → Option ToCome → Type 0
 SharesBlock front behind = IsTrue front.is_shared → front.block ≡ block_behind front.block behind
 

@@ -1,5 +1,5 @@
--- What is written is an encoding: laws of encoders, contracts of functions of `src/laws/encoders.rt`; and what a writer of one constructed
--- value says.
+-- What is written is an encoding: laws of encoders, contracts of functions of `src/laws/encoders.rt`;
+-- and what a writer of one constructed value says.
 use Rattle.std.specs.Prelude.{◌≡◌, ◌≢◌, ◌⊎◌, List, ℕ, Option, Result, Ok, Err}
 use Rattle.std.specs.Borrow.{MutBor}
 use Rattle.std.specs.Io.KnownBytes.{Appends, Keeps}

@@ -1,4 +1,4 @@
--- What is written of a restricted string: statements of laws, contracts of functions of `src/laws/restricted_strings.rt`.
+-- What is written for a restricted string: statements of laws, contracts of functions of `src/laws/restricted_strings.rt`.
 use Rattle.std.specs.Prelude.{◌≡◌, ◌≢◌, ℕ, List, Option, Result}
 use Rattle.bcder.specs.declared.mode.Mode.{Mode}
 use Rattle.bcder.specs.declared.mode.Mode.TheVariants.{Ber}

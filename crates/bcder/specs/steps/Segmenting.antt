@@ -49,7 +49,7 @@ to_write p w = take p.left w ++ unwritten (drop p.left w)
 abbrev pub IsProgress : Progress → List ℕ → Type 0
 IsProgress p w = p.left + p.behind ≡ length w
 
--- with u to come at p, so much was written that v is to come at q
+-- u was to come at p; what was written leaves v to come at q
 pub record Advanced (p : Progress) (u : List ℕ) (q : Progress) (v : List ℕ) (old new : Option (List ℕ)) : Type 0 where
   pub written : List ℕ
   pub appends : Appends old new written

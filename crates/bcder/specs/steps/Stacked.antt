@@ -31,7 +31,7 @@ use Rattle.bcder.specs.steps.Inside.{limit_inside}
 use Rattle.bcder.specs.steps.Growing.{AreOpen}
 use Rattle.bcder.specs.calls.Skipping.{Steps, Called, Refused, HeadersStand}
 
--- how an open value ends: when nothing is owed any more, after which so many octets are owed, if there is a limit,
+-- how an open value ends: when nothing is owed any more, with what is owed after it, if there is a limit;
 -- or by end-of-contents octets
 pub data Entry : Type 0 where
   Definite : Option ℕ → Entry

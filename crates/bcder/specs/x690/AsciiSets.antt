@@ -31,8 +31,8 @@ is_numeric b = is_digit b || is_among (codes " ") b
 abbrev pub numeric_string_tag : Tag
 numeric_string_tag = record { class = universal; number = 18 }
 
--- capital letters, small letters, digits, space, apostrophe, parentheses, plus sign, comma, hyphen, full stop, solidus, colon, equals sign,
--- question mark
+-- capital letters, small letters, digits, space, apostrophe, parentheses, plus sign, comma, hyphen,
+-- full stop, solidus, colon, equals sign, question mark
 abbrev pub is_printable : ℕ → Bool
 is_printable b = (is_capital_letter b || is_small_letter b) || (is_digit b || is_among (codes " '()+,-./:=?") b)
 

@@ -20,7 +20,7 @@ abbrev pub length_octets : Length → List ℕ
 length_octets (Definite n) = definite_length n
 length_octets Indefinite = 0x80 ∷ []
 
--- whether length octets can tell a length: the indefinite form, or a definite length below 2 ^ 32 in four octets
+-- whether four octets suffice for a length: the indefinite form, or a definite length below 2 ^ 32
 abbrev pub fits_length : Length → Bool
 fits_length (Definite n) = nat_lt n (2 ^ 32)
 fits_length Indefinite = true
@@ -43,7 +43,7 @@ abbrev pub closing : Mode → List ℕ
 closing Cer = 0x00 ∷ 0x00 ∷ []
 closing mode = []
 
--- the contents octets of a constructed value between its header and its end
+-- the octets of a constructed value: the header, the contents octets, and the end
 abbrev pub enclosed : Mode → Tag → List ℕ → List ℕ
 enclosed mode t contents = (header t true (constructed_length mode (length contents)) ++ contents) ++ closing mode
 
