@@ -1,4 +1,4 @@
--- What public contracts say: sources, content, errors and encoders as clauses see them, and what calls ask, answer and leave.
+-- What public contracts say: sources, content, errors and encoders in the view of clauses, and what calls require, return and leave.
 pub mod TagText
 pub mod StringOctets
 pub mod OctetTakes

@@ -1,4 +1,5 @@
--- What ITU-T X.690 says, by its clauses: values, their encodings in each set of rules, and what contents octets mean. Of the code these name the modes and the kinds of lengths alone.
+-- What ITU-T X.690 says, by its clauses: values, their encodings under each set of encoding rules, and what contents octets mean.
+-- Of the code these definitions name the modes and the kinds of lengths alone.
 pub mod Identifier
 pub mod Length
 pub mod Tree

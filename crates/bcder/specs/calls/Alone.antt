@@ -1,4 +1,4 @@
--- Octets that a closure is handed as the contents octets of a primitive value.
+-- Octets that a closure gets as the contents octets of a primitive value.
 use Rattle.std.specs.Prelude.{◌≡◌, ◌≢◌, List, ℕ, length, Some, Result, Ok, Err, IfOk, IfErr}
 use Rattle.std.specs.Borrow.{MutBor}
 use Rattle.bcder.specs.declared.mode.Mode.{Mode}
@@ -10,17 +10,17 @@ use Rattle.bcder.specs.declared.decode.content.State.TheVariants.{Open}
 use Rattle.bcder.specs.calls.Calls.{Answered, IsOver}
 
 module _ {C T X : Type 0} (view : C → Reading) (post : MutBor C → Result T (DecodeError X) → MutBor C → Type 0) where
-  -- the closure answered x for the content i, and left none of it
+  -- the closure returned x for the content i, and left none of it
   pub record AnsweredAlone (i : Reading) (x : T) (j : Reading) : Type 0 where
     pub answered : Answered {R = Result T (DecodeError X)} view post i (Ok x) j
     pub done : j.owed ≡ Some 0
 
-  -- why e was answered: the closure refused, or it answered and left octets
+  -- why e was returned: the closure refused, or it returned Ok and left octets
   pub data RefusedAlone (i : Reading) (e : DecodeError X) (j : Reading) : Type 0 where
     by_closure : Answered {R = Result T (DecodeError X)} view post i (Err e) j → RefusedAlone i e j
     left_octets : (x : T) → Answered {R = Result T (DecodeError X)} view post i (Ok x) j → j.owed ≢ Some 0 → IsRefusal e → RefusedAlone i e j
 
-  -- a closure was handed the octets that a source gives, all of them
+  -- a closure got the octets that a source gives, all of them, with n owed
   pub record RanAlone (s : Stream) (n : ℕ) (m : Mode) (r : Result T (DecodeError X)) : Type 0 where
     pub handed : Reading
     pub left : Reading
@@ -29,6 +29,6 @@ module _ {C T X : Type 0} (view : C → Reading) (post : MutBor C → Result T (
     pub answers : IfOk r (λ x. AnsweredAlone handed x left)
     pub refuses : IfErr r (λ e. RefusedAlone handed e left)
 
--- octets as they are handed
+-- content i is all the octets w, as a closure gets them
 abbrev pub IsAllOctets : List ℕ → Mode → Reading → Type 0
 IsAllOctets w m i = IsOver (limited (Some (length w)) (at_hand w)) (Some (length w)) Octets Open m i

@@ -1,4 +1,4 @@
--- What the iterator over the octets of a bit string stands for.
+-- What is left in the iterator over the octets of a bit string.
 use Rattle.std.specs.Prelude.{ℕ, List}
 use Rattle.std.specs.Slice.Iter.{iter_rest}
 use Rattle.bcder.specs.declared.string.bit.BitStringIter.{BitStringIter}

@@ -1,9 +1,9 @@
--- What is handed to a hasher of an octet string.
+-- What a hasher of an octet string gets.
 use Rattle.std.specs.Prelude.{ℕ, ◌+◌, ◌/◌, List, [], ◌∷◌, ◌++◌, length, take, drop}
 use Rattle.std.proofs.Common.{zero, suc}
 use Rattle.std.specs.Hash as fed
 
--- so many blocks of 64 octets, the last of which ends where the octets do
+-- the first n blocks of 64 octets, the last of which ends where the octets do
 abbrev pub first_blocks : ℕ → List ℕ → List (List ℕ)
 first_blocks zero w = []
 first_blocks (suc n) w = take 64 w ∷ first_blocks n (drop 64 w)
@@ -12,6 +12,6 @@ first_blocks (suc n) w = take 64 w ∷ first_blocks n (drop 64 w)
 abbrev pub blocks : List ℕ → List (List ℕ)
 blocks w = first_blocks ((length w + 63) / 64) w
 
--- how many octets there are, and then these, in blocks
+-- what a hasher gets: the number of octets, then the octets in blocks of 64
 abbrev pub hashed : List ℕ → fed.HashWrites
 hashed w = fed.usize (length w) ++ blocks w

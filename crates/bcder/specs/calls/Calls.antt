@@ -1,4 +1,4 @@
--- What calls ask of a closure that is handed content, and what they say of it.
+-- What calls require of a closure that gets content, and what they say about it.
 use Rattle.std.specs.Prelude.{◌≡◌, ◌≢◌, ◌||◌, ℕ, ◌+◌, ◌-◌, ◌≤◌, Bool, true, false, List, ◌++◌, length, take, Option, Some, None, Result, Ok, Err, IfOk, IfErr, OnOk}
 use Rattle.std.specs.Borrow.{MutBor}
 use Rattle.bcder.specs.declared.mode.Mode.{Mode}
@@ -14,20 +14,20 @@ use Rattle.bcder.specs.x690.Encoding.{IsHeader, IsEncoding, Header}
 use Rattle.bcder.specs.calls.Stream.{Stream, Grew}
 use Rattle.bcder.specs.calls.Content.{Reading, ContentForm, Octets, DefiniteValues, IndefiniteValues, UnboundedValues, label, Moves, Advances, Asked, HasHeader, IsDone, EndsAt, NotAtEnd, NothingThere}
 
--- ---- what a closure is handed
+-- ---- what a closure gets
 
--- the form of the content after a header
+-- the form of the content behind a header
 abbrev pub IsFormOf : Bool → Length → ContentForm → Type 0
 IsFormOf form Indefinite k = k ≡ IndefiniteValues
 IsFormOf false (Definite n) k = k ≡ Octets
 IsFormOf true (Definite n) k = k ≡ DefiniteValues
 
--- what the content owes, and its octets: those that its length promises, or all that come
+-- what the content is owed, and its octets: those that its length promises, or all that follow
 abbrev pub ContentOf : Length → Option ℕ → List ℕ → Option ℕ → List ℕ → Type 0
 ContentOf Indefinite owed after o rest = (o ≡ owed) × (rest ≡ after)
 ContentOf (Definite n) owed after o rest = (o ≡ Some n) × (rest ≡ take n after)
 
--- the content of a header, which stands in front of these octets, of which so many are owed
+-- the content behind a header: open and unmarked; `after` are the octets behind the header, of which `owed` are owed
 pub record Hands (m : Mode) (f : Bool) (len : Length) (owed : Option ℕ) (after : List ℕ) (i : Reading) : Type 0 where
   pub state : i.state ≡ Open
   pub mode : i.mode ≡ m
@@ -35,7 +35,7 @@ pub record Hands (m : Mode) (f : Bool) (len : Length) (owed : Option ℕ) (after
   pub form : IsFormOf f len i.kind
   pub octets : ContentOf len owed after i.owed i.stream.rest
 
--- unmarked content over a stream, as it is handed to a closure
+-- unmarked content over the stream s, as a closure gets it: with this limit, form, state and mode
 pub record IsOver (s : Stream) (o : Option ℕ) (k : ContentForm) (st : State) (m : Mode) (i : Reading) : Type 0 where
   pub stream : i.stream ≡ s
   pub owed : i.owed ≡ o
@@ -44,13 +44,13 @@ pub record IsOver (s : Stream) (o : Option ℕ) (k : ContentForm) (st : State) (
   pub mode : i.mode ≡ m
   pub marked : i.marked ≡ false
 
--- content that can be handed, at the tag t, inside content c: that of a header which stands in front
+-- the tag t and the content i that a closure can get inside content c: those of an asked header that comes next
 pub record IsInside (asked : Asked) (c : Reading) (t : Tag) (i : Reading) : Type 0 where
   pub after : List ℕ
   pub front : HasHeader asked c after
   pub is : t ≡ front.tag
   pub hands : Hands c.mode front.form front.len front.owed after i
-  -- it follows that the tag is one of a value, and that the content is open, unmarked, in the mode of c, not at top level and shorter
+  -- it follows that t is a value tag, and that the content is open, unmarked, in the mode of c, not at top level, and shorter
   pub is_value_tag : IsValueTag t
   pub state : i.state ≡ Open
   pub mode : i.mode ≡ c.mode
@@ -58,20 +58,20 @@ pub record IsInside (asked : Asked) (c : Reading) (t : Tag) (i : Reading) : Type
   pub bounded : i.kind ≢ UnboundedValues
   pub shorter : length i.stream.rest + 2 ≤ length c.stream.rest
 
--- ---- what is asked of a closure of a tag and content, and of one of content alone
+-- ---- what is required of a closure of a tag and content, and of one of content alone
 
 module _ {C : Type 0} (view : C → Reading) (Handed : Tag → Reading → Type 0) where
-  -- the closure may be called at any tag and content that it can be handed
+  -- the closure may be called on any tag and content that it can get
   abbrev pub MayBeCalled : (Tag → MutBor C → Type 0) → Type 0
   MayBeCalled pre = (t : Tag) (p : MutBor C) → Handed t (view p.now) → pre t p
 
 module _ {C : Type 0} (view : C → Reading) (Handed : Reading → Type 0) where
-  -- the same without a tag
+  -- the closure may be called on any content that it can get, without a tag
   abbrev pub MayBeCalledOn : (MutBor C → Type 0) → Type 0
   MayBeCalledOn pre = (p : MutBor C) → Handed (view p.now) → pre p
 
 module _ {C R : Type 0} (view : C → Reading) (Handed : Tag → Reading → Type 0) where
-  -- and what it leaves is where it moved that content to
+  -- whatever the closure leaves is reached by lawful steps from the content that it got
   abbrev pub IsLawfulAtAny : (Tag → MutBor C → R → MutBor C → Type 0) → Type 0
   IsLawfulAtAny post = (t : Tag) (p : MutBor C) (r : R) (q : MutBor C) → Handed t (view p.now) → post t p r q → Moves (view p.now) (view q.now)
 
@@ -79,14 +79,14 @@ module _ {C R : Type 0} (view : C → Reading) (Handed : Reading → Type 0) whe
   abbrev pub IsLawfulOn : (MutBor C → R → MutBor C → Type 0) → Type 0
   IsLawfulOn post = (p : MutBor C) (r : R) (q : MutBor C) → Handed (view p.now) → post p r q → Moves (view p.now) (view q.now)
 
--- what a closure of content alone does, whatever the tag
+-- the effect of a closure of content alone, for any tag
 abbrev pub Untagged : {A B R : Type 0} → (A → R → B → Type 0) → Tag → A → R → B → Type 0
 Untagged post t p r q = post p r q
 
 -- ---- what a closure did
 
 module _ {C R : Type 0} (view : C → Reading) where
-  -- handed content i, it answered r and left content j
+  -- the closure got content i, returned r and left content j
   pub record Answered (post : MutBor C → R → MutBor C → Type 0) (i : Reading) (r : R) (j : Reading) : Type 0 where
     pub handed : MutBor C
     pub left : MutBor C
@@ -94,7 +94,7 @@ module _ {C R : Type 0} (view : C → Reading) where
     pub left_is : view left.now ≡ j
     pub called : post handed r left
 
-  -- and so it did, and what it left is at its end once a marker there is taken, as j
+  -- the closure got content i and returned r; what it left is at its end once a marker there is taken, and is j then
   pub record AnswersDone (post : Tag → MutBor C → R → MutBor C → Type 0) (t : Tag) (i : Reading) (r : R) (j : Reading) : Type 0 where
     pub left : Reading
     pub answered : Answered (post t) i r left
@@ -104,13 +104,15 @@ module _ {C R : Type 0} (view : C → Reading) where
     pub ends : EndsAt left j
     pub done : IsDone j
 
--- why content was not left at its end, and e was answered; `why` tells its cause
+-- why the content that a closure left is refused with e: it failed, it is not at its end, or the source failed;
+-- `why` gives the cause of e
 pub data RefusesEnd {E : Type 0} (why : E → Cause ContentError) (c : Reading) (e : E) (d : Reading) : Type 0 where
   left_failed : c.state ≡ Failed → IsOfContent (why e) → RefusesEnd why c e d
   source_failed : why e ≡ of_source → Grew c.stream.faults d.stream.faults → RefusesEnd why c e d
   left_open : NotAtEnd c → IsOfContent (why e) → RefusesEnd why c e d
 
--- why the content i of a value was refused with e, whose cause `why` tells, and left as j: the closure refused it, or what the closure left is not at its end
+-- why the content i of a value was refused with e, and left as j: the closure refused it, or what it left is not at its end;
+-- `why` gives the cause of e
 pub data RefusesContent {C T E : Type 0} (why : E → Cause ContentError) (view : C → Reading) (post : Tag → MutBor C → Result T E → MutBor C → Type 0) (t : Tag) (i : Reading) (e : E) (j : Reading) : Type 0 where
   by_closure : Answered {R = Result T E} view (post t) i (Err e) j → RefusesContent why view post t i e j
   unfinished : (x : T) (left : Reading) → Answered {R = Result T E} view (post t) i (Ok x) left → Moves left j → j.marked ≡ left.marked → RefusesEnd why left e j → RefusesContent why view post t i e j
@@ -118,7 +120,7 @@ pub data RefusesContent {C T E : Type 0} (why : E → Cause ContentError) (view 
 -- ---- a value that was taken, or not
 
 module _ {C T E : Type 0} (view : C → Reading) (post : Tag → MutBor C → Result T E → MutBor C → Type 0) where
-  -- a value was taken: its header stood in front, and the closure answered x for its content and left that at its end
+  -- a value was taken: its header came next, and the closure returned x for its content and left that at its end
   pub record TakesValue (asked : Asked) (c : Reading) (x : T) (d : Reading) : Type 0 where
     pub usable : c.state ≡ Open
     pub passed : List ℕ
@@ -135,7 +137,7 @@ module _ {C T E : Type 0} (view : C → Reading) (post : Tag → MutBor C → Re
     pub stays : d.state ≡ Open
     pub marked : d.marked ≡ (c.marked || left.marked)
 
--- a header stands in front whose content was refused
+-- an asked header comes next, and the content behind it was refused
 pub record RefusesFront {C T E : Type 0} (why : E → Cause ContentError) (view : C → Reading) (post : Tag → MutBor C → Result T E → MutBor C → Type 0) (asked : Asked) (c : Reading) (e : E) (d : Reading) : Type 0 where
   pub usable : c.state ≡ Open
   pub after : List ℕ
@@ -149,14 +151,14 @@ pub record RefusesFront {C T E : Type 0} (why : E → Cause ContentError) (view 
   pub marked : d.marked ≡ (c.marked || left.marked)
   pub refuses : RefusesContent why view post front.tag handed e left
 
--- why no value was taken from c, and e was answered; `why` tells its cause
+-- why no value was taken from c, with error e; `why` gives its cause
 pub data RefusesValue {C T E : Type 0} (why : E → Cause ContentError) (view : C → Reading) (post : Tag → MutBor C → Result T E → MutBor C → Type 0) (asked : Asked) (c : Reading) (e : E) (d : Reading) : Type 0 where
   failed : c.state ≡ Failed → IsOfContent (why e) → RefusesValue why view post asked c e d
   source : why e ≡ of_source → Grew c.stream.faults d.stream.faults → RefusesValue why view post asked c e d
   nothing : NothingThere asked c → IsOfContent (why e) → RefusesValue why view post asked c e d
   content : RefusesFront why view post asked c e d → RefusesValue why view post asked c e d
 
--- a header of another form stands in front
+-- an asked header comes next, and has the form f
 pub record HasForm (f : Bool) (asked : Asked) (c : Reading) : Type 0 where
   pub usable : c.state ≡ Open
   pub after : List ℕ
@@ -165,7 +167,7 @@ pub record HasForm (f : Bool) (asked : Asked) (c : Reading) : Type 0 where
 
 -- ---- the steps inside a take
 
--- content was handed over a source, and this is what was left of it
+-- a closure got content over the source s, and left content over s'
 pub record RunsOver (s : Stream) (o : Option ℕ) (k : ContentForm) (m : Mode) (handed left : Reading) (s' : Stream) (o' : Option ℕ) : Type 0 where
   pub stream : handed.stream ≡ s
   pub owed : handed.owed ≡ o
@@ -187,7 +189,7 @@ module _ {C T E : Type 0} (why : E → Cause ContentError) (view : C → Reading
     pub answers : IfOk r (λ x. AnswersDone {R = Result T E} view post t handed (Ok x) left)
     pub refuses : IfErr r (λ e. RefusesContent why view post t handed e left)
 
-  -- the content of a header was taken
+  -- the content behind the header h was taken
   pub record TakesContent (c : Reading) (h : Header) (r : Result T E) (d : Reading) : Type 0 where
     pub passed : List ℕ
     pub advances : Advances c d passed
@@ -204,7 +206,7 @@ module _ {C T E : Type 0} (why : E → Cause ContentError) (view : C → Reading
     pub answers : IfOk r (λ x. AnswersDone {R = Result T E} view post h.tag handed (Ok x) left)
     pub refuses : IfErr r (λ e. RefusesContent why view post h.tag handed e left)
 
--- the limit after a value of n octets, of which some are left
+-- what is still owed around a value of n octets, some of which are left
 abbrev pub popped : Option ℕ → ℕ → Option ℕ → Option ℕ
 popped (Some outer) n (Some left) = Some (outer - (n - left))
 popped (Some outer) n None = None

@@ -13,25 +13,25 @@ use Rattle.bcder.specs.calls.Calls.{MayBeCalledOn, IsLawfulOn}
 use Rattle.bcder.specs.calls.Decoding.{IsAllBehind, Decodes, RefusesDecode}
 use Rattle.bcder.specs.calls.Views.{of_constructed, lent}
 
--- octets, the mode that they are encodings in, and the position where they began
+-- octets, the mode in which they are encodings, and the position where they began
 pub record Kept : Type 0 where
   pub mode : Mode
   pub octets : List ℕ
   pub start : ℕ
 
--- octets are the encodings of a list of values, one after the other
+-- the octets are the encodings of a list of values, one after the other
 pub record AreWhole (mode : Mode) (w : List ℕ) : Type 0 where
   pub values : Trees
   pub encode : AreEncodings mode values w
 
--- the source that kept octets are decoded from: all of them are at hand
+-- the source from which kept octets are decoded: all of them are at hand
 abbrev pub kept_stream : Kept → Stream
 kept_stream c = record { rest = c.octets; avail = length c.octets; faults = 0; position = c.start; kept = [] }
 
--- ---- what `decode_partial` asks of its closure, and what it says
+-- ---- what `decode_partial` requires of its closure, and what it says
 
 module _ {S : Type 0} (stream : S → Stream) where
-  -- the closure may be called on all values that are kept, and moves them
+  -- the closure may be called on all the kept values, and moves them
   abbrev pub CallableOnKept : Kept → (MutBor (Constructed (MutBor S)) → Type 0) → Type 0
   CallableOnKept c pre = MayBeCalledOn (of_constructed (lent stream)) (IsAllBehind (kept_stream c) c.mode) pre
 
@@ -39,7 +39,7 @@ module _ {S : Type 0} (stream : S → Stream) where
   LawfulOnKept c post = IsLawfulOn (of_constructed (lent stream)) (IsAllBehind (kept_stream c) c.mode) post
 
   module _ {T X : Type 0} (post : MutBor (Constructed (MutBor S)) → Result T (DecodeError X) → MutBor (Constructed (MutBor S)) → Type 0) where
-    -- x was decoded from the kept octets c, and d are left of them
+    -- x was decoded from the kept octets c, and the octets d are left of them
     pub record DecodesFront (c : Kept) (x : T) (d : Kept) : Type 0 where
       pub name : ℕ
       pub decodes : Decodes (of_constructed (lent stream)) post (borrowed name (kept_stream c)) c.mode x (borrowed name (kept_stream d))
@@ -52,7 +52,7 @@ module _ {S : Type 0} (stream : S → Stream) where
       pub front : AreEncodings c.mode passed octets
       pub back : AreEncodings c.mode left d.octets
 
-    -- nothing was decoded from the kept octets c, but e answered
+    -- nothing was decoded from the kept octets c, and e was returned
     pub data RefusesKept (c : Kept) (e : DecodeError X) : Type 0 where
       by_decode : (name : ℕ) (left : Stream) → RefusesDecode cause_of (of_constructed (lent stream)) post (borrowed name (kept_stream c)) c.mode e (borrowed name left) → RefusesKept c e
       by_memory : cause_of e ≡ of_memory → RefusesKept c e

@@ -1,4 +1,4 @@
--- What a capture asks of its closure, and what it answers and leaves.
+-- What a capture requires of its closure, and what it returns and leaves.
 use Rattle.std.specs.Prelude.{◌≡◌, ◌≢◌, ◌||◌, ℕ, ◌-◌, ◌<◌, ◌≤◌, Bool, true, false, List, [], ◌++◌, length, take, Option, Result, Ok, IfOk, IfErr, OnOk}
 use Rattle.std.specs.Borrow.{MutBor}
 use denote.Triple.Both.{Both}
@@ -21,7 +21,7 @@ use Rattle.bcder.specs.calls.Calls.{Answered, IsOver, MayBeCalledOn, IsLawfulOn}
 use Rattle.bcder.specs.calls.Decoding.{RefusesOn}
 use Rattle.bcder.specs.calls.Views.{of_constructed, limited_stream, before, after}
 
--- unmarked content of these octets, over a source that has failed so often
+-- unmarked content of the octets w, over a source that has failed n times
 pub record IsHanded (w : List ℕ) (n : ℕ) (o : Option ℕ) (k : ContentForm) (st : State) (m : Mode) (i : Reading) : Type 0 where
   pub rest : i.stream.rest ≡ w
   pub faults : i.stream.faults ≡ n
@@ -31,7 +31,7 @@ pub record IsHanded (w : List ℕ) (n : ℕ) (o : Option ℕ) (k : ContentForm) 
   pub mode : i.mode ≡ m
   pub marked : i.marked ≡ false
 
--- the content that the closure of a capture of c is handed: the same values, in the same state and mode, unmarked
+-- the content that the closure of a capture of c gets: the same values, in the same state and mode, unmarked
 abbrev pub IsCaptureOf : Reading → Reading → Type 0
 IsCaptureOf c i = IsHanded c.stream.rest c.stream.faults c.owed c.kind c.state c.mode i
 
@@ -39,7 +39,7 @@ IsCaptureOf c i = IsHanded c.stream.rest c.stream.faults c.owed c.kind c.state c
 abbrev pub PassesSome : Reading → Reading → Type 0
 PassesSome c d = length d.stream.rest < length c.stream.rest
 
--- these octets were passed, and behind them a marker where it ended the content; they are encodings in a mode
+-- these octets were passed, and after them the end marker if it ended the content; they are encodings in the mode
 pub record Holds (c : Reading) (mode : Mode) (octets : List ℕ) (d : Reading) : Type 0 where
   pub whole : AreWhole mode octets
   pub close : List ℕ
@@ -47,7 +47,7 @@ pub record Holds (c : Reading) (mode : Mode) (octets : List ℕ) (d : Reading) :
   pub closes : Closes mode c close d
 
 module _ {C X : Type 0} (view : C → Reading) (post : MutBor C → Result (Unit {0}) (DecodeError X) → MutBor C → Type 0) where
-  -- the octets k were captured from c: what the closure passed, which leaves the content as it left its own
+  -- the octets k were captured from c: those that the closure passed; the content is left as the closure left its own
   pub record Captures (c : Reading) (k : Kept) (d : Reading) : Type 0 where
     pub handed : Reading
     pub left : Reading
@@ -64,14 +64,14 @@ module _ {C X : Type 0} (view : C → Reading) (post : MutBor C → Result (Unit
     pub mode : k.mode ≡ label c.mode left.marked
     pub start : k.start ≡ c.stream.position
 
-  -- why nothing was captured where the closure left this content, and the source these faults, and e was answered:
-  -- the closure refused, or left failed content; or then the source failed, or there was no memory for octets that the closure passed
+  -- why nothing was captured, and e was returned, if the closure left this content and the source these faults:
+  -- the closure refused, or left failed content; or then the source failed, or memory ran out for octets that the closure passed
   pub data RefusesLeft (handed : Reading) (e : DecodeError X) (left : Reading) (faults : ℕ) : Type 0 where
     by_content : RefusesOn cause_of view post handed e left → faults ≡ left.stream.faults → RefusesLeft handed e left faults
     by_source : Answered {R = Result (Unit {0}) (DecodeError X)} view post handed (Ok tt) left → left.state ≢ Failed → cause_of e ≡ of_source → Grew left.stream.faults faults → RefusesLeft handed e left faults
     by_memory : Answered {R = Result (Unit {0}) (DecodeError X)} view post handed (Ok tt) left → left.state ≢ Failed → cause_of e ≡ of_memory → PassesSome handed left → faults ≡ left.stream.faults → RefusesLeft handed e left faults
 
-  -- nothing was captured from c, and e answered: its rest and its state are as they were
+  -- nothing was captured from c, and e was returned: the rest and the state of c are as they were
   pub record RefusesCapture (c : Reading) (e : DecodeError X) (d : Reading) : Type 0 where
     pub handed : Reading
     pub left : Reading
@@ -83,14 +83,14 @@ module _ {C X : Type 0} (view : C → Reading) (post : MutBor C → Result (Unit
     pub marked : d.marked ≡ (c.marked || left.marked)
     pub refuses : RefusesLeft handed e left d.stream.faults
 
--- ---- the same of a parameter as a whole
+-- ---- of a parameter, from entry to exit
 
 module _ {S : Type 0} (stream : S → Stream) where
   -- content over a capturing source over the source of content
   abbrev pub of_captured : Constructed (CaptureSource (LimitedSource S)) → Reading
   of_captured = of_constructed (capturing (limited_stream stream))
 
-  -- the closure may be called on what it is handed, and moves it
+  -- the closure may be called on the content that it gets, and moves it
   abbrev pub CallableOnCapture : MutBor (Constructed S) → (MutBor (Constructed (CaptureSource (LimitedSource S))) → Type 0) → Type 0
   CallableOnCapture c pre = MayBeCalledOn of_captured (IsCaptureOf (of_constructed stream c.now)) pre
 
@@ -105,21 +105,21 @@ module _ {S : Type 0} (stream : S → Stream) where
     abbrev pub RefusedCapture : Type 0
     RefusedCapture = IfErr r (λ e. RefusesCapture of_captured post (before stream c) e (after stream c))
 
--- ---- a marker behind values
+-- ---- an end marker after values
 
--- what is behind values: end-of-contents octets if there is a marker, and else nothing
+-- what follows values: end-of-contents octets if there is a marker, otherwise nothing
 abbrev pub IsMarker : Mode → Bool → List ℕ → Type 0
 IsMarker mode false e = e ≡ []
 IsMarker mode true e = IsEndOfContents mode e
 
--- octets are these whole values, and behind them the marker if there is one
+-- the octets w are these whole values, followed by the marker if there is one
 pub record EndsIn (mode : Mode) (marker : Bool) (w front : List ℕ) : Type 0 where
   pub whole : AreWhole mode front
   pub close : List ℕ
   pub split : w ≡ front ++ close
   pub is_marker : IsMarker mode marker close
 
--- the last n octets are a marker behind whole values
+-- the last n octets are a marker after whole values
 pub record EndsBy (mode : Mode) (w : List ℕ) (n : ℕ) : Type 0 where
   pub fits : n ≤ length w
   pub ends : EndsIn mode true w (take (length w - n) w)
@@ -127,7 +127,7 @@ pub record EndsBy (mode : Mode) (w : List ℕ) (n : ℕ) : Type 0 where
 -- ---- the steps inside a capture
 
 module _ {C E : Type 0} (why : E → Cause ContentError) (view : C → Reading) (post : MutBor C → Result (Unit {0}) E → MutBor C → Type 0) where
-  -- a closure ran on content over a stream in whatever state, and left its state and mark so
+  -- a closure ran on content over a stream, in any state, and left it with this state and mark
   pub record RanFrom (s : Stream) (o : Option ℕ) (k : Kind) (st : State) (m : Mode) (r : Result (Unit {0}) E) (st' : State) (mark : Bool) (s' : Stream) (o' : Option ℕ) : Type 0 where
     pub handed : Reading
     pub left : Reading
@@ -141,7 +141,7 @@ module _ {C E : Type 0} (why : E → Cause ContentError) (view : C → Reading) 
     pub answers : IfOk r (λ x. Answered {R = Result (Unit {0}) E} view post handed (Ok x) left)
     pub refuses : IfErr r (λ e. RefusesOn why view post handed e left)
 
--- content over a source up to a limit, as it is handed to a closure in whatever state
+-- content over a source up to a limit, as a closure gets it, in any state
 abbrev pub HandsOver : Stream → Option ℕ → Kind → State → Mode → Reading → Type 0
 HandsOver s o k st m i = IsHanded (cut o s.rest) s.faults o (values k) st m i
 
@@ -154,7 +154,7 @@ module _ {C X : Type 0} (view : C → Reading) (post : MutBor C → Result (Unit
     pub passed : handed.stream.rest ≡ b ++ left.stream.rest
     pub faults : s'.faults ≡ left.stream.faults
 
-  -- none were taken
+  -- no octets were taken from the source
   pub record LeavesAll (s : Stream) (handed : Reading) (e : DecodeError X) (left : Reading) (s' : Stream) : Type 0 where
     pub rest : s'.rest ≡ s.rest
     pub refuses : RefusesLeft view post handed e left s'.faults

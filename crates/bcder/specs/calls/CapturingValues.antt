@@ -1,4 +1,4 @@
--- When the next value, and all values up to the end of content, are captured.
+-- When the next value is captured, and when all values up to the end of content are.
 use Rattle.std.specs.Prelude.{◌≡◌, ◌≢◌, ◌⊎◌, ℕ, ◌≤◌, true, List, [], ◌∷◌, ◌++◌, Result, IsOkAnd, IsErrAnd, IfOk, IfErr, OnOk, OnErr, IsOk}
 use Rattle.std.specs.Borrow.{MutBor}
 use denote.Triple.Both.{Both}
@@ -26,19 +26,19 @@ pub record IsAsBefore (c d : Reading) : Type 0 where
   pub owed : d.owed ≡ c.owed
   pub state : d.state ≡ c.state
 
--- why e was answered of content c: an earlier value was refused, the source failed, c has none of what is asked for,
--- or there was no memory for what it has
+-- why e was returned for content c: an earlier value was refused, the source failed, c has none of what is asked for,
+-- or memory ran out for what it has
 pub data RefusesWhere {X : Type 0} (HasNone HasSome : Type 0) (c : Reading) (e : DecodeError X) (d : Reading) : Type 0 where
   failed : c.state ≡ Failed → IsRefusal e → RefusesWhere HasNone HasSome c e d
   source : cause_of e ≡ of_source → Grew c.stream.faults d.stream.faults → RefusesWhere HasNone HasSome c e d
   nothing : HasNone → IsRefusal e → RefusesWhere HasNone HasSome c e d
   memory : cause_of e ≡ of_memory → HasSome → RefusesWhere HasNone HasSome c e d
 
--- there was no memory
+-- memory ran out
 abbrev pub WantsMemory : {T X : Type 0} → Result T (DecodeError X) → Type 0
 WantsMemory r = IsErrAnd r (λ e. cause_of e ≡ of_memory)
 
--- octets were captured, of which Q tells, or not, as where there is none of what is asked for; memory is wanted only where there is some
+-- octets were captured, as Q says, or not, as when there is none of what is asked for; memory runs out only if there is some
 pub record CapturesBy {X : Type 0} (Q : Reading → Kept → Reading → Type 0) (HasNone HasSome : Reading → Type 0) (c : Reading) (r : Result Kept (DecodeError X)) (d : Reading) : Type 0 where
   pub captured : IfOk r (λ k. Q c k d)
   pub no_fault : OnOk r (d.stream.faults ≡ c.stream.faults)
@@ -47,14 +47,14 @@ pub record CapturesBy {X : Type 0} (Q : Reading → Kept → Reading → Type 0)
   pub mode : d.mode ≡ c.mode
   pub marked : d.marked ≡ c.marked
 
--- the step that is captured: it passed what is asked for, or refused; memory is wanted only where values are deep
+-- the step that is captured: it passed what is asked for, or refused; memory runs out only if values are deep
 pub record PassesBy {T X : Type 0} (Q : Reading → Reading → Type 0) (HasNone IsDeep : Reading → Type 0) (c : Reading) (r : Result T (DecodeError X)) (d : Reading) : Type 0 where
   pub passed : OnOk r (Q c d)
   pub no_fault : OnOk r (d.stream.faults ≡ c.stream.faults)
   pub refused : IfErr r (λ e. RefusesWhere (HasNone c) (IsDeep c) c e d)
   pub marked : d.marked ≡ c.marked
 
--- headers that stand in these octets, the first of them in front, lead to a constructed value at a depth of four or more
+-- headers in these octets, the first at their beginning, lead to a constructed value at a depth of four or more
 pub record LeadDeep (mode : Mode) (w : List ℕ) : Type 0 where
   pub calls : List Heading
   pub last : Heading
@@ -65,22 +65,22 @@ pub record LeadDeep (mode : Mode) (w : List ℕ) : Type 0 where
 
 -- ---- one value
 
--- no value stands in front of open content
+-- no value comes next in open content
 pub record HasNoValue (c : Reading) : Type 0 where
   pub none : (t : Tree) (w after : List ℕ) → HasValue c t w after → ⊥
 
--- open content that isn't at its end begins with headers that lead to a deep value
+-- open content that is not at its end begins with headers that lead to a deep value
 pub record BeginsDeep (c : Reading) : Type 0 where
   pub usable : c.state ≡ Open
   pub some : NotAtEnd c
   pub leads : LeadDeep c.mode c.stream.rest
 
--- a value stands in front, or what begins there leads to a deep one
+-- a value comes next, or what comes next leads to a deep one
 pub data HasValueOrDeep (c : Reading) : Type 0 where
   of_value : (t : Tree) (w after : List ℕ) → HasValue c t w after → HasValueOrDeep c
   of_depth : BeginsDeep c → HasValueOrDeep c
 
--- the octets k are the one value that stands in front of c, and d is left behind it
+-- the octets k are the one value that comes next in c, and d is left after it
 pub record CapturesValue (c : Reading) (k : Kept) (d : Reading) : Type 0 where
   pub tree : Tree
   pub has : HasValue c tree k.octets d.stream.rest
@@ -91,12 +91,12 @@ pub record CapturesValue (c : Reading) (k : Kept) (d : Reading) : Type 0 where
 
 -- ---- all values
 
--- the rest of open content up to its end is no encodings
+-- the rest of open content, up to its end, is not encodings of values
 pub record HasOthers (c : Reading) : Type 0 where
   pub usable : c.state ≡ Open
   pub none : HasValues c → ⊥
 
--- some values stand in front, and what begins behind them leads to a deep one
+-- the octets begin with some values, and what follows these leads to a deep one
 pub record HasDeepBehind (mode : Mode) (w : List ℕ) : Type 0 where
   pub values : Trees
   pub front : List ℕ
@@ -105,7 +105,7 @@ pub record HasDeepBehind (mode : Mode) (w : List ℕ) : Type 0 where
   pub is : w ≡ front ++ behind
   pub leads : LeadDeep mode behind
 
--- open content of which something is left is values up to its end, or has a deep one behind some
+-- open content, of which something is left, is values up to its end, or has a deep one after some
 pub record HasValuesOrDeep (c : Reading) : Type 0 where
   pub usable : c.state ≡ Open
   pub some : IsDone c → ⊥
@@ -123,12 +123,12 @@ pub record CapturesValues (c : Reading) (k : Kept) (d : Reading) : Type 0 where
   pub mode : k.mode ≡ c.mode
   pub start : k.start ≡ c.stream.position
 
--- content was passed to its end, whose marker was taken
+-- content was passed to its end, and its marker was taken
 pub record PassesToEnd (c d : Reading) : Type 0 where
   pub done : IsDone d
   pub all : c.state ≡ Open → HasValues c
 
--- values were passed, and a deep one met
+-- values were passed, and then a deep one was met
 pub record MetDeep (c : Reading) : Type 0 where
   pub form : c.kind ≢ Octets
   pub at : Reading
@@ -136,23 +136,24 @@ pub record MetDeep (c : Reading) : Type 0 where
   pub walks : Walks c at
   pub deep : GoesDeep at left
 
--- ---- the same of a parameter as a whole
+-- ---- of a parameter, from entry to exit
 
 module _ {S : Type 0} (stream : S → Stream) (c : Both (MutBor (Constructed S)) (MutBor (Constructed S))) where
   module _ {X : Type 0} (r : Result Kept (DecodeError X)) where
-    -- the next value was captured, or why it wasn't
+    -- the next value was captured, or why it was not
     abbrev pub CapturedOne : Type 0
     CapturedOne = CapturesBy CapturesValue HasNoValue HasValueOrDeep (before stream c) r (after stream c)
 
-    -- unless the source failed or memory was wanted, it is captured where one stands in front
+    -- unless the source failed or memory ran out, the next value is captured if there is one
     abbrev pub ExactlyOne : Type 0
     ExactlyOne = (Grew (before stream c).stream.faults (after stream c).stream.faults → ⊥) → (WantsMemory r → ⊥) → (t : Tree) (w after : List ℕ) → HasValue (before stream c) t w after → IsOkAnd r (λ k. k.octets ≡ w)
 
-    -- all values were captured, or why they weren't
+    -- all values were captured, or why they were not
     abbrev pub CapturedAll : Type 0
     CapturedAll = CapturesBy CapturesValues HasOthers HasValuesOrDeep (before stream c) r (after stream c)
 
-    -- unless the source failed or memory was wanted, they are captured where the rest up to the end is encodings, and where the content has ended
+    -- unless the source failed or memory ran out, all values are captured if the rest up to the end is encodings,
+    -- or if the content has ended
     abbrev pub CapturesExactlyAll : Type 0
     CapturesExactlyAll = (Grew (before stream c).stream.faults (after stream c).stream.faults → ⊥) → (WantsMemory r → ⊥) → (HasValues (before stream c) → (before stream c).state ≡ Open → IsOk r) × ((before stream c).state ≡ Ended → IsOk r)
 

@@ -1,4 +1,4 @@
--- What an error of decoding tells.
+-- What an error of decoding says.
 use Rattle.std.specs.Prelude.{◌≡◌, ℕ, ◌++◌, Bool, true, false, List, Option, Some, None, codes, string_bytes}
 use Rattle.std.specs.Fmt.{decimal, ◌++?◌}
 use Rattle.bcder.specs.x690.Identifier.{Tag}
@@ -18,7 +18,7 @@ cause_of (Source e) = of_source
 cause_of (Content error pos) = of_content error
 cause_of NoMemory = of_memory
 
--- where the content was refused
+-- the position where content was refused, if it was
 abbrev pub position_of : {S : Type 0} → DecodeError S → Option ℕ
 position_of (Source e) = None
 position_of (Content error pos) = Some pos
@@ -34,25 +34,25 @@ is_memory_cause of_source = false
 is_memory_cause (of_content e) = false
 is_memory_cause of_memory = true
 
--- the same cause, where the source fails for want of memory alone
+-- the cause if the source fails only for lack of memory: a failure of the source is out of memory then
 abbrev pub memory_for_source : {E : Type 0} → Cause E → Cause E
 memory_for_source of_source = of_memory
 memory_for_source (of_content e) = of_content e
 memory_for_source of_memory = of_memory
 
--- no content error
+-- the cause is not a content error
 abbrev pub IsContentless : {E : Type 0} → Cause E → Type 0
 IsContentless of_source = Unit {0}
 IsContentless (of_content e) = ⊥
 IsContentless of_memory = Unit {0}
 
--- a fact for each cause
+-- one of three facts, by the cause
 abbrev pub MatchCause : {E : Type 0} → Cause E → Type 0 → Type 0 → Type 0 → Type 0
 MatchCause of_source A B C = A
 MatchCause (of_content e) A B C = B
 MatchCause of_memory A B C = C
 
--- the content error of a message of the user's own, by its text
+-- the content error of a message of the user's own, which has this text
 abbrev pub IsBoxed : ContentError → List ℕ → Type 0
 IsBoxed (Static text) w = ⊥
 IsBoxed (Owned text) w = ⊥
@@ -62,7 +62,7 @@ IsBoxed (Boxed text) w = string_bytes text ≡ w
 
 -- ---- texts
 
--- what is shown of a content error, where it is known what is shown of a tag
+-- the text that is shown for a content error, if the text shown for a tag is known
 abbrev pub content_text : (Tag → Option (List ℕ)) → ContentError → Option (List ℕ)
 content_text tag_text (Static text) = Some text
 content_text tag_text (Owned text) = Some (string_bytes text)
@@ -70,7 +70,7 @@ content_text tag_text (ExpectedTag tag) = Some (codes "expected tag ") ++? tag_t
 content_text tag_text (ExpectedInteger value) = Some (codes "expected integer value " ++ decimal value)
 content_text tag_text (Boxed text) = Some (string_bytes text)
 
--- what is shown of an error of decoding
+-- the text that is shown for an error of decoding
 abbrev pub decode_text : {S : Type 0} → (S → Option (List ℕ)) → (ContentError → Option (List ℕ)) → DecodeError S → Option (List ℕ)
 decode_text source_text error_text (Source e) = source_text e
 decode_text source_text error_text (Content error pos) = error_text error ++? Some (codes " (at position " ++ decimal pos ++ codes ")")
@@ -84,7 +84,7 @@ IsStatic (ExpectedTag tag) = ⊥
 IsStatic (ExpectedInteger value) = ⊥
 IsStatic (Boxed text) = ⊥
 
--- content was refused, for a reason that a fixed text tells: neither the source failed nor memory was wanted
+-- content was refused, for a reason that a fixed text gives: the source did not fail, and memory did not run out
 abbrev pub IsOfContent : Cause ContentError → Type 0
 IsOfContent of_source = ⊥
 IsOfContent (of_content e) = IsStatic e
@@ -93,6 +93,6 @@ IsOfContent of_memory = ⊥
 abbrev pub IsRefusal : {S : Type 0} → DecodeError S → Type 0
 IsRefusal e = IsOfContent (cause_of e)
 
--- the refusal of what is not this tag, which it names
+-- the refusal of anything but this tag, which it names
 abbrev pub NamesTag : {S : Type 0} → Tag → DecodeError S → Type 0
 NamesTag tag e = cause_of e ≡ of_content (ExpectedTag tag)

@@ -1,4 +1,4 @@
--- What a call changed of a source: relations over the parameter as a whole.
+-- What a call changed of a source: relations over a parameter from entry to exit.
 use Rattle.std.specs.Prelude.{◌≡◌, ◌<◌, ◌≤◌, length}
 use Rattle.std.specs.Borrow.{MutBor}
 use denote.Triple.Both.{Both}
@@ -13,7 +13,7 @@ module _ {S : Type 0} (stream : S → Stream) (s : Both (MutBor S) (MutBor S)) w
   abbrev pub SameFaults : Type 0
   SameFaults = (stream s.exit.now).faults ≡ (stream s.entry.now).faults
 
-  -- it counted one
+  -- the source counted a failure
   abbrev pub MoreFaults : Type 0
   MoreFaults = Grew (stream s.entry.now).faults (stream s.exit.now).faults
 
@@ -21,33 +21,33 @@ module _ {S : Type 0} (stream : S → Stream) (s : Both (MutBor S) (MutBor S)) w
   abbrev pub SameRest : Type 0
   SameRest = (stream s.exit.now).rest ≡ (stream s.entry.now).rest
 
-  -- they begin where they did
+  -- the octets to come begin at the same position
   abbrev pub SamePosition : Type 0
   SamePosition = (stream s.exit.now).position ≡ (stream s.entry.now).position
 
-  -- so is what no call changes
+  -- what no call changes is the same
   abbrev pub SameKept : Type 0
   SameKept = (stream s.exit.now).kept ≡ (stream s.entry.now).kept
 
-  -- the source failed, which it counts; or content was refused where P holds, by a fixed text, and it counts nothing
+  -- the source failed, and counts it; or content was refused by a fixed text, P holds, and nothing is counted
   abbrev pub RefusedWhere : {X : Type 0} → Type 0 → DecodeError X → Type 0
   RefusedWhere P e = MatchCause (cause_of e) MoreFaults (SameFaults × P × IsRefusal e) ⊥
 
 -- ---- of a limited source, by the wrapped one
 
--- what the wrapped source is
+-- the wrapped source
 abbrev pub inside : {S : Type 0} → (S → Stream) → LimitedSource S → Stream
 inside stream s = stream (wrapped s)
 
 module _ {S : Type 0} (stream : S → Stream) (s : LimitedSource S) where
-  -- its octets end before the limit
+  -- the octets of the wrapped source end before the limit
   abbrev pub EndsEarly : Type 0
   EndsEarly = length (inside stream s).rest < owed s
 
-  -- they reach the limit
+  -- the octets of the wrapped source reach the limit
   abbrev pub ReachesLimit : Type 0
   ReachesLimit = owed s ≤ length (inside stream s).rest
 
-  -- none are left up to the limit, or without one at all
+  -- no octets are left up to the limit, or at all if there is none
   abbrev pub HasNoneLeft : Type 0
   HasNoneLeft = IsExhausted (limit_of s) (inside stream s).rest

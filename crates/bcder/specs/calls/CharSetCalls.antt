@@ -1,4 +1,4 @@
--- What the calls of a character set answer.
+-- What the calls of a character set return.
 use Rattle.std.specs.Prelude.{◌≡◌, ◌≢◌, ℕ, List, [], Option, Some, None, Result, Ok, Err}
 use Rattle.std.specs.Cow.{cow_slice_items}
 use Rattle.std.specs.Str.{chars}
@@ -11,25 +11,25 @@ use Rattle.std.specs.Borrow.{Bor}
 use Rattle.bcder.specs.x690.Characters.{characters}
 
 module _ (step : Step) where
-  -- the next character, and the octets behind it are left; or none, at the end; or there is none in front
+  -- the next character, and the octets after it are left; or none, at the end; or an error, as no character comes next
   abbrev pub NextChar : List ℕ → Result (Option ℕ) CharSetError → List ℕ → Type 0
   NextChar w (Ok None) rest = (w ≡ []) × (rest ≡ [])
   NextChar w (Ok (Some c)) rest = step w ≡ Some (record { char = c; rest = rest })
   NextChar w (Err e) rest = (w ≢ []) × (step w ≡ None)
 
-  -- whether octets are a string of the set
+  -- the result says whether octets are a string of the set
   abbrev pub Checks : {A : Type 0} → List ℕ → Result A CharSetError → Type 0
   Checks w (Ok a) = IsOfSet step w
   Checks w (Err e) = IsOfSet step w → ⊥
 
-  -- octets that spell the characters of a text; or that there are none; or, where memory may lack, that it did
+  -- octets that spell the characters of a text; or an error: no octets spell them, or memory ran out, if it may
   abbrev pub SpellsText : {Z : Type 0} → Type 0 → List ℕ → Result (CowSlice ℕ Z) StringError → Type 0
   SpellsText may_lack text (Ok octets) = Spells step (cow_slice_items octets) (chars text)
   SpellsText may_lack text (Err CharSet) = HasNo step (chars text)
   SpellsText may_lack text (Err NoMemory) = may_lack
 
 module _ (step : Step) where
-  -- those that are still to come: of a text, where one is at hand, or what octets spell
+  -- the characters still to come: those of a text, if one is at hand, or those that the octets spell
   abbrev pub characters_left : Option (Bor (List ℕ)) → List ℕ → List ℕ
   characters_left (Some text) w = chars text.now
   characters_left None w = characters step w

@@ -1,4 +1,4 @@
--- What encoders of values that may be there mean, and of one of several.
+-- What encoders of optional values mean, and encoders of one of several values.
 use Rattle.std.specs.Prelude.{Option, None, Some, ⊤, ℕ, List}
 use Rattle.bcder.specs.declared.encode.values.choice.Choice2.{Choice2}
 use Rattle.bcder.specs.declared.encode.values.choice.Choice2.TheVariants as two
@@ -10,7 +10,7 @@ use Rattle.bcder.specs.calls.Joined.{NoValues}
 use Rattle.bcder.specs.calls.Noted.{ReadsNone}
 use Rattle.bcder.specs.laws.Joined.{NoValues_lawful}
 
--- ---- values that may be there
+-- ---- optional values
 
 abbrev pub OptionMeans : {X : Type 0} → (X → Meaning → Type 0) → Option X → Meaning → Type 0
 OptionMeans M (Some x) m = M x m

@@ -1,4 +1,4 @@
--- Content as clauses see it: octets, numbers and marks, whatever source lies below.
+-- Content in the view of clauses: octets, numbers and marks, whatever source is below.
 use Rattle.std.specs.Prelude.{◌≡◌, ◌≢◌, ◌⊎◌, ℕ, ◌+◌, ◌<◌, ◌≤◌, Bool, true, false, List, [], ◌++◌, length, Option, Some, None}
 use Rattle.std.specs.Borrow.{GName}
 use Rattle.bcder.specs.declared.mode.Mode.{Mode}
@@ -21,7 +21,7 @@ use Rattle.bcder.specs.declared.decode.violation.Violation.TheVariants as v
 use Rattle.bcder.specs.calls.Cause.{Cause, of_source, of_content, IsOfContent}
 use Rattle.bcder.specs.calls.Violations.{violation_text, ViolatesFront}
 
--- what content is made of: octets, or values whose end is known in one of three ways
+-- the form of content: octets, or values whose end is known in one of three ways
 pub data ContentForm : Type 0 where
   octets : ContentForm
   values : Kind → ContentForm
@@ -48,12 +48,12 @@ pub record Reading : Type 0 where
   pub mode : Mode
   -- whether a mode was changed in this content or inside it
   pub marked : Bool
-  -- the borrow that the content holds
+  -- the name of the borrow that the content holds
   pub name : GName
 
 -- ---- how content changes
 
--- the mode of what was passed: BER where a mode was changed
+-- the mode of what was passed: BER if a mode was changed
 abbrev pub label : Mode → Bool → Mode
 label mode false = mode
 label mode true = Ber
@@ -65,11 +65,11 @@ Falls None k None = k ≡ k
 Falls (Some m) k None = m ≢ m
 Falls None k (Some n) = n ≢ n
 
--- what ends content by the octets e: nothing, or the end marker of indefinite content
+-- the octets e that end content: none, or the end marker of indefinite content
 abbrev pub Closes : Mode → Reading → List ℕ → Reading → Type 0
 Closes mode c e d = (e ≡ []) × (d.state ≡ c.state) ⊎ IsEndOfContents mode e × (c.kind ≡ IndefiniteValues) × (c.state ≡ Open) × (d.state ≡ Ended)
 
--- the octets passed are whole values in a mode, and perhaps the end marker
+-- the octets passed are whole values in the mode, and perhaps the end marker
 pub record Whole (mode : Mode) (c : Reading) (passed : List ℕ) (d : Reading) : Type 0 where
   pub trees : Trees
   pub values : List ℕ
@@ -93,11 +93,11 @@ pub record MovesBy (c d : Reading) : Type 0 where
   pub ends : d.state ≡ Ended → (c.state ≡ Ended) ⊎ (c.kind ≡ IndefiniteValues)
   pub whole : d.state ≢ Failed → c.kind ≢ Octets → Whole (label c.mode d.marked) c passed d
 
--- content c became content d by lawful steps: the one relation of all content calls and closures
+-- lawful steps lead from content c to content d: the one relation of all content calls and closures
 unfoldable pub Moves : Reading → Reading → Type 0
 Moves c d = MovesBy c d
 
--- whatever moved to c moves to d: steps in a row chain by themselves
+-- whatever moved to c moves to d, so that steps in a row chain by themselves
 abbrev pub Carries : Reading → Reading → Type 0
 Carries c d = (b : Reading) → Moves b c → Moves b d
 
@@ -111,9 +111,9 @@ pub record Advances (c d : Reading) (passed : List ℕ) : Type 0 where
   pub mode : d.mode ≡ c.mode
   pub name : d.name ≡ c.name
 
--- ---- what stands in front
+-- ---- what comes next
 
--- whether a value of any tag is looked for, or one of this tag
+-- whether a value of any tag is asked for, or one of this tag
 pub data Asked : Type 0 where
   any : Asked
   tagged : Tag → Asked
@@ -122,13 +122,13 @@ abbrev pub IsAsked : Asked → Tag → Type 0
 IsAsked any t = t ≡ t
 IsAsked (tagged u) t = t ≡ u
 
--- the octets that a length promises are owed
+-- the length fits into what is owed
 abbrev pub FitsOwed : Length → Option ℕ → Type 0
 FitsOwed (Definite n) (Some o) = n ≤ o
 FitsOwed (Definite n) None = n ≡ n
 FitsOwed Indefinite o = o ≡ o
 
--- the header of a value stands in front, which the mode allows, with a length that fits into what is owed
+-- the header of an asked value comes next, allowed in the mode, with a length that fits into what is owed
 pub record HasHeader (asked : Asked) (c : Reading) (after : List ℕ) : Type 0 where
   pub tag : Tag
   pub form : Bool
@@ -141,13 +141,13 @@ pub record HasHeader (asked : Asked) (c : Reading) (after : List ℕ) : Type 0 w
   pub falls : Falls c.owed (length octets) owed
   pub fits : FitsOwed len owed
 
--- an end marker stands in front
+-- an end marker comes next
 pub record HasMarker (mode : Mode) (w after : List ℕ) : Type 0 where
   pub marker : List ℕ
   pub is_end : IsEndOfContents mode marker
   pub rest : w ≡ marker ++ after
 
--- the identifier octets of another tag stand in front
+-- the identifier octets of another tag come next
 pub record HasOther (t : Tag) (w : List ℕ) : Type 0 where
   pub tag : Tag
   pub form : Bool
@@ -158,7 +158,7 @@ pub record HasOther (t : Tag) (w : List ℕ) : Type 0 where
 
 -- ---- the end
 
--- the octets of open content are used up: none is owed, or without a limit none is left
+-- the octets of open content are used up: none is owed, or, without a limit, none is left
 abbrev pub IsUsedUp : ContentForm → Option ℕ → List ℕ → Type 0
 IsUsedUp octets o rest = o ≡ Some 0
 IsUsedUp (values kind.Definite) o rest = o ≡ Some 0
@@ -169,14 +169,14 @@ IsUsedUp (values kind.Unbounded) o rest = rest ≡ []
 abbrev pub IsDone : Reading → Type 0
 IsDone c = (c.state ≡ Ended) ⊎ (c.state ≡ Open) × IsUsedUp c.kind c.owed c.stream.rest
 
--- the end of open content, after which these octets stand
+-- open content is at its end, and the octets `after` follow
 pub data IsAtEnd (c : Reading) (after : List ℕ) : Type 0 where
   of_octets : c.kind ≡ Octets → c.owed ≡ Some 0 → IsAtEnd c after
   of_definite : c.kind ≡ DefiniteValues → c.owed ≡ Some 0 → IsAtEnd c after
   of_indefinite : c.kind ≡ IndefiniteValues → HasMarker c.mode c.stream.rest after → IsAtEnd c after
   of_unbounded : c.kind ≡ UnboundedValues → c.stream.rest ≡ [] → IsAtEnd c after
 
--- content is at its end, after which these octets stand
+-- content is at its end, and these octets follow
 abbrev pub EndsBefore : Reading → List ℕ → Type 0
 EndsBefore c after = (c.state ≡ Ended) ⊎ (c.state ≡ Open) × IsAtEnd c after
 
@@ -188,27 +188,28 @@ EndsAt c d = EndsBefore c d.stream.rest
 pub record NotAtEnd (c : Reading) : Type 0 where
   pub none : (after : List ℕ) → EndsBefore c after → ⊥
 
--- why a tag is not in front of open content, and the octets left: none came, those of another tag, or the end marker where it was asked for
+-- why the tag t does not come next in open content, and the octets left: no octets come, those of another tag do,
+-- or the end marker, if t is its tag
 pub data IsElsewhere (t : Tag) (c : Reading) (after : List ℕ) : Type 0 where
   none_left : c.stream.rest ≡ [] → after ≡ [] → IsElsewhere t c after
   other : HasOther t c.stream.rest → after ≡ c.stream.rest → IsElsewhere t c after
   marker : t ≡ end_of_contents → c.kind ≡ IndefiniteValues → HasMarker c.mode c.stream.rest after → IsElsewhere t c after
 
--- no value that is asked for is there, and these octets are left
+-- no asked value comes next, and these octets are left
 abbrev pub IsAbsent : Asked → Reading → List ℕ → Type 0
 IsAbsent any c after = EndsBefore c after
 IsAbsent (tagged t) c after = (c.state ≡ Ended) × (after ≡ c.stream.rest) ⊎ (c.state ≡ Open) × IsElsewhere t c after
 
--- content as it is left where no value of a tag is there: as it was, or ended by its marker
+-- content as it is left if no value of a tag comes next: as it was, or ended by its marker
 abbrev pub IsLeft : Tag → Reading → Reading → Type 0
 IsLeft t c d = (d.state ≡ c.state) × (d.stream.rest ≡ c.stream.rest) ⊎ (t ≡ end_of_contents) × (c.state ≡ Open) × (d.state ≡ Ended)
 
--- no value that is asked for is there, and content is usable
+-- no asked value comes next, and content is usable
 abbrev pub IsMissing : Asked → Reading → Reading → Type 0
 IsMissing any c d = EndsAt c d × IsDone d
 IsMissing (tagged t) c d = IsAbsent (tagged t) c d.stream.rest × IsLeft t c d
 
--- neither a value that is asked for nor a reason to answer that there is none
+-- neither an asked value comes next, nor is there a reason to return that there is none
 pub record NothingThere (asked : Asked) (c : Reading) : Type 0 where
   pub usable : c.state ≡ Open
   pub header : (after : List ℕ) → HasHeader asked c after → ⊥
@@ -234,13 +235,13 @@ pub record TakesMarker (c d : Reading) : Type 0 where
   pub marker : HasMarker c.mode c.stream.rest d.stream.rest
   pub ended : d.state ≡ Ended
 
--- octets stand in front that are neither the header of a value nor an end marker
+-- the next octets are neither the header of a value nor an end marker
 pub record NoFront (c : Reading) : Type 0 where
   pub some : c.stream.rest ≢ []
   pub header : (asked : Asked) (after : List ℕ) → HasHeader asked c after → ⊥
   pub marker : c.kind ≡ IndefiniteValues → (after : List ℕ) → HasMarker c.mode c.stream.rest after → ⊥
 
--- the same content, over a source that gives the same octets
+-- d is the content c, over a source that gives the same octets
 pub record Resembles (c d : Reading) : Type 0 where
   pub rest : d.stream.rest ≡ c.stream.rest
   pub kept : d.stream.kept ≡ c.stream.kept
@@ -253,7 +254,7 @@ pub record Resembles (c d : Reading) : Type 0 where
 
 -- ---- what octets violate
 
--- the header of a value stands in front, of which fewer octets are left than it tells
+-- the header of a value comes next, and promises more octets than are left
 pub record HasLongValue (c : Reading) : Type 0 where
   pub tag : Tag
   pub form : Bool
@@ -266,20 +267,20 @@ pub record HasLongValue (c : Reading) : Type 0 where
   pub owed : c.owed ≡ Some left
   pub beyond : left < length octets + number
 
--- the octets to come are refused in the content, for the reason that is named
+-- the octets to come are refused in the content, for the named reason
 pub data Violates (c : Reading) (r : Violation) : Type 0 where
   in_front : ViolatesFront c.mode c.stream.rest r → Violates c r
   truncated_contents : r ≡ v.TruncatedContents → c.stream.rest ≡ [] → c.kind ≢ UnboundedValues → Violates c r
   value_too_long : r ≡ v.ValueTooLong → HasLongValue c → Violates c r
   stray_end : r ≡ v.StrayEnd → c.kind ≢ IndefiniteValues → (after : List ℕ) → HasMarker c.mode c.stream.rest after → Violates c r
 
--- a cause is content, and its text names what the octets violate
+-- the cause is content, and its text names what the octets violate
 pub record NamesViolation (why : Cause ContentError) (c : Reading) : Type 0 where
   pub violation : Violation
   pub violates : Violates c violation
   pub named : why ≡ of_content (Static (violation_text violation))
 
--- why no header was passed, and e was answered; `why` tells its cause
+-- why no header was passed, with error e; `why` gives its cause
 pub data RefusesHeader {E : Type 0} (why : E → Cause ContentError) (asked : Asked) (c : Reading) (e : E) (d : Reading) : Type 0 where
   failed : c.state ≡ Failed → IsOfContent (why e) → RefusesHeader why asked c e d
   source : why e ≡ of_source → Grew c.stream.faults d.stream.faults → RefusesHeader why asked c e d

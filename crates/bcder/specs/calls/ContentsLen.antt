@@ -1,4 +1,4 @@
--- The number of contents octets, where length octets tell one.
+-- The number of contents octets, if length octets give one.
 use Rattle.std.specs.Prelude.{ℕ, Option, Some, None}
 use Rattle.bcder.specs.declared.length.Length.{Length}
 use Rattle.bcder.specs.declared.length.Length.TheVariants.{Definite, Indefinite}

@@ -1,4 +1,4 @@
--- What is asked of a closure that decodes the values of a source, and what is said of it.
+-- What is required of a closure that decodes the values of a source, and what is said about it.
 use Rattle.std.specs.Prelude.{◌≡◌, ◌≢◌, ℕ, Option, None, Result, Ok, Err, IfOk, IfErr, OnOk}
 use Rattle.std.specs.Borrow.{MutBor}
 use Rattle.bcder.specs.declared.mode.Mode.{Mode}
@@ -13,15 +13,16 @@ use Rattle.bcder.specs.calls.Content.{Reading, UnboundedValues, Moves}
 use Rattle.bcder.specs.calls.Calls.{Answered, IsOver, RunsOver, MayBeCalledOn, IsLawfulOn}
 use Rattle.bcder.specs.calls.Views.{of_constructed, lent}
 
--- all values of a source, as a closure is handed them: open, unmarked, unbounded content over it
+-- all values of a source, as a closure gets them: open, unmarked, unbounded content over it
 abbrev pub IsAllOf : Stream → Mode → Reading → Type 0
 IsAllOf s m i = IsOver (limited None s) None UnboundedValues Open m i
 
--- the same of a source behind a borrow
+-- all values of a source behind a borrow, as a closure gets them
 abbrev pub IsAllBehind : Stream → Mode → Reading → Type 0
 IsAllBehind s m i = (name : ℕ) × IsAllOf (borrowed name s) m i
 
--- why content i was refused with e, and left as j: the closure refused it, or answered and left failed content; `why` tells its cause
+-- why content i was refused with e, and left as j: the closure refused it, or returned Ok and left failed content;
+-- `why` gives the cause of e
 pub data RefusesOn {C T E : Type 0} (why : E → Cause ContentError) (view : C → Reading) (post : MutBor C → Result T E → MutBor C → Type 0) (i : Reading) (e : E) (j : Reading) : Type 0 where
   by_closure : Answered {R = Result T E} view post i (Err e) j → RefusesOn why view post i e j
   left_failed : (x : T) → Answered {R = Result T E} view post i (Ok x) j → j.state ≡ Failed → IsOfContent (why e) → RefusesOn why view post i e j
@@ -35,7 +36,7 @@ pub record RanOn {C T E : Type 0} (why : E → Cause ContentError) (view : C →
   pub answers : IfOk r (λ x. Answered {R = Result T E} view post handed (Ok x) left)
   pub refuses : IfErr r (λ e. RefusesOn why view post handed e left)
 
--- content i over the source s was handed, and j over s' was left
+-- a closure got content i over the source s, and left j over s'
 pub record HandsAll (s : Stream) (m : Mode) (i j : Reading) (s' : Stream) : Type 0 where
   pub over : IsAllOf s m i
   pub leaves : j.stream ≡ limited None s'
@@ -49,14 +50,14 @@ pub record Decodes {C T E : Type 0} (view : C → Reading) (post : MutBor C → 
   pub answered : Answered {R = Result T E} view post handed (Ok x) left
   pub usable : left.state ≢ Failed
 
--- nothing was decoded from the source s in a mode, but e answered, and s' is left of it
+-- nothing was decoded from the source s in a mode, e was returned, and s' is left of it
 pub record RefusesDecode {C T E : Type 0} (why : E → Cause ContentError) (view : C → Reading) (post : MutBor C → Result T E → MutBor C → Type 0) (s : Stream) (m : Mode) (e : E) (s' : Stream) : Type 0 where
   pub handed : Reading
   pub left : Reading
   pub hands : HandsAll s m handed left s'
   pub refuses : RefusesOn why view post handed e left
 
--- ---- the same of a source as a whole
+-- ---- of a source as a whole
 
 module _ {S : Type 0} (stream : S → Stream) where
   -- the closure may be called on all values of a source, and moves them
@@ -66,7 +67,7 @@ module _ {S : Type 0} (stream : S → Stream) where
   abbrev pub LawfulOnAll : {R : Type 0} → Stream → Mode → (MutBor (Constructed S) → R → MutBor (Constructed S) → Type 0) → Type 0
   LawfulOnAll s m post = IsLawfulOn (of_constructed stream) (IsAllOf s m) post
 
-  -- the same of a source behind a borrow
+  -- the closure may be called on all values of a source behind a borrow, and moves them
   abbrev pub CallableOnLent : MutBor S → Mode → (MutBor (Constructed (MutBor S)) → Type 0) → Type 0
   CallableOnLent s m pre = MayBeCalledOn (of_constructed (lent stream)) (IsAllBehind (stream s.now) m) pre
 
@@ -74,7 +75,7 @@ module _ {S : Type 0} (stream : S → Stream) where
   LawfulOnLent s m post = IsLawfulOn (of_constructed (lent stream)) (IsAllBehind (stream s.now) m) post
 
   module _ {T X : Type 0} (post : MutBor (Constructed S) → Result T (DecodeError X) → MutBor (Constructed S) → Type 0) (s : Stream) (m : Mode) (r : Result T (DecodeError X)) where
-    -- what was decoded from a source that is gone, or why nothing was
+    -- what was decoded from a source passed by value, or why nothing was
     abbrev pub DecodesAll : Type 0
     DecodesAll = IfOk r (λ x. (left : Stream) × Decodes (of_constructed stream) post s m x left)
 
@@ -82,7 +83,7 @@ module _ {S : Type 0} (stream : S → Stream) where
     RefusesAll = IfErr r (λ e. (left : Stream) × RefusesDecode cause_of (of_constructed stream) post s m e left)
 
   module _ {T X : Type 0} (post : MutBor (Constructed (MutBor S)) → Result T (DecodeError X) → MutBor (Constructed (MutBor S)) → Type 0) (s : Both (MutBor S) (MutBor S)) (m : Mode) (r : Result T (DecodeError X)) where
-    -- the same of a source that its owner goes on with
+    -- what was decoded from a borrowed source, which its owner goes on with, or why nothing was
     abbrev pub DecodesLent : Type 0
     DecodesLent = IfOk r (λ x. (name : ℕ) × Decodes (of_constructed (lent stream)) post (borrowed name (stream s.entry.now)) m x (borrowed name (stream s.exit.now)))
 

@@ -1,4 +1,4 @@
--- Kept values as an encoder, and what encoders write, kept.
+-- Kept values as an encoder, and what encoders write, as kept values.
 use Rattle.std.specs.Prelude.{◌≡◌, ◌≢◌, ℕ, Bool, true, false, List, [], ◌++◌, Result, Ok, Err}
 use Rattle.std.specs.Borrow.{MutBor}
 use denote.Triple.Both.{Both}
@@ -14,14 +14,14 @@ use Rattle.bcder.specs.calls.Encoders.{HasEncoding, RefusesToKeep}
 
 -- ---- kept values, written
 
--- whether values that are kept in one mode are written in another: in their own, and in BER, in which an encoding of CER or DER is one too
+-- whether values kept in one mode are written in another: in their own, and in BER, in which encodings of CER and DER are encodings too
 abbrev pub suits : Mode → Mode → Bool
 suits own Ber = true
 suits Cer Cer = true
 suits Der Der = true
 suits own mode = false
 
--- the values that are kept, with their octets as they stand; refused in CER and DER where they are kept in another mode
+-- the kept values, with their octets unchanged; refused in CER and DER if they are kept in another mode
 abbrev pub KeptMeans : Kept → Mode → Meaning → Type 0
 KeptMeans c mode (Ok e) = (suits c.mode mode ≡ true) × AreEncodings c.mode e.values c.octets × (e.octets ≡ c.octets)
 KeptMeans c mode (Err e) = (suits c.mode mode ≡ false) × (e ≡ CapturedMode)
@@ -40,7 +40,7 @@ kept_from_start mode w = record { mode = mode; octets = w; start = 0 }
 abbrev pub none_kept : Mode → Kept
 none_kept mode = kept_from_start mode []
 
--- the same values, from position 0
+-- the kept values, from position 0
 abbrev pub from_start : Kept → Kept
 from_start c = kept_from_start c.mode c.octets
 
@@ -49,7 +49,7 @@ pub record AreTheEncodings (mode : Mode) (values : Trees) (w : List ℕ) : Type 
   pub encode : AreEncodings mode values w
   pub only : mode ≢ Ber → (v : List ℕ) → AreEncodings mode values v → v ≡ w
 
--- c grew to d by the octets of what is meant, behind its own
+-- c grew to d: the octets of what is meant follow its own
 pub record GrowsBy (M : Meaning → Type 0) (c d : Kept) : Type 0 where
   pub what : Encoded
   pub meant : M (Ok what)
@@ -58,19 +58,19 @@ pub record GrowsBy (M : Meaning → Type 0) (c d : Kept) : Type 0 where
   pub start : d.start ≡ c.start
   pub encode : AreTheEncodings c.mode what.values what.octets
 
--- c holds just what is meant
+-- c holds exactly what is meant
 pub record HoldsMeant (M : Meaning → Type 0) (mode : Mode) (c : Kept) : Type 0 where
   pub what : Encoded
   pub meant : M (Ok what)
   pub holds : c ≡ kept_from_start mode what.octets
   pub encode : AreTheEncodings mode what.values what.octets
 
--- r is a capture of what is meant, or says why it isn't kept
+-- r is a capture of what is meant, or says why it is not kept
 abbrev pub GathersValues : (Meaning → Type 0) → Type 0 → Mode → Result Kept EncodeError → Type 0
 GathersValues M lacks mode (Ok c) = HoldsMeant M mode c
 GathersValues M lacks mode (Err e) = RefusesToKeep encoded_octets M lacks e
 
--- r says whether what is meant was put behind the kept values, and else why it isn't kept
+-- r says whether what is meant was put after the kept values, and otherwise why it is not kept
 abbrev pub ExtendsBy : (Meaning → Type 0) → Type 0 → Both (MutBor Kept) (MutBor Kept) → Result (Unit {0}) EncodeError → Type 0
 ExtendsBy M lacks c (Ok u) = GrowsBy M c.entry.now c.exit.now
 ExtendsBy M lacks c (Err e) = RefusesToKeep encoded_octets M lacks e

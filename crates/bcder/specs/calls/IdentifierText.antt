@@ -7,11 +7,11 @@ use Rattle.bcder.specs.x690.ObjectIdentifier.{AreSubidentifiers, components}
 
 -- ---- showing
 
--- a component in decimal, if it fits into 32 bits
+-- a component in decimal, if it fits in 32 bits
 abbrev pub shown : ℕ → List ℕ
 shown n = if nat_lt n (2 ^ 32) then decimal n else codes "(very large component)"
 
--- the texts, each behind a dot
+-- the texts, each after a dot
 abbrev pub dots_before : List (List ℕ) → List ℕ
 dots_before [] = []
 dots_before (t ∷ ts) = codes "." ++ t ++ dots_before ts
@@ -27,7 +27,7 @@ text_of w = dotted (map shown (components w))
 
 -- ---- reading
 
--- the texts between the dots of a text, behind what stands in front
+-- the texts between the dots of a text that begins with this prefix
 abbrev pub split_after : List ℕ → List ℕ → List (List ℕ)
 split_after front [] = front ∷ []
 split_after front (c ∷ s) = if c == 46 then front ∷ split_after [] s else split_after (front ++ c ∷ []) s
@@ -35,7 +35,7 @@ split_after front (c ∷ s) = if c == 46 then front ∷ split_after [] s else sp
 abbrev pub between_dots : List ℕ → List (List ℕ)
 between_dots s = split_after [] s
 
--- an optional plus and one decimal digit or more, whose number fits into 32 bits
+-- an optional plus and at least one decimal digit, whose number fits in 32 bits
 pub record IsComponentText (t : List ℕ) (n : ℕ) : Type 0 where
   pub numeral : IsNumeral 10 (without_leading_plus t)
   pub value : digits_value 10 (without_leading_plus t) ≡ n
@@ -50,7 +50,7 @@ AreComponentTexts (t ∷ ts) (n ∷ ns) = IsComponentText t n × AreComponentTex
 AreComponentTexts [] (n ∷ ns) = ⊥
 AreComponentTexts (t ∷ ts) [] = ⊥
 
--- one of the texts is no component
+-- one of the texts is not a component
 abbrev pub HasNoComponent : List (List ℕ) → Type 0
 HasNoComponent [] = ⊥
 HasNoComponent (t ∷ ts) = IsNoComponent t ⊎ HasNoComponent ts
@@ -60,7 +60,7 @@ pub record MayBegin (m n : ℕ) : Type 0 where
   pub first : m ≤ 2
   pub second : m < 2 → n < 40
 
--- the first two texts and those after them are components, and w is the octets of the identifier that has these components
+-- the first two texts and those after them are components, and w is the octets of the identifier with these components
 pub record AreTextsOf (a b : List ℕ) (ts : List (List ℕ)) (w : List ℕ) : Type 0 where
   pub first : ℕ
   pub second : ℕ
@@ -71,7 +71,7 @@ pub record AreTextsOf (a b : List ℕ) (ts : List (List ℕ)) (w : List ℕ) : T
   pub may_begin : MayBegin first second
   pub octets : AreSubidentifiers ((40 * first + second) ∷ others) w
 
--- why texts are refused, in the order of the checks; want of memory only where they are those of an identifier
+-- why texts are refused, in the order of the checks; memory runs out only if they are those of an identifier
 pub data RefusesTexts (a b : List ℕ) (ts : List (List ℕ)) (e : OidError) : Type 0 where
   first_is_none : e ≡ NotInteger → IsNoComponent a → RefusesTexts a b ts e
   first_too_large : (m : ℕ) → e ≡ First → IsComponentText a m → 2 < m → RefusesTexts a b ts e
@@ -80,7 +80,7 @@ pub data RefusesTexts (a b : List ℕ) (ts : List (List ℕ)) (e : OidError) : T
   other_is_none : (m n : ℕ) → e ≡ NotInteger → IsComponentText a m → IsComponentText b n → MayBegin m n → HasNoComponent ts → RefusesTexts a b ts e
   no_memory : (m n : ℕ) (ns : List ℕ) → e ≡ NoMemory → IsComponentText a m → IsComponentText b n → MayBegin m n → AreComponentTexts ts ns → RefusesTexts a b ts e
 
--- the text has two components or more, and these are the octets of the identifier that it stands for
+-- the text has two or more components, and these are the octets of the identifier that it denotes
 abbrev pub ReadsParts : List (List ℕ) → List ℕ → Type 0
 ReadsParts [] w = ⊥
 ReadsParts (a ∷ []) w = ⊥

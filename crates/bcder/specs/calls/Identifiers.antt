@@ -7,30 +7,30 @@ use Rattle.bcder.specs.x690.ObjectIdentifier.{subidentifier_number, subidentifie
 use Rattle.bcder.specs.calls.Components.{part_value, component_parts}
 use Rattle.bcder.specs.calls.IdentifierText.{between_dots, AreComponentTexts, IsTextOf, RefusesText, text_of}
 
--- octets of a subidentifier that don't begin with 80 are the fewest of its number
+-- the octets of a subidentifier that don't begin with 80 are the fewest for its number
 abbrev pub NoFewer : Type 0
 NoFewer = (v w : List ℕ) → IsWhole v → IsWhole w → subidentifier_number v ≡ subidentifier_number w → slice_index v 0 ≢ 0x80 → length v ≤ length w
 
--- and the only ones that don't begin so, or that are so few
+-- a number has only one subidentifier that doesn't begin with 80, and only one of each length
 abbrev pub OneFewest : Type 0
 OneFewest = (v w : List ℕ) → IsWhole v → IsWhole w → subidentifier_number v ≡ subidentifier_number w → slice_index v 0 ≢ 0x80 → slice_index w 0 ≢ 0x80 → v ≡ w
 
 abbrev pub OneOfLength : Type 0
 OneOfLength = (v w : List ℕ) → IsWhole v → IsWhole w → subidentifier_number v ≡ subidentifier_number w → length v ≡ length w → v ≡ w
 
--- the components as they stand in the octets have the values that X.690 gives them
+-- the components in the octets have the values that X.690 gives them
 abbrev pub PartsAreComponents : Type 0
 PartsAreComponents = (w : List ℕ) → map part_value (component_parts w) ≡ components w
 
--- a text is read as the octets of one identifier at most
+-- a text is read as the octets of at most one identifier
 abbrev pub OneIdentifierRead : Type 0
 OneIdentifierRead = (text v w : List ℕ) → IsTextOf text v → IsTextOf text w → v ≡ w
 
--- a refused text is that of no identifier
+-- a refused text is not that of an identifier
 abbrev pub RefusedIsNone : Type 0
 RefusedIsNone = (text w : List ℕ) (e : OidError) → e ≢ NoMemory → RefusesText text e → IsTextOf text w → ⊥
 
--- octets that are read from a text are complete, and hold the components that stand in it
+-- octets read from a text are complete, and hold the components in it
 abbrev pub TextIsHeld : Type 0
 TextIsHeld = (text w : List ℕ) → IsTextOf text w → IsComplete w × AreComponentTexts (between_dots text) (components w)
 

@@ -22,7 +22,7 @@ to_second means y z (inl is) mode m h = rw is h
 to_second means y z (inr s) mode m h = s.1.same mode m h
 
 module _ {T I A : Type 0} (is_clone : T → T → Type 0) (gives : T → I → Type 0) (steps : I → Option A → I → Type 0) where
-  -- a clone of x gave xs so far
+  -- a clone of x has given xs so far
   pub record Begins (x : T) (xs : List A) : Type 0 where
     pub copy : T
     pub cloned : is_clone x copy
@@ -31,7 +31,7 @@ module _ {T I A : Type 0} (is_clone : T → T → Type 0) (gives : T → I → T
     pub to : I
     pub ran : Yields steps from xs to
 
-  -- and then no more
+  -- a clone of x gave xs, and then no more
   pub record Lists (x : T) (xs : List A) : Type 0 where
     pub begins : Begins x xs
     pub left : I
@@ -42,7 +42,7 @@ module _ {T I A : Type 0} (is_clone : T → T → Type 0) (gives : T → I → T
   RunsMean M x (Ok z) = (xs : List A) × Lists x xs × EachOf M xs (Ok z)
   RunsMean M x (Err e) = (xs : List A) × Begins x xs × EachOf M xs (Err e)
 
--- a run over the items of a clone gives one where memory may lack
+-- a run over the items of a clone gives one for which memory may run out
 pub record GivesLacking {T I A : Type 0} (is_clone : T → T → Type 0) (gives : T → I → Type 0) (steps : I → Option A → I → Type 0) (lacks : A → Type 0) (x : T) : Type 0 where
   pub before : List A
   pub begins : Begins is_clone gives steps x before
@@ -51,17 +51,17 @@ pub record GivesLacking {T I A : Type 0} (is_clone : T → T → Type 0) (gives 
   pub gives_item : steps begins.to (Some item) left
   pub may : lacks item
 
--- where memory may lack to go over the items of a clone: the clone may fail, or an item that a run gives may lack
+-- when memory may run out while the items of a clone are gone over: the clone may fail, or memory may run out for an item that a run gives
 abbrev pub RunsLack : {T I A : Type 0} → (T → T → Type 0) → (T → Type 0) → (T → I → Type 0) → (I → Option A → I → Type 0) → (A → Type 0) → T → Type 0
 RunsLack is_clone is_infallible gives steps lacks x = (is_infallible x → ⊥) ⊎ GivesLacking is_clone gives steps lacks x
 
 module _ {I A : Type 0} (steps : I → Option A → I → Type 0) (can : A → Type 0) (means : A → Mode → Meaning → Type 0) where
-  -- each run from s gives items that may be encoded and mean what those of ys do
+  -- each run from s gives items that may be encoded and mean what the items of ys mean
   abbrev pub AlwaysGives : I → List A → Type 0
   AlwaysGives s [] = (x : A) (t : I) → steps s (Some x) t → ⊥
   AlwaysGives s (y ∷ ys) = ((t : I) → steps s None t → ⊥) × ((x : A) (t : I) → steps s (Some x) t → (can x × MeanSame means y x) × AlwaysGives t ys)
 
--- what is asked of an iterator: every clone of x gives the same finite list of what may be encoded
+-- what is required of an iterator: every clone of x gives the same finite list of what may be encoded
 pub record GivesOneList {T I A : Type 0} (is_clone : T → T → Type 0) (gives : T → I → Type 0) (steps : I → Option A → I → Type 0) (can_next : I → Type 0) (left : I → Count) (can : A → Type 0) (means : A → Mode → Meaning → Type 0) (x : T) : Type 0 where
   pub items : List A
   pub all_can : All can items
@@ -69,7 +69,7 @@ pub record GivesOneList {T I A : Type 0} (is_clone : T → T → Type 0) (gives 
   pub same : (t : T) (i : I) → is_clone x t → gives t i → AlwaysGives steps can means i items
 
 module _ {I A : Type 0} (steps : I → Option A → I → Type 0) (can : A → Type 0) (means : A → Mode → Meaning → Type 0) where
-  -- xs are a beginning of ys, and t gives the others
+  -- xs is a prefix of ys, and t gives the others
   pub record Follows (mode : Mode) (xs ys : List A) (t : I) : Type 0 where
     pub rest : List A
     pub gives_rest : AlwaysGives steps can means t rest
@@ -104,7 +104,7 @@ module _ {I A : Type 0} (steps : I → Option A → I → Type 0) (can : A → T
   none_left t u (y ∷ ys) h s = absurd (h.0 u s)
 
 module _ {T I A : Type 0} {is_clone : T → T → Type 0} {gives : T → I → Type 0} {steps : I → Option A → I → Type 0} {can_next : I → Type 0} {left : I → Count} {can : A → Type 0} {means : A → Mode → Meaning → Type 0} {x : T} (one : GivesOneList is_clone gives steps can_next left can means x) (mode : Mode) where
-  -- what a run means, the list means
+  -- whatever a run means, the list means
   pub as_listed : (m : Meaning) → RunsMean is_clone gives steps (λ v. means v mode) x m → EachOf (λ v. means v mode) one.items m
   as_listed (Ok z) (xs, lists, each) =
       let b = lists.begins in

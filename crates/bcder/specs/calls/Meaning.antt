@@ -20,57 +20,57 @@ encoded_octets e = e.octets
 abbrev pub Meaning : Type 0
 Meaning = Result Encoded EncodeError
 
--- of contents octets alone
+-- the meaning of contents octets alone
 abbrev pub ContentsMeaning : Type 0
 ContentsMeaning = Result (List ℕ) EncodeError
 
--- ---- what encoders keep
+-- ---- what each encoder maintains
 
--- a relation that holds of one thing at most
+-- a relation that holds of at most one thing
 pub record IsOne {A : Type 0} (P : A → Type 0) : Type 0 where
   pub same : (m n : A) → P m → P n → m ≡ n
 
--- there is one meaning at most, and where it isn't a refusal, its octets are an encoding of its values
+-- there is at most one meaning, and if it isn't a refusal, its octets are an encoding of its values
 pub record IsLawful (mode : Mode) (M : Meaning → Type 0) : Type 0 where
   pub one : IsOne M
   pub encodes : (e : Encoded) → M (Ok e) → AreEncodings mode e.values e.octets
 
--- there is one meaning at most, and where it isn't a refusal, it is octets
+-- there is at most one meaning, and if it isn't a refusal, it is octets
 pub record IsLawfulContents (M : ContentsMeaning → Type 0) : Type 0 where
   pub one : IsOne M
   pub octets : (w : List ℕ) → M (Ok w) → AreOctets w
 
 -- ---- contents octets
 
--- just these
+-- exactly these contents octets
 abbrev pub Exactly : List ℕ → ContentsMeaning → Type 0
 Exactly w m = m ≡ Ok w
 
--- these, which are octets
+-- exactly these contents octets, each below 256
 abbrev pub ExactlyOctets : List ℕ → ContentsMeaning → Type 0
 ExactlyOctets w m = (m ≡ Ok w) × AreOctets w
 
--- 9.2: a primitive string has at most 1000 contents octets in CER
+-- whether n contents octets fit a primitive string: in CER at most 1000 (9.2)
 abbrev pub fits_primitive : Mode → ℕ → Bool
 fits_primitive Cer n = nat_le n 1000
 fits_primitive mode n = true
 
--- those of a string, which are octets; or this refusal, where the mode has no primitive string of so many
+-- the contents octets of a string, each below 256; or this refusal, if the mode has no primitive string of that many
 abbrev pub PieceMeans : EncodeError → Mode → List ℕ → ContentsMeaning → Type 0
 PieceMeans refusal mode w m = (m ≡ (if fits_primitive mode (length w) then Ok w else Err refusal)) × AreOctets w
 
--- those of a bit string
+-- the contents octets of a bit string
 abbrev pub BitsMean : EncodeError → Mode → Bits → ContentsMeaning → Type 0
 BitsMean refusal mode x = PieceMeans refusal mode (contents_octets (as_written mode x))
 
--- 8.2, 11.1: of a BOOLEAN
+-- the contents octets of a BOOLEAN (8.2, 11.1)
 abbrev pub truth_octets : Bool → List ℕ
 truth_octets true = 0xFF ∷ []
 truth_octets false = 0x00 ∷ []
 
 -- ---- one value
 
--- refused for the tag of the end-of-contents octets, and else what f makes of what P says
+-- refused for the tag of the end-of-contents octets, otherwise what f makes of what P says
 abbrev pub ValueMeans : {A : Type 0} → Tag → (A → Meaning) → (A → Type 0) → Meaning → Type 0
 ValueMeans t f P m =
     ((t ≡ end_of_contents) × (m ≡ Err EndOfValueTag))
@@ -88,7 +88,7 @@ primitive_meaning t (Ok contents) =
 abbrev pub constructed_encoded : Mode → Tag → Encoded → Encoded
 constructed_encoded mode t x = record { values = constructed t x.values ∷ₜ no_trees; octets = enclosed mode t x.octets }
 
--- whether a constructed value may have n contents octets: a definite length fits four octets, and what is written in CER a `usize`
+-- whether a constructed value may have n contents octets: a definite length fits in four octets, and what is written in CER in a `usize`
 abbrev pub fits_enclosed : Mode → Tag → ℕ → Bool
 fits_enclosed Cer t n = nat_lt (enclosed_size Cer t n) (2 ^ 64)
 fits_enclosed mode t n = nat_lt n (2 ^ 32)

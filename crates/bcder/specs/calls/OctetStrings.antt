@@ -14,7 +14,7 @@ use Rattle.bcder.specs.calls.Valued.{tag_of}
 abbrev pub PrimitiveInDer : Type 0
 PrimitiveInDer = (t : Tree) → IsOctetString Der t → t ≡ primitive (tag_of t) (flat t)
 
--- in CER it is where it has 1000 octets at most (9.2)
+-- in CER an octet string is primitive exactly if it has at most 1000 octets (9.2)
 abbrev pub PrimitiveInCer : Type 0
 PrimitiveInCer = (t : Tree) → IsOctetString Cer t → (length (flat t) ≤ 1000) × (t ≡ primitive (tag_of t) (flat t)) ⊎ (1000 < length (flat t)) × (ts : Trees) × (t ≡ constructed (tag_of t) ts)
 
@@ -22,7 +22,7 @@ PrimitiveInCer = (t : Tree) → IsOctetString Cer t → (length (flat t) ≤ 100
 abbrev pub OneString : Type 0
 OneString = (mode : Mode) → mode ≢ Ber → (t u : Tree) → IsOctetString mode t → IsOctetString mode u → tag_of t ≡ tag_of u → flat t ≡ flat u → t ≡ u
 
--- and are encoded by the same octets
+-- in CER and DER two octet strings with the same tag and octets are encoded by the same octets
 abbrev pub OneStringEncoding : Type 0
 OneStringEncoding = (mode : Mode) → mode ≢ Ber → (t u : Tree) (v w : List ℕ) → IsOctetString mode t → IsOctetString mode u → tag_of t ≡ tag_of u → flat t ≡ flat u → IsEncoding mode t v → IsEncoding mode u w → v ≡ w
 
@@ -30,10 +30,10 @@ OneStringEncoding = (mode : Mode) → mode ≢ Ber → (t u : Tree) (v w : List 
 abbrev pub PartsJoin : Type 0
 PartsJoin = (s : StringOctets) → concat (parts s) ≡ octets_of s
 
--- what a value means has the octets of the value
+-- the octet string that a value means has the octets of the value
 abbrev pub MeansFlat : Type 0
 MeansFlat = (mode : Mode) (t : Tree) (s : StringOctets) → IsStringOf mode t s → octets_of s ≡ flat t
 
--- and where the value is cut into segments, these are its parts
+-- if a value is cut into segments, these are the parts of the octet string that it means
 abbrev pub MeansSegments : Type 0
 MeansSegments = (mode : Mode) (tag : Tag) (ts : Trees) (s : StringOctets) → IsStringOf mode (constructed tag ts) s → parts s ≡ segments_of ts

@@ -1,4 +1,4 @@
--- What calls that take contents octets one by one say.
+-- What calls say that take contents octets one by one.
 use Rattle.std.specs.Prelude.{◌≡◌, ℕ, [], ◌∷◌, length, drop, min, Option, Result, IfOk, IfErr, OnOk, OnErr, MatchOption}
 use Rattle.std.specs.Borrow.{MutBor}
 use denote.Triple.Both.{Both}
@@ -9,7 +9,7 @@ use Rattle.bcder.specs.calls.Stream.{Stream, Grew}
 use Rattle.bcder.specs.calls.Content.{Reading, Falls}
 use Rattle.bcder.specs.calls.Views.{octets_before, octets_after}
 
--- an error took nothing, and no call changes the mode
+-- an error took nothing; no call changes the mode
 pub record LeavesContent {T E : Type 0} (c : Reading) (r : Result T E) (d : Reading) : Type 0 where
   pub no_fault : OnOk r (d.stream.faults ≡ c.stream.faults)
   pub kept : OnErr r (d.stream.rest ≡ c.stream.rest)
@@ -31,7 +31,7 @@ pub record TakesOctet {X : Type 0} (c : Reading) (r : Result ℕ (DecodeError X)
   pub refused : IfErr r (λ e. MatchCause (cause_of e) (Grew c.stream.faults d.stream.faults) ((d.stream.faults ≡ c.stream.faults) × (c.stream.rest ≡ []) × IsRefusal e) ⊥)
   pub leaves : LeavesContent c r d
 
--- n octets were passed, or all that come where these are fewer; or the source failed
+-- n octets were passed, or all that come if these are fewer; or the source failed
 pub record SkipsOctets {E : Type 0} (n : ℕ) (c : Reading) (r : Result ℕ E) (d : Reading) : Type 0 where
   pub count : IfOk r (λ k. k ≡ min n (length c.stream.rest))
   pub rest : IfOk r (λ k. d.stream.rest ≡ drop k c.stream.rest)
@@ -39,7 +39,7 @@ pub record SkipsOctets {E : Type 0} (n : ℕ) (c : Reading) (r : Result ℕ E) (
   pub fault : OnErr r (Grew c.stream.faults d.stream.faults)
   pub leaves : LeavesContent c r d
 
--- ---- the same of a parameter as a whole
+-- ---- of a parameter, from entry to exit
 
 module _ {S : Type 0} (stream : S → Stream) (c : Both (MutBor (Primitive S)) (MutBor (Primitive S))) where
   abbrev pub TookNextOctet : {E : Type 0} → Result (Option ℕ) E → Type 0

@@ -3,7 +3,7 @@ use Rattle.std.specs.Prelude.{◌≡◌, List, ℕ, Ok}
 use Rattle.bcder.specs.declared.mode.Mode.{Mode}
 use Rattle.bcder.specs.calls.Meaning.{ContentsMeaning}
 
--- contents octets are written, which are read as x, and as nothing else
+-- contents octets are written that are read as x, and as nothing else
 pub record IsReadBack {T : Type 0} (Writes : ContentsMeaning → Type 0) (Reads : List ℕ → T → Type 0) (x : T) : Type 0 where
   pub contents : List ℕ
   pub written : Writes (Ok contents)
@@ -11,6 +11,6 @@ pub record IsReadBack {T : Type 0} (Writes : ContentsMeaning → Type 0) (Reads 
   pub read : Reads contents x
   pub no_other : (y : T) → Reads contents y → y ≡ x
 
--- the same of all values in range, in each mode
+-- all values in range are written, in each mode, as contents octets that are read as them, and as nothing else
 abbrev pub AreReadBack : {T : Type 0} → (T → Type 0) → (T → Mode → ContentsMeaning → Type 0) → (Mode → List ℕ → T → Type 0) → Type 0
 AreReadBack InRange writes reads = (mode : Mode) (x : _) → InRange x → IsReadBack (writes x mode) (reads mode) x

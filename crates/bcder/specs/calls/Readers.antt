@@ -24,55 +24,55 @@ use Rattle.bcder.specs.calls.Views.{octets_before, octets_after, content_before,
 abbrev pub IsSigned : Width → List ℕ → ℤ → Type 0
 IsSigned w = IsNumber (λ x. x) (FitsSigned w)
 
--- a number of an unsigned type of so many bits
+-- a number of an unsigned type of this many bits
 abbrev pub IsUnsigned : ℕ → List ℕ → ℕ → Type 0
 IsUnsigned bits = IsNumber pos (FitsUnsignedBits bits)
 
--- a truth value (8.2, 11.1)
+-- a boolean (8.2, 11.1)
 abbrev pub IsTruth : Mode → List ℕ → Bool → Type 0
 IsTruth mode w x = truth mode w ≡ Some x
 
--- null, which has none (8.8.2)
+-- null, which has no contents octets (8.8.2)
 abbrev pub IsNull : {T : Type 0} → List ℕ → T → Type 0
 IsNull w x = w ≡ []
 
--- this number of an unsigned type
+-- this number, of an unsigned type
 abbrev pub IsThis : {T : Type 0} → ℕ → ℕ → List ℕ → T → Type 0
 IsThis bits n w x = IsUnsigned bits w n
 
 -- ---- reading them
 
--- the octets that come are all that are owed, and so many
+-- all octets that are owed come, and there are n
 pub record HasAll (n : ℕ) (c : Reading) : Type 0 where
   pub owed : c.owed ≡ Some n
   pub count : length c.stream.rest ≡ n
 
--- why octets that are owed did not come, and e was answered
+-- why octets that are owed did not come, with error e
 pub data RefusesTooFew {X : Type 0} (c : Reading) (e : DecodeError X) (d : Reading) : Type 0 where
   source : cause_of e ≡ of_source → Grew c.stream.faults d.stream.faults → RefusesTooFew c e d
   few : IsShort c → IsRefusal e → d.stream.faults ≡ c.stream.faults → RefusesTooFew c e d
 
--- they mean nothing
+-- the octets mean nothing
 abbrev pub MeanNothing : {T X : Type 0} → (List ℕ → T → Type 0) → List ℕ → DecodeError X → Type 0
 MeanNothing Means w e = ((x : _) → Means w x → ⊥) × IsRefusal e
 
--- they are no integer's, or there was no memory for them
+-- the octets are not those of an integer, or memory ran out for them
 abbrev pub NoInteger : {X : Type 0} → List ℕ → DecodeError X → Type 0
 NoInteger w e = MeanNothing (λ v z. AreInteger z v) w e ⊎ (cause_of e ≡ of_memory) × ((z : ℤ) × AreInteger z w)
 
--- they are not the smallest of their number, or there was no memory for them
+-- the octets are not the smallest for their number, or memory ran out for them
 abbrev pub NotSmallest : {X : Type 0} → List ℕ → DecodeError X → Type 0
 NotSmallest w e = (IsSmallest w → ⊥) × IsRefusal e ⊎ (cause_of e ≡ of_memory) × IsSmallest w
 
--- the same of an integer that isn't negative
+-- the octets are not those of an integer of at least 0, or memory ran out for them
 abbrev pub NoUnsigned : {X : Type 0} → List ℕ → DecodeError X → Type 0
 NoUnsigned w e = MeanNothing (λ v n. AreInteger (pos n) v) w e ⊎ (cause_of e ≡ of_memory) × ((n : ℕ) × AreInteger (pos n) w)
 
--- they mean another number of a `u8`, or none
+-- the octets mean another number of a `u8`, or none
 abbrev pub MeanAnother : {X : Type 0} → ℕ → List ℕ → DecodeError X → Type 0
 MeanAnother n w e = ((m : ℕ) × IsUnsigned 8 w m × (m ≢ n) × (cause_of e ≡ of_content (ExpectedInteger n))) ⊎ MeanNothing (IsUnsigned 8) w e
 
--- there was no memory for them
+-- memory ran out for the octets
 abbrev pub FindNoMemory : {X : Type 0} → List ℕ → DecodeError X → Type 0
 FindNoMemory w e = cause_of e ≡ of_memory
 
@@ -81,7 +81,7 @@ abbrev pub AreNeverRefused : {X : Type 0} → List ℕ → DecodeError X → Typ
 AreNeverRefused w e = ⊥
 
 module _ {T X : Type 0} (Means : List ℕ → T → Type 0) (Refuses : List ℕ → DecodeError X → Type 0) where
-  -- why contents octets were not read, and e was answered: they did not come, or were refused
+  -- why contents octets were not read, with error e: they did not come, or were refused
   pub data RefusesReading (c : Reading) (e : DecodeError X) (d : Reading) : Type 0 where
     missing : RefusesTooFew c e d → RefusesReading c e d
     refused : HasAll (length c.stream.rest) c → Refuses c.stream.rest e → d.stream.faults ≡ c.stream.faults → RefusesReading c e d
@@ -110,24 +110,24 @@ pub record LooksAt {T X : Type 0} (Means : List ℕ → T → Type 0) (c : Readi
   pub mode : d.mode ≡ c.mode
   pub marked : d.marked ≡ c.marked
 
--- ---- the same of a parameter as a whole
+-- ---- of a parameter, from entry to exit
 
 module _ {S T X : Type 0} (stream : S → Stream) (c : Both (MutBor (Primitive S)) (MutBor (Primitive S))) where
-  -- by a reader of its own that means something or refuses
+  -- read by a reader with its own meaning, which means something or refuses
   abbrev pub ReadBy : (List ℕ → T → Type 0) → (List ℕ → DecodeError X → Type 0) → Result T (DecodeError X) → Type 0
   ReadBy Means Refuses r = Reads Means Refuses (octets_before stream c) r (octets_after stream c)
 
-  -- what the octets mean, refused exactly where they mean nothing
+  -- read as what the octets mean, refused exactly if they mean nothing
   abbrev pub ReadOctets : (List ℕ → T → Type 0) → Result T (DecodeError X) → Type 0
   ReadOctets Means r = ReadBy Means (MeanNothing Means) r
 
-  -- lent, and left
+  -- the octets were lent, and left
   abbrev pub LookedAt : (List ℕ → T → Type 0) → Result T (DecodeError X) → Type 0
   LookedAt Means r = LooksAt Means (octets_before stream c) r (octets_after stream c)
 
 -- ---- octets that are lent to a closure
 
--- the same of content of either form: that of a constructed value is refused, and left as it is
+-- for content of either form: that of a constructed value is refused, and left as it is
 module _ {S T X : Type 0} (stream : S → Stream) (c : Both (MutBor (Content S)) (MutBor (Content S))) where
   abbrev pub ReadContentBy : (List ℕ → T → Type 0) → (List ℕ → DecodeError X → Type 0) → Result T (DecodeError X) → Type 0
   ReadContentBy Means Refuses r = (content_before stream c).kind ≡ Octets → Reads Means Refuses (content_before stream c) r (content_after stream c)
@@ -138,14 +138,14 @@ module _ {S T X : Type 0} (stream : S → Stream) (c : Both (MutBor (Content S))
   abbrev pub RefusedValues : Result T (DecodeError X) → Type 0
   RefusedValues r = (content_before stream c).kind ≢ Octets → IsErrAnd r IsRefusal × (content_after stream c ≡ content_before stream c)
 
--- a closure that is lent octets, and can't refuse them, answered x
+-- a closure that is lent octets, and can't refuse them, returned x
 abbrev pub ToldOf : {B T : Type 0} → (B → List ℕ) → (B → T → Type 0) → List ℕ → T → Type 0
 ToldOf now post w x = (p : _) × (now p ≡ w) × post p x
 
--- a closure that is lent octets answered x
+-- a closure that is lent octets returned x
 abbrev pub Told : {B T : Type 0} → (B → List ℕ) → (B → Result T ContentError → Type 0) → List ℕ → T → Type 0
 Told now post w x = (p : _) × (now p ≡ w) × post p (Ok x)
 
--- it refused them, and its error is answered
+-- a closure that is lent octets refused them, and its error is returned
 abbrev pub Untold : {B T X : Type 0} → (B → List ℕ) → (B → Result T ContentError → Type 0) → List ℕ → DecodeError X → Type 0
 Untold now post w e = (p : _) × (error : ContentError) × (now p ≡ w) × post p (Err error) × (cause_of e ≡ of_content error)

@@ -1,4 +1,4 @@
--- What is asked of a closure that is called over content until it answers `None`, and what its calls did.
+-- What is required of a closure that is called on content until it returns `None`, and what its calls did.
 use Rattle.std.specs.Prelude.{◌≡◌, ℕ, ◌-◌, ◌^◌, List, length, map, Option, Some, None, Result, Ok, Err}
 use Rattle.std.specs.Borrow.{MutBor}
 use Rattle.std.specs.List.{FoldsTo}
@@ -13,7 +13,7 @@ use Rattle.bcder.specs.calls.Stream.{Stream}
 use Rattle.bcder.specs.calls.Content.{Reading, Moves}
 use Rattle.bcder.specs.calls.Views.{of_constructed}
 
--- the answer of a call: `Some` with a value for one more, `None` for the end
+-- the result of a call: `Some` with a value to go on, `None` at the end
 abbrev pub Answer : Type 0 → Type 0 → Type 0
 Answer T E = Result (Option T) E
 
@@ -23,21 +23,21 @@ OwesAsBefore (Some m) (Some n) = m ≡ n
 OwesAsBefore (Some m) None = ⊥
 OwesAsBefore None o = ⊥
 
--- none was taken of content up to a limit
+-- no octet was taken of content up to a limit
 abbrev pub TookNothing : Reading → Reading → Type 0
 TookNothing c d = OwesAsBefore c.owed d.owed
 
--- the content that one call was handed, and what it left of it
+-- the content that one call got, and what it left of it
 pub record Turn (C : Type 0) : Type 0 where
   pub handed : MutBor C
   pub left : MutBor C
 
--- a call that answered `Some`, with a value
+-- a call that returned `Some`, with a value
 pub record Gift (C T : Type 0) : Type 0 where
   pub turn : Turn C
   pub value : T
 
--- the values that calls answered, in their order
+-- the values that calls returned, in order
 abbrev pub values : {C T : Type 0} → List (Gift C T) → List T
 values gifts = map (λ g. g.value) gifts
 
@@ -47,18 +47,18 @@ pub record Stage (F : Type 0) : Type 0 where
   pub content : Reading
 
 module _ {F C T E : Type 0} (view : C → Reading) (step : F → MutBor C → Answer T E → MutBor C → F → Type 0) where
-  -- one call of the closure answered so
+  -- one call of the closure returned a
   pub record AnswersTurn (p : Stage F) (t : Turn C) (a : Answer T E) (q : Stage F) : Type 0 where
     pub handed_is : view t.handed.now ≡ p.content
     pub left_is : view t.left.now ≡ q.content
     pub called : step p.closure t.handed a t.left q.closure
 
-  -- one call answered `Some`, and the next may follow
+  -- one call returned `Some`, and the next may follow
   pub record GoesOn (p : Stage F) (g : Gift C T) (q : Stage F) : Type 0 where
     pub answered : AnswersTurn p g.turn (Ok (Some g.value)) q
     pub took : TookNothing p.content q.content → ⊥
 
-  -- calls that answered `Some`, and a last one that answered so and left d
+  -- calls that returned `Some`, and a last one that returned a and left d
   pub record LastAnswers (f : F) (c : Reading) (a : Answer T E) (d : Reading) : Type 0 where
     pub gifts : List (Gift C T)
     pub before : Stage F
@@ -69,41 +69,42 @@ module _ {F C T E : Type 0} (view : C → Reading) (step : F → MutBor C → An
     pub left : after.content ≡ d
 
 module _ {F C E : Type 0} (why : E → Cause ContentError) (view : C → Reading) (step : F → MutBor C → Answer (Unit {0}) E → MutBor C → F → Type 0) where
-  -- how the calls of the closure f over content c came to an end, with the answer r, and left d
+  -- how the calls of the closure f over content c ended, with the result r and with d left
   pub data Repeats (f : F) (c : Reading) (r : Result (Unit {0}) E) (d : Reading) : Type 0 where
-    -- the last one answered `None`
+    -- the last call returned `None`
     ended : r ≡ Ok tt → LastAnswers view step f c (Ok None) d → Repeats f c r d
-    -- the last one refused, with this error
+    -- the last call refused, with this error
     refused : (e : E) → r ≡ Err e → LastAnswers view step f c (Err e) d → Repeats f c r d
-    -- the last one answered `Some`, and had taken nothing
+    -- the last call returned `Some`, and had taken nothing
     stalled : (e : E) → r ≡ Err e → IsOfContent (why e) → (l : LastAnswers view step f c (Ok (Some tt)) d) → TookNothing l.before.content d → Repeats f c r d
-    -- so many answered `Some`
+    -- 2^64 - 1 calls returned `Some`
     endless : (e : E) → r ≡ Err e → IsOfContent (why e) → (gifts : List (Gift C (Unit {0}))) → length gifts ≡ 2 ^ 64 - 1 → (after : Stage F) → FoldsTo (GoesOn view step) (record { closure = f; content = c }) gifts after → after.content ≡ d → Repeats f c r d
 
 module _ {F C T E : Type 0} (why : E → Cause ContentError) (view : C → Reading) (step : F → MutBor C → Answer T E → MutBor C → F → Type 0) where
-  -- how the calls of the closure f over content c came to an end, with the answer r, and left d, where what they answered is collected
+  -- how the calls of the closure f over content c ended, if what they return is collected, with the result r and with d left
   pub data Collects (f : F) (c : Reading) (r : Result (Vec T Global) E) (d : Reading) : Type 0 where
-    -- the last one answered `None`; the vector holds what those before it answered
+    -- the last call returned `None`; the vector holds what those before it returned
     collected : (v : Vec T Global) → r ≡ Ok v → (l : LastAnswers view step f c (Ok None) d) → v.items ≡ values l.gifts → Collects f c r d
-    -- the last one refused, with this error
+    -- the last call refused, with this error
     not_answered : (e : E) → r ≡ Err e → LastAnswers view step f c (Err e) d → Collects f c r d
-    -- the last one answered `Some`, and had taken nothing
+    -- the last call returned `Some`, and had taken nothing
     not_advanced : (e : E) → r ≡ Err e → IsOfContent (why e) → (x : T) → (l : LastAnswers view step f c (Ok (Some x)) d) → TookNothing l.before.content d → Collects f c r d
-    -- the last one answered `Some`, had taken something, and there was no memory for its value
+    -- the last call returned `Some` and had taken something, and memory ran out for its value
     not_kept : (e : E) → r ≡ Err e → why e ≡ of_memory → (x : T) → (l : LastAnswers view step f c (Ok (Some x)) d) → (TookNothing l.before.content d → ⊥) → Collects f c r d
 
--- a closure may be called, in whatever state, on all that this content can become
+-- the closure may be called, in any state, on all that this content can become
 abbrev pub MayRepeat : {S F : Type 0} → (S → Stream) → MutBor (Constructed S) → (F → MutBor (Constructed S) → Type 0) → Type 0
 MayRepeat {S} {F} stream c pre = (f : F) (p : MutBor (Constructed S)) → Moves (of_constructed stream c.now) (of_constructed stream p.now) → pre f p
 
--- and what it leaves is where it moved that content to
+-- whatever the closure leaves is reached by lawful steps from the content that it got
 abbrev pub RepeatsLawfully : {S F T E : Type 0} → (S → Stream) → MutBor (Constructed S) → (F → MutBor (Constructed S) → Answer T E → MutBor (Constructed S) → F → Type 0) → Type 0
 RepeatsLawfully {S} {F} {T} {E} stream c step = (f : F) (p : MutBor (Constructed S)) (a : Answer T E) (q : MutBor (Constructed S)) (g : F) → Moves (of_constructed stream c.now) (of_constructed stream p.now) → step f p a q g → Moves (of_constructed stream p.now) (of_constructed stream q.now)
 
--- the closure f was called over content until it answered `None`, refused, or took nothing
+-- the closure f was called over content until it returned `None`, refused, or took nothing
 abbrev pub Repeated : {S F X : Type 0} → (S → Stream) → Both (MutBor (Constructed S)) (MutBor (Constructed S)) → (F → MutBor (Constructed S) → Answer (Unit {0}) (DecodeError X) → MutBor (Constructed S) → F → Type 0) → F → Result (Unit {0}) (DecodeError X) → Type 0
 Repeated stream c step f r = Repeats cause_of (of_constructed stream) step f (of_constructed stream c.entry.now) r (of_constructed stream c.exit.now)
 
--- and the same, where what it answered was collected, until there was no memory for it
+-- the closure f was called over content, and what it returned collected, until it returned `None`, refused, took nothing,
+-- or memory ran out for what it returned
 abbrev pub Collected : {S F T X : Type 0} → (S → Stream) → Both (MutBor (Constructed S)) (MutBor (Constructed S)) → (F → MutBor (Constructed S) → Answer T (DecodeError X) → MutBor (Constructed S) → F → Type 0) → F → Result (Vec T Global) (DecodeError X) → Type 0
 Collected stream c step f r = Collects cause_of (of_constructed stream) step f (of_constructed stream c.entry.now) r (of_constructed stream c.exit.now)

@@ -9,15 +9,16 @@ use Rattle.bcder.specs.calls.StringOctets.{StringOctets, whole, octets_of, Means
 use Rattle.bcder.specs.x690.CharSet.{Step, Spells, IsOfSet, HasNo, HasSome}
 
 module _ (step : Step) where
-  -- 8.23.3: a value is read as an octet string is, whose octets are a string of the set
+  -- a value is read as an octet string whose octets are a string of the set (8.23.3)
   abbrev pub MeansRestricted : Mode → Tree → StringOctets → Type 0
   MeansRestricted mode t s = MeansString mode t s × IsOfSet step (octets_of s)
 
-  -- the same of octets in one piece
+  -- a value is read as the octets of a string of the set, in one piece
   abbrev pub MeansPiece : Mode → Tree → List ℕ → Type 0
   MeansPiece mode t w = MeansRestricted mode t (whole w)
 
-  -- the octets of a text in one piece; or that the set hasn't all of its characters; or that memory lacked: for the set, where it may, or for a copy of octets that there are
+  -- the octets of a text in one piece; or that the set lacks some of its characters; or that memory ran out: for the set, if it may,
+  -- or for a copy of octets that there are
   abbrev pub MakesText : Type 0 → List ℕ → Result StringOctets StringError → Type 0
   MakesText may_lack text (Ok s) = (w : List ℕ) × (s ≡ whole w) × Spells step w (chars text)
   MakesText may_lack text (Err CharSet) = HasNo step (chars text)

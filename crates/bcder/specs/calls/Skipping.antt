@@ -1,4 +1,4 @@
--- Passing over values while a closure is told of each: the calls that it gets, and what a call that does so promises.
+-- Passing over values with a closure that is called at each: the calls that it gets, and what such a call promises.
 use Rattle.std.specs.Borrow.{MutBor}
 use Rattle.std.specs.Prelude.{◌≡◌, ◌⊎◌, ℕ, ◌+◌, ◌*◌, ◌<◌, ◌≤◌, Bool, true, List, [], ◌∷◌, ◌++◌, length, Option, Result, Ok, Err, IsOk, IsOkAnd, IsErrAnd, IfOk, IfErr, OnOk, OnErr, IfSome, IfNone, IsTrue, is_some, is_none}
 use Rattle.std.specs.List.{FoldsTo}
@@ -22,92 +22,92 @@ use Rattle.bcder.specs.calls.Views.{of_constructed}
 
 -- ---- headers of values
 
--- w is some octets, and v behind them
+-- w is some octets, and then v
 abbrev pub IsEndOf : List ℕ → List ℕ → Type 0
 IsEndOf v w = (gap : List ℕ) × (w ≡ gap ++ v)
 
--- the header of a value with this heading stands in front of w, and x behind it
+-- w begins with the header of a value with this heading, and x follows it
 pub record HeaderStands (mode : Mode) (h : Heading) (w x : List ℕ) : Type 0 where
   pub len : Length
   pub header : List ℕ
   pub is_header : IsHeader mode h.tag h.constructed len header
   pub is : w ≡ header ++ x
 
--- the headers stand in w in this order and without overlap, and z somewhere behind the last
+-- the headers are in w in this order and without overlap, and z follows somewhere after the last
 abbrev pub HeadersStand : Mode → List Heading → List ℕ → List ℕ → Type 0
 HeadersStand mode [] w z = IsEndOf z w
 HeadersStand mode (h ∷ hs) w z = (v x : List ℕ) × IsEndOf v w × HeaderStands mode h v x × HeadersStand mode hs x z
 
--- so they do, the first of them in front
+-- the headers are in w in this order and without overlap, the first at the front
 abbrev pub HeadersFrom : Mode → List Heading → List ℕ → Type 0
 HeadersFrom mode [] w = w ≡ w
 HeadersFrom mode (h ∷ hs) w = (x z : List ℕ) × HeaderStands mode h w x × HeadersStand mode hs x z
 
 -- ---- calls of a closure
 
--- what a closure of a tag, a form and a depth does
+-- the effect of a closure of a tag, a form and a depth
 abbrev pub Steps : Type 0 → Type 0 → Type 1
 Steps F E = F → Tag → Bool → ℕ → Result (Unit {0}) E → F → Type 0
 
--- f was called at each heading in turn, answered Ok each time, and is g then
+-- f was called at each heading in turn, returned Ok each time, and is g then
 abbrev pub Called : {F E : Type 0} → Steps F E → F → List Heading → F → Type 0
 Called step f calls g = FoldsTo (λ p h q. step p h.tag h.constructed h.depth (Ok tt) q) f calls g
 
--- f, as calls before made it, refused a heading with x
+-- f, as the calls before left it, refused a heading with x
 abbrev pub Refused : {F E : Type 0} → Steps F E → F → Heading → E → F → Type 0
 Refused step f h x g = step f h.tag h.constructed h.depth (Err x) g
 
--- calls were made over content, which is d then
+-- calls were made over content c, which is d then
 pub record WereCalls (c : Reading) (calls : List Heading) (d : Reading) : Type 0 where
-  -- they begin the headings of a value, and those of the value that stands in front, if there is one
+  -- the calls are a prefix of the headings of a value, and of those of the next value, if there is one
   pub some : (t : Tree) × (more : List Heading) × (preorder t 0 ≡ calls ++ more)
   pub one : (t : Tree) (w after : List ℕ) → HasValue c t w after → (more : List Heading) × (preorder t 0 ≡ calls ++ more)
-  -- their headers stand in the octets, the first of them in front
+  -- the headers of the calls are in the octets, the first at the front
   pub stand : HeadersFrom c.mode calls c.stream.rest
-  -- for each, two octets were taken
+  -- for each call, at least two octets were taken
   pub twice : 2 * length calls + length d.stream.rest ≤ length c.stream.rest
-  -- content that isn't open, or at its end, gets none
+  -- content that isn't open, or is at its end, gets no call
   pub usable : (calls ≡ [] → ⊥) → (c.state ≡ Open) × NotAtEnd c
 
 -- ---- one value
 
--- the one value that stands in front was passed, and f was called at its headings
+-- the one value that comes next was passed, and f was called at its headings
 pub record SkipsValue {F E : Type 0} (step : Steps F E) (c : Reading) (f g : F) (d : Reading) : Type 0 where
   pub passes : PassesValue c d
   pub called : Called step f (preorder passes.tree 0) g
   pub were : WereCalls c (preorder passes.tree 0) d
 
--- why no value of c was passed, after calls that made f what g is, and e was answered; `why` tells its cause
+-- why no value of c was passed, after calls that turned f into g, with error e; `why` gives its cause
 pub data RefusesSkip {F X : Type 0} (why : X → Cause ContentError) (step : Steps F ContentError) (c : Reading) (f : F) (e : X) (g : F) (d : Reading) : Type 0 where
-  -- no value stands in front, an earlier one was refused, or the source failed
+  -- no value comes next, an earlier one was refused, or the source failed
   by_content : (calls : List Heading) → Called step f calls g → WereCalls c calls d → RefusesWalk why c e d → RefusesSkip why step c f e g d
   -- the closure refused a heading
   by_closure : (calls : List Heading) (h : Heading) (q : F) (x : ContentError) → Called step f calls q → Refused step q h x g → WereCalls c (calls ++ h ∷ []) d → why e ≡ of_content x → RefusesSkip why step c f e g d
-  -- a constructed value at a depth of four or more wanted memory
+  -- memory ran out for a constructed value at a depth of four or more
   by_memory : (calls : List Heading) (h : Heading) → Called step f (calls ++ h ∷ []) g → WereCalls c (calls ++ h ∷ []) d → h.constructed ≡ true → 4 ≤ h.depth → why e ≡ of_memory → RefusesSkip why step c f e g d
 
--- a call passed over the next value, or found the end, or refused; `why` tells the cause of its error
+-- a call passed over the next value, or found the end, or refused; `why` gives the cause of its error
 pub record SkippedBy {F T X : Type 0} (why : X → Cause ContentError) (step : Steps F ContentError) (c : Reading) (f : F) (r : Result (Option T) X) (g : F) (d : Reading) : Type 0 where
-  -- Some: the one value that stands in front was passed, and the closure called at its headings
+  -- Some: the one value that comes next was passed, and the closure was called at its headings
   pub value : IfOk r (λ o. IfSome o (λ _. SkipsValue step c f g d))
   -- None: content was at its end, whose marker, if any, was taken, and the closure wasn't called
   pub end : IfOk r (λ o. IfNone o (EndsAt c d))
   pub done : IfOk r (λ o. IfNone o (IsDone d))
   pub uncalled : IfOk r (λ o. IfNone o (g ≡ f))
-  -- no answer is given over a failure of the source
+  -- on Ok, the source met no fault
   pub no_fault : OnOk r (d.stream.faults ≡ c.stream.faults)
-  -- an error tells why no value was passed, and content has failed
+  -- an error says why no value was passed, and content has failed
   pub refused : IfErr r (λ e. RefusesSkip why step c f e g d)
   pub failed : OnErr r (d.state ≡ Failed)
-  -- the mode stays, and the mark
+  -- the mode and the mark stay
   pub mode : d.mode ≡ c.mode
   pub marked : d.marked ≡ c.marked
 
--- f answers Ok at each call along the headings
+-- f returns Ok at each call along the headings
 abbrev pub AnswersAll : {F E : Type 0} → Steps F E → F → List Heading → Type 0
 AnswersAll {F} {E} step f hs = (calls more : List Heading) (h : Heading) (q g : F) (x : E) → hs ≡ calls ++ h ∷ more → Called step f calls q → Refused step q h x g → ⊥
 
--- no constructed value stands at a depth of four or more
+-- no constructed value is at a depth of four or more
 abbrev pub IsShallow : List Heading → Type 0
 IsShallow hs = (calls more : List Heading) (h : Heading) → hs ≡ calls ++ h ∷ more → h.constructed ≡ true → h.depth < 4
 
@@ -115,7 +115,7 @@ IsShallow hs = (calls more : List Heading) (h : Heading) → hs ≡ calls ++ h �
 abbrev pub FindsMemory : {T X : Type 0} → (X → Cause ContentError) → List Heading → Result T X → Type 0
 FindsMemory why hs r = IsShallow hs ⊎ (IsErrAnd r (λ e. why e ≡ of_memory) → ⊥)
 
--- what is answered where a value stands in front, and what at the end
+-- what is returned if a value comes next, and what at the end
 pub record AnswersSkip {F T X : Type 0} (why : X → Cause ContentError) (step : Steps F ContentError) (c : Reading) (f : F) (r : Result (Option T) X) (d : Reading) : Type 0 where
   pub found : (t : Tree) (w after : List ℕ) → HasValue c t w after → AnswersAll step f (preorder t 0) → FindsMemory why (preorder t 0) r → IsOkAnd r (λ o. IsTrue (is_some o)) × (d.stream.rest ≡ after)
   pub ended : (after : List ℕ) → EndsBefore c after → IsOkAnd r (λ o. IsTrue (is_none o))
@@ -124,12 +124,12 @@ pub record AnswersSkip {F T X : Type 0} (why : X → Cause ContentError) (step :
 pub record SkippedValueBy {F T S : Type 0} (step : Steps F ContentError) (c : Reading) (f : F) (r : Result T (DecodeError S)) (g : F) (d : Reading) : Type 0 where
   pub value : OnOk r (SkipsValue step c f g d)
   pub no_fault : OnOk r (d.stream.faults ≡ c.stream.faults)
-  -- there was none, the closure wasn't called, and content stays usable; or content has failed
+  -- no value was there, the closure wasn't called, and content stays usable; or content has failed
   pub refused : IfErr r (λ e. HasNone any c d × IsRefusal e × (g ≡ f) ⊎ (d.state ≡ Failed) × RefusesSkip cause_of step c f e g d)
   pub mode : d.mode ≡ c.mode
   pub marked : d.marked ≡ c.marked
 
--- what is answered where a value stands in front
+-- what is returned if a value comes next
 pub record AnswersValue {F T X : Type 0} (why : X → Cause ContentError) (step : Steps F ContentError) (c : Reading) (f : F) (r : Result T X) (d : Reading) : Type 0 where
   pub found : (t : Tree) (w after : List ℕ) → HasValue c t w after → AnswersAll step f (preorder t 0) → FindsMemory why (preorder t 0) r → IsOkAnd r (λ _. d.stream.rest ≡ after)
 
@@ -143,37 +143,38 @@ pub record GoesDeep (c d : Reading) : Type 0 where
   pub constructed : last.constructed ≡ true
   pub deep : 4 ≤ last.depth
 
--- why no value of c was passed, and e was answered; `why` tells its cause
+-- why no value of c was passed, with error e; `why` gives its cause
 pub data RefusesOne {X : Type 0} (why : X → Cause ContentError) (c : Reading) (e : X) (d : Reading) : Type 0 where
   by_walk : RefusesWalk why c e d → RefusesOne why c e d
   by_depth : GoesDeep c d → why e ≡ of_memory → RefusesOne why c e d
 
--- why values weren't passed up to the end of c, and e was answered; `why` tells its cause
+-- why values weren't passed up to the end of c, with error e; `why` gives its cause
 pub data RefusesSkipAll {X : Type 0} (why : X → Cause ContentError) (c : Reading) (e : X) (d : Reading) : Type 0 where
   by_values : RefusesValues why c e d → RefusesSkipAll why c e d
-  -- some values were passed, and then a deep one met
+  -- some values were passed, and then a deep one was met
   by_depth : (j : Reading) → Walks c j → GoesDeep j d → why e ≡ of_memory → RefusesSkipAll why c e d
 
--- want of memory was not answered
+-- the result is not out of memory
 abbrev pub FoundMemory : {T X : Type 0} → Result T (DecodeError X) → Type 0
 FoundMemory r = IsErrAnd r (λ e. cause_of e ≡ of_memory) → ⊥
 
--- ---- the same of parameters
+-- ---- of parameters, from entry to exit
 
 module _ {S F : Type 0} (stream : S → Stream) (step : Steps F ContentError) (c : Both (MutBor (Constructed S)) (MutBor (Constructed S))) (op : Both (MutBor F) (MutBor F)) where
-  -- what a call that passes over the next value promises of content, of the closure and of its answer
+  -- what a call that passes over the next value promises about content, the closure and its result
   abbrev pub SkippedNext : {T X : Type 0} → Result (Option T) (DecodeError X) → Type 0
   SkippedNext r = SkippedBy cause_of step (of_constructed stream c.entry.now) op.entry.now r op.exit.now (of_constructed stream c.exit.now)
 
-  -- unless the source failed, Some is answered exactly where a value stands in front at whose headings the closure answers Ok, and None exactly at the end
+  -- unless the source failed, Some is returned exactly if a value comes next at whose headings the closure returns Ok,
+  -- and None exactly at the end
   abbrev pub ExactlySkipped : {T X : Type 0} → Result (Option T) (DecodeError X) → Type 0
   ExactlySkipped r = (Grew (of_constructed stream c.entry.now).stream.faults (of_constructed stream c.exit.now).stream.faults → ⊥) → AnswersSkip cause_of step (of_constructed stream c.entry.now) op.entry.now r (of_constructed stream c.exit.now)
 
-  -- what a call that passes over a value that has to be there promises
+  -- what a call promises that passes over a value, which has to be there
   abbrev pub SkippedValue : {T X : Type 0} → Result T (DecodeError X) → Type 0
   SkippedValue r = SkippedValueBy step (of_constructed stream c.entry.now) op.entry.now r op.exit.now (of_constructed stream c.exit.now)
 
-  -- unless the source failed, Ok is answered exactly where a value stands in front at whose headings the closure answers Ok
+  -- unless the source failed, Ok is returned exactly if a value comes next at whose headings the closure returns Ok
   abbrev pub ExactlyValue : {T X : Type 0} → Result T (DecodeError X) → Type 0
   ExactlyValue r = (Grew (of_constructed stream c.entry.now).stream.faults (of_constructed stream c.exit.now).stream.faults → ⊥) → AnswersValue cause_of step (of_constructed stream c.entry.now) op.entry.now r (of_constructed stream c.exit.now)
 
@@ -184,6 +185,6 @@ module _ {S : Type 0} (stream : S → Stream) (c : Both (MutBor (Constructed S))
   abbrev pub SkippedAll : {T X : Type 0} → Result T (DecodeError X) → Type 0
   SkippedAll r = AllBy (RefusesSkipAll cause_of) (of_constructed stream c.entry.now) r (of_constructed stream c.exit.now)
 
-  -- unless the source failed or memory was wanted, Ok is answered exactly where values go on up to the end
+  -- unless the source failed or memory ran out, Ok is returned exactly if values go on up to the end
   abbrev pub ExactlyAll : {T X : Type 0} → Result T (DecodeError X) → Type 0
   ExactlyAll r = (Grew (of_constructed stream c.entry.now).stream.faults (of_constructed stream c.exit.now).stream.faults → ⊥) → FoundMemory r → (of_constructed stream c.entry.now).state ≡ Open → HasValues (of_constructed stream c.entry.now) → IsOk r

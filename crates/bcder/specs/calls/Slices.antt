@@ -15,11 +15,11 @@ either_means means v w (inl is) mode m h = subst (λ x. means x mode m) is h
 either_means means v w (inr s) mode m h = s.same mode m h
 
 module _ {F U V : Type 0} (g : Shared F (Bor U × Unit {0}) V) (f : F) where
-  -- the closure may be called at a reference to u
+  -- the closure may be called on a reference to u
   abbrev pub TakesItem : U → Type 0
   TakesItem u = (p : Bor U) → p.now ≡ u → g.pre f (p, tt)
 
-  -- it may give v for u
+  -- the closure may give v for u
   pub record Gives (u : U) (v : V) : Type 0 where
     pub shown : Bor U
     pub shows : shown.now ≡ u
@@ -29,11 +29,11 @@ module _ {F U V : Type 0} (g : Shared F (Bor U × Unit {0}) V) (f : F) where
   abbrev pub GivesEncodable : (V → Type 0) → U → Type 0
   GivesEncodable can u = (v : V) (p : Bor U) → p.now ≡ u → g.post f (p, tt) v → can v
 
-  -- all that it gives for u means the same
+  -- all that the closure gives for u means the same
   abbrev pub GivesOne : (V → Mode → Meaning → Type 0) → U → Type 0
   GivesOne means u = (v w : V) (p q : Bor U) → p.now ≡ u → q.now ≡ u → g.post f (p, tt) v → g.post f (q, tt) w → (v ≡ w) ⊎ SameMeaning means v w
 
-  -- what is asked of a closure for u: it may be called, and gives one meaning, of what may be encoded
+  -- what is required of a closure for u: it may be called, and gives one meaning, of something that may be encoded
   abbrev pub MayMap : (V → Type 0) → (V → Mode → Meaning → Type 0) → U → Type 0
   MayMap can means u = TakesItem u × GivesEncodable can u × GivesOne means u
 
@@ -43,13 +43,13 @@ module _ {F U V : Type 0} (g : Shared F (Bor U × Unit {0}) V) (f : F) where
     pub given : Gives u value
     pub meant : means value mode m
 
-  -- where memory may lack for it
+  -- when memory may run out for u
   pub record ItemLacks (may_lack : V → Mode → Type 0) (mode : Mode) (u : U) : Type 0 where
     pub value : V
     pub given : Gives u value
     pub lacks : may_lack value mode
 
-  -- what u means, each value means that is given for it
+  -- whatever u means, each value that is given for it means
   pub item_means : {can : V → Type 0} {means : V → Mode → Meaning → Type 0} {u : U} → MayMap can means u → {mode : Mode} {v : V} → Gives u v → (m : Meaning) → ItemMeans means mode u m → means v mode m
   item_means {means = means} may {mode} {v} gives m p =
       either_means means p.value v (may.2 p.value v p.given.shown gives.shown p.given.shows gives.shows p.given.met gives.met) mode m p.meant

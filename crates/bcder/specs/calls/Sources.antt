@@ -10,11 +10,11 @@ use Rattle.bcder.specs.declared.decode.source.capture.CaptureSource.{CaptureSour
 abbrev pub wrapped : {S : Type 0} → LimitedSource S → S
 wrapped s = s.source
 
--- the number of its octets up to the limit, if there is one
+-- the limit: the number of octets up to it, if there is one
 abbrev pub limit_of : {S : Type 0} → LimitedSource S → Option ℕ
 limit_of s = s.limit
 
--- the number of octets up to the limit, where there is one
+-- the number of octets up to the limit, or 0 if there is none
 abbrev pub owed : {S : Type 0} → LimitedSource S → ℕ
 owed s = limit_or s.limit 0
 
@@ -22,7 +22,7 @@ owed s = limit_or s.limit 0
 abbrev pub behind : {S : Type 0} → CaptureSource S → S
 behind s = s.source.now
 
--- how many of its octets were passed over
+-- how many octets of the borrowed source were passed over
 abbrev pub passed : {S : Type 0} → CaptureSource S → ℕ
 passed s = s.pos
 
@@ -30,7 +30,7 @@ passed s = s.pos
 abbrev pub borrow_of : {S : Type 0} → CaptureSource S → ℕ
 borrow_of s = s.source.ghost_name
 
--- what a capturing source is, by what the borrowed one is
+-- a capturing source as a stream, given the stream of the borrowed one
 abbrev pub capturing : {S : Type 0} → (S → Stream) → CaptureSource S → Stream
 capturing stream s = ahead (borrow_of s) (passed s) (stream (behind s))
 
@@ -41,7 +41,7 @@ slice_rest s = drop s.passed s.octets.now
 abbrev pub shared_rest : BytesSource → List ℕ
 shared_rest s = s.octets
 
--- and where they begin
+-- the position where the octets left of a slice and of shared octets begin
 abbrev pub slice_start : SliceSource → ℕ
 slice_start s = pos_after s.offset s.passed
 

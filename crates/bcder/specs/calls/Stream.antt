@@ -1,8 +1,8 @@
--- What a source is to the clauses: the octets to come, numbers, and what no call of it changes.
+-- A source in the view of clauses: the octets to come, numbers, and what no call of it changes.
 use Rattle.std.specs.Prelude.{◌≡◌, ℕ, ◌+◌, ◌-◌, ◌^◌, ◌<◌, ◌≤◌, ◌⊎◌, List, [], ◌∷◌, length, take, drop, min, Option, Some, None}
 use Rattle.bcder.specs.x690.Identifier.{AreOctets}
 
--- what one layer of a source holds, and no call of it changes
+-- what one layer of a source holds, which no call changes
 pub record Layer : Type 0 where
   pub octets : List ℕ
   pub number : ℕ
@@ -18,18 +18,18 @@ pub record Stream : Type 0 where
   -- what no call changes, the outermost layer first
   pub kept : List Layer
 
--- the rest is octets, of which a `usize` counts all, and what is at hand is part of it
+-- the rest is octets that a `usize` can count, and what is at hand is part of it
 pub record IsSound (s : Stream) : Type 0 where
   pub octets : AreOctets s.rest
   pub size : length s.rest < 2 ^ 64
   pub at_hand : s.avail ≤ length s.rest
 
--- a count of failures grew, or stands at its last value
+-- a count of failures grew, or is at its last value
 pub record Grew (old new : ℕ) : Type 0 where
   pub no_smaller : old ≤ new
   pub larger_or_last : (old < new) ⊎ (new ≡ 2 ^ 64 - 1)
 
--- asked for n octets, a source answers k: so many are at hand, and fewer than n only where k are all
+-- asked for n octets, a source returns k: that many are at hand, and fewer than n only if these are all
 pub record Provides (n k : ℕ) (s : Stream) : Type 0 where
   pub count : s.avail ≡ k
   pub short : k < n → k ≡ length s.rest
@@ -69,12 +69,12 @@ IsNoLooser limit None = Unit {0}
 IsNoLooser None (Some n) = ⊥
 IsNoLooser (Some m) (Some n) = m ≤ n
 
--- the limit, or another number without one
+-- the limit, or the given number if there is none
 abbrev pub limit_or : Option ℕ → ℕ → ℕ
 limit_or None n = n
 limit_or (Some m) n = m
 
--- nothing is left up to the limit, or without one at all
+-- nothing is left up to the limit, or at all if there is none
 abbrev pub IsExhausted : Option ℕ → List ℕ → Type 0
 IsExhausted None xs = xs ≡ []
 IsExhausted (Some n) xs = n ≡ 0
@@ -85,7 +85,7 @@ smaller_limit None m = m
 smaller_limit (Some n) None = Some n
 smaller_limit (Some n) (Some m) = Some (min n m)
 
--- a limit after n octets
+-- what is left of a limit after n octets
 abbrev pub limit_left : Option ℕ → ℕ → Option ℕ
 limit_left None n = None
 limit_left (Some m) n = Some (m - n)

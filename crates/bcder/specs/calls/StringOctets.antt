@@ -7,7 +7,7 @@ use Rattle.bcder.specs.x690.Encoding.{AreEncodings}
 use Rattle.bcder.specs.calls.Captured.{Kept}
 use Rattle.bcder.specs.x690.OctetString.{segments_of, IsOctetString}
 
--- as it came: in one piece, or cut into parts, with the encodings that these stand in
+-- an octet string as it came: in one piece, or cut into parts, with the encodings that hold these
 pub data StringOctets : Type 0 where
   whole : List ℕ → StringOctets
   cut : Kept → List (List ℕ) → StringOctets
@@ -17,17 +17,17 @@ abbrev pub piece : List ℕ → List (List ℕ)
 piece [] = []
 piece (b ∷ w) = (b ∷ w) ∷ []
 
--- its parts: of a string in one piece that piece, if it isn't empty; of one that was cut all segments, empty ones too
+-- the parts of a string: of one in one piece that piece, if it isn't empty; of one that was cut all segments, empty ones too
 abbrev pub parts : StringOctets → List (List ℕ)
 parts (whole w) = piece w
 parts (cut kept ps) = ps
 
--- its octets
+-- the octets of a string
 abbrev pub octets_of : StringOctets → List ℕ
 octets_of (whole w) = w
 octets_of (cut kept ps) = concat ps
 
--- octets that are still to come, and whether they are known to stand in one piece
+-- octets that are still to come, and whether they are known to be in one piece
 pub record OctetsLeft : Type 0 where
   pub octets : List ℕ
   pub is_whole : Bool
@@ -37,7 +37,7 @@ abbrev pub is_no_part : List (List ℕ) → Bool
 is_no_part [] = true
 is_no_part (p ∷ ps) = false
 
--- whether the octets of a string are known to stand in one piece: it came so, or has no segment
+-- whether the octets of a string are known to be in one piece: it came so, or has no segment
 abbrev pub is_in_one_piece : StringOctets → Bool
 is_in_one_piece (whole w) = true
 is_in_one_piece (cut kept ps) = is_no_part ps
@@ -47,11 +47,11 @@ abbrev pub IsStringOf : Mode → Tree → StringOctets → Type 0
 IsStringOf mode (primitive t contents) s = s ≡ whole contents
 IsStringOf mode (constructed t ts) s = (kept : Kept) × (kept.mode ≡ mode) × AreEncodings mode ts kept.octets × (s ≡ cut kept (segments_of ts))
 
--- an octet string, and what it means
+-- the value is an octet string in the mode, and s is what it means
 abbrev pub MeansString : Mode → Tree → StringOctets → Type 0
 MeansString mode t s = IsOctetString mode t × IsStringOf mode t s
 
--- whether it was cut
+-- the string was cut
 abbrev pub IsCut : StringOctets → Type 0
 IsCut (whole w) = ⊥
 IsCut (cut kept ps) = ⊤

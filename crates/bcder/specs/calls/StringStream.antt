@@ -1,4 +1,4 @@
--- The source over the octets of a string, as it stands.
+-- The source over the octets of a string, at some point in it.
 use Rattle.std.specs.Prelude.{ℕ, ◌-◌, ◌<◌, List, [], ◌++◌, length}
 use Rattle.bcder.specs.declared.string.octet.source.OctetStringSource.{OctetStringSource}
 use Rattle.bcder.specs.calls.Stream.{Stream}
@@ -11,7 +11,7 @@ to_come s = s.front.octets ++ all_behind s.behind
 abbrev pub came : OctetStringSource → ℕ
 came s = s.reached - length s.front.octets
 
--- what it is as a source
+-- the octets of the string source, as a stream
 abbrev pub source_stream : OctetStringSource → Stream
 source_stream s = record { rest = to_come s; avail = length s.front.octets; faults = s.faults; position = came s; kept = [] }
 

@@ -2,7 +2,7 @@
 use Rattle.std.specs.Prelude.{ℕ, List, [], ◌++◌, Option, Some, None, ◌==◌, if◌then◌else◌, unwrap_or, codes, decimal}
 use Rattle.bcder.specs.x690.Identifier.{Class, universal, application, context_specific, private, Tag}
 
--- the type that a universal number stands for
+-- the name of the type that a universal number denotes
 unfoldable pub universal_name : ℕ → Option (List ℕ)
 universal_name n =
     if n == 1 then Some (codes "BOOLEAN")
@@ -42,7 +42,7 @@ universal_name n =
     else if n == 36 then Some (codes "RELATIVE-OID-IRI")
     else None
 
--- as a tag is written in ASN.1: `[PRIVATE 5]`
+-- a tag as ASN.1 writes it: `[PRIVATE 5]`
 abbrev pub bracketed : List ℕ → ℕ → List ℕ
 bracketed class n = codes "[" ++ class ++ decimal n ++ codes "]"
 
@@ -52,6 +52,6 @@ class_text application n = bracketed (codes "APPLICATION ") n
 class_text context_specific n = bracketed [] n
 class_text private n = bracketed (codes "PRIVATE ") n
 
--- the name of the type of a universal tag, if it has one, else its class and number in brackets
+-- the name of the type of a universal tag, if it has one, otherwise its class and number in brackets
 unfoldable pub tag_text : Tag → List ℕ
 tag_text t = class_text t.class t.number

@@ -1,4 +1,4 @@
--- What a call that takes a value asks of its closure, and what it answers and leaves.
+-- What a call that takes a value requires of its closure, and what it returns and leaves.
 use Rattle.std.specs.Prelude.{◌≡◌, ◌⊎◌, ◌+◌, ◌≤◌, Bool, true, false, length, Option, Some, None, Result, IfOk, IfErr, IfSome, IfNone, OnOk, OnErr}
 use Rattle.std.specs.Borrow.{MutBor}
 use denote.Triple.Both.{Both}
@@ -14,30 +14,30 @@ use Rattle.bcder.specs.calls.Content.{Reading, Asked, any, tagged, IsMissing, Re
 use Rattle.bcder.specs.calls.Calls.{IsInside, MayBeCalled, IsLawfulAtAny, TakesValue, RefusesFront, HasForm}
 use Rattle.bcder.specs.calls.Views.{of_constructed, of_primitive, of_content, before, after}
 
--- no value that is asked for is there, as the content tells without a fault of the source
+-- no asked value is there, which content shows without a fault of the source
 pub record HasNone (asked : Asked) (c d : Reading) : Type 0 where
   pub missing : IsMissing asked c d
   pub marked : d.marked ≡ c.marked
   pub no_fault : d.stream.faults ≡ c.stream.faults
 
--- the refusal where none is there: one of a tag names it
+-- the refusal if no value is there: that of a call for a tag names it
 abbrev pub TellsNone : {X : Type 0} → Asked → DecodeError X → Type 0
 TellsNone any e = IsRefusal e
 TellsNone (tagged t) e = NamesTag t e
 
--- a value of the form that a call refuses, if it refuses one, stands in front
+-- a value of the form that a call refuses, if it refuses one, comes next
 abbrev pub HasRefusedForm : Option Bool → Asked → Reading → Type 0
 HasRefusedForm None asked c = ⊥
 HasRefusedForm (Some f) asked c = HasForm f asked c
 
 module _ {C T X : Type 0} (view : C → Reading) (post : Tag → MutBor C → Result T (DecodeError X) → MutBor C → Type 0) (form : Option Bool) (asked : Asked) where
-  -- why no value was taken from c, and e was answered: no header of one that is asked for was passed, it has the form that is refused, or its content was refused
+  -- why no value was taken from c, with error e: no asked header was passed, the value has the refused form, or its content was refused
   pub data RefusesTake (c : Reading) (e : DecodeError X) (d : Reading) : Type 0 where
     by_header : RefusesHeader cause_of asked c e d → d.marked ≡ c.marked → RefusesTake c e d
     by_form : HasRefusedForm form asked c → IsRefusal e → d.marked ≡ c.marked → RefusesTake c e d
     by_content : RefusesFront cause_of view post asked c e d → RefusesTake c e d
 
-  -- what a call did that answers the value, or that there is none
+  -- the effect of a call that returns the value, or that there is none
   pub record TakesNext (c : Reading) (r : Result (Option T) (DecodeError X)) (d : Reading) : Type 0 where
     pub value : IfOk r (λ o. IfSome o (λ x. TakesValue view post asked c x d))
     pub shorter : IfOk r (λ o. IfSome o (λ _. length d.stream.rest + 2 ≤ length c.stream.rest))
@@ -46,31 +46,31 @@ module _ {C T X : Type 0} (view : C → Reading) (post : Tag → MutBor C → Re
     pub failed : OnErr r (d.state ≡ Failed)
     pub mode : d.mode ≡ c.mode
 
-  -- what a call did that needs a value: where there is none the content stays usable
+  -- the effect of a call that needs a value: if there is none, the content stays usable
   pub record Takes (c : Reading) (r : Result T (DecodeError X)) (d : Reading) : Type 0 where
     pub value : IfOk r (λ x. TakesValue view post asked c x d)
     pub shorter : OnOk r (length d.stream.rest + 2 ≤ length c.stream.rest)
     pub refused : IfErr r (λ e. HasNone asked c d × TellsNone asked e ⊎ (d.state ≡ Failed) × RefusesTake c e d)
     pub mode : d.mode ≡ c.mode
 
--- ---- the same of a parameter as a whole
+-- ---- of a parameter, from entry to exit
 
 module _ {S : Type 0} (stream : S → Stream) where
-  -- the closure may be called on the contents octets that it can be handed, and moves them
+  -- the closure may be called on the contents octets that it can get, and moves them
   abbrev pub CallableOnOctets : MutBor (Constructed S) → Asked → (Tag → MutBor (Primitive S) → Type 0) → Type 0
   CallableOnOctets c asked pre = MayBeCalled (of_primitive stream) (IsInside asked (of_constructed stream c.now)) pre
 
   abbrev pub LawfulOnOctets : {R : Type 0} → MutBor (Constructed S) → Asked → (Tag → MutBor (Primitive S) → R → MutBor (Primitive S) → Type 0) → Type 0
   LawfulOnOctets c asked post = IsLawfulAtAny (of_primitive stream) (IsInside asked (of_constructed stream c.now)) post
 
-  -- the same on the values of a constructed value
+  -- the closure may be called on the values inside a constructed value that it can get, and moves them
   abbrev pub CallableOnValues : MutBor (Constructed S) → Asked → (Tag → MutBor (Constructed S) → Type 0) → Type 0
   CallableOnValues c asked pre = MayBeCalled (of_constructed stream) (IsInside asked (of_constructed stream c.now)) pre
 
   abbrev pub LawfulOnValues : {R : Type 0} → MutBor (Constructed S) → Asked → (Tag → MutBor (Constructed S) → R → MutBor (Constructed S) → Type 0) → Type 0
   LawfulOnValues c asked post = IsLawfulAtAny (of_constructed stream) (IsInside asked (of_constructed stream c.now)) post
 
-  -- the same on either
+  -- the closure may be called on the content of either form that it can get, and moves it
   abbrev pub CallableOnContent : MutBor (Constructed S) → Asked → (Tag → MutBor (Content S) → Type 0) → Type 0
   CallableOnContent c asked pre = MayBeCalled (of_content stream) (IsInside asked (of_constructed stream c.now)) pre
 

@@ -15,11 +15,11 @@ use Rattle.bcder.specs.calls.Takes.{HasNone}
 use Rattle.bcder.specs.calls.Readers.{MeanNothing}
 use Rattle.bcder.specs.calls.Views.{before, after}
 
--- an encoding of a primitive value of the tag, with these contents octets, stands in front, before the octets `rest`
+-- an encoding of a primitive value with the tag and these contents octets comes next, before the octets `rest`
 abbrev pub HasPrimitive : Tag → Reading → List ℕ → List ℕ → List ℕ → Type 0
 HasPrimitive tag c contents w rest = HasValue c (primitive tag contents) w rest
 
--- neither such a value stands in front, nor is there none
+-- no such value comes next, and content does not show that there is none
 pub record HasBroken (tag : Tag) (c : Reading) : Type 0 where
   pub usable : c.state ≡ Open
   pub value : (contents w rest : List ℕ) → HasPrimitive tag c contents w rest → ⊥
@@ -34,14 +34,15 @@ module _ {T X : Type 0} (tag : Tag) (Means : List ℕ → T → Type 0) (Refuses
     pub means : Means contents x
     pub stays : d.state ≡ Open
 
-  -- why none was taken, and e was answered: an earlier value was refused; the source failed; what stands in front is no such value; or its contents octets were refused
+  -- why no value was taken, with error e: an earlier value was refused, the source failed, no such value comes next,
+  -- or its contents octets were refused
   pub data RefusesAs (c : Reading) (e : DecodeError X) (d : Reading) : Type 0 where
     failed : c.state ≡ Failed → IsRefusal e → RefusesAs c e d
     source : cause_of e ≡ of_source → Grew c.stream.faults d.stream.faults → RefusesAs c e d
     broken : HasBroken tag c → IsRefusal e → RefusesAs c e d
     refused : (contents w rest : List ℕ) → HasPrimitive tag c contents w rest → Refuses contents e → RefusesAs c e d
 
-  -- what a call did that answers the value, or that there is none
+  -- the effect of a call that returns the value, or that there is none
   pub record TakesNextAs (c : Reading) (r : Result (Option T) (DecodeError X)) (d : Reading) : Type 0 where
     pub value : IfOk r (λ o. IfSome o (λ x. TakesAs c x d))
     pub none : IfOk r (λ o. IfNone o (HasNone (tagged tag) c d))
@@ -51,7 +52,7 @@ module _ {T X : Type 0} (tag : Tag) (Means : List ℕ → T → Type 0) (Refuses
     pub mode : d.mode ≡ c.mode
     pub marked : d.marked ≡ c.marked
 
-  -- one that passes over the value, if there is one
+  -- the effect of a call that passes over the value, if there is one
   pub record PassesNextAs (c : Reading) (r : Result T (DecodeError X)) (d : Reading) : Type 0 where
     pub value : IfOk r (λ x. TakesAs c x d ⊎ HasNone (tagged tag) c d)
     pub no_fault : OnOk r (d.stream.faults ≡ c.stream.faults)
@@ -60,7 +61,7 @@ module _ {T X : Type 0} (tag : Tag) (Means : List ℕ → T → Type 0) (Refuses
     pub mode : d.mode ≡ c.mode
     pub marked : d.marked ≡ c.marked
 
-  -- one that needs the value: where there is none the content stays usable
+  -- the effect of a call that needs the value: if there is none, the content stays usable
   pub record TakesOneAs (c : Reading) (r : Result T (DecodeError X)) (d : Reading) : Type 0 where
     pub value : IfOk r (λ x. TakesAs c x d)
     pub no_fault : OnOk r (d.stream.faults ≡ c.stream.faults)
@@ -68,7 +69,7 @@ module _ {T X : Type 0} (tag : Tag) (Means : List ℕ → T → Type 0) (Refuses
     pub mode : d.mode ≡ c.mode
     pub marked : d.marked ≡ c.marked
 
--- ---- the same of a parameter as a whole
+-- ---- of a parameter, from entry to exit
 
 module _ {S T X : Type 0} (stream : S → Stream) (c : Both (MutBor (Constructed S)) (MutBor (Constructed S))) (tag : Tag) (Means : List ℕ → T → Type 0) where
   module _ (Refuses : List ℕ → DecodeError X → Type 0) where
@@ -81,7 +82,7 @@ module _ {S T X : Type 0} (stream : S → Stream) (c : Both (MutBor (Constructed
     abbrev pub PassedNextBy : Result T (DecodeError X) → Type 0
     PassedNextBy r = PassesNextAs tag Means Refuses (before stream c) r (after stream c)
 
-  -- where contents octets are refused exactly where they mean nothing
+  -- for contents octets that are refused exactly if they mean nothing
   abbrev pub TookNextAs : Result (Option T) (DecodeError X) → Type 0
   TookNextAs r = TookNextBy (MeanNothing Means) r
 

@@ -4,7 +4,7 @@ use Rattle.bcder.specs.declared.int.error.IntegerError.{IntegerError}
 use Rattle.bcder.specs.declared.int.error.IntegerError.TheVariants.{Invalid, NoMemory}
 use Rattle.bcder.specs.x690.Length.{big_endian}
 
--- none, or the first is not 0
+-- there are no octets, or the first is not 0
 abbrev pub BeginsAboveZero : List ℕ → Type 0
 BeginsAboveZero [] = Unit {0}
 BeginsAboveZero (b ∷ w) = b ≢ 0
@@ -16,7 +16,7 @@ pub record BeginsWithZeros (w : List ℕ) (n : ℕ) : Type 0 where
   pub last : 0 < n → drop (n - 1) w ≡ 0 ∷ drop n w
   pub next : BeginsAboveZero (drop n w)
 
--- a fact for each reason why no integer was made
+-- one of two facts, by the reason why no integer was made
 abbrev pub MatchIntegerError : IntegerError → Type 0 → Type 0 → Type 0
 MatchIntegerError (Invalid e) A B = A
 MatchIntegerError NoMemory A B = B

@@ -21,40 +21,40 @@ use Rattle.bcder.specs.calls.Views.{before, after, content_before, content_after
 
 -- ---- the content of a value
 
--- content is these contents octets, all of which come
+-- the content is these contents octets, all of which come
 pub record HoldsOctets (c : Reading) (contents : List ℕ) : Type 0 where
   pub usable : c.state ≡ Open
   pub form : c.kind ≡ Octets
   pub owed : c.owed ≡ Some (length contents)
   pub rest : c.stream.rest ≡ contents
 
--- content is these values up to its end
+-- the content is these values, up to its end
 pub record HoldsThese (c : Reading) (ts : Trees) : Type 0 where
   pub usable : c.state ≡ Open
   pub values : HasValues c
   pub are : values.trees ≡ ts
 
--- or it has ended, and is none
+-- the content is these values, up to its end; or it has ended, and is none
 abbrev pub HoldsValues : Reading → Trees → Type 0
 HoldsValues c ts = HoldsThese c ts ⊎ (c.state ≡ Ended) × (ts ≡ no_trees)
 
--- content is that of a value with the tag
+-- the content is that of a value with the tag
 abbrev pub HoldsTree : Tag → Reading → Tree → Type 0
 HoldsTree tag c (primitive t contents) = (t ≡ tag) × HoldsOctets c contents
 HoldsTree tag c (constructed t ts) = (t ≡ tag) × HoldsValues c ts
 
 module _ {T : Type 0} (tag : Tag) (Means : Tree → T → Type 0) where
-  -- content was read as what the value means whose content it is
+  -- the content was read as what its value means
   pub record ReadsTree (c : Reading) (x : T) : Type 0 where
     pub tree : Tree
     pub holds : HoldsTree tag c tree
     pub means : Means tree x
 
-  -- it is the content of no value that means anything
+  -- the content is that of no value that means anything
   abbrev pub HoldsNone : Reading → Type 0
   HoldsNone c = (t : Tree) (x : T) → HoldsTree tag c t → Means t x → ⊥
 
-  -- what memory is wanted for: contents octets that mean something; outside DER values, none of which was taken;
+  -- what memory may run out for: contents octets that mean something; outside DER values, none of which was taken;
   -- or the table of segments
   pub data NeedsMemory (c d : Reading) : Type 0 where
     of_octets : (contents : List ℕ) (x : T) → HoldsOctets c contents → Means (primitive tag contents) x → NeedsMemory c d
@@ -62,7 +62,7 @@ module _ {T : Type 0} (tag : Tag) (Means : Tree → T → Type 0) where
     of_segments : (ts : Trees) → HoldsValues c ts → AreSegmentsIn c.mode ts → NeedsMemory c d
 
   module _ {X : Type 0} where
-    -- why content was not read, and e was answered: an earlier value was refused; the source failed; there was no memory for it;
+    -- why content was not read, with error e: an earlier value was refused; the source failed; memory ran out for it;
     -- or it is the content of nothing that is read
     pub data RefusesToRead (c : Reading) (e : DecodeError X) (d : Reading) : Type 0 where
       failed : c.state ≡ Failed → IsRefusal e → RefusesToRead c e d
@@ -79,13 +79,13 @@ module _ {T : Type 0} (tag : Tag) (Means : Tree → T → Type 0) where
       pub mode : d.mode ≡ c.mode
       pub marked : d.marked ≡ c.marked
 
--- ---- a value in front
+-- ---- the next value
 
 abbrev pub tag_of : Tree → Tag
 tag_of (primitive t contents) = t
 tag_of (constructed t ts) = t
 
--- an encoding of a value with the tag stands in front of open content, before the octets `rest`
+-- an encoding of a value with the tag comes next in open content, before the octets `rest`
 abbrev pub HasTagged : Tag → Reading → Tree → List ℕ → List ℕ → Type 0
 HasTagged tag c t w rest = HasValue c t w rest × (tag_of t ≡ tag)
 
@@ -98,28 +98,28 @@ module _ {T : Type 0} (tag : Tag) (Means : Tree → T → Type 0) where
     pub means : Means tree x
     pub stays : d.state ≡ Open
 
-  -- neither a value with the tag stands in front that means anything, nor is there none with the tag
+  -- no value with the tag that means anything comes next, and content does not show that there is none with the tag
   pub record HasNoTree (c : Reading) : Type 0 where
     pub usable : c.state ≡ Open
     pub value : (t : Tree) (w rest : List ℕ) (x : T) → HasTagged tag c t w rest → Means t x → ⊥
     pub absent : (rest : List ℕ) → IsAbsent (tagged tag) c rest → ⊥
 
-  -- what memory is wanted for: a value with the tag that means something; or outside DER a constructed one,
+  -- what memory may run out for: a value with the tag that means something; or, outside DER, a constructed one,
   -- which is kept before it is known whether it means anything
   pub data WantsMemoryFor (c : Reading) : Type 0 where
     of_value : (t : Tree) (w rest : List ℕ) (x : T) → HasTagged tag c t w rest → Means t x → WantsMemoryFor c
     of_header : c.mode ≢ Der → (after : List ℕ) (h : HasHeader (tagged tag) c after) → h.form ≡ true → WantsMemoryFor c
 
   module _ {X : Type 0} where
-    -- why none was taken, and e was answered: an earlier value was refused; the source failed; there was no memory for one;
-    -- or what stands in front is nothing that is read
+    -- why none was taken, with error e: an earlier value was refused; the source failed; memory ran out for one;
+    -- or what comes next is nothing that is read
     pub data RefusesTree (c : Reading) (e : DecodeError X) (d : Reading) : Type 0 where
       failed : c.state ≡ Failed → IsRefusal e → RefusesTree c e d
       source : cause_of e ≡ of_source → Grew c.stream.faults d.stream.faults → RefusesTree c e d
       memory : cause_of e ≡ of_memory → WantsMemoryFor c → RefusesTree c e d
       broken : HasNoTree c → IsRefusal e → RefusesTree c e d
 
-    -- what a call did that answers the value, or that there is none with the tag
+    -- the effect of a call that returns the value, or that there is none with the tag
     pub record TakesNextTree (c : Reading) (r : Result (Option T) (DecodeError X)) (d : Reading) : Type 0 where
       pub value : IfOk r (λ o. IfSome o (λ x. TakesTree c x d))
       pub none : IfOk r (λ o. IfNone o (HasNone (tagged tag) c d))
@@ -129,7 +129,7 @@ module _ {T : Type 0} (tag : Tag) (Means : Tree → T → Type 0) where
       pub mode : d.mode ≡ c.mode
       pub marked : d.marked ≡ c.marked
 
-    -- one that needs the value: where there is none with the tag the content stays usable
+    -- the effect of a call that needs the value: if there is none with the tag, the content stays usable
     pub record TakesOneTree (c : Reading) (r : Result T (DecodeError X)) (d : Reading) : Type 0 where
       pub value : IfOk r (λ x. TakesTree c x d)
       pub no_fault : OnOk r (d.stream.faults ≡ c.stream.faults)
@@ -137,7 +137,7 @@ module _ {T : Type 0} (tag : Tag) (Means : Tree → T → Type 0) where
       pub mode : d.mode ≡ c.mode
       pub marked : d.marked ≡ c.marked
 
--- ---- the same of a parameter as a whole, where what a value means may depend on the mode
+-- ---- of a parameter, from entry to exit; what a value means may depend on the mode
 
 -- content was read, whatever the tag of its value
 pub record ReadsAny {T X : Type 0} (Means : Mode → Tree → T → Type 0) (c : Reading) (r : Result T (DecodeError X)) (d : Reading) : Type 0 where

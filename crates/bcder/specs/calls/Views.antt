@@ -1,4 +1,4 @@
--- The content that a value of the code stands for, by the stream of its source.
+-- The content that a value of the code is, by the stream of its source.
 use Rattle.std.specs.Prelude.{ℕ}
 use Rattle.std.specs.Borrow.{GName, MutBor}
 use Rattle.bcder.specs.declared.decode.source.limited.LimitedSource.{LimitedSource}
@@ -46,7 +46,7 @@ unfoldable pub views : Unit {0}
 unfolding of_constructed of_primitive
 views = tt
 
--- the borrow that content holds
+-- the name of the borrow that content holds
 abbrev pub content_name : {S : Type 0} → Content S → GName
 content_name (content.Primitive p) = p.source.ghost_name
 content_name (content.Constructed c) = c.source.ghost_name
@@ -60,28 +60,28 @@ content_start (content.Constructed c) = c.start
 abbrev pub lent : {S : Type 0} → (S → Stream) → MutBor S → Stream
 lent stream s = borrowed s.ghost_name (stream s.now)
 
--- a parameter of constructed content at the entry and at the exit
+-- a parameter of constructed content, at entry and at exit
 abbrev pub before : {S : Type 0} → (S → Stream) → Both (MutBor (Constructed S)) (MutBor (Constructed S)) → Reading
 before stream c = of_constructed stream c.entry.now
 
 abbrev pub after : {S : Type 0} → (S → Stream) → Both (MutBor (Constructed S)) (MutBor (Constructed S)) → Reading
 after stream c = of_constructed stream c.exit.now
 
--- the same of octets
+-- a parameter of octets, at entry and at exit
 abbrev pub octets_before : {S : Type 0} → (S → Stream) → Both (MutBor (Primitive S)) (MutBor (Primitive S)) → Reading
 octets_before stream c = of_primitive stream c.entry.now
 
 abbrev pub octets_after : {S : Type 0} → (S → Stream) → Both (MutBor (Primitive S)) (MutBor (Primitive S)) → Reading
 octets_after stream c = of_primitive stream c.exit.now
 
--- the same of either
+-- a parameter of content of either form, at entry and at exit
 abbrev pub content_before : {S : Type 0} → (S → Stream) → Both (MutBor (Content S)) (MutBor (Content S)) → Reading
 content_before stream c = of_content stream c.entry.now
 
 abbrev pub content_after : {S : Type 0} → (S → Stream) → Both (MutBor (Content S)) (MutBor (Content S)) → Reading
 content_after stream c = of_content stream c.exit.now
 
--- what a parameter of constructed content, of octets or of either is at the exit, it was carried to from what it was at the entry
+-- what a parameter of constructed content, of octets or of either is at exit was reached by lawful steps from what it was at entry
 abbrev pub Moved : {S : Type 0} → (S → Stream) → Both (MutBor (Constructed S)) (MutBor (Constructed S)) → Type 0
 Moved stream c = Carries (of_constructed stream c.entry.now) (of_constructed stream c.exit.now)
 

@@ -1,4 +1,4 @@
--- What a refusal of octets names: its text, and what stands in front of the octets.
+-- What a refusal of octets names: its text, and what the octets begin with.
 use Rattle.std.specs.Prelude.{◌≡◌, ℕ, true, false, List, ◌++◌, codes}
 use Rattle.bcder.specs.declared.mode.Mode.{Mode}
 use Rattle.bcder.specs.declared.mode.Mode.TheVariants.{Cer, Der}
@@ -9,7 +9,7 @@ use Rattle.bcder.specs.x690.Identifier.{end_of_contents}
 use Rattle.bcder.specs.x690.Length.{IsEndOfContents}
 use Rattle.bcder.specs.x690.Broken.{HasTag, HasLength, IsDefinite, EndsInHeader, TagNotFewest, TagTooLarge, LengthReserved, LengthTooLarge, LengthNotFewest}
 
--- what is said of it
+-- the text that says what is violated
 abbrev pub violation_text : Violation → List ℕ
 violation_text v.TruncatedHeader = codes "the octets end inside a header"
 violation_text v.TruncatedContents = codes "unexpected end of data"
@@ -25,11 +25,11 @@ violation_text v.DefiniteInCer = codes "definite length of a constructed value i
 violation_text v.ValueTooLong = codes "value longer than the value around it"
 violation_text v.StrayEnd = codes "end-of-contents octets where none belong"
 
--- no end-of-contents octets stand in front
+-- no end-of-contents octets come next
 abbrev pub HasNoEnd : Mode → List ℕ → Type 0
 HasNoEnd mode w = (end after : List ℕ) → IsEndOfContents mode end → w ≡ end ++ after → ⊥
 
--- the octets of a header in front are none in the mode, for the reason that is named
+-- the next octets are no header in the mode, for the named reason
 pub data ViolatesFront (mode : Mode) (w : List ℕ) (r : Violation) : Type 0 where
   truncated_header : r ≡ v.TruncatedHeader → EndsInHeader w → ViolatesFront mode w r
   tag_not_fewest : r ≡ v.TagNotFewest → TagNotFewest w → ViolatesFront mode w r

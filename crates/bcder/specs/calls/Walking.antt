@@ -1,4 +1,4 @@
--- When the next value, and all values up to the end of content, are there.
+-- When the next value is there, and when all values up to the end of content are.
 use Rattle.std.specs.Borrow.{MutBor}
 use Rattle.std.specs.Prelude.{◌≡◌, ◌≢◌, ℕ, ◌<◌, List, [], ◌++◌, length, Option, Some, Result, IsOkAnd, IfOk, IfErr, OnOk, OnErr, IfSome, IfNone, IsTrue, is_some, is_none}
 use denote.Triple.Both.{Both}
@@ -18,17 +18,17 @@ use Rattle.bcder.specs.calls.Content.{Reading, ContentForm, octets, values, Octe
 
 -- ---- one value
 
--- an encoding of a value stands in front of open content, before these octets
+-- an encoding of a value comes next in open content, before these octets
 pub record HasValue (c : Reading) (t : Tree) (w after : List ℕ) : Type 0 where
   pub usable : c.state ≡ Open
   pub encodes : IsEncoding c.mode t w
   pub rest : c.stream.rest ≡ w ++ after
 
--- no front of the rest is an encoding of a value
+-- no prefix of the rest is an encoding of a value
 pub record NoValue (c : Reading) : Type 0 where
   pub none : (t : Tree) (w after : List ℕ) → IsEncoding c.mode t w → c.stream.rest ≡ w ++ after → ⊥
 
--- the one value that stands in front was passed
+-- the one value that comes next was passed
 pub record PassesValue (c d : Reading) : Type 0 where
   pub tree : Tree
   pub value : List ℕ
@@ -36,30 +36,30 @@ pub record PassesValue (c d : Reading) : Type 0 where
   pub only : IsOnly c.mode tree value c.stream.rest
   pub stays : d.state ≡ Open
 
--- why no value of c was passed, and e was answered; `why` tells its cause
+-- why no value of c was passed, with error e; `why` gives its cause
 pub data RefusesWalk {E : Type 0} (why : E → Cause ContentError) (c : Reading) (e : E) (d : Reading) : Type 0 where
   failed : c.state ≡ Failed → IsOfContent (why e) → RefusesWalk why c e d
   source : why e ≡ of_source → Grew c.stream.faults d.stream.faults → RefusesWalk why c e d
   nothing : c.state ≡ Open → NoValue c → NotAtEnd c → IsOfContent (why e) → RefusesWalk why c e d
 
--- what is answered where a value stands in front, and what at the end
+-- what is returned if a value comes next, and what at the end
 pub record AnswersNext {T E : Type 0} (c : Reading) (r : Result (Option T) E) (d : Reading) : Type 0 where
   pub found : (t : Tree) (w after : List ℕ) → HasValue c t w after → IsOkAnd r (λ o. IsTrue (is_some o)) × (d.stream.rest ≡ after)
   pub ended : (after : List ℕ) → EndsBefore c after → IsOkAnd r (λ o. IsTrue (is_none o))
 
 -- a call passed over the next value, or found the end, or refused
 pub record PassedBy {T E : Type 0} (Refuses : Reading → E → Reading → Type 0) (c : Reading) (r : Result (Option T) E) (d : Reading) : Type 0 where
-  -- Some: the one value that stands in front was passed
+  -- Some: the one value that comes next was passed
   pub value : IfOk r (λ o. IfSome o (λ _. PassesValue c d))
   -- None: content was at its end, whose marker, if any, was taken
   pub end : IfOk r (λ o. IfNone o (EndsAt c d))
   pub done : IfOk r (λ o. IfNone o (IsDone d))
-  -- no answer is given over a failure of the source
+  -- on Ok, the source met no fault
   pub no_fault : OnOk r (d.stream.faults ≡ c.stream.faults)
-  -- an error tells why no value was passed, and content has failed
+  -- an error says why no value was passed, and content has failed
   pub refused : IfErr r (λ e. Refuses c e d)
   pub failed : OnErr r (d.state ≡ Failed)
-  -- the mode stays, and the mark
+  -- the mode and the mark stay
   pub mode : d.mode ≡ c.mode
   pub marked : d.marked ≡ c.marked
 
@@ -72,7 +72,7 @@ ClosesBefore (values kind.Definite) mode o w after = o ≡ Some (length w)
 ClosesBefore (values kind.Indefinite) mode o w after = (x : List ℕ) × HasMarker mode after x
 ClosesBefore (values kind.Unbounded) mode o w after = after ≡ []
 
--- the rest up to the content's end is encodings of values
+-- the rest, up to the end of the content, is encodings of values
 pub record HasValues (c : Reading) : Type 0 where
   pub trees : Trees
   pub all : List ℕ
@@ -85,12 +85,12 @@ pub record HasValues (c : Reading) : Type 0 where
 pub record IsShort (c : Reading) : Type 0 where
   pub short : (n : ℕ) → c.owed ≡ Some n → length c.stream.rest < n
 
--- why the octets of a primitive value were not passed, and e was answered; `why` tells its cause
+-- why the octets of a primitive value were not passed, with error e; `why` gives its cause
 pub data RefusesOctets {E : Type 0} (why : E → Cause ContentError) (c : Reading) (e : E) (d : Reading) : Type 0 where
   failing : why e ≡ of_source → Grew c.stream.faults d.stream.faults → RefusesOctets why c e d
   few : IsShort c → IsOfContent (why e) → RefusesOctets why c e d
 
--- why content was not passed to its end, and e was answered; `why` tells its cause
+-- why content was not passed to its end, with error e; `why` gives its cause
 pub data RefusesValues {E : Type 0} (why : E → Cause ContentError) (c : Reading) (e : E) (d : Reading) : Type 0 where
   failed : c.state ≡ Failed → IsOfContent (why e) → RefusesValues why c e d
   source : why e ≡ of_source → Grew c.stream.faults d.stream.faults → RefusesValues why c e d
@@ -102,16 +102,16 @@ pub record AllBy {T E : Type 0} (Refuses : Reading → E → Reading → Type 0)
   -- there were values up to the end, and content is at it
   pub all : OnOk r (c.state ≡ Open → HasValues c)
   pub done : OnOk r (IsDone d)
-  -- no answer is given over a failure of the source
+  -- on Ok, the source met no fault
   pub no_fault : OnOk r (d.stream.faults ≡ c.stream.faults)
-  -- an error tells why not, and content has failed
+  -- an error says why not, and content has failed
   pub refused : IfErr r (λ e. Refuses c e d)
   pub failed : OnErr r (d.state ≡ Failed)
-  -- the mode stays, and the mark
+  -- the mode and the mark stay
   pub mode : d.mode ≡ c.mode
   pub marked : d.marked ≡ c.marked
 
--- what a loop over values keeps: each that was passed was a whole one, so values up to the end remain exactly where they were there at first
+-- what a loop over values maintains: each value passed was a whole one, so values up to the end remain exactly if they were there at first
 pub record Walks (c d : Reading) : Type 0 where
   pub moves : Moves c d
   pub mode : d.mode ≡ c.mode
@@ -121,17 +121,17 @@ pub record Walks (c d : Reading) : Type 0 where
   pub remain : HasValues c → HasValues d
   pub were : HasValues d → HasValues c
 
--- ---- the same of a parameter
+-- ---- of a parameter, from entry to exit
 
--- a parameter of constructed content as it was at the entry, and as it is at the exit
+-- a parameter of constructed content at entry and at exit
 module _ {S : Type 0} (stream : S → Stream) (c : Both (MutBor (Constructed S)) (MutBor (Constructed S))) where
   abbrev pub Between : (Reading → Reading → Type 0) → Type 0
   Between R = R (of_constructed stream c.entry.now) (of_constructed stream c.exit.now)
 
-  -- what a call that passes over the next value promises of content and of its answer
+  -- what a call that passes over the next value promises about content and its result
   abbrev pub PassedNext : {T X : Type 0} → Result (Option T) (DecodeError X) → Type 0
   PassedNext r = PassedBy (RefusesWalk cause_of) (of_constructed stream c.entry.now) r (of_constructed stream c.exit.now)
 
-  -- unless the source failed, Some is answered exactly where a value stands in front, and None exactly at the end
+  -- unless the source failed, Some is returned exactly if a value comes next, and None exactly at the end
   abbrev pub ExactlyNext : {T E : Type 0} → Result (Option T) E → Type 0
   ExactlyNext r = (Between (λ c d. Grew c.stream.faults d.stream.faults) → ⊥) → AnswersNext (of_constructed stream c.entry.now) r (of_constructed stream c.exit.now)

@@ -1,4 +1,5 @@
--- What is written is an encoding: laws of encoders, contracts of functions of `src/laws/encoders.rt`; and what a writer of one constructed value says.
+-- What is written is an encoding: laws of encoders, contracts of functions of `src/laws/encoders.rt`;
+-- and what a writer of one constructed value says.
 use Rattle.std.specs.Prelude.{◌≡◌, ◌≢◌, ◌⊎◌, List, ℕ, Option, Result, Ok, Err}
 use Rattle.std.specs.Borrow.{MutBor}
 use Rattle.std.specs.Io.KnownBytes.{Appends, Keeps}
@@ -16,7 +17,7 @@ use Rattle.bcder.specs.calls.Target.{AppendsFront}
 abbrev pub WritesEncodings : Mode → (Meaning → Type 0) → Type 0
 WritesEncodings mode M = (e : Encoded) → M (Ok e) → AreEncodings mode e.values e.octets
 
--- and in CER and DER the only one
+-- in CER and DER, what M says is the only encoding of its values
 abbrev pub WritesTheOnlyOne : Mode → (Meaning → Type 0) → Type 0
 WritesTheOnlyOne mode M = mode ≢ Ber → (e : Encoded) → M (Ok e) → (w : List ℕ) → AreEncodings mode e.values w → w ≡ e.octets
 
@@ -27,11 +28,11 @@ pub record EncodesConstructed (tag : Tag) (mode : Mode) (w : List ℕ) : Type 0 
   pub values : Trees
   pub encodes : IsEncoding mode (constructed tag values) w
 
--- an encoding of such a value was appended; where there is none, or the target failed, nothing or a front of one
+-- an encoding of such a value was appended; if there is none, or the target failed, nothing or a prefix of one
 abbrev pub AppendsConstructed : Tag → Mode → Option (List ℕ) → Option (List ℕ) → Result (Unit {0}) WriteError → Type 0
 AppendsConstructed tag mode old new (Ok u) = (w : List ℕ) × EncodesConstructed tag mode w × Appends old new w
 AppendsConstructed tag mode old new (Err e) = Keeps old new ⊎ ((w : List ℕ) × EncodesConstructed tag mode w × AppendsFront old new w)
 
--- the same over the target as a whole
+-- what the writing of a constructed value with the tag did to the target
 pub record WroteConstructed {W : Type 0} (contents : W → Option (List ℕ)) (target : Both (MutBor W) (MutBor W)) (tag : Tag) (mode : Mode) (r : Result (Unit {0}) WriteError) : Type 0 where
   pub done : AppendsConstructed tag mode (contents target.entry.now) (contents target.exit.now) r

@@ -1,4 +1,4 @@
--- In CER and DER a value has one encoding, which is one in BER too.
+-- In CER and DER a value has one encoding, which is an encoding in BER too.
 use Rattle.std.proofs.Common.{◌≡◌, ◌≢◌, ℕ, suc, ◌+◌, ◌*◌, ◌^◌, ◌<◌, Bool, true, false, List, [], ◌∷◌, ◌++◌, length, refl, sym, ap, ap₂, ◌∙◌, arith, inl, inr}
 use Rattle.std.proofs.lemmas.Nat.{same_from_place, mul-le}
 use Rattle.bcder.specs.declared.mode.Mode.{Mode}

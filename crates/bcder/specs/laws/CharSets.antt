@@ -1,4 +1,4 @@
--- Steps of character sets are steps: a character takes at least one octet, and is one of Unicode's.
+-- The steps of the crate's character sets are steps: a character takes at least one octet, and is one of Unicode's.
 use Rattle.std.specs.Prelude.{◌≡◌, ◌<◌, ℕ, zero, suc, List, [], ◌∷◌, ◌++◌, Bool, true, false, Some, None, refl}
 use Rattle.std.proofs.Common.{ap, sym, subst, arith, ◌∙◌}
 use Rattle.std.proofs.lemmas.Bool.Decides.{nat_tests}
@@ -11,7 +11,7 @@ use Rattle.bcder.specs.x690.AsciiSets.{one_octet_step, is_numeric, is_printable,
 
 -- ---- sets of single octets
 
--- a number below those of the surrogates is a character's
+-- a number below the surrogates is that of a character
 pub low_scalar : (c : ℕ) → c < 0xD800 → IsScalar c
 low_scalar c h = grind (arith, nat_tests)
 
@@ -22,7 +22,7 @@ taken : (has : ℕ → Bool) (b : ℕ) (w : List ℕ) (t : Bool) (x : Front) →
 taken has b w true x is e = (is, same_front _ _ (sym (rw is) ∙ e))
 taken has b w false x is e = let none : None ≡ Some x = sym (rw is) ∙ e in absurd cc
 
--- the octet in front passed the test, and is taken
+-- the first octet passed the test, and is taken
 pub one_octet_taken : (has : ℕ → Bool) (b : ℕ) (w : List ℕ) (x : Front) → one_octet_step has (b ∷ w) ≡ Some x → (has b ≡ true) × (record { char = b; rest = w } ≡ x)
 one_octet_taken has b w x e = taken has b w (has b) x refl e
 
@@ -48,7 +48,7 @@ AllHave has [] = Unit {0}
 AllHave has (b ∷ w) = (has b ≡ true) × AllHave has w
 
 module _ (has : ℕ → Bool) where
-  -- what octets of the set spell is themselves
+  -- octets of the set spell themselves
   pub self_spelled : (cs w : List ℕ) → Spells (one_octet_step has) w cs → (cs ≡ w) × AllHave has w
   self_spelled [] w e = (sym e, subst (AllHave has) (sym e) tt)
   self_spelled (c ∷ cs) [] (rest, e, more) = absurd cc
@@ -70,7 +70,7 @@ module _ (has : ℕ → Bool) where
         let (same, all) = self_spelled cs w h in
         (IsUtf8-from_ascii w (all_ascii w all), chars-IsAscii w (all_ascii w all) ∙ sym same)
 
--- ---- the three of X.680, 41
+-- ---- the three sets of X.680, 41
 
 pub numeric_ascii : (b : ℕ) → is_numeric b ≡ true → b < 128
 numeric_ascii b h = grind (arith, nat_tests)
@@ -81,7 +81,7 @@ printable_ascii b h = grind (arith, nat_tests)
 pub ia5_ascii : (b : ℕ) → is_ia5 b ≡ true → b < 128
 ia5_ascii b h = grind (arith, nat_tests)
 
--- a set of ASCII's octets
+-- a set of ASCII octets
 pub ascii_lawful : (has : ℕ → Bool) → ((b : ℕ) → has b ≡ true → b < 128) → IsStep (one_octet_step has)
 ascii_lawful has ascii = one_octet_lawful has (λ b h. let low = ascii b h in low_scalar b (omega arith))
 

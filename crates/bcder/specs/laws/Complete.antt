@@ -1,4 +1,4 @@
--- What is encoded is read again, whatever follows it. So no encoding begins another.
+-- What is encoded is read again, whatever follows it. So no encoding is a prefix of another.
 use Rattle.std.proofs.Common.{◌≡◌, ◌≢◌, ℕ, zero, suc, ◌+◌, ◌<◌, ◌≤◌, Bool, true, false, ltb, List, [], ◌++◌, length, Option, Some, None, refl, sym, ap, ◌∙◌, append_assoc, append-nil, arith, inl, inr}
 use Rattle.std.proofs.lemmas.Bool.{le-ltb}
 use Rattle.std.proofs.lemmas.List.{take_at, drop_at, length-append, append_cancel_right}
@@ -40,7 +40,7 @@ BeginsValue-header mode t f len h x d = rw (d.is, append_assoc) (BeginsValue-ide
 pub header_size : (mode : Mode) (t : Tag) (f : Bool) (len : Length) (h : List ℕ) → IsHeader mode t f len h → 2 ≤ length h
 header_size mode t f len h d = rw (d.is) (omega (arith, length-append (identifier t f) d.length_octets, identifier_some t f, tells_some mode len _ d.tells))
 
--- ---- values: each begins with no 00, and has two octets or more
+-- ---- values: none begins with 00, and each has two octets or more
 
 pub BeginsValue-encoding : (mode : Mode) (t : Tree) (w x : List ℕ) → IsEncoding mode t w → BeginsValue (w ++ x)
 BeginsValue-encoding mode (primitive t contents) w x h = rw (h.1.is, append_assoc) (BeginsValue-header mode t false _ _ _ h.1.is_header)
@@ -78,7 +78,7 @@ primitive_read : (mode : Mode) (inside : Inside) (t : Tag) (contents w x : List 
 primitive_read mode inside t contents w x d =
     definite_read mode inside t false contents w x d ∙ rw (long_enough contents x, take_at contents x (length contents) refl, drop_at contents x (length contents) refl) refl
 
--- what reading the contents octets gives
+-- the result of reading the contents octets
 pub record Reads (n : ℕ) (mode : Mode) (ts : Trees) (w : List ℕ) : Type 0 where
   pub reads : (marked : Bool) (tail rest : List ℕ) → at_end mode marked tail ≡ Some rest → read_trees n mode marked (w ++ tail) ≡ Some (ts, rest)
 
@@ -129,7 +129,7 @@ pub tree_complete : (mode : Mode) (t : Tree) (w x : List ℕ) → IsEncoding mod
 unfolding read_tree
 tree_complete mode t w x h = value_complete (length (w ++ x)) mode t w x h (omega (arith, length-append w x))
 
--- ---- an octet list is one value at most, and no encoding begins another
+-- ---- a list of octets is at most one value, and no encoding is a prefix of another
 
 pub record Same (t u : Tree) (w v x y : List ℕ) : Type 0 where
   pub tree : t ≡ u
@@ -144,17 +144,17 @@ one_encoding mode t u w v x y h k e =
     let p = some_pair t u x y (sym (tree_complete mode t w x h) ∙ ap (read_tree mode) e ∙ tree_complete mode u v y k) in
     record { tree = p.0; rest = p.1; front = append_cancel_right w v y (ap (λ r. w ++ r) (sym p.1) ∙ e) }
 
--- The value at the front is the only one.
+-- the octets begin with no other value
 pub only_at_front : (mode : Mode) (t : Tree) (w x : List ℕ) → IsEncoding mode t w → (u : Tree) (v y : List ℕ) → IsEncoding mode u v → w ++ x ≡ v ++ y → (u ≡ t) × (v ≡ w)
 only_at_front mode t w x h u v y k e = let s = one_encoding mode t u w v x y h k e in (sym s.tree, sym s.front)
 
--- An octet list is one list of values at most.
+-- a list of octets is at most one list of values
 pub one_list : (mode : Mode) (ts us : Trees) (w : List ℕ) → AreEncodings mode ts w → AreEncodings mode us w → ts ≡ us
 one_list mode ts us w h k =
     let n = suc (length w) in
     (some_pair ts us [] [] (sym (reads_all n mode ts w (trees_complete n mode ts w h (omega arith))) ∙ reads_all n mode us w (trees_complete n mode us w k (omega arith)))).0
 
--- The contents octets of an indefinite encoding end in one place.
+-- the contents octets of an indefinite encoding end in one place
 pub one_end_of_list : (mode : Mode) (ts us : Trees) (w v d e x y : List ℕ) → AreEncodings mode ts w → AreEncodings mode us v → IsEndOfContents mode d → IsEndOfContents mode e → w ++ (d ++ x) ≡ v ++ (e ++ y) → (ts ≡ us) × (x ≡ y)
 one_end_of_list mode ts us w v d e x y h k is_d is_e p =
     let n = suc (length w + length v) in
@@ -162,6 +162,6 @@ one_end_of_list mode ts us w v d e x y h k is_d is_e p =
     let r = reads_marked n mode us v e y is_e (trees_complete n mode us v k (omega arith)) in
     some_pair ts us x y (sym l ∙ ap (read_trees n mode true) p ∙ r)
 
--- No header begins another.
+-- no header is a prefix of another
 pub one_header : (mode : Mode) (t u : Tag) (f g : Bool) (l m : Length) (w v x y : List ℕ) → IsHeader mode t f l w → IsHeader mode u g m v → w ++ x ≡ v ++ y → ◌≡◌ {A = Header} (record { tag = t; form = f; len = l }) (record { tag = u; form = g; len = m }) × (x ≡ y)
 one_header mode t u f g l m w v x y h k e = some_pair _ _ x y (sym (header_complete mode t f l w x h) ∙ ap (read_header mode) e ∙ header_complete mode u g m v y k)

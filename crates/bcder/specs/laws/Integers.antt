@@ -20,7 +20,7 @@ AreOctets-join : (v w : List ℕ) → AreOctets v → AreOctets w → AreOctets 
 AreOctets-join [] w h k = k
 AreOctets-join (b ∷ v) w h k = AreOctets-cons b (v ++ w) (h 0) (AreOctets-join v w (λ i. h (suc i)) k)
 
--- ---- the octets of a number: of n, or of -1 - n where it is negative
+-- ---- the octets of a number: of n, or of -1 - n if negative
 
 one_octet : (negative : Bool) (d : ℕ) → d < 256 → AreOctets (octet negative d ∷ [])
 one_octet true d h = AreOctets-cons (255 - d) [] (omega arith) AreOctets-nil
@@ -42,14 +42,14 @@ snoc_value (b ∷ w) d =
     let q : b * 256 ^ length (w ++ d ∷ []) ≡ b * (256 * 256 ^ length w) = ap (λ k. b * 256 ^ k) l ∙ ap (λ x. b * x) p in
     omega (arith, q, r)
 
--- n fits k octets behind the first
+-- n fits in k octets after the first
 abbrev pub FitsBehind : ℕ → ℕ → Type 0
 FitsBehind k n = n < 128 * 256 ^ k
 
 fits_next : (k n : ℕ) → FitsBehind (suc k) n → FitsBehind k (n / 256)
 fits_next k n h = let p : 256 ^ suc k ≡ 256 * 256 ^ k = omega arith in omega arith
 
--- n octets behind the first are enough for n
+-- n octets after the first are enough for n
 fits_itself : (n : ℕ) → FitsBehind n n
 fits_itself zero = omega arith
 fits_itself (suc n) =
@@ -94,7 +94,7 @@ negative_within (suc k) n h = elim (cases_lt n 128) [
   | inr a ↦ rw (le-ltb n 128 a) (negative_snoc (octets_within k true (n / 256)) n (negative_within k (n / 256) (fits_next k n h)))
 ]
 
--- ---- the number that octets are
+-- ---- the number in octets
 
 pub number_positive : (w : List ℕ) (n : ℕ) → Leads false w → big_endian w ≡ n → number w ≡ pos n
 number_positive [] n l e = absurd l
@@ -165,7 +165,7 @@ integer_octets_are z = (some_integer z).0
 
 -- ---- one smallest list for each number
 
--- m is what w tells, apart from the sign, where w is smallest
+-- m is in the range of the magnitudes of smallest lists as long as w
 pub record Sized (m : ℕ) (w : List ℕ) : Type 0 where
   pub some : 1 ≤ length w
   pub below : 2 * m < 256 ^ length w
@@ -228,7 +228,7 @@ same_length m v w s t = elim (cases_lt (length v) (length w)) [
   ]
 ]
 
--- what a smallest list tells: its sign and its size
+-- what a smallest list says: its sign and its magnitude
 pub data Told (w : List ℕ) : ℤ → Type 0 where
   positive : (n : ℕ) → Leads false w → Sized n w → big_endian w ≡ n → Told w (pos n)
   negative : (n : ℕ) → Leads true w → Sized n w → big_endian w + n + 1 ≡ 256 ^ length w → Told w (negsuc n)
@@ -262,6 +262,6 @@ one_told v w (negsuc m) (negsuc n) o p (negative _ _ s a) (negative _ _ t b) e =
 pub one_integer : OneInteger
 one_integer z v w o p a b = one_told v w z z o p (told_by z v o a) (told_by z w p b) refl
 
--- octets of an integer are its octets
+-- the contents octets of an integer are its `integer_octets`
 pub are_integer_octets : (z : ℤ) (w : List ℕ) → AreOctets w → AreInteger z w → w ≡ integer_octets z
 are_integer_octets z w o a = one_integer z w (integer_octets z) o (some_integer z).0 a (some_integer z).1

@@ -1,4 +1,4 @@
--- What is read at the front of length octets is the length that they tell.
+-- What is read from length octets is the length that they give.
 use Rattle.std.proofs.Common.{◌≡◌, ℕ, suc, ◌+◌, ◌-◌, ◌≤◌, true, List, [], ◌∷◌, ◌++◌, length, Option, Some, refl, sym, ap, subst, ◌∙◌, arith, inl, inr}
 use Rattle.std.proofs.lemmas.Bool.{cases_lt, lt-ltb, le-ltb, lt-leb, le-leb}
 use Rattle.std.proofs.lemmas.List.{take_at, drop_at, length-append}
@@ -72,11 +72,11 @@ read_length-tells mode Indefinite w x h = rw h (read_length-indefinite mode x)
 length_inj : (n k : Length) (x y : List ℕ) → ◌≡◌ {A = Option (Length × List ℕ)} (Some (n, x)) (Some (k, y)) → (n ≡ k) × (x ≡ y)
 length_inj n k x y e = let p : ◌≡◌ {A = Length × List ℕ} (n, x) (k, y) = cc in (ap (λ r. r.0) p, ap (λ r. r.1) p)
 
--- No length octets begin others.
+-- no length octets are a prefix of others
 pub one_length : (mode : Mode) (n k : Length) (v w x y : List ℕ) → AreLengthOctets mode n v → AreLengthOctets mode k w → v ++ x ≡ w ++ y → (n ≡ k) × (x ≡ y)
 one_length mode n k v w x y l m e = length_inj n k x y (sym (read_length-tells mode n v x l) ∙ ap (read_length mode) e ∙ read_length-tells mode k w y m)
 
--- No end-of-contents octets begin others.
+-- no end-of-contents octets are a prefix of others
 pub one_end : (mode : Mode) (v w x y : List ℕ) → IsEndOfContents mode v → IsEndOfContents mode w → v ++ x ≡ w ++ y → x ≡ y
 one_end mode v w x y d e p = let q = sym (read_end-complete mode v x d) ∙ ap (read_end mode) p ∙ read_end-complete mode w y e in cc
 

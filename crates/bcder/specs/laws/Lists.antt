@@ -1,4 +1,4 @@
--- Lists of values, one behind another.
+-- Lists of values, one after another.
 use Rattle.std.proofs.Common.{◌≡◌, ℕ, List, [], ◌++◌, length, refl, sym, ap, append_assoc, append-nil, arith}
 use Rattle.std.proofs.lemmas.List.{length-append}
 use Rattle.bcder.specs.declared.mode.Mode.{Mode}
@@ -13,7 +13,7 @@ AreEncodings-join mode (t ∷ₜ ts) us v w h k = (h.0, h.1 ++ w, h.2, AreEncodi
 pub AreEncodings-one : (mode : Mode) (t : Tree) (w : List ℕ) → IsEncoding mode t w → AreEncodings mode (t ∷ₜ no_trees) w
 AreEncodings-one mode t w h = (w, [], h, refl, sym (append-nil w))
 
--- what is not empty begins with a value
+-- octets that are not empty begin with a value
 pub record First (mode : Mode) (ts : Trees) (w : List ℕ) : Type 0 where
   pub tree : Tree
   pub trees : Trees

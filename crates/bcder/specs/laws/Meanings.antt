@@ -1,4 +1,4 @@
--- Each encoder has one meaning at most, and its octets are an encoding.
+-- Each encoder has at most one meaning, and its octets are an encoding.
 use Rattle.std.specs.Prelude.{◌≡◌, ℕ, ◌^◌, ◌<◌, Bool, true, false, List, [], length, nat_lt, Ok, Err, refl, if◌then◌else◌}
 use Rattle.std.proofs.Common.{inl, inr, sym, ap, ◌∙◌, subst, ltb-true, arith}
 use Rattle.bcder.specs.declared.encode.error.EncodeError.{EncodeError}

@@ -1,4 +1,4 @@
--- What moved content is: laws of `Moves`, in which `Moved` of a parameter is stated. Crates above cite them in `using(..)`.
+-- What moved content is: laws of `Moves`, by which `Moved` of a parameter is stated. Crates that use this one cite them in `using(..)`.
 use Rattle.std.proofs.Common.{◌≡◌, ◌≢◌, ℕ, ◌+◌, ◌≤◌, Bool, true, false, List, [], ◌++◌, length, refl, ap, sym, ◌∙◌, arith, length-append, append_assoc, append-nil, subst, inl, inr}
 use Rattle.std.specs.Prelude.{Option, Some, None, ◌⊎◌}
 use Rattle.std.proofs.lemmas.Grind.{common_steps}
@@ -40,7 +40,7 @@ end_in_ber m w e = record { zero_length = e.zero_length; is = e.is; is_length = 
 
 -- ---- the octets passed
 
--- a later mark makes them BER
+-- the octets passed are whole values under a later mark too, which makes them BER
 pub whole_marked : (m : Mode) (c d : Reading) (p : List ℕ) (a b : Bool) → (a ≡ true → b ≡ true) → Whole (label m a) c p d → Whole (label m b) c p d
 whole_marked m c d p true true f w = w
 whole_marked m c d p true false f w = absurd (let x : false ≡ true = f refl in cc)
@@ -54,7 +54,7 @@ whole_marked m c d p false true f w = record {
   closes = elim w.closes [ inl x ↦ inl x | inr x ↦ inr (end_in_ber m w.close x.0, x.1, x.2, x.3) ];
 }
 
--- where nothing is marked yet the mode is the same
+-- if nothing is marked yet, the mode is the same
 label_of : (m n : Mode) (a b : Bool) → (a ≡ true → b ≡ true) → (a ≡ false → n ≡ m) → label n b ≡ label m b
 label_of m n a true f g = refl
 label_of m n a false f g = g (unmarked a false f refl)
@@ -70,7 +70,7 @@ closes_last : (m : Mode) (d e : Reading) (x : List ℕ) → d.state ≡ Ended �
 closes_last m d e x s (inl h) = h.1 ∙ s
 closes_last m d e x s (inr h) = h.3
 
--- after the marker nothing passes
+-- after the end marker no octets are passed
 whole_trans : (m : Mode) (c d e : Reading) (p q : List ℕ) (a : Whole m c p d) → d.kind ≡ c.kind → (d.state ≡ Ended → q ≡ []) → Closes m c a.close d → Whole m d q e → Whole m c (p ++ q) e
 whole_trans m c d e p q a k done (inl s) b = record {
   trees = a.trees +++ b.trees;
@@ -101,9 +101,9 @@ ends_trans c d e k f (inr s) = inr (sym k ∙ s)
 pub whole_none : (m : Mode) (c d : Reading) → d.state ≡ c.state → Whole m c [] d
 whole_none m c d e = record { trees = no_trees; values = []; close = []; split = refl; encodes = refl; closes = inl (refl, e) }
 
--- ---- what a crate above cites
+-- ---- what a crate that uses this one cites
 
--- content where nothing was done
+-- content that nothing was done to is moved
 pub untouched_is_moved : (c : Reading) → Moves c c
 unfolding Moves
 untouched_is_moved c = record {
@@ -122,7 +122,7 @@ untouched_is_moved c = record {
   whole = λ _ _. whole_none _ c c refl;
 }
 
--- steps in a row
+-- two moves in a row are a move
 pub moved_twice_is_moved : (c d e : Reading) → Moves c d → Moves d e → Moves c e
 unfolding Moves
 moved_twice_is_moved c d e a b = record {
@@ -141,11 +141,11 @@ moved_twice_is_moved c d e a b = record {
   whole = λ n o. whole_both c d e a.passed b.passed a.kind a.mode b.marked (λ t. (b.ended t).1) (a.whole (not_failed d e b.failed n) o) (b.whole n (λ k. o (sym a.kind ∙ k)));
 }
 
--- what moved to content moves on with it
+-- whatever moved to content moves on with it
 pub moved_carries : (c d : Reading) → Moves c d → Carries c d
 moved_carries c d m b h = moved_twice_is_moved b c d h m
 
--- what is left is a part of what was there
+-- what is left is no longer than what was there
 pub moved_is_no_longer : (c d : Reading) → Moves c d → length d.stream.rest ≤ length c.stream.rest
 unfolding Moves
 moved_is_no_longer c d m = omega (arith, ap length m.rest, length-append m.passed d.stream.rest)
@@ -154,10 +154,10 @@ pub moved_keeps_kind : (c d : Reading) → Moves c d → d.kind ≡ c.kind
 unfolding Moves
 moved_keeps_kind c d m = m.kind
 
--- ---- what `using(..)` names where one law isn't enough
+-- ---- what `using(..)` names if one law isn't enough
 
--- a closure of several steps, handed to a call that asks for content as it moved
+-- for a closure of several steps, passed to a call that requires that it moves the content
 pub ruleset steps = (untouched_is_moved, moved_carries)
 
--- a recursion, whose measure is what is left
+-- for a recursion whose measure is what is left
 pub ruleset measures = (untouched_is_moved, moved_is_no_longer)

@@ -15,7 +15,7 @@ signed_magnitude : (w : Width) → hbits w ≤ 128 → (z : ℤ) → FitsSigned 
 signed_magnitude w l (pos n) h = let p : 2 ^ hbits w ≤ 2 ^ 128 = pow-le-pow_right (omega arith) l in let q = h.sfits in omega arith
 signed_magnitude w l (negsuc n) h = let p : 2 ^ hbits w ≤ 2 ^ 128 = pow-le-pow_right (omega arith) l in let q = h.sfits in omega arith
 
--- of each type
+-- the numbers of each type have magnitudes of at most 128 bits
 pub u8_magnitude : (z : ℤ) → FitsUnsignedBits 8 z → HasMagnitude z
 u8_magnitude = unsigned_magnitude 8 (omega arith)
 

@@ -1,4 +1,4 @@
--- What the grammar speaks of are octets.
+-- What the grammar is about are octets.
 use Rattle.std.proofs.Common.{ℕ, zero, suc, ◌+◌, ◌/◌, ◌%◌, ◌^◌, ◌<◌, Bool, true, false, List, [], ◌∷◌, ◌++◌, arith, inl, inr}
 use Rattle.std.proofs.lemmas.Bool.{cases_lt, lt-ltb, le-ltb}
 use Rattle.bcder.specs.declared.mode.Mode.{Mode}

@@ -1,4 +1,4 @@
--- What is read stands there, spelled as the grammar says.
+-- What is read is there, spelled as the grammar says.
 use Rattle.std.proofs.Common.{◌≡◌, ℕ, zero, suc, ◌+◌, ◌-◌, ◌*◌, ◌/◌, ◌%◌, ◌^◌, ◌<◌, ◌≤◌, Bool, true, false, cond, ltb, eqb, List, [], ◌∷◌, ◌++◌, length, take, drop, Option, Some, None, option_map, option_and_then, refl, sym, ap, subst, arith, inl, inr}
 use Rattle.std.proofs.lemmas.Bool.{cases_lt, ltb-false, lt-ltb, le-ltb, lt-leb, le-leb, leb-true, eqb-true, agree_below_at}
 use Rattle.std.proofs.lemmas.List.{take-append-drop, length-take, length-take-le, get_or-take, get_or_past}
@@ -87,7 +87,7 @@ pub chained : {A B : Type 0} (f : A → Option B) (r : Option A) (y : B) → opt
 chained f None y e = absurd cc
 chained f (Some x) y e = (x, refl, e)
 
--- a test that did not fail
+-- a test that gave a result was passed
 pub passed : {A : Type 0} (b : Bool) (r : Option A) (y : A) → cond b r None ≡ Some y → (b ≡ true) × (r ≡ Some y)
 passed true r y e = (refl, e)
 passed false r y e = absurd cc
@@ -221,7 +221,7 @@ length_sound mode (b ∷ w) r o e =
       ]
     ]
 
--- ---- end markers
+-- ---- end-of-contents octets
 
 pub record IsEnded (mode : Mode) (w x : List ℕ) : Type 0 where
   pub marker : List ℕ

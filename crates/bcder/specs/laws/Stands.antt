@@ -1,4 +1,4 @@
--- The value that is read at the front stands there.
+-- The value that is read comes next in the octets.
 use Rattle.std.proofs.Common.{◌≡◌, ◌≢◌, ℕ, zero, suc, ◌+◌, ◌<◌, ◌≤◌, Bool, true, false, cond, ltb, List, [], ◌∷◌, ◌++◌, length, get_or, take, drop, Option, Some, None, option_map, option_and_then, refl, sym, ap, subst, ◌∙◌, append_assoc, append-nil, arith, inl, inr}
 use Rattle.std.proofs.lemmas.Bool.{ltb-false}
 use Rattle.std.proofs.lemmas.List.{take-append-drop, length-take-le, get_or-append-add}
@@ -18,7 +18,7 @@ pub record Stands (mode : Mode) (t : Tree) (w x : List ℕ) : Type 0 where
   pub is_encoding : IsEncoding mode t front
   pub is : w ≡ front ++ x
 
--- a list of values, and the end marker behind it
+-- a list of values, followed by the end marker
 pub record StandMarked (mode : Mode) (ts : Trees) (w x : List ℕ) : Type 0 where
   pub front : List ℕ
   pub marker : List ℕ
@@ -26,7 +26,7 @@ pub record StandMarked (mode : Mode) (ts : Trees) (w x : List ℕ) : Type 0 wher
   pub is_end : IsEndOfContents mode marker
   pub is : w ≡ front ++ (marker ++ x)
 
--- what is known of the reader of what stands inside a value
+-- what is known of the reader of what is inside a value
 pub record InsideSound (mode : Mode) (inside : Inside) : Type 0 where
   pub whole : (w : List ℕ) (ts : Trees) (x : List ℕ) → AreOctets w → inside false w ≡ Some (ts, x) → AreEncodings mode ts w
   pub marked : (w : List ℕ) (ts : Trees) (x : List ℕ) → AreOctets w → inside true w ≡ Some (ts, x) → StandMarked mode ts w x
@@ -75,7 +75,7 @@ header_sound mode w r o e =
 
 -- ---- values
 
--- a header and as many contents octets as it tells
+-- a header and as many contents octets as it announces
 pub primitive_encodes : (mode : Mode) (t : Tag) (h z : List ℕ) (n : ℕ) → AreOctets z → IsHeader mode t false (Definite n) h → n ≤ length z → IsEncoding mode (primitive t (take n z)) (h ++ take n z)
 primitive_encodes mode t h z n o is_header within = (AreOctets-take n z o, record { header = h; is_header = rw (length-take-le n z within) is_header; is = refl })
 
@@ -103,7 +103,7 @@ indefinite_stands mode t ts h z x is_header m =
       is = ap (λ y. h ++ y) (m.is ∙ sym (append_assoc m.front m.marker x)) ∙ sym (append_assoc h (m.front ++ m.marker) x);
     }
 
--- the answer of a reader, and what it says
+-- the result of a reader, and what it says
 abbrev Says : Mode → List ℕ → Tree × List ℕ → Type 0
 Says mode w r = Stands mode r.0 w r.1
 
@@ -127,7 +127,7 @@ value_sound mode inside s w r o e =
     let h = header_sound mode w a.0 o a.1 in
     subst (λ v. Says mode v r) (sym h.is) (contents_sound mode inside s a.0.0.tag a.0.0.form a.0.0.len h.octets a.0.1 r (AreOctets-after h.octets w a.0.1 h.is o) h.is_header a.2)
 
--- a list of values, and what stands where they end
+-- a list of values, and what follows their end
 pub record StandBefore (mode : Mode) (marked : Bool) (ts : Trees) (w x : List ℕ) : Type 0 where
   pub front : List ℕ
   pub tail : List ℕ

@@ -1,4 +1,4 @@
--- An octet string has one meaning at most, and its octets are an encoding.
+-- An octet string has at most one meaning, and its octets are an encoding.
 use Rattle.std.specs.Prelude.{◌≡◌, ℕ, zero, suc, ◌+◌, ◌*◌, ◌≤◌, Bool, true, false, List, length, take, drop, Ok, Err, refl, if◌then◌else◌}
 use Rattle.std.proofs.Common.{inl, inr, ap, subst, ltb-true, arith}
 use Rattle.std.proofs.lemmas.List.{length-take, length-drop}
@@ -63,7 +63,7 @@ StringMeans_lawful t (cut kept ps) Ber = constructed_lawful t (kept_lawful kept 
 StringMeans_lawful t (cut kept ps) Cer = OctetsMean_lawful t (octets_of (cut kept ps)) Cer
 StringMeans_lawful t (cut kept ps) Der = OctetsMean_lawful t (octets_of (cut kept ps)) Der
 
--- ---- what is wrapped
+-- ---- strings of wrapped values
 
 wrapped_octets : (inner : Mode) (M : Meaning → Type 0) → IsLawful inner M → (m : Meaning) → M m → (w : List ℕ) → contents_of m ≡ Ok w → AreOctets w
 wrapped_octets inner M lawful (Ok e) m w is = let same : e.octets ≡ w = cc in subst AreOctets same (AreOctets-encodings inner e.values e.octets (lawful.encodes e m))

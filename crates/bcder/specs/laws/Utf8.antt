@@ -1,4 +1,4 @@
--- UTF-8 by RFC 3629's table is UTF-8 as std means it: the encodings of characters.
+-- UTF-8 by the table of RFC 3629 is UTF-8 as std means it: the encodings of characters.
 use Rattle.std.specs.Prelude.{◌≡◌, ◌↔◌, ℕ, suc, ◌+◌, ◌-◌, ◌/◌, ◌%◌, ◌<◌, ◌≤◌, ◌⊎◌, List, [], ◌∷◌, ◌++◌, Bool, true, false, ◌&&◌, if◌then◌else◌, Option, Some, None, refl}
 use Rattle.std.proofs.Common.{ap, sym, subst, arith, ◌∙◌, inl, inr, ⊎_elim}
 use Rattle.std.proofs.lemmas.Bool.{cond-true, cond-false}
@@ -20,7 +20,7 @@ above_range lo hi b h = grind (arith, nat_tests)
 range_is : (lo hi b : ℕ) → is_in_range lo hi b ≡ true → (lo ≤ b) × (b ≤ hi)
 range_is lo hi b h = (grind (arith, nat_tests), grind (arith, nat_tests))
 
--- what comes through a test passed it
+-- what comes out of a test has passed it
 through : {A : Type 0} (t : Bool) (o : Option A) (x : A) → (if t then o else None) ≡ Some x → (t ≡ true) × (o ≡ Some x)
 through true o x e = (refl, e)
 through false o x e = absurd cc
@@ -122,7 +122,7 @@ lead_forms a l e =
 same_front : (x y : Front) → Some x ≡ Some y → x ≡ y
 same_front x y e = cc
 
--- x is a character in front of w
+-- x is a character at the front of w
 abbrev Stands : Front → List ℕ → Type 0
 Stands x w = IsScalar x.char × (encode_utf8 x.char ++ x.rest ≡ w)
 
@@ -209,7 +209,7 @@ lead_F4 a p q = rw (above_range 0xC2 0xDF a (omega arith), above_range 0xE0 0xE0
 order : (m n : ℕ) → (m < n) ⊎ (n ≤ m)
 order m n = grind (arith, nat_tests)
 
--- the row of a first octet, where the second octet is in the row's range
+-- the row of a first octet, if the second octet is in the row's range
 abbrev HasRow : ℕ → ℕ → ℕ → ℕ → Type 0
 HasRow a b bits tails = (l : Lead) × (lead a ≡ Some l) × ((l.low ≤ b) × (b ≤ l.high)) × ((l.bits ≡ bits) × (l.tails ≡ tails))
 
@@ -232,7 +232,7 @@ led_by : (a b bits tails : ℕ) (w : List ℕ) → 128 ≤ a → HasRow a b bits
 led_by a b bits tails w high (l, is, within, (e, f)) =
     led a b l w high is within.0 within.1 ∙ (λ i. read_tails (f i) (six_more (e i) b) w)
 
--- a front is read
+-- the first character is read
 abbrev Reads : List ℕ → ℕ → List ℕ → Type 0
 Reads w c rest = utf8_step w ≡ Some (record { char = c; rest = rest })
 

@@ -76,7 +76,7 @@ primitive_allowed Der n = refl
 pub primitive_written : (mode : Mode) (t : Tag) (contents : List ℕ) → IsValueTag t → AreOctets contents → length contents < 2 ^ 32 → IsEncoding mode (primitive t contents) (definite t false contents)
 primitive_written mode t contents v o h = (o, definite_written mode t false contents v (primitive_allowed mode (length contents)) h)
 
--- in CER of any number of contents octets
+-- what is written in CER is an encoding, for any number of contents octets
 pub cer_written : (t : Tag) (ts : Trees) (contents : List ℕ) → IsValueTag t → AreEncodings Cer ts contents
     → IsEncoding Cer (constructed t ts) (enclosed Cer t contents)
 cer_written t ts contents v e = (contents, e, inr (indefinite_written Cer t contents v refl))

@@ -1,4 +1,4 @@
--- The octets of a header that were put together so far.
+-- The octets of a header that were gathered so far.
 use Rattle.std.specs.Prelude.{ℕ, List, take}
 use Rattle.bcder.specs.declared.encode.buffer.Buffer.{Buffer}
 

@@ -1,4 +1,4 @@
--- What a step over the header of the next value answers and leaves.
+-- What a step over the header of the next value returns and leaves.
 use Rattle.std.specs.Prelude.{◌≡◌, ◌⊎◌, ℕ, true, Option, Result, IfOk, IfErr, IfSome, IfNone, OnOk, OnErr}
 use Rattle.bcder.specs.declared.decode.error.ContentError.{ContentError}
 use Rattle.bcder.specs.declared.decode.header.Header.{Header as CodeHeader}
@@ -11,23 +11,24 @@ use Rattle.bcder.specs.calls.Content.{Reading, Asked, tagged, IsAsked, Enters, R
 use Rattle.bcder.specs.calls.Takes.{HasNone}
 
 module _ {E : Type 0} (c d : Reading) where
-  -- the header of a value that is asked for was passed
+  -- the header of an asked value was passed
   abbrev pub EntersNext : Asked → Result (Option CodeHeader) E → Type 0
   EntersNext asked r = IfOk r (λ o. IfSome o (λ h. IsAsked asked h.tag × Enters c (header_of h) d))
 
-  -- there is none, and what is left
+  -- no asked value is there, and content is left so
   abbrev pub FindsNone : Asked → {T : Type 0} → Result (Option T) E → Type 0
   FindsNone asked r = IfOk r (λ o. IfNone o (HasNone asked c d))
 
-  -- why none was passed
+  -- why no header was passed
   abbrev pub RefusesNext : (E → Cause ContentError) → Asked → {T : Type 0} → Result T E → Type 0
   RefusesNext why asked r = IfErr r (λ e. RefusesHeader why asked c e d)
 
-  -- where it succeeded, the source met no fault
+  -- on Ok, the source met no fault
   abbrev pub MeetsNoFault : {T : Type 0} → Result T E → Type 0
   MeetsNoFault r = OnOk r (d.stream.faults ≡ c.stream.faults)
 
--- the header of a primitive value of the tag was passed, with so many contents octets; or there is none; or it was refused, as that of a constructed one is
+-- the header of a primitive value of the tag was passed, with n contents octets; or there is none; or it was refused,
+-- as that of a constructed value is
 pub record EntersOctets {E : Type 0} (why : E → Cause ContentError) (t : Tag) (c : Reading) (r : Result (Option ℕ) E) (d : Reading) : Type 0 where
   pub entered : IfOk r (λ o. IfSome o (λ n. Enters c (header_of (octets_header t n)) d))
   pub none : IfOk r (λ o. IfNone o (HasNone (tagged t) c d))

@@ -1,4 +1,4 @@
--- What the steps over the content of a value answer and leave.
+-- What the steps over the content of a value return and leave.
 use Rattle.std.specs.Prelude.{◌≡◌, ℕ, Bool, Option, Some, Result, Ok, Err}
 use Rattle.std.specs.Borrow.{MutBor}
 use Rattle.bcder.specs.declared.length.Length.{Length}
@@ -19,22 +19,22 @@ use Rattle.bcder.specs.calls.Content.{Reading}
 use Rattle.bcder.specs.calls.Calls.{Hands, RanOver, TakesContent, popped}
 use Rattle.bcder.specs.calls.Views.{of_constructed}
 
--- how the end of the values behind a length is known
+-- how the end of the values after a length is known
 abbrev pub kind_behind : Length → Kind
 kind_behind (Definite n) = kind.Definite
 kind_behind Indefinite = kind.Indefinite
 
--- the limit of the content behind a length, inside the limit o
+-- the limit of the content after a length, inside the limit o
 abbrev pub limit_inside : Length → Option ℕ → Option ℕ
 limit_inside (Definite n) o = Some n
 limit_inside Indefinite o = o
 
--- the limit after that content, of whose limit so much is left
+-- the limit after that content, if this is left of the limit in it
 abbrev pub limit_outside : Length → Option ℕ → Option ℕ → Option ℕ
 limit_outside (Definite n) o left = popped o n left
 limit_outside Indefinite o left = left
 
--- none of the octets that a length promises is left
+-- no octets are left of those that a length promises
 abbrev pub IsTaken : Length → Option ℕ → Type 0
 IsTaken (Definite n) left = left ≡ Some 0
 IsTaken Indefinite left = Unit {0}
@@ -47,11 +47,11 @@ IsBehind stream c h i = Hands (of_constructed stream c.now).mode (is_constructed
 abbrev pub RanInside : {C T E : Type 0} → (E → Cause ContentError) → (C → Reading) → (Tag → MutBor C → Result T E → MutBor C → Type 0) → Reading → Tag → Result T E → Bool → Stream → Option ℕ → Type 0
 RanInside why view post i t r mark s o = RanOver why view post i.stream i.owed i.kind i.mode t r mark s o
 
--- usable content once more
+-- content made usable again
 abbrev pub opened : Reading → Reading
 opened c = record { stream = c.stream; owed = c.owed; kind = c.kind; state = Open; mode = c.mode; marked = c.marked; name = c.name }
 
--- what was done with the value whose header was passed: it has the form that is refused, or its content was refused, or taken
+-- what happened to the value whose header was passed: it has the refused form, or its content was refused, or taken
 pub data TakesBehind {C T X : Type 0} (view : C → Reading) (post : Tag → MutBor C → Result T (DecodeError X) → MutBor C → Type 0) (form : Option Bool) (c : Reading) (h : Header) (r : Result (Option T) (DecodeError X)) (d : Reading) : Type 0 where
   of_form : (e : DecodeError X) → ◌≡◌ {A = Result (Option T) (DecodeError X)} r (Err e) → form ≡ Some h.form → IsRefusal e → d ≡ c → TakesBehind view post form c h r d
   refused : (e : DecodeError X) → ◌≡◌ {A = Result (Option T) (DecodeError X)} r (Err e) → TakesContent {T = T} cause_of view post c h (Err e) d → TakesBehind view post form c h r d

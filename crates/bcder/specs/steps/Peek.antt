@@ -1,4 +1,4 @@
--- What stands at the front of a source, and what can be told of it from the octets at hand.
+-- What a source begins with, and what the octets at hand show of it.
 use Rattle.std.specs.Prelude.{◌≡◌, ℕ, ◌<◌, ◌≤◌, Bool, true, false, List, [], ◌++◌, length, drop, Option, Some, None}
 use Rattle.bcder.specs.declared.mode.Mode.{Mode}
 use Rattle.bcder.specs.declared.decode.header.Header.{Header as CodeHeader}
@@ -28,24 +28,24 @@ abbrev pub len_of : Form → Length
 len_of (form.Primitive n) = Definite n
 len_of (form.Constructed l) = l
 
--- a header as the program keeps it
+-- a header as the program represents it
 abbrev pub header_of : CodeHeader → Header
 header_of h = record { tag = h.tag; form = is_constructed h.form; len = len_of h.form }
 
--- the header of a primitive value with so many contents octets
+-- the header of a primitive value with n contents octets
 abbrev pub octets_header : Tag → ℕ → CodeHeader
 octets_header t n = record { tag = t; form = form.Primitive n }
 
--- which headers are looked for, as the clauses of content say it
+-- the headers that are looked for, in the terms of the clauses of content
 abbrev pub asked : Wanted → Asked
 asked wanted.Any = any
 asked (wanted.Tagged t) = tagged t
 
--- the identifier octets of a tag that isn't asked for stand in front
+-- the identifier octets of a tag that isn't asked for come next
 abbrev pub HasOtherTag : Asked → List ℕ → Type 0
 HasOtherTag asked w = (u : Tag) × (f : Bool) × (x : List ℕ) × (read_identifier w ≡ Some (u, f, x)) × (IsAsked asked u → ⊥)
 
--- identifier octets and length octets stand in front, which tell this
+-- identifier octets and length octets come next, which give this tag, form and length
 pub record HasHeaderOctets (mode : Mode) (t : Tag) (f : Bool) (len : Length) (w : List ℕ) : Type 0 where
   pub is_tag : IsTag t
   pub octets : List ℕ
@@ -53,17 +53,17 @@ pub record HasHeaderOctets (mode : Mode) (t : Tag) (f : Bool) (len : Length) (w 
   pub tells : AreLengthOctets mode len octets
   pub is : w ≡ identifier t f ++ (octets ++ others)
 
--- neither those stand in front, nor the header of a value, nor end-of-contents octets
+-- neither the identifier octets of a tag that isn't asked for come next, nor the header of a value, nor end-of-contents octets
 abbrev pub HasNoHeader : Mode → Asked → List ℕ → Type 0
 HasNoHeader mode asked w = (read_header mode w ≡ None) × (read_end mode w ≡ None) × (HasOtherTag asked w → ⊥)
 
--- ---- octets, of which so many are at hand
+-- ---- octets, of which n are at hand
 
--- this header of a value stands in front, in k octets that are at hand
+-- this header of a value comes next, in k octets that are at hand
 abbrev pub IsFront : Mode → CodeHeader → ℕ → ℕ → List ℕ → Type 0
 IsFront mode h k n w = (k ≤ n) × (read_header mode w ≡ Some (header_of h, drop k w))
 
--- or end-of-contents octets
+-- end-of-contents octets come next, and are at hand
 abbrev pub IsEnd : Mode → ℕ → ℕ → List ℕ → Type 0
 IsEnd mode k n w = (k ≤ n) × (read_end mode w ≡ Some (drop k w))
 
@@ -94,7 +94,7 @@ abbrev pub Sees : Mode → Asked → Option Peeked → List ℕ → Type 0
 Sees mode asked None w = (length w < 9) × HasNoHeader mode asked w × (1 ≤ length w → EndsInHeader w)
 Sees mode asked (Some p) w = Shows mode asked p w
 
--- what is told of a header that was read in n octets
+-- what is reported of a header that was read in n octets
 abbrev pub IsFrontOf : Mode → Asked → ℕ → Header → Peeked → Type 0
 IsFrontOf mode asked n h peeked.Nothing = ⊥
 IsFrontOf mode asked n h peeked.Other = IsAsked asked h.tag → ⊥

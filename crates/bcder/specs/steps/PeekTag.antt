@@ -1,4 +1,4 @@
--- What identifier octets stand at the front of a source, and what the octets at hand tell of them.
+-- Which identifier octets a source begins with, and what the octets at hand show of them.
 use Rattle.std.specs.Prelude.{◌≡◌, ℕ, ◌<◌, ◌≤◌, List, [], ◌++◌, length, drop, Option, Some, None}
 use Rattle.bcder.specs.declared.tag.take.PeekedTag.{PeekedTag}
 use Rattle.bcder.specs.declared.tag.take.PeekedTag.TheVariants as peeked
@@ -9,7 +9,7 @@ use Rattle.bcder.specs.calls.Begins.{BeginsNoIdentifier}
 use Rattle.bcder.specs.calls.Violations.{ViolatesFront}
 use Rattle.bcder.specs.calls.Stream.{Stream}
 
--- of octets, of which n are at hand
+-- what was found of the identifier octets that come next, if n octets are at hand
 abbrev pub IsTagPeeked : PeekedTag → ℕ → List ℕ → Type 0
 IsTagPeeked peeked.Nothing n w = w ≡ []
 IsTagPeeked (peeked.Front t f k) n w = (k ≤ n) × IsTag t × (w ≡ identifier t f ++ drop k w)
@@ -18,7 +18,7 @@ IsTagPeeked (peeked.Refused v) n w = (1 ≤ length w) × BeginsNoIdentifier w ×
 abbrev pub PeeksTag : PeekedTag → Stream → Type 0
 PeeksTag p s = IsTagPeeked p s.avail s.rest
 
--- whatever follows the octets at hand
+-- what the octets at hand show, whatever follows them
 abbrev pub SeesTag : Option PeekedTag → List ℕ → Type 0
 SeesTag None w = (length w < 4) × BeginsNoIdentifier w × (1 ≤ length w → EndsInHeader w)
 SeesTag (Some p) w = (x : List ℕ) → IsTagPeeked p (length w) (w ++ x)

@@ -1,4 +1,4 @@
--- Octets of identifiers that are put together from text.
+-- Octets of identifiers that are made from text.
 use Rattle.std.specs.Prelude.{◌≡◌, ◌≢◌, ◌⊎◌, ℕ, ◌<◌, ◌≤◌, List, [], ◌∷◌, ◌++◌, length, slice_index, Option, Some, None}
 use Rattle.std.specs.Borrow.{Bor}
 use Rattle.bcder.specs.x690.ObjectIdentifier.{subidentifier_number, IsSubidentifier, AreSubidentifiers}
@@ -11,7 +11,7 @@ abbrev pub texts_of : Option (Bor (List ℕ)) → List (List ℕ)
 texts_of None = []
 texts_of (Some text) = between_dots text.now
 
--- octets with bit 8 set
+-- octets that have bit 8 set
 abbrev pub AreMarked : List ℕ → Type 0
 AreMarked [] = Unit {0}
 AreMarked (b ∷ w) = (0x80 ≤ b) × (b < 0x100) × AreMarked w
@@ -36,6 +36,6 @@ AreSpelled ts w = (ns : List ℕ) × AreComponentTexts ts ns × AreSubidentifier
 abbrev pub AppendsTexts : List ℕ → List ℕ → List (List ℕ) → Type 0
 AppendsTexts old new ts = (w : List ℕ) × AreSpelled ts w × (new ≡ old ++ w)
 
--- why the texts after the first two aren't appended: one of them is no component, or all are and there was no memory
+-- why the texts after the first two aren't appended: one of them is not a component, or all are and memory ran out
 abbrev pub RefusesOthers : List (List ℕ) → OidError → Type 0
 RefusesOthers ts e = ((e ≡ NotInteger) × HasNoComponent ts) ⊎ ((e ≡ NoMemory) × (ns : List ℕ) × AreComponentTexts ts ns)

@@ -1,4 +1,4 @@
--- Reading from left to right: what stands at the front, and the octets after it.
+-- Reading from left to right: what comes next, and the octets after it.
 use Rattle.std.specs.Prelude.{◌≡◌, ℕ, zero, suc, ◌+◌, ◌-◌, ◌*◌, ◌%◌, ◌^◌, Bool, true, false, List, [], ◌∷◌, length, take, drop, Option, Some, None, option_map, option_and_then, nat_lt, nat_le, ◌==◌, if◌then◌else◌}
 use Rattle.bcder.specs.declared.mode.Mode.{Mode}
 use Rattle.bcder.specs.declared.mode.Mode.TheVariants.{Ber, Cer, Der}
@@ -46,7 +46,7 @@ read_identifier (b ∷ w) =
 abbrev pub least : ℕ → ℕ
 least k = if k == 1 then 128 else 256 ^ (k - 1)
 
--- whether k octets of a number may tell the length n
+-- whether the length n may be given in k octets
 unfoldable pub may_tell : Mode → ℕ → ℕ → Bool
 may_tell Ber k n = true
 may_tell Cer k n = nat_le (least k) n
@@ -79,18 +79,18 @@ read_end mode (suc b ∷ w) = None
 
 -- ---- values
 
--- identifier octets and length octets, whatever they stand before
+-- identifier octets and length octets, whatever follows them
 unfoldable pub read_front : Mode → List ℕ → Option (Header × List ℕ)
 read_front mode w = option_and_then (λ i. option_map (λ l. (record { tag = i.0; form = i.1; len = l.0 }, l.1)) (read_length mode i.2)) (read_identifier w)
 
--- those of a value
+-- identifier octets and length octets of a value
 unfoldable pub read_header : Mode → List ℕ → Option (Header × List ℕ)
 read_header mode w =
     option_and_then
     (λ i. if is_value_tag i.0 then option_and_then (λ l. if may_have mode i.1 l.0 then Some (record { tag = i.0; form = i.1; len = l.0 }, l.1) else None) (read_length mode i.2) else None)
     (read_identifier w)
 
--- in each mode these two octets are the header of a primitive value of so many contents octets, whatever follows
+-- in each mode these two octets are the header of a primitive value of n contents octets, whatever follows
 abbrev pub BeginPrimitive : ℕ → ℕ → Type 0
 BeginPrimitive first n = (mode : Mode) (rest : List ℕ) → (t : Tag) × (read_header mode (first ∷ n ∷ rest) ≡ Some (record { tag = t; form = false; len = Definite n }, rest))
 
@@ -116,7 +116,7 @@ abbrev pub if_not_at_end : Option (List ℕ) → Option (Trees × List ℕ) → 
 if_not_at_end (Some rest) more = Some (no_trees, rest)
 if_not_at_end None more = more
 
--- The number bounds the turns. The count of the octets and one more is always enough.
+-- the number bounds the turns; the number of octets plus one is always enough
 unfoldable pub read_trees : ℕ → Mode → Inside
 read_trees zero mode marked w = None
 read_trees (suc n) mode marked w =
@@ -127,18 +127,18 @@ read_trees (suc n) mode marked w =
 unfoldable pub read_list : Mode → Inside
 read_list mode marked w = read_trees (suc (length w)) mode marked w
 
--- the value at the front, and the octets after it
+-- the first value, and the octets after it
 unfoldable pub read_tree : Mode → List ℕ → Option (Tree × List ℕ)
 read_tree mode w = read_value mode (read_trees (length w) mode) w
 
--- the octets after that value, and after those values
+-- the octets after the first value, and those after the values up to the end
 unfoldable pub after_tree : Mode → List ℕ → Option (List ℕ)
 after_tree mode w = option_map (λ t. t.1) (read_tree mode w)
 
 unfoldable pub after_list : Mode → Bool → List ℕ → Option (List ℕ)
 after_list mode marked w = option_map (λ ts. ts.1) (read_list mode marked w)
 
--- what is left of a value: nothing, or where it is open the values up to its end marker
+-- what is left of a value: the octets after it, or, if it is open, the values up to its end marker and what follows
 abbrev pub Leaves : Mode → List ℕ → Bool → List ℕ → Type 0
 Leaves mode w false x = after_tree mode w ≡ Some x
 Leaves mode w true x = AreOctets x × (after_tree mode w ≡ after_list mode true x)

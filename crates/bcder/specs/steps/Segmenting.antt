@@ -1,4 +1,4 @@
--- What private steps answer that write octets in segments.
+-- What private steps return that write octets in segments.
 use Rattle.std.specs.Prelude.{◌≡◌, ℕ, ◌+◌, ◌-◌, ◌*◌, ◌<◌, ◌⊎◌, true, false, List, [], ◌∷◌, ◌++◌, length, take, drop, Option, Result, Ok, Err}
 use Rattle.std.specs.Borrow.{MutBor}
 use Rattle.std.specs.Io.KnownBytes.{Appends}
@@ -19,44 +19,44 @@ use Rattle.bcder.specs.calls.StringMeaning.{full_segments, segments_in_cer, Wrap
 
 -- ---- sizes
 
--- how many octets the segments of n octets have: four more than its own each full one, and the last one a tag and its length octets
+-- the number of octets of the segments of n octets: each full one has four more than its own, and the last one a tag and its length octets
 abbrev pub segments_size : ℕ → ℕ
 segments_size n = n + (4 * full_segments n + 1 + length (definite_length (n - 1000 * full_segments n)))
 
--- r is the size of a value that is cut into the segments of n octets, or why there is none
+-- r is the size of a value that is cut into the segments of n octets, or says why there is none
 abbrev pub CutSize : Tag → ℕ → Result ℕ EncodeError → Type 0
 CutSize t n (Ok size) = IsValueTag t × (size ≡ enclosed_size Cer t (segments_size n)) × (fits_enclosed Cer t (segments_size n) ≡ true)
 CutSize t n (Err e) =
     ((t ≡ end_of_contents) × (e ≡ EndOfValueTag))
     ⊎ (IsValueTag t × (fits_enclosed Cer t (segments_size n) ≡ false) × (e ≡ SizeOverflow))
 
--- r is how many octets stand inside a string of what M says, where that has an encoding, or why it has none
+-- r is the number of octets inside a string of what M says, if that has an encoding, or says why it has none
 abbrev pub InsideSize : Mode → (Meaning → Type 0) → Type 0 → Result ℕ EncodeError → Type 0
 InsideSize mode M lacks (Ok n) = (e : Encoded) × M (Ok e) × (n ≡ length e.octets) × HasEncoding (WrappedMeans octet_string_tag mode M)
 InsideSize mode M lacks (Err e) = RefusesBy (WrappedMeans octet_string_tag mode M) lacks e
 
 -- ---- octets
 
--- what is still to be written where no segment was begun
+-- what is still to be written if no segment was begun
 abbrev pub unwritten : List ℕ → List ℕ
 unwritten [] = []
 unwritten (b ∷ w) = (segments_in_cer (b ∷ w)).octets
 
--- and of octets whose front stands in a segment that was begun
+-- what is still to be written of octets whose beginning belongs to a segment that was begun
 abbrev pub to_write : Progress → List ℕ → List ℕ
 to_write p w = take p.left w ++ unwritten (drop p.left w)
 
 abbrev pub IsProgress : Progress → List ℕ → Type 0
 IsProgress p w = p.left + p.behind ≡ length w
 
--- with u to come at p, so much was written that v is to come at q
+-- u was to come at p; what was written leaves v to come at q
 pub record Advanced (p : Progress) (u : List ℕ) (q : Progress) (v : List ℕ) (old new : Option (List ℕ)) : Type 0 where
   pub written : List ℕ
   pub appends : Appends old new written
   pub is : to_write p u ≡ written ++ to_write q v
   pub progress : IsProgress q v
 
--- a part was written, whatever is to come behind it
+-- a part was written, whatever is to come after it
 abbrev pub PartWritten : Progress → List ℕ → WriteError → Option (List ℕ) → Option (List ℕ) → Result Progress Failed → Type 0
 PartWritten p part why old new (Ok q) = (v : List ℕ) → IsProgress p (part ++ v) → Advanced p (part ++ v) q v old new
 PartWritten p part why old new (Err f) = (v : List ℕ) → IsProgress p (part ++ v) → WroteOf ⊥ (to_write p (part ++ v)) old new (Err why)
@@ -66,7 +66,7 @@ abbrev pub SegmentBegun : Progress → WriteError → Option (List ℕ) → Opti
 SegmentBegun p why old new (Ok q) = (0 < q.left) × (q.left + q.behind ≡ p.left + p.behind) × ((v : List ℕ) → IsProgress p v → Advanced p v q v old new)
 SegmentBegun p why old new (Err f) = (v : List ℕ) → IsProgress p v → WroteOf ⊥ (to_write p v) old new (Err why)
 
--- the same over the target as a whole
+-- the target, at entry and at exit
 module _ {W : Type 0} (contents : W → Option (List ℕ)) (target : Both (MutBor W) (MutBor W)) where
   abbrev pub WritesPart : Progress → List ℕ → WriteError → Result Progress Failed → Type 0
   WritesPart p part why r = PartWritten p part why (contents target.entry.now) (contents target.exit.now) r

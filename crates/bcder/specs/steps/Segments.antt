@@ -1,4 +1,4 @@
--- Reading the segments of an octet string from the front on, with no look at how they are nested.
+-- Reading the segments of an octet string from the beginning, without regard to how they are nested.
 use Rattle.std.specs.Prelude.{◌≡◌, ℕ, Bool, true, false, List, length, drop, Option, Some, None, option_map, nat_eq, nat_lt, if◌then◌else◌}
 use Rattle.bcder.specs.declared.mode.Mode.{Mode}
 use Rattle.bcder.specs.declared.length.Length.{Length}
@@ -16,7 +16,7 @@ is_octet_string t = is_four t.class t.number
     is_four context_specific n = false
     is_four private n = false
 
--- behind a header: a segment of so many octets, which are passed; or what is inside a constructed one
+-- what follows a header: a segment of n octets, which are passed; or what is inside a constructed one
 abbrev pub behind_header : Bool → Length → List ℕ → Option (Option ℕ × List ℕ)
 behind_header true len w = Some (None, w)
 behind_header false Indefinite w = None
@@ -26,10 +26,11 @@ abbrev pub segment_behind : Option (Header × List ℕ) → Option (List ℕ) �
 segment_behind None end = option_map (λ rest. (None, rest)) end
 segment_behind (Some h) end = if is_octet_string h.0.tag then behind_header h.0.form h.0.len h.1 else None
 
--- the primitive segment at the front is passed, and how many octets it holds is told; or the header of a constructed one is, or end-of-contents octets
+-- the next primitive segment is passed, and its number of octets returned; or the header of a constructed one is passed,
+-- or end-of-contents octets
 unfoldable pub read_segment : Mode → List ℕ → Option (Option ℕ × List ℕ)
 read_segment mode w = segment_behind (read_header mode w) (read_end mode w)
 
--- a primitive segment of n contents octets begins these octets in each mode, and has m with its header
+-- these octets begin with a primitive segment of n contents octets in each mode, which has m with its header
 abbrev pub BeginSegment : List ℕ → ℕ → ℕ → Type 0
 BeginSegment w m n = (mode : Mode) → read_segment mode w ≡ Some (Some n, drop m w)

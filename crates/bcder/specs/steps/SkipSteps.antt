@@ -4,7 +4,7 @@ use Rattle.bcder.specs.x690.Identifier.{AreOctets}
 use Rattle.bcder.specs.x690.Encoding.{Header}
 use Rattle.bcder.specs.calls.Content.{Enters, Reading}
 
--- c is what content b is behind a header, over which it passed
+-- c is the content b behind a header that was passed
 pub record IsPast (b : Reading) (h : Header) (c : Reading) : Type 0 where
   pub enters : Enters b h c
   pub octets : AreOctets b.stream.rest

@@ -31,7 +31,8 @@ use Rattle.bcder.specs.steps.Inside.{limit_inside}
 use Rattle.bcder.specs.steps.Growing.{AreOpen}
 use Rattle.bcder.specs.calls.Skipping.{Steps, Called, Refused, HeadersStand}
 
--- how an open value ends: where nothing is owed any more, behind which so many octets are owed, if there is a limit, or by end-of-contents octets
+-- how an open value ends: when nothing is owed any more, with what is owed after it, if there is a limit;
+-- or by end-of-contents octets
 pub data Entry : Type 0 where
   Definite : Option ℕ → Entry
   Indefinite : Entry
@@ -48,19 +49,19 @@ abbrev pub lack : Option ℕ → List ℕ → ℕ
 lack None w = 0
 lack (Some n) w = n - length w
 
--- what is owed once the octets of a value are given back to those behind it
+-- what is owed when the octets of a value are given back to those after it
 abbrev pub limit_around : Option ℕ → Option ℕ → Option ℕ
 limit_around (Some behind) (Some left) = Some (behind + left)
 limit_around (Some behind) None = None
 limit_around None left = None
 
--- the limit around all open values, the innermost first, where so much is owed of that one
+-- the limit around all open values, the innermost first, if this much is owed of the innermost
 abbrev pub unwound : List Entry → Option ℕ → Option ℕ
 unwound [] o = o
 unwound (Definite behind ∷ es) o = unwound es (limit_around behind o)
 unwound (Indefinite ∷ es) o = unwound es o
 
--- the limit behind an open value that ended
+-- the limit after an open value that ended
 abbrev pub restored : Entry → Option ℕ → Option ℕ
 restored (Definite behind) o = behind
 restored Indefinite o = o
@@ -69,7 +70,7 @@ abbrev pub HasLimit : Option ℕ → Type 0
 HasLimit None = ⊥
 HasLimit (Some n) = Unit {0}
 
--- within a value of definite length there is a limit
+-- inside a value of definite length there is a limit
 abbrev pub AreLimited : List Entry → Option ℕ → Type 0
 AreLimited [] o = Unit {0}
 AreLimited (Definite behind ∷ es) o = HasLimit o × AreLimited es behind
@@ -83,7 +84,7 @@ TopIs (Indefinite ∷ es) k = k ≡ kind.Indefinite
 
 -- ---- what remains
 
--- the headings that are still to come, and then: the octets within the limit, how many are missing up to it, and the octets past it
+-- the headings still to come, and then: the octets within the limit, how many are missing up to it, and the octets past it
 abbrev pub Reached : Type 0
 Reached = Option (List Heading × (List ℕ × ℕ × List ℕ))
 
@@ -98,7 +99,7 @@ abbrev pub if_all : ℕ → Reached → Reached
 if_all zero r = r
 if_all (suc m) r = None
 
--- The open values end one after the other; x lies within the limit, up to which m octets are missing, and y past it.
+-- what remains as the open values end one after the other; x is within the limit, up to which m octets are missing, and y past it
 unfoldable pub ends : Mode → List Entry → List ℕ → ℕ → List ℕ → Reached
 ends mode [] x m y = Some ([], (x, m, y))
 ends mode (Definite o ∷ es) x m y =
@@ -106,15 +107,15 @@ ends mode (Definite o ∷ es) x m y =
 ends mode (Indefinite ∷ es) x m y =
     option_and_then (λ ts. after_headings (preorders ts.0 (suc (length es))) (ends mode es ts.1 m y)) (read_list mode true x)
 
--- the same behind a value that was read in front
+-- what remains after a value that was read
 abbrev pub next_to : Mode → List Entry → Option (Tree × List ℕ) → ℕ → List ℕ → Reached
 next_to mode es r m y = option_and_then (λ t. after_headings (preorder t.0 (length es)) (ends mode es t.1 m y)) r
 
--- the same of octets with a limit
+-- what remains of octets with a limit
 abbrev pub remain : Mode → List Entry → Option ℕ → List ℕ → Reached
 remain mode es o w = ends mode es (cut o w) (lack o w) (past o w).octets
 
--- and behind a header
+-- what remains after a header
 abbrev pub due : Mode → List Entry → Header → Option ℕ → List ℕ → Reached
 due mode es h o w = next_to mode es (read_contents (read_list mode) h.tag h.form h.len (cut o w)) (lack o w) (past o w).octets
 
@@ -123,28 +124,28 @@ due mode es h o w = next_to mode es (read_contents (read_list mode) h.tag h.form
 abbrev pub heading : Header → ℕ → Heading
 heading h depth = record { tag = h.tag; constructed = h.form; depth = depth }
 
--- the octets w of a source were passed, and nothing that no step over octets changes is another
+-- the octets w of a source were passed, and what no step over octets changes is as it was
 pub record Passes (s : Stream) (w : List ℕ) (t : Stream) : Type 0 where
   pub rest : s.rest ≡ w ++ t.rest
   pub kept : t.kept ≡ s.kept
 
--- how a value of this length ends, where so much is owed behind its header
+-- how a value of this length ends, if this much is owed after its header
 abbrev pub entry_of : Length → Option ℕ → Entry
 entry_of (len.Definite n) o = Definite (limit_left o n)
 entry_of len.Indefinite o = Indefinite
 
--- the content of a header was gone into: its octets were passed over, or the value is open
+-- the content behind a header was entered: its octets were passed over, or the value is open
 pub data GoesInto (h : Header) (es : List Entry) (s : Stream) (o : Option ℕ) (fs : List Entry) (t : Stream) (p : Option ℕ) : Type 0 where
   octets : (n : ℕ) → h.form ≡ false → h.len ≡ len.Definite n → n ≤ length s.rest → fs ≡ es → t.rest ≡ drop n s.rest → t.kept ≡ s.kept → p ≡ popped o n (Some 0) → GoesInto h es s o fs t p
   values : h.form ≡ true → fs ≡ entry_of h.len o ∷ es → t ≡ s → p ≡ limit_inside h.len o → GoesInto h es s o fs t p
 
--- the innermost open value was left, which ended
+-- the innermost open value ended, and was left
 pub record LeavesInnermost (es : List Entry) (o : Option ℕ) (fs : List Entry) (p : Option ℕ) : Type 0 where
   pub top : Entry
   pub is : es ≡ top ∷ fs
   pub limit : p ≡ restored top o
 
--- a limit that is given back is one, where there was one
+-- a limit that is given back is a limit if there was one
 abbrev pub Counts : Option ℕ → Option ℕ → Type 0
 Counts None p = p ≡ None
 Counts (Some n) None = ⊥
@@ -158,7 +159,7 @@ pub record IsPart (k : ℕ) (calls : List Heading) : Type 0 where
   pub opened : AreOpen k (tree ∷ₜ no_trees)
   pub are : preorder tree 0 ≡ calls
 
--- octets of a source were passed with a limit, behind a header, and the headers of the values that were met stand in them
+-- octets of a source were passed with a limit, after a header, and hold the headers of the values that were met
 pub record PassesCalls (mode : Mode) (s : Stream) (o : Option ℕ) (calls : List Heading) (t : Stream) (p : Option ℕ) : Type 0 where
   pub passed : List ℕ
   pub passes : Passes s passed t
@@ -173,7 +174,7 @@ pub record IsUnderWay (mode : Mode) (h : Header) (s : Stream) (o : Option ℕ) (
   pub part : IsPart (length es) (heading h 0 ∷ calls)
   pub limits : AreLimited es p
 
--- the closure was called at the header h and then at these headings, the last of which was refused or not gone into
+-- the closure was called at the header h and then at these headings, the last of which was refused or not entered
 pub record IsBroken (mode : Mode) (h : Header) (s : Stream) (o : Option ℕ) (calls : List Heading) (t : Stream) (p : Option ℕ) : Type 0 where
   pub some : (u : Tree) × (more : List Heading) × (preorder u 0 ≡ heading h 0 ∷ (calls ++ more))
   pub one : (u : Tree) (x : List ℕ) → read_contents (read_list mode) h.tag h.form h.len (cut o s.rest) ≡ Some (u, x) → (more : List Heading) × (preorder u 0 ≡ heading h 0 ∷ (calls ++ more))
@@ -181,13 +182,13 @@ pub record IsBroken (mode : Mode) (h : Header) (s : Stream) (o : Option ℕ) (ca
 
 -- ---- what calls over the stack did
 
--- why the content of a header wasn't gone into, after n values were open
+-- why the content behind a header wasn't entered, after n values were open
 pub data StaysAt {X : Type 0} (h : Header) (n : ℕ) (s : Stream) (e : Stop X) (t : Stream) : Type 0 where
   for_memory : h.form ≡ true → 4 ≤ n → stop_cause e ≡ of_memory → StaysAt h n s e t
   by_failure : stop_cause e ≡ of_source → Grew s.faults t.faults → StaysAt h n s e t
   too_few : (m : ℕ) → h.form ≡ false → h.len ≡ len.Definite m → length s.rest < m → IsOfContent (stop_cause e) → StaysAt h n s e t
 
--- the content of a header was gone into, or not
+-- the content behind a header was entered, or not
 pub record GoneBy {T X : Type 0} (h : Header) (es : List Entry) (s : Stream) (o : Option ℕ) (r : Result T (Stop X)) (fs : List Entry) (t : Stream) (p : Option ℕ) : Type 0 where
   pub goes : OnOk r (GoesInto h es s o fs t p)
   pub no_fault : OnOk r (t.faults ≡ s.faults)
@@ -199,14 +200,14 @@ pub record GoneBy {T X : Type 0} (h : Header) (es : List Entry) (s : Stream) (o 
   pub faults : s.faults ≤ t.faults
 
 module _ {F X : Type 0} (step : Steps F ContentError) where
-  -- why the content of a header wasn't gone into, after n values were open
+  -- why the content behind a header wasn't entered, after n values were open
   pub data StaysOut (h : Header) (n : ℕ) (s : Stream) (f : F) (e : Interrupt X) (g : F) (t : Stream) : Type 0 where
     refused : (x : ContentError) → Refused step f (heading h n) x g → e ≡ interrupt.Closure x → StaysOut h n s f e g t
     wanted : step f h.tag h.form n (Ok tt) g → h.form ≡ true → 4 ≤ n → interrupt_cause e ≡ of_memory → StaysOut h n s f e g t
     failing : step f h.tag h.form n (Ok tt) g → interrupt_cause e ≡ of_source → Grew s.faults t.faults → StaysOut h n s f e g t
     few : (m : ℕ) → step f h.tag h.form n (Ok tt) g → h.form ≡ false → h.len ≡ len.Definite m → length s.rest < m → IsOfContent (interrupt_cause e) → StaysOut h n s f e g t
 
-  -- the closure was called at a header that was passed, and its content gone into, or not
+  -- the closure was called at a header that was passed, and the content behind it entered, or not
   pub record VisitedBy {T : Type 0} (h : Header) (es : List Entry) (s : Stream) (o : Option ℕ) (f : F) (r : Result T (Interrupt X)) (g : F) (fs : List Entry) (t : Stream) (p : Option ℕ) : Type 0 where
     pub answered : OnOk r (step f h.tag h.form (length es) (Ok tt) g)
     pub goes : OnOk r (GoesInto h es s o fs t p)
@@ -218,23 +219,23 @@ module _ {F X : Type 0} (step : Steps F ContentError) where
     pub kept : t.kept ≡ s.kept
     pub faults : s.faults ≤ t.faults
 
-  -- why the content of a header wasn't passed, and e was answered
+  -- why the content behind a header wasn't passed, and e was returned
   pub data Breaks (mode : Mode) (h : Header) (s : Stream) (o : Option ℕ) (f : F) (e : Interrupt X) (g : F) (t : Stream) (p : Option ℕ) : Type 0 where
     by_source : (calls : List Heading) → Called step f (heading h 0 ∷ calls) g → IsBroken mode h s o calls t p → interrupt_cause e ≡ of_source → Grew s.faults t.faults → Breaks mode h s o f e g t p
     by_content : (calls : List Heading) → Called step f (heading h 0 ∷ calls) g → IsBroken mode h s o calls t p → read_contents (read_list mode) h.tag h.form h.len (cut o s.rest) ≡ None → IsOfContent (interrupt_cause e) → Breaks mode h s o f e g t p
     by_closure : (calls before : List Heading) (last : Heading) (q : F) (x : ContentError) → heading h 0 ∷ calls ≡ before ++ last ∷ [] → Called step f before q → Refused step q last x g → IsBroken mode h s o calls t p → e ≡ interrupt.Closure x → Breaks mode h s o f e g t p
     by_memory : (calls before : List Heading) (last : Heading) → heading h 0 ∷ calls ≡ before ++ last ∷ [] → Called step f (heading h 0 ∷ calls) g → last.constructed ≡ true → 4 ≤ last.depth → IsBroken mode h s o calls t p → interrupt_cause e ≡ of_memory → Breaks mode h s o f e g t p
 
-  -- the content of a header was passed, while the closure was called, or not
+  -- the content behind a header was passed, while the closure was called, or not
   pub record RanBy {T : Type 0} (mode : Mode) (h : Header) (s : Stream) (o : Option ℕ) (f : F) (r : Result T (Interrupt X)) (g : F) (t : Stream) (p : Option ℕ) : Type 0 where
     pub whole : OnOk r ((calls : List Heading) × Called step f (heading h 0 ∷ calls) g × IsUnderWay mode h s o calls [] t p)
     pub no_fault : OnOk r (t.faults ≡ s.faults)
     pub breaks : IfErr r (λ e. Breaks mode h s o f e g t p)
     pub faults : s.faults ≤ t.faults
 
--- ---- the same of parameters
+-- ---- of parameters, from entry to exit
 
--- so many values of indefinite length, inside others
+-- n values of indefinite length, inside others
 abbrev pub indefinites : ℕ → List Entry → List Entry
 indefinites zero es = es
 indefinites (suc n) es = Indefinite ∷ indefinites n es

@@ -9,7 +9,7 @@ use Rattle.bcder.specs.declared.decode.stop.Stop.TheVariants as stop
 use Rattle.bcder.specs.calls.Violations.{violation_text}
 use Rattle.bcder.specs.calls.Cause.{Cause, of_source, of_content, of_memory}
 
--- what is said of a refusal that no octets tell
+-- the text of a refusal that the octets don't explain
 abbrev pub reason_text : Reason → List ℕ
 reason_text reason.Earlier = codes "an earlier value was refused"
 reason_text reason.Constructed = codes "expected a primitive value"
@@ -22,7 +22,7 @@ stop_cause (stop.Refused why) = of_content (Static (reason_text why))
 stop_cause (stop.Source e) = of_source
 stop_cause stop.NoMemory = of_memory
 
--- a fact for each reason to stop, of a step that takes no memory
+-- one of two facts, by the reason to stop, of a step that doesn't allocate
 abbrev pub MatchStop : {S : Type 0} → Stop S → Type 0 → Type 0 → Type 0
 MatchStop (stop.Source e) A B = A
 MatchStop (stop.Violated v) A B = B

@@ -7,7 +7,8 @@ use Rattle.bcder.specs.declared.string.octet.source.OctetStringSource.{OctetStri
 use Rattle.bcder.specs.calls.StringSource.{all_behind}
 use Rattle.bcder.specs.calls.StringStream.{to_come, came, source_stream, HasMoreFor}
 
--- octets were put in front, as many as were asked for, or all that there are; if that failed, there were others to put there, and no fewer stand there than did
+-- octets were put in the front, as many as were asked for, or all that there are; if that failed, there were others to put there,
+-- and no fewer are there than before
 pub record FillsFront (asked : ℕ) (s : Both (MutBor OctetStringSource) (MutBor OctetStringSource)) (r : Result (Unit {0}) NoMemory) : Type 0 where
   pub same : to_come s.exit.now ≡ to_come s.entry.now
   pub no_fewer : length s.entry.now.front.octets ≤ length s.exit.now.front.octets

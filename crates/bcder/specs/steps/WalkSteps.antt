@@ -1,4 +1,4 @@
--- What private steps of walking over values answer and leave.
+-- What private steps of walking over values return and leave.
 use Rattle.std.specs.Borrow.{MutBor}
 use Rattle.std.specs.Prelude.{◌≡◌, ℕ, ◌≤◌, Bool, false, length, take, Option, Result, IfOk, IfErr, OnOk, OnErr, IsTrue}
 use denote.Triple.Both.{Both}
@@ -26,11 +26,11 @@ pub record PassesOver (c : Reading) (n : ℕ) (d : Reading) : Type 0 where
   pub state : d.state ≡ c.state
   pub marked : d.marked ≡ c.marked
 
--- the next value was passed in one go, or nothing was passed; `why` tells the cause of an error
+-- the next value was passed in one go, or nothing was passed; `why` gives the cause of an error
 pub record AtOnceBy {E : Type 0} (why : E → Cause ContentError) (c : Reading) (r : Result Bool E) (d : Reading) : Type 0 where
   pub passed : IfOk r (λ b. IsTrue b → PassesValue c d)
   pub same : IfOk r (λ b. b ≡ false → Resembles c d)
-  -- the source failed exactly where an error is answered, and content has failed
+  -- the source failed exactly if an error is returned, and content has failed
   pub no_fault : OnOk r (d.stream.faults ≡ c.stream.faults)
   pub fault : IfErr r (λ e. (why e ≡ of_source) × Grew c.stream.faults d.stream.faults)
   pub failed : OnErr r (d.state ≡ Failed)
@@ -47,11 +47,11 @@ pub record WalksBy {E : Type 0} (why : E → Cause ContentError) {T : Type 0} (i
 abbrev pub itself : Reading → Reading
 itself c = c
 
--- the same as a closure's step over content
+-- a walk over content as the step of a closure
 abbrev pub walked : {T E : Type 0} → (E → Cause ContentError) → Tag → MutBor Reading → Result T E → MutBor Reading → Type 0
 walked why t p r q = WalksBy why p.now r q.now
 
--- a parameter of constructed content as it was at the entry, and as it is at the exit
+-- a parameter of constructed content at entry and at exit
 module _ {S : Type 0} (stream : S → Stream) (c : Both (MutBor (Constructed S)) (MutBor (Constructed S))) where
   abbrev pub NoFault : Type 0
   NoFault = Between stream c (λ c d. d.stream.faults ≡ c.stream.faults)
@@ -59,7 +59,7 @@ module _ {S : Type 0} (stream : S → Stream) (c : Both (MutBor (Constructed S))
   abbrev pub Fault : Type 0
   Fault = Between stream c (λ c d. Grew c.stream.faults d.stream.faults)
 
-  -- with a stop in the place of an error
+  -- what a call that passes over the next value did, with a stop in place of an error
   abbrev pub PassedStep : {T X : Type 0} → Result (Option T) (Stop X) → Type 0
   PassedStep r = PassedBy (RefusesWalk stop_cause) (of_constructed stream c.entry.now) r (of_constructed stream c.exit.now)
 
@@ -69,6 +69,6 @@ module _ {S : Type 0} (stream : S → Stream) (c : Both (MutBor (Constructed S))
   abbrev pub PassedAtOnce : {X : Type 0} → Result Bool (Stop X) → Type 0
   PassedAtOnce r = AtOnceBy stop_cause (of_constructed stream c.entry.now) r (of_constructed stream c.exit.now)
 
-  -- the content of a header was walked over
+  -- the content behind a header was walked over
   abbrev pub WalkedOver : {T X : Type 0} → CodeHeader → Result T (Stop X) → Type 0
   WalkedOver h r = TakesContent stop_cause itself (walked stop_cause) (of_constructed stream c.entry.now) (header_of h) r (of_constructed stream c.exit.now)

@@ -4,7 +4,7 @@ use Rattle.std.specs.Int.{is_in_range}
 use Rattle.bcder.specs.x690.Identifier.{Tag, universal}
 use Rattle.bcder.specs.x690.CharSet.{Step}
 
--- each octet that passes a test is the character of its number
+-- a step that takes one octet: each octet that passes a test is the character of its number
 abbrev pub one_octet_step : (ℕ → Bool) → Step
 one_octet_step has [] = None
 one_octet_step has (b ∷ w) = if has b then Some (record { char = b; rest = w }) else None
@@ -31,7 +31,8 @@ is_numeric b = is_digit b || is_among (codes " ") b
 abbrev pub numeric_string_tag : Tag
 numeric_string_tag = record { class = universal; number = 18 }
 
--- capital letters, small letters, digits, space, apostrophe, parentheses, plus sign, comma, hyphen, full stop, solidus, colon, equals sign, question mark
+-- capital letters, small letters, digits, space, apostrophe, parentheses, plus sign, comma, hyphen,
+-- full stop, solidus, colon, equals sign, question mark
 abbrev pub is_printable : ℕ → Bool
 is_printable b = (is_capital_letter b || is_small_letter b) || (is_digit b || is_among (codes " '()+,-./:=?") b)
 

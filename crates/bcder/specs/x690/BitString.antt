@@ -5,7 +5,7 @@ use Rattle.bcder.specs.x690.Identifier.{Tag, universal}
 use Rattle.bcder.specs.declared.mode.Mode.{Mode}
 use Rattle.bcder.specs.declared.mode.Mode.TheVariants.{Ber, Cer, Der}
 
--- X.680, 8.4
+-- the tag of BIT STRING (X.680, 8.4)
 abbrev pub bit_string_tag : Tag
 bit_string_tag = record { class = universal; number = 3 }
 
@@ -14,7 +14,8 @@ pub record Bits : Type 0 where
   pub unused : ℕ
   pub octets : List ℕ
 
--- 8.6.2.2, 8.6.2.3: up to seven bits are unused, and none where there are no octets. X.690 has no longest bit string. This crate has: a `usize` counts the bits
+-- 8.6.2.2, 8.6.2.3: up to seven bits are unused, and none if there are no octets;
+-- X.690 has no longest bit string, this crate has one: a `usize` counts the bits
 pub record IsBits (x : Bits) : Type 0 where
   pub few : x.unused ≤ 7
   pub none : x.octets ≡ [] → x.unused ≡ 0
@@ -33,7 +34,7 @@ octet_bits (b ∷ w) = is_one b 7 ∷ is_one b 6 ∷ is_one b 5 ∷ is_one b 4 �
 abbrev pub bits : Bits → List Bool
 bits x = take (8 * length x.octets - x.unused) (octet_bits x.octets)
 
--- 8.6.2: an initial octet, and the octets with the bits
+-- 8.6.2: the initial octet, and the octets with the bits
 abbrev pub contents_octets : Bits → List ℕ
 contents_octets x = x.unused ∷ x.octets
 
@@ -43,22 +44,22 @@ cleared unused [] = []
 cleared unused (b ∷ []) = (b / 2 ^ unused * 2 ^ unused) ∷ []
 cleared unused (b ∷ c ∷ w) = b ∷ cleared unused (c ∷ w)
 
--- they are zero
+-- the unused bits of the last octet are zero
 abbrev pub AreCleared : ℕ → List ℕ → Type 0
 AreCleared unused w = cleared unused w ≡ w
 
--- 9.2, 11.2.1: what CER and DER ask of a bit string; CER has a primitive one of at most 1000 contents octets
+-- 9.2, 11.2.1: what CER and DER require of a bit string; in CER a primitive one has at most 1000 contents octets
 abbrev pub MayHave : Mode → Bits → Type 0
 MayHave Ber x = ⊤
 MayHave Cer x = (length (contents_octets x) ≤ 1000) × AreCleared x.unused x.octets
 MayHave Der x = AreCleared x.unused x.octets
 
--- octets are the contents octets of a bit string in a mode
+-- octets are the contents octets of some bit string in a mode
 abbrev pub BitShape : Mode → List ℕ → Type 0
 BitShape mode [] = ⊥
 BitShape mode (unused ∷ octets) = IsBits (record { unused = unused; octets = octets }) × MayHave mode (record { unused = unused; octets = octets })
 
--- of this one
+-- octets are the contents octets of this bit string in a mode
 abbrev pub IsBitString : Mode → List ℕ → Bits → Type 0
 IsBitString mode w x = (contents_octets x ≡ w) × BitShape mode w
 

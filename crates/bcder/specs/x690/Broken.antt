@@ -1,4 +1,4 @@
--- What stands in front of octets where a rule of identifier octets or length octets is broken (ITU-T X.690, 8.1.2, 8.1.3).
+-- What octets begin with if a rule of identifier octets or length octets is broken (ITU-T X.690, 8.1.2, 8.1.3).
 use Rattle.std.specs.Prelude.{◌≡◌, ◌≢◌, ◌⊎◌, ℕ, ◌+◌, ◌%◌, ◌<◌, ◌≤◌, Bool, List, [], ◌∷◌, ◌++◌, length, slice_index}
 use Rattle.bcder.specs.declared.mode.Mode.{Mode}
 use Rattle.bcder.specs.declared.mode.Mode.TheVariants.{Ber}
@@ -7,19 +7,20 @@ use Rattle.bcder.specs.declared.length.Length.TheVariants.{Definite}
 use Rattle.bcder.specs.x690.Identifier.{Tag, IsTag, identifier}
 use Rattle.bcder.specs.x690.Length.{IsLengthForm, IsShortest, AreLengthOctets}
 
--- 8.1.2.4.1: bits 5 to 1 of the leading octet are all one, so the number of the tag is in the octets behind it, which are these
+-- 8.1.2.4.1: bits 5 to 1 of the leading octet are all one, so the number of the tag is in the octets `behind` it
 pub record LeadsNumber (w behind : List ℕ) : Type 0 where
   pub leading : ℕ
   pub ones : leading % 32 ≡ 31
   pub is : w ≡ leading ∷ behind
 
--- 8.1.2.4.2 a: bit 8 is set in each octet of the number but the last. Here it is set in all that there are
+-- 8.1.2.4.2 a: bit 8 is set in each octet of the number but the last; here it is set in all that there are
 pub record EndsInTag (w : List ℕ) : Type 0 where
   pub digits : List ℕ
   pub leads : LeadsNumber w digits
   pub more : (i : ℕ) → i < length digits → 128 ≤ slice_index digits i
 
--- 8.1.2.2: a number up to 30 has no octets of its own; 8.1.2.4.2 c: the first of a number has another bit than bit 8 set
+-- the number is not in the fewest octets: it is up to 30, which has no octets of its own (8.1.2.2),
+-- or bit 8 is the only bit set in its first octet (8.1.2.4.2 c)
 pub record TagNotFewest (w : List ℕ) : Type 0 where
   pub first : ℕ
   pub others : List ℕ
@@ -35,7 +36,7 @@ pub record TagTooLarge (w : List ℕ) : Type 0 where
   pub leads : LeadsNumber w (first ∷ second ∷ third ∷ others)
   pub more : (0x80 < first) × (0x80 ≤ second) × (0x80 ≤ third)
 
--- the identifier octets of a tag stand in front, and P holds of the tag, of the form and of the octets behind them
+-- octets begin with the identifier octets of a tag, and P holds of the tag, of the form and of the octets after them
 pub record HasTag (P : Tag → Bool → List ℕ → Type 0) (w : List ℕ) : Type 0 where
   pub tag : Tag
   pub form : Bool
@@ -44,7 +45,7 @@ pub record HasTag (P : Tag → Bool → List ℕ → Type 0) (w : List ℕ) : Ty
   pub is : w ≡ identifier tag form ++ behind
   pub holds : P tag form behind
 
--- no length octets are there, or fewer octets behind the first one than it tells (8.1.3.5 a, b)
+-- no length octets are there, or fewer octets follow the first one than it says (8.1.3.5 a, b)
 abbrev pub EndsInLength : List ℕ → Type 0
 EndsInLength y = (y ≡ []) ⊎ (k : ℕ) × (digits : List ℕ) × (y ≡ (0x80 + k) ∷ digits) × (length digits < k)
 
@@ -52,7 +53,7 @@ EndsInLength y = (y ≡ []) ⊎ (k : ℕ) × (digits : List ℕ) × (y ≡ (0x80
 abbrev pub EndsInHeader : List ℕ → Type 0
 EndsInHeader w = EndsInTag w ⊎ HasTag (λ t f y. EndsInLength y) w
 
--- the first length octet tells of more than four
+-- the first length octet says that more than four follow
 abbrev pub LengthTooLarge : List ℕ → Type 0
 LengthTooLarge y = (k : ℕ) × (others : List ℕ) × (y ≡ (0x80 + k) ∷ others) × (4 < k)
 
@@ -60,7 +61,7 @@ LengthTooLarge y = (k : ℕ) × (others : List ℕ) × (y ≡ (0x80 + k) ∷ oth
 abbrev pub LengthReserved : List ℕ → Type 0
 LengthReserved y = (others : List ℕ) × (y ≡ 0xFF ∷ others)
 
--- 9.1, 10.1: in CER and DER the length is in the fewest octets
+-- 9.1, 10.1: the length is not in the fewest octets, which CER and DER require
 pub record LengthNotFewest (mode : Mode) (y : List ℕ) : Type 0 where
   pub number : ℕ
   pub octets : List ℕ
@@ -70,7 +71,7 @@ pub record LengthNotFewest (mode : Mode) (y : List ℕ) : Type 0 where
   pub longer : IsShortest number octets → ⊥
   pub is : y ≡ octets ++ others
 
--- the octets of a length stand in front, of which P holds
+-- octets begin with the octets of a length of which P holds
 pub record HasLength (mode : Mode) (P : Length → Type 0) (y : List ℕ) : Type 0 where
   pub len : Length
   pub octets : List ℕ
@@ -79,6 +80,6 @@ pub record HasLength (mode : Mode) (P : Length → Type 0) (y : List ℕ) : Type
   pub is : y ≡ octets ++ others
   pub holds : P len
 
--- the definite form (8.1.3.3)
+-- the length is of the definite form (8.1.3.3)
 abbrev pub IsDefinite : Length → Type 0
 IsDefinite len = (n : ℕ) × (len ≡ Definite n)

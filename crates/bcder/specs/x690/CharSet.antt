@@ -2,12 +2,12 @@
 use Rattle.std.specs.Prelude.{◌≡◌, ℕ, List, [], ◌∷◌, ◌++◌, Option, Some}
 use Rattle.std.specs.Char.{IsScalar}
 
--- the character in front, by its number, and the octets behind it
+-- the first character, by its number, and the octets after it
 pub record Front : Type 0 where
   pub char : ℕ
   pub rest : List ℕ
 
--- how a character is read from the front of octets, where one stands there
+-- how a character is read from the beginning of octets, if there is one
 abbrev pub Step : Type 0
 Step = List ℕ → Option Front
 
@@ -17,7 +17,7 @@ pub record IsStep (step : Step) : Type 0 where
   pub scalar : (w : List ℕ) (x : Front) → step w ≡ Some x → IsScalar x.char
 
 module _ (step : Step) where
-  -- octets spell these characters, one behind the other, and nothing else
+  -- octets spell these characters, one after the other, and nothing else
   abbrev pub Spells : List ℕ → List ℕ → Type 0
   Spells w [] = w ≡ []
   Spells w (c ∷ cs) = (rest : List ℕ) × (step w ≡ Some (record { char = c; rest = rest })) × Spells rest cs
@@ -30,7 +30,7 @@ module _ (step : Step) where
   abbrev pub HasNo : List ℕ → Type 0
   HasNo cs = (w : List ℕ) → Spells w cs → ⊥
 
-  -- some octets do
+  -- some octets spell these characters
   abbrev pub HasSome : List ℕ → Type 0
   HasSome cs = (w : List ℕ) × Spells w cs
-  -- ---- what the calls of a set answer
+  -- ---- what the calls of a set return

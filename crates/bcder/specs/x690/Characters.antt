@@ -2,17 +2,17 @@
 use Rattle.std.specs.Prelude.{ℕ, zero, suc, List, [], ◌∷◌, length, Option, Some, None}
 use Rattle.bcder.specs.x690.CharSet.{Front, Step}
 
--- a character, and those of the octets behind it
+-- a character, and those of the octets after it
 abbrev pub and_behind : (List ℕ → List ℕ) → Option Front → List ℕ
 and_behind behind None = []
 and_behind behind (Some x) = x.char ∷ behind x.rest
 
 module _ (step : Step) where
-  -- so many at most
+  -- the characters that octets spell, at most n
   abbrev pub characters_within : ℕ → List ℕ → List ℕ
   characters_within zero w = []
   characters_within (suc n) w = and_behind (characters_within n) (step w)
 
-  -- each takes at least one octet
+  -- the characters that octets spell, each of which takes at least one octet
   unfoldable pub characters : List ℕ → List ℕ
   characters w = characters_within (length w) w

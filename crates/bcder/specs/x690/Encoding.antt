@@ -8,7 +8,7 @@ use Rattle.bcder.specs.x690.Identifier.{AreOctets, Tag, IsValueTag, identifier}
 use Rattle.bcder.specs.x690.Length.{AreLengthOctets, IsEndOfContents}
 use Rattle.bcder.specs.x690.Tree.{Tree, primitive, constructed, Trees, no_trees, ◌∷ₜ◌}
 
--- whether an encoding may have such a length, by whether it is constructed: 8.1.3.2 for primitive ones and for BER, 9.1 for CER, 10.1 for DER
+-- whether an encoding, constructed or not, may have such a length: 8.1.3.2 for primitive ones and for BER, 9.1 for CER, 10.1 for DER
 abbrev pub may_have : Mode → Bool → Length → Bool
 may_have mode false (Definite n) = true
 may_have mode false Indefinite = false
@@ -26,13 +26,13 @@ pub record IsHeader (mode : Mode) (t : Tag) (form : Bool) (len : Length) (w : Li
   pub tells : AreLengthOctets mode len length_octets
   pub is : w ≡ identifier t form ++ length_octets
 
--- 8.1.1.2: a header that tells the number of contents octets, and these
+-- 8.1.1.2: a header with the number of contents octets, and these
 pub record IsDefinite (mode : Mode) (t : Tag) (form : Bool) (contents w : List ℕ) : Type 0 where
   pub header : List ℕ
   pub is_header : IsHeader mode t form (Definite (length contents)) header
   pub is : w ≡ header ++ contents
 
--- 8.1.1.1, 8.1.3.6: a header that tells no number, contents octets, and end-of-contents octets
+-- 8.1.1.1, 8.1.3.6: a header of the indefinite form, contents octets, and end-of-contents octets
 pub record IsIndefinite (mode : Mode) (t : Tag) (contents w : List ℕ) : Type 0 where
   pub header : List ℕ
   pub is_header : IsHeader mode t true Indefinite header
@@ -40,7 +40,7 @@ pub record IsIndefinite (mode : Mode) (t : Tag) (contents w : List ℕ) : Type 0
   pub is_end : IsEndOfContents mode end
   pub is : w ≡ header ++ (contents ++ end)
 
--- a constructed value with these contents octets
+-- an encoding of a constructed value with these contents octets
 abbrev pub IsFramed : Mode → Tag → List ℕ → List ℕ → Type 0
 IsFramed mode t contents w = IsDefinite mode t true contents w ⊎ IsIndefinite mode t contents w
 
@@ -55,7 +55,7 @@ abbrev mutual
   AreEncodings mode no_trees w = w ≡ []
   AreEncodings mode (t ∷ₜ ts) w = (first others : List ℕ) × IsEncoding mode t first × AreEncodings mode ts others × (w ≡ first ++ others)
 
--- what identifier octets and length octets say (8.1.2, 8.1.3), whatever they stand before
+-- what identifier octets and length octets say (8.1.2, 8.1.3), whatever follows them
 pub record Header : Type 0 where
   pub tag : Tag
   pub form : Bool

@@ -9,19 +9,19 @@ use Rattle.bcder.specs.x690.Tree.{Tree, Trees}
 use Rattle.bcder.specs.x690.Encoding.{IsEncoding, AreEncodings}
 use Rattle.bcder.specs.x690.Preorder.{preorder, preorders}
 
--- no identifier octets begin others
+-- no identifier octets are a prefix of others
 abbrev pub OneIdentifier : Type 0
 OneIdentifier = (t u : Tag) (f g : Bool) (x y : List ℕ) → IsTag t → IsTag u → identifier t f ++ x ≡ identifier u g ++ y → (t ≡ u) × (f ≡ g) × (x ≡ y)
 
--- no length octets begin others
+-- no length octets are a prefix of others
 abbrev pub OneLength : Type 0
 OneLength = (mode : Mode) (l m : Length) (v w x y : List ℕ) → AreLengthOctets mode l v → AreLengthOctets mode m w → v ++ x ≡ w ++ y → (l ≡ m) × (x ≡ y)
 
--- no end-of-contents octets begin others
+-- no end-of-contents octets are a prefix of others
 abbrev pub OneEnd : Type 0
 OneEnd = (mode : Mode) (v w x y : List ℕ) → IsEndOfContents mode v → IsEndOfContents mode w → v ++ x ≡ w ++ y → x ≡ y
 
--- a value with an encoding of it is the only one at the front of the octets
+-- the octets begin with no other value than t, and with no other encoding than w
 abbrev pub IsOnly : Mode → Tree → List ℕ → List ℕ → Type 0
 IsOnly mode t w octets = (u : Tree) (v y : List ℕ) → IsEncoding mode u v → octets ≡ v ++ y → (u ≡ t) × (v ≡ w)
 
@@ -31,7 +31,7 @@ pub record BeginsWhole (mode : Mode) (octets : List ℕ) (n : ℕ) : Type 0 wher
   pub encodes : IsEncoding mode tree (take n octets)
   pub fits : n ≤ length octets
 
--- a front of octets is at most one value, with at most one encoding
+-- a prefix of octets is at most one value, with at most one encoding
 abbrev pub OneFront : Type 0
 OneFront = (mode : Mode) (t : Tree) (w x : List ℕ) → IsEncoding mode t w → IsOnly mode t w (w ++ x)
 
@@ -39,15 +39,15 @@ OneFront = (mode : Mode) (t : Tree) (w x : List ℕ) → IsEncoding mode t w →
 abbrev pub OneList : Type 0
 OneList = (mode : Mode) (ts us : Trees) (w : List ℕ) → AreEncodings mode ts w → AreEncodings mode us w → ts ≡ us
 
--- in CER and DER a list of values is at most one octet list
+-- in CER and DER a list of values has at most one list of octets that is its encodings
 abbrev pub OneEncoding : Type 0
 OneEncoding = (mode : Mode) → mode ≢ Ber → (ts : Trees) (v w : List ℕ) → AreEncodings mode ts v → AreEncodings mode ts w → v ≡ w
 
--- in CER and DER two lists that have encodings are the same exactly where these are
+-- in CER and DER two lists that have encodings are equal exactly if these are
 abbrev pub SameWhereEncodingsAre : Type 0
 SameWhereEncodingsAre = (mode : Mode) → mode ≢ Ber → (ts us : Trees) (v w : List ℕ) → AreEncodings mode ts v → AreEncodings mode us w → (ts ≡ us) ↔ (v ≡ w)
 
--- what is an encoding in CER or DER is one in BER
+-- what is an encoding in CER or DER is an encoding in BER
 abbrev pub ValueInBer : Type 0
 ValueInBer = (mode : Mode) (t : Tree) (w : List ℕ) → IsEncoding mode t w → IsEncoding Ber t w
 

@@ -9,12 +9,12 @@ use Rattle.std.specs.Cmp.Lexicographic.{slice_cmp}
 use Rattle.bcder.specs.x690.Identifier.{AreOctets}
 use Rattle.bcder.specs.x690.Length.{big_endian}
 
--- 8.3.3: the two's complement number that octets are, the most significant first; of no octets 0
+-- 8.3.3: the two's complement number that octets are, the most significant first; 0 for no octets
 abbrev pub number : List ℕ → ℤ
 number [] = pos 0
 number (b ∷ w) = if nat_lt b 0x80 then pos (big_endian (b ∷ w)) else pos (big_endian (b ∷ w)) -ℤ pos (256 ^ length (b ∷ w))
 
--- 8.3.1, 8.3.2: one or more octets, and of several the first nine bits are neither all zero nor all one
+-- 8.3.1, 8.3.2: at least one octet, and if there are more, the first nine bits are neither all zero nor all one
 abbrev pub IsSmallest : List ℕ → Type 0
 IsSmallest [] = ⊥
 IsSmallest (a ∷ []) = Unit {0}
@@ -26,7 +26,7 @@ Leads negative [] = ⊥
 Leads false (b ∷ w) = b < 0x80
 Leads true (b ∷ w) = 0x80 ≤ b
 
--- w is contents octets of the integer z
+-- w are contents octets of the integer z
 pub record AreInteger (z : ℤ) (w : List ℕ) : Type 0 where
   pub smallest : IsSmallest w
   pub is : number w ≡ z
@@ -35,12 +35,12 @@ pub record AreInteger (z : ℤ) (w : List ℕ) : Type 0 where
 abbrev pub octet : Bool → ℕ → ℕ
 octet negative n = if negative then 255 - n else n
 
--- x is n, or all bits of it turned in k octets
+-- x is n, or n with all its bits inverted in k octets
 abbrev pub IsTurned : Bool → ℕ → ℕ → ℕ → Type 0
 IsTurned false k n x = x ≡ n
 IsTurned true k n x = x + n + 1 ≡ 256 ^ k
 
--- the octets of n, or of -1 - n, at most k of them behind the first
+-- the octets of n, or of -1 - n, at most k of them after the first
 abbrev pub octets_within : ℕ → Bool → ℕ → List ℕ
 octets_within zero negative n = octet negative (n % 256) ∷ []
 octets_within (suc k) negative n = if nat_lt n 128 then octet negative n ∷ [] else octets_within k negative (n / 256) ++ octet negative (n % 256) ∷ []
@@ -50,11 +50,11 @@ unfoldable pub integer_octets : ℤ → List ℕ
 integer_octets (pos n) = octets_within n false n
 integer_octets (negsuc n) = octets_within n true n
 
--- 11.1: in CER and DER all bits of true are one
+-- 11.1: the boolean of an octet in CER and DER, in which all bits of true are one
 abbrev pub strict_truth : ℕ → Option Bool
 strict_truth b = if b == 0x00 then Some false else if b == 0xFF then Some true else None
 
--- 8.2, 11.1: the truth value that contents octets of a BOOLEAN value are, if they are any
+-- 8.2, 11.1: the boolean that contents octets of a BOOLEAN value are, if they are any
 abbrev pub truth : Mode → List ℕ → Option Bool
 truth mode [] = None
 truth Ber (b ∷ []) = Some (not (b == 0x00))
@@ -68,7 +68,7 @@ truth mode (a ∷ b ∷ w) = None
 abbrev pub SomeInteger : Type 0
 SomeInteger = (z : ℤ) → AreOctets (integer_octets z) × AreInteger z (integer_octets z)
 
--- and no others
+-- each integer has at most one list of contents octets
 abbrev pub OneInteger : Type 0
 OneInteger = (z : ℤ) (v w : List ℕ) → AreOctets v → AreOctets w → AreInteger z v → AreInteger z w → v ≡ w
 
@@ -77,7 +77,7 @@ abbrev pub is_negative : List ℕ → Bool
 is_negative [] = false
 is_negative (b ∷ w) = nat_le 0x80 b
 
--- of numbers of one sign the shorter octets are nearer to 0, and of one length they are compared octet by octet
+-- the order of the octets of two numbers of one sign: fewer octets are nearer to 0, and as many are compared octet by octet
 abbrev pub same_sign_order : Bool → List ℕ → List ℕ → Ordering
 same_sign_order false v w = ordering_then (nat_cmp (length v) (length w)) (slice_cmp nat_cmp v w)
 same_sign_order true v w = ordering_then (nat_cmp (length w) (length v)) (slice_cmp nat_cmp v w)
@@ -91,6 +91,6 @@ sign_order true true v w = same_sign_order true v w
 abbrev pub integer_order : List ℕ → List ℕ → Ordering
 integer_order v w = sign_order (is_negative v) (is_negative w) v w
 
--- that order is the order of the numbers
+-- the order of contents octets is the order of the integers
 abbrev pub OrderOfIntegers : Type 0
 OrderOfIntegers = (x y : ℤ) (v w : List ℕ) → AreOctets v → AreOctets w → AreInteger x v → AreInteger y w → integer_order v w ≡ int_cmp x y

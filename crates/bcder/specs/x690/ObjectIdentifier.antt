@@ -2,13 +2,13 @@
 use Rattle.std.specs.Prelude.{◌≡◌, ◌≢◌, ℕ, ◌+◌, ◌-◌, ◌*◌, ◌%◌, ◌<◌, ◌≤◌, List, [], ◌∷◌, ◌++◌, map, slice_index, nat_lt, if◌then◌else◌}
 use Rattle.bcder.specs.x690.Identifier.{Tag, universal}
 
--- X.680, 8.4
+-- the tag of OBJECT IDENTIFIER (X.680, 8.4)
 abbrev pub identifier_tag : Tag
 identifier_tag = record { class = universal; number = 6 }
 
 -- ---- 8.19.2: subidentifiers
 
--- the number whose digits in base 128 are bits 7 to 1 of each octet, after digits that come to high
+-- the number whose digits in base 128 are bits 7 to 1 of each octet, after digits whose number is `high`
 abbrev pub number_after : ℕ → List ℕ → ℕ
 number_after high [] = high
 number_after high (b ∷ w) = number_after (128 * high + b % 128) w
@@ -16,7 +16,7 @@ number_after high (b ∷ w) = number_after (128 * high + b % 128) w
 abbrev pub subidentifier_number : List ℕ → ℕ
 subidentifier_number w = number_after 0 w
 
--- the octets cut after each one with bit 8 zero, behind those in front; what stands after the last such octet is left out
+-- the octets, after those of a prefix, cut after each one with bit 8 zero; what follows the last such octet is left out
 abbrev pub cut_after : List ℕ → List ℕ → List (List ℕ)
 cut_after front [] = []
 cut_after front (b ∷ w) = if nat_lt b 0x80 then (front ++ b ∷ []) ∷ cut_after [] w else cut_after (front ++ b ∷ []) w
@@ -35,7 +35,7 @@ IsWhole (b ∷ c ∷ w) = (0x80 ≤ b) × (b < 0x100) × IsWhole (c ∷ w)
 abbrev pub IsFewest : List ℕ → Type 0
 IsFewest w = slice_index w 0 ≢ 0x80
 
--- the octets of one subidentifier
+-- w is the octets of one subidentifier, whose number is n
 pub record IsSubidentifier (n : ℕ) (w : List ℕ) : Type 0 where
   pub whole : IsWhole w
   pub value : subidentifier_number w ≡ n
@@ -52,7 +52,7 @@ IsComplete [] = ⊥
 IsComplete (b ∷ []) = b < 0x80
 IsComplete (b ∷ c ∷ w) = IsComplete (c ∷ w)
 
--- each is in the fewest octets
+-- each subidentifier is in the fewest octets
 abbrev pub AreFewest : List (List ℕ) → Type 0
 AreFewest [] = Unit {0}
 AreFewest (w ∷ ws) = IsFewest w × AreFewest ws

@@ -7,14 +7,14 @@ use Rattle.bcder.specs.x690.Identifier.{Tag, universal}
 use Rattle.bcder.specs.x690.Tree.{Tree, primitive, constructed, Trees, no_trees, ◌∷ₜ◌}
 use Rattle.bcder.specs.x690.Encoding.{AreEncodings}
 
--- X.680, 8.4
+-- the tag of OCTET STRING (X.680, 8.4)
 abbrev pub octet_string_tag : Tag
 octet_string_tag = record { class = universal; number = 4 }
 
 -- ---- 8.7.2, 8.7.3: what a value holds
 
 abbrev mutual
-  -- the contents octets of the primitive values that the value is made of, in their order
+  -- the contents octets of the primitive values that the value is made of, in order
   pub segments : Tree → List (List ℕ)
   segments (primitive t contents) = contents ∷ []
   segments (constructed t ts) = segments_of ts
@@ -39,7 +39,7 @@ abbrev mutual
   AreSegments no_trees = ⊤
   AreSegments (t ∷ₜ ts) = IsSegment t × AreSegments ts
 
--- 9.2: a primitive segment of so many octets
+-- 9.2: a primitive segment, of whose number of octets the condition holds
 abbrev pub IsPiece : (ℕ → Type 0) → Tree → Type 0
 IsPiece Size (primitive t contents) = (t ≡ octet_string_tag) × Size (length contents)
 IsPiece Size (constructed t ts) = ⊥
@@ -50,20 +50,21 @@ IsFull n = n ≡ 1000
 abbrev pub IsLast : ℕ → Type 0
 IsLast n = (1 ≤ n) × (n ≤ 1000)
 
--- 9.2: behind a segment of 1000 octets, at least one more; each has 1000 but the last, which has 1 to 1000
+-- 9.2: at least one more segment follows one of 1000 octets; each has 1000 but the last, which has 1 to 1000
 abbrev pub FollowFull : Trees → Type 0
 FollowFull no_trees = ⊥
 FollowFull (t ∷ₜ no_trees) = IsPiece IsLast t
 FollowFull (t ∷ₜ (u ∷ₜ us)) = IsPiece IsFull t × FollowFull (u ∷ₜ us)
 
--- values that a constructed octet string may hold: in BER segments of any form (8.7.3); in CER primitive ones, which together have over 1000 octets (9.2); in DER there is no such string (10.2)
+-- the values that a constructed octet string may hold: in BER segments of any form (8.7.3); in CER primitive ones,
+-- which together have over 1000 octets (9.2); in DER there is no such string (10.2)
 abbrev pub AreSegmentsIn : Mode → Trees → Type 0
 AreSegmentsIn Ber ts = AreSegments ts
 AreSegmentsIn Cer no_trees = ⊥
 AreSegmentsIn Cer (t ∷ₜ ts) = IsPiece IsFull t × FollowFull ts
 AreSegmentsIn Der ts = ⊥
 
--- the contents octets that a primitive octet string may have: in CER 1000 at most (9.2)
+-- the contents octets that a primitive octet string may have: in CER at most 1000 (9.2)
 abbrev pub MayBeWhole : Mode → List ℕ → Type 0
 MayBeWhole Cer w = length w ≤ 1000
 MayBeWhole mode w = ⊤

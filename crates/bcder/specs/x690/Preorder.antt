@@ -10,7 +10,7 @@ pub record Heading : Type 0 where
   pub depth : ℕ
 
 abbrev mutual
-  -- the value and all values inside, each before those inside it
+  -- the headings of the value and of all values inside, each before those inside it
   pub preorder : Tree → ℕ → List Heading
   preorder (primitive t contents) d = record { tag = t; constructed = false; depth = d } ∷ []
   preorder (constructed t ts) d = record { tag = t; constructed = true; depth = d } ∷ preorders ts (d + 1)

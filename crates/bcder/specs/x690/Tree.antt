@@ -1,4 +1,4 @@
--- Values, apart from how their lengths are written.
+-- Values, whatever form their lengths are written in.
 use Rattle.std.specs.Prelude.{ℕ, List}
 use Rattle.bcder.specs.x690.Identifier.{Tag}
 
@@ -13,7 +13,7 @@ mutual
     no_trees : Trees
     ◌∷ₜ◌ : Tree → Trees → Trees
 
--- one list behind another
+-- one list after another
 infixl 65 ◌+++◌
 abbrev pub ◌+++◌ : Trees → Trees → Trees
 no_trees +++ us = us
