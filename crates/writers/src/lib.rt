@@ -11,6 +11,6 @@ mod request;
 
 pub use entries::{Basic, Entry, gather_entries};
 pub use filter::Filter;
-pub use lists::{write_each, write_numbers};
+pub use lists::{write_chosen, write_each, write_numbers};
 pub use numbers::write_and_read;
 pub use request::{Part, Request, Text, write_request};

@@ -211,9 +211,9 @@ impl DecodeError<Infallible> {
 }
 
 impl DecodeError<NoMemory> {
-    /// The same error for a source that can fail in other ways, as that of an octet string that is
-    /// decoded inside another source: at the same position, and a failure of the source is want of
-    /// memory.
+    /// The same error for another source, at the same position. A failure of this source becomes
+    /// want of memory, since that is why it failed. An [`OctetString`](crate::OctetString) that is
+    /// decoded inside the value of another source has such errors:
     ///
     /// ```text
     /// match Mode::Der.decode(string, |cons| cons.take_u8()) {
