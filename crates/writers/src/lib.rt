@@ -11,6 +11,6 @@ mod request;
 
 pub use entries::{Basic, Entry, gather_entries};
 pub use filter::Filter;
-pub use lists::{write_each, write_numbers};
+pub use lists::{write_chosen, write_each, write_numbers};
 pub use numbers::{take_i32, write_and_read, write_and_read_signed};
 pub use request::{Part, Request, Text, write_request};

@@ -1,4 +1,4 @@
-//! Lists that are written through an iterator over them.
+//! Lists that are written through an iterator over them, and octets that are chosen first.
 //!
 //! What `iter` asks of an iterator, that each clone gives the same items, is found by the lemmas
 //! that the next line names.
@@ -8,8 +8,9 @@ ghost use Rattle.std.specs.Prelude.{◌≡◌, ◌≢◌, Any, All, IfErr};
 ghost use Rattle.bcder.specs.declared.encode.error.EncodeError.TheVariants.{NoMemory};
 ghost use Rattle.bcder.specs.declared.encode.error.WriteError.TheVariants.{Refused};
 
-use bcder::Mode;
-use bcder::encode::{Primitive, Values, WriteError, iter, sequence};
+use bcder::encode::{Primitive, PrimitiveContent, Values, WriteError, iter, sequence};
+use bcder::{Mode, Tag};
+use std::alloc::Global;
 use std::io;
 
 /// Writes a SEQUENCE OF INTEGER (X.690, 8.10).
@@ -42,4 +43,27 @@ pub fn write_each<V: Values, W: io::Write>(
         Any (λ v. V.may_lack v mode) values.now.items) }
 {
     iter(values).write_encoded(mode, target)
+}
+
+/// Writes an OCTET STRING of the octets that aren't 0 (X.690, 8.7).
+///
+/// # Errors
+///
+/// Those of [`Values::write_encoded`], and where there is no memory for the octets.
+pub fn write_chosen<W: io::Write>(
+    alloc: Global,
+    octets: &[u8],
+    mode: Mode,
+    target: &mut W,
+) -> Result<(), WriteError> {
+    let mut chosen = Vec::new(alloc);
+    for octet in octets {
+        if *octet != 0 {
+            chosen.push(*octet)?;
+        }
+    }
+    chosen
+        .as_slice()
+        .encode_as(Tag::OCTET_STRING)
+        .write_encoded(mode, target)
 }
