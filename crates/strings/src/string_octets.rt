@@ -58,6 +58,22 @@ fn a_string_in_one_piece(rt: HostRuntime) {
     check_octets(&rt, alloc, copy, b"abcdef");
 }
 
+/// Its octets are lent in one piece, also once some were given. Iterators over it are cloned
+/// without memory, so they may be run over again and again.
+#[test]
+fn octets_in_a_cycle(rt: HostRuntime) {
+    let string = OctetString::new(Bytes::from_static(b"abc"));
+    let mut left = string.octets();
+    same(&rt, left.next(), Some(b'a'));
+    same(&rt, left.as_slice(), Some(b"bc".as_slice()));
+    let mut cycle = string.octets().cycle();
+    let found = [cycle.next(), cycle.next(), cycle.next(), cycle.next()];
+    same(&rt, found, [Some(b'a'), Some(b'b'), Some(b'c'), Some(b'a')]);
+    let mut parts = string.iter().cycle();
+    same(&rt, parts.next(), Some(b"abc".as_slice()));
+    same(&rt, parts.next(), Some(b"abc".as_slice()));
+}
+
 #[test]
 fn an_empty_string_has_no_part(rt: HostRuntime) {
     let string = whole(&rt, rt.alloc(), &[]);
