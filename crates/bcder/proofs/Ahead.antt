@@ -10,7 +10,7 @@ use Rattle.bcder.specs.declared.decode.content.State.TheVariants.{Failed}
 use Rattle.bcder.specs.declared.decode.error.DecodeError.{DecodeError}
 use Rattle.bcder.specs.declared.decode.error.ContentError.{ContentError}
 use Rattle.bcder.specs.calls.Calls.{HasForm}
-use Rattle.bcder.specs.calls.Cause.{Cause, cause_of, of_source, of_memory, IsOfContent, IsRefusal}
+use Rattle.bcder.specs.calls.Cause.{Cause, cause_of, IsOfContent}
 use Rattle.bcder.specs.x690.Encoding.{IsHeader}
 use Rattle.bcder.specs.x690.Identifier.{Tag}
 use Rattle.bcder.specs.steps.Peek.{is_constructed, len_of, header_of, octets_header}

@@ -80,9 +80,6 @@ fourth_decides [] x l e = absurd (omega arith)
 fourth_decides (b ∷ []) x l e = absurd (omega arith)
 fourth_decides (b ∷ a ∷ w) x l e = identifier_none b a w x (λ above. omega arith) e
 
--- what octets tell of identifier octets that may begin with them
-pub ruleset identifier_decides = (second_decides, fourth_decides)
-
 -- ---- octets that begin no length octets
 
 untold : {A : Type 0} (b : Bool) (y z : A) → cond b (Some y) None ≡ None → cond b (Some z) None ≡ None
@@ -121,9 +118,6 @@ count_decides mode (b ∷ w) x l h e = length_none mode b w x (λ k. omega arith
 pub first_decides : (mode : Mode) (w x : List ℕ) → 0x84 < get_or w 0 0 → read_length mode w ≡ None → read_length mode (w ++ x) ≡ None
 first_decides mode [] x h e = absurd (omega arith)
 first_decides mode (b ∷ w) x h e = length_none mode b w x (λ k. absurd (omega arith)) e
-
--- what octets tell of length octets that may begin with them
-pub ruleset length_decides = (count_decides, first_decides)
 
 -- ---- what is read at the front
 

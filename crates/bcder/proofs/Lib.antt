@@ -85,3 +85,4 @@ pub mod AsciiSets
 pub mod Utf8
 pub mod Violations
 pub mod Naming
+pub mod Told

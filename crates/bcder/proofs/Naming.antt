@@ -1,11 +1,10 @@
 -- What a refusal of octets names, where they are looked at and where they are refused.
-use Rattle.std.proofs.Common.{◌≡◌, ◌∙◌, ℕ, ◌+◌, ◌<◌, ◌≤◌, List, [], ◌++◌, length, Option, Some, None, refl, sym, subst, arith, inl, inr}
+use Rattle.std.proofs.Common.{◌≡◌, ◌∙◌, ℕ, List, length, Option, Some, None, refl, sym, subst, arith, inl, inr}
 use Rattle.std.proofs.lemmas.Bool.{cases_lt}
 use Rattle.bcder.specs.declared.length.Length.{Length}
 use Rattle.bcder.specs.declared.length.Length.TheVariants.{Definite, Indefinite}
 use Rattle.bcder.specs.declared.decode.error.ContentError.{ContentError}
 use Rattle.bcder.specs.declared.decode.violation.Violation.{Violation}
-use Rattle.bcder.specs.declared.decode.violation.Violation.TheVariants as v
 use Rattle.bcder.specs.x690.Encoding.{Header, IsHeader}
 use Rattle.bcder.specs.calls.Cause.{Cause, IsOfContent}
 use Rattle.bcder.specs.calls.Violations.{ViolatesFront}

@@ -1,18 +1,17 @@
 -- Which rule octets violate that are no header, whatever follows them.
-use Rattle.std.proofs.Common.{◌≡◌, ◌≢◌, ◌⊎◌, ℕ, zero, suc, ◌+◌, ◌-◌, ◌%◌, ◌<◌, ◌≤◌, Bool, true, false, List, [], ◌∷◌, ◌++◌, length, get_or, take, drop, Option, Some, None, refl, sym, ap, subst, ◌∙◌, append_assoc, arith, inl, inr}
+use Rattle.std.proofs.Common.{◌≡◌, ◌≢◌, ◌⊎◌, ℕ, zero, suc, ◌+◌, ◌-◌, ◌%◌, ◌<◌, ◌≤◌, Bool, true, false, List, [], ◌∷◌, ◌++◌, length, get_or, take, drop, Option, Some, None, refl, sym, ap, ◌∙◌, append_assoc, arith, inl, inr}
 use Rattle.std.proofs.lemmas.Bool.{cases_lt, lt-ltb, le-ltb, lt-leb, le-leb}
-use Rattle.std.proofs.lemmas.List.{length-append, take-append-drop, length-take-le}
+use Rattle.std.proofs.lemmas.List.{take-append-drop, length-take-le}
 use Rattle.bcder.specs.declared.mode.Mode.{Mode}
 use Rattle.bcder.specs.declared.mode.Mode.TheVariants.{Ber, Cer, Der}
 use Rattle.bcder.specs.declared.length.Length.{Length}
 use Rattle.bcder.specs.declared.length.Length.TheVariants.{Definite, Indefinite}
-use Rattle.bcder.specs.declared.decode.violation.Violation.{Violation}
 use Rattle.bcder.specs.declared.decode.violation.Violation.TheVariants as v
 use Rattle.bcder.specs.x690.Identifier.{AreOctets, Class, universal, application, context_specific, private, Tag, IsTag, identifier, end_of_contents, is_value_tag}
-use Rattle.bcder.specs.x690.Length.{big_endian, IsLongForm, IsShortest, IsDefiniteLength, AreLengthOctets, IsEndOfContents}
+use Rattle.bcder.specs.x690.Length.{big_endian, IsLongForm, IsShortest}
 use Rattle.bcder.specs.x690.Encoding.{may_have}
-use Rattle.bcder.specs.x690.Broken.{LeadsNumber, EndsInTag, TagNotFewest, TagTooLarge, HasTag, HasLength, IsDefinite, EndsInLength, EndsInHeader, LengthNotFewest}
-use Rattle.bcder.specs.calls.Violations.{HasNoEnd, ViolatesFront, truncated_header, tag_not_fewest, tag_too_large, reserved_tag, reserved_length, length_too_large, length_not_fewest, primitive_indefinite, indefinite_in_der, definite_in_cer}
+use Rattle.bcder.specs.x690.Broken.{EndsInTag, HasTag, HasLength, IsDefinite, EndsInLength, EndsInHeader, LengthNotFewest}
+use Rattle.bcder.specs.calls.Violations.{HasNoEnd, ViolatesFront, tag_not_fewest, tag_too_large, reserved_tag, reserved_length, length_too_large, length_not_fewest, primitive_indefinite, indefinite_in_der, definite_in_cer}
 use Rattle.bcder.specs.steps.Reading.{may_tell, read_long, read_length, third_digit, second_digit, read_number, read_identifier, read_header, read_end}
 use Rattle.bcder.specs.steps.Peek.{HasHeaderOctets}
 use Rattle.bcder.specs.laws.Sound.{none_is, AreOctets-take}

@@ -12,6 +12,7 @@ pub mod Stream
 pub mod Sources
 pub mod Cause
 pub mod Violations
+pub mod Fronts
 pub mod ContentsLen
 pub mod Content
 pub mod Views

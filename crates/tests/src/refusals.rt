@@ -2,10 +2,10 @@
 //! and files of each mode that were cut.
 #![tactic(auto, using(bcder::specs::laws::Moved::untouched_is_moved))]
 
-use crate::asserts::{holds, shows};
+use crate::asserts::{holds, same, shows};
 use crate::over::{shared, sip};
-use bcder::Mode;
-use bcder::decode::{DecodeError, SliceSource, Source, walk};
+use bcder::decode::{DecodeError, SliceSource, Source, Violation, walk};
+use bcder::{Mode, Tag};
 use std::alloc::Global;
 use std::process::Abort;
 
@@ -46,6 +46,17 @@ fn walked<S: Source>(
     }
 }
 
+/// What stands at position 0 is told of the octets alone.
+fn told(rt: &impl Abort, alloc: Global, row: &Row) {
+    let (mode, octets, said, at) = *row;
+    if at == "0" {
+        match Violation::at(mode, octets) {
+            Some(violation) => shows(rt, alloc, &violation, said),
+            None => holds(rt, false),
+        }
+    }
+}
+
 fn check(rt: &impl Abort, alloc: Global, row: &Row) {
     let (mode, octets, said, at) = *row;
     skipped(rt, alloc, &mut SliceSource::new(octets), mode, said, at);
@@ -56,10 +67,15 @@ fn check(rt: &impl Abort, alloc: Global, row: &Row) {
 }
 
 const HEADER: &str = "the octets end inside a header";
+
 const END: &str = "unexpected end of data";
+
 const TAG: &str = "tag number not in the fewest octets";
+
 const LENGTH: &str = "length not in the fewest octets";
+
 const LONG: &str = "value longer than the value around it";
+
 const STRAY: &str = "end-of-contents octets where none belong";
 
 const TAGS: [Row; 9] = [
@@ -70,7 +86,12 @@ const TAGS: [Row; 9] = [
     // 8.1.2.2: 30 is told by the leading octet
     (Mode::Ber, &[0x1F, 0x1E, 0x00], TAG, "0"),
     // 8.1.2.4.2 c: bits 7 to 1 of the first octet of the number are zero
-    (Mode::Der, &[0x05, 0x00, 0x9F, 0x80, 0x81, 0x00, 0x00], TAG, "2"),
+    (
+        Mode::Der,
+        &[0x05, 0x00, 0x9F, 0x80, 0x81, 0x00, 0x00],
+        TAG,
+        "2",
+    ),
     // 2097152
     (
         Mode::Ber,
@@ -104,7 +125,12 @@ const LENGTHS: [Row; 11] = [
     (Mode::Ber, &[0x30], HEADER, "0"),
     (Mode::Der, &[0x04, 0x82, 0x01], HEADER, "0"),
     // 8.1.3.5 c
-    (Mode::Ber, &[0x04, 0xFF, 0x00], "reserved length octet FF", "0"),
+    (
+        Mode::Ber,
+        &[0x04, 0xFF, 0x00],
+        "reserved length octet FF",
+        "0",
+    ),
     (
         Mode::Ber,
         &[0x04, 0x85, 0x00, 0x00, 0x00, 0x00, 0x01, 0x61],
@@ -113,7 +139,12 @@ const LENGTHS: [Row; 11] = [
     ),
     // 9.1, 10.1
     (Mode::Cer, &[0x04, 0x81, 0x01, 0x61], LENGTH, "0"),
-    (Mode::Der, &[0x30, 0x04, 0x04, 0x82, 0x00, 0x80], LENGTH, "2"),
+    (
+        Mode::Der,
+        &[0x30, 0x04, 0x04, 0x82, 0x00, 0x80],
+        LENGTH,
+        "2",
+    ),
     // 8.1.3.2
     (
         Mode::Ber,
@@ -163,10 +194,20 @@ const CONTENTS: [Row; 6] = [
 
 // A SEQUENCE of an INTEGER and an OCTET STRING of 200 octets, cut.
 const CUT: [Row; 9] = [
-    (Mode::Ber, &[0x30, 0x80, 0x02, 0x01, 0x05, 0x04], HEADER, "5"),
+    (
+        Mode::Ber,
+        &[0x30, 0x80, 0x02, 0x01, 0x05, 0x04],
+        HEADER,
+        "5",
+    ),
     (Mode::Ber, &[0x30, 0x80, 0x02, 0x01], END, "4"),
     (Mode::Ber, &[0x30, 0x80, 0x02, 0x01, 0x05], END, "5"),
-    (Mode::Cer, &[0x30, 0x80, 0x02, 0x01, 0x05, 0x04, 0x81], HEADER, "5"),
+    (
+        Mode::Cer,
+        &[0x30, 0x80, 0x02, 0x01, 0x05, 0x04, 0x81],
+        HEADER,
+        "5",
+    ),
     (
         Mode::Cer,
         &[0x30, 0x80, 0x02, 0x01, 0x05, 0x04, 0x81, 0xC8, 0x61],
@@ -193,6 +234,7 @@ const CUT: [Row; 9] = [
 fn tags_that_are_refused(rt: HostRuntime) {
     for row in &TAGS {
         check(&rt, rt.alloc(), row);
+        told(&rt, rt.alloc(), row);
     }
 }
 
@@ -200,6 +242,7 @@ fn tags_that_are_refused(rt: HostRuntime) {
 fn lengths_that_are_refused(rt: HostRuntime) {
     for row in &LENGTHS {
         check(&rt, rt.alloc(), row);
+        told(&rt, rt.alloc(), row);
     }
 }
 
@@ -214,5 +257,48 @@ fn contents_that_are_refused(rt: HostRuntime) {
 fn files_that_were_cut(rt: HostRuntime) {
     for row in &CUT {
         check(&rt, rt.alloc(), row);
+    }
+}
+
+// Headers whose contents aren't here, end-of-contents octets, and none.
+const WHOLE: [(Mode, &[u8]); 5] = [
+    (Mode::Ber, &[0x30, 0x80]),
+    (Mode::Cer, &[0x5F, 0x81, 0x00, 0x03]),
+    (Mode::Der, &[0x04, 0x82, 0x01, 0x00]),
+    (Mode::Der, &[0x00, 0x00]),
+    (Mode::Ber, &[]),
+];
+
+#[test]
+fn headers_that_violate_nothing(rt: HostRuntime) {
+    for (mode, octets) in WHOLE {
+        same(&rt, Violation::at(mode, octets), None);
+    }
+}
+
+// Identifier octets, and none.
+const IDENTIFIERS: [(&[u8], &str); 4] = [
+    (
+        &[0x1F, 0x81],
+        "the octets end inside a header (at position 0)",
+    ),
+    (
+        &[0x1F, 0x1E],
+        "tag number not in the fewest octets (at position 0)",
+    ),
+    (
+        &[0x1F, 0xFF, 0xFF, 0xFF, 0x7F],
+        "tag number over 2097151 (at position 0)",
+    ),
+    (&[], "unexpected end of data (at position 0)"),
+];
+
+#[test]
+fn identifier_octets_that_are_refused(rt: HostRuntime) {
+    for (octets, said) in IDENTIFIERS {
+        match Tag::take_from(&mut SliceSource::new(octets)) {
+            Ok(_) => holds(&rt, false),
+            Err(error) => shows(&rt, rt.alloc(), &error, said),
+        }
     }
 }

@@ -165,7 +165,7 @@ fn is_wanted(wanted: &Wanted, tag: Tag) -> bool
 
 /// Returns what the octets at hand say about the header at their start, whatever follows them.
 /// Returns `None` if it depends on what follows.
-fn look(mode: Mode, wanted: &Wanted, octets: &[u8]) -> Option<Peeked>
+pub(crate) fn look(mode: Mode, wanted: &Wanted, octets: &[u8]) -> Option<Peeked>
     ensures { Sees mode (asked wanted.now) result octets.now }
 {
     if let Some((header, rest)) = header_at(mode, octets) {

@@ -1,7 +1,10 @@
 //! The rules of headers that octets can violate (X.690, 8.1.2, 8.1.3, 8.1.5, 9.1, 10.1).
-ghost use Rattle.std.specs.Prelude.{◌≡◌, Some};
-ghost use Rattle.bcder.specs.calls.Violations.{violation_text};
+ghost use Rattle.std.specs.Prelude.{◌≡◌, ◌⊎◌, ◌≤◌, length, Some, IsSome, IsNone, IfSome};
+ghost use Rattle.bcder.specs.calls.Fronts.{BeginsHeader, BeginsEnd};
+ghost use Rattle.bcder.specs.calls.Violations.{violation_text, ViolatesFront};
 
+use crate::decode::header::{Peeked, Wanted, look};
+use crate::mode::Mode;
 use std::fmt;
 
 /// The reason that octets begin neither with the header of a value nor with the end of the content.
@@ -66,6 +69,30 @@ impl Violation {
             Violation::DefiniteInCer => "definite length of a constructed value in CER",
             Violation::ValueTooLong => "value longer than the value around it",
             Violation::StrayEnd => "end-of-contents octets where none belong",
+        }
+    }
+
+    /// Returns what octets violate in a mode if they begin neither with the header of a value nor
+    /// with end-of-contents octets (X.690, 8.1.2, 8.1.3, 8.1.5). Returns `None` if they do, and for
+    /// no octets.
+    ///
+    /// The octets behind a header are not looked at.
+    pub fn at(mode: Mode, octets: &[u8]) -> Option<Violation>
+        ensures violates { IfSome result (ViolatesFront mode octets.now) }
+        ensures refused { IsSome result
+            → BeginsHeader mode octets.now ⊎ BeginsEnd mode octets.now → ⊥ }
+        ensures none { IsNone result → 1 ≤ length octets.now
+            → BeginsHeader mode octets.now ⊎ BeginsEnd mode octets.now }
+    {
+        let Some(peeked) = look(mode, &Wanted::Any, octets) else {
+            if octets.is_empty() {
+                return None;
+            }
+            return Some(Violation::TruncatedHeader);
+        };
+        match peeked {
+            Peeked::Refused(violation) => Some(violation),
+            _ => None,
         }
     }
 }

@@ -5,12 +5,13 @@ ghost use Rattle.std.specs.Prelude.{IfOk, IfErr, OnOk, OnErr};
 ghost use Rattle.bcder.specs.declared.mode.Mode.{Mode as ModeValue};
 ghost use Rattle.bcder.specs.x690.Broken.{EndsInTag};
 ghost use Rattle.bcder.specs.x690.Identifier.{IsTag, identifier};
-ghost use Rattle.bcder.specs.calls.Violations.{ViolatesFront};
+ghost use Rattle.bcder.specs.calls.Violations.{violation_text, ViolatesFront};
+ghost use Rattle.bcder.specs.calls.Fronts.{NamesFront};
 ghost use Rattle.bcder.specs.calls.Begins.{BeginsOther, BeginsNoIdentifier, HasNoIdentifier};
 ghost use Rattle.bcder.specs.calls.Changed.{SameFaults, MoreFaults, SameRest, SamePosition};
 ghost use Rattle.bcder.specs.calls.Changed.{SameKept};
 ghost use Rattle.bcder.specs.calls.Changed.{RefusedWhere};
-ghost use Rattle.bcder.specs.calls.Cause.{IsRefusal};
+ghost use Rattle.bcder.specs.calls.Cause.{cause_of, of_content};
 ghost use Rattle.bcder.specs.steps.Reading.{read_identifier};
 ghost use Rattle.bcder.specs.steps.PeekTag.{PeeksTag, SeesTag};
 
@@ -108,7 +109,7 @@ fn peek<S: Source>(source: &mut S) -> Result<PeekedTag, S::Error>
 /// Returns an error that refuses octets which don't begin identifier octets.
 #[cold]
 fn invalid<S: Source>(source: &S, violation: Violation) -> DecodeError<S::Error>
-    ensures { IsRefusal result }
+    ensures { cause_of result ≡ of_content (ContentError.Static (violation_text violation)) }
 {
     source.content_err(ContentError::from_static(violation.text()))
 }
@@ -134,6 +135,7 @@ impl Tag {
         ensures no_fault { OnOk result (SameFaults S.stream source) }
         ensures cause { IfErr result
             (RefusedWhere S.stream source (HasNoIdentifier (S.stream source.old).rest)) }
+        ensures named { IfErr result (NamesFront (S.stream source.old).rest) }
         ensures err { OnErr result (SameRest S.stream source) }
         ensures err_position { OnErr result (SamePosition S.stream source) }
         ensures kept { SameKept S.stream source }
@@ -166,6 +168,8 @@ impl Tag {
         ensures no_fault { OnOk result (SameFaults S.stream source) }
         ensures cause { IfErr result
             (RefusedWhere S.stream source (BeginsNoIdentifier (S.stream source.old).rest)) }
+        ensures named { IfErr result (λ e. 1 ≤ length (S.stream source.old).rest
+            → NamesFront (S.stream source.old).rest e) }
         ensures err { OnErr result (SameRest S.stream source) }
         ensures err_position { OnErr result (SamePosition S.stream source) }
         ensures kept { SameKept S.stream source }
@@ -208,6 +212,7 @@ impl Tag {
         ensures no_fault { OnOk result (SameFaults S.stream source) }
         ensures cause { IfErr result
             (RefusedWhere S.stream source (HasNoIdentifier (S.stream source.old).rest)) }
+        ensures named { IfErr result (NamesFront (S.stream source.old).rest) }
         ensures err { OnErr result (SameRest S.stream source) }
         ensures err_position { OnErr result (SamePosition S.stream source) }
         ensures kept { SameKept S.stream source }

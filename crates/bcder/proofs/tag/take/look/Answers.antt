@@ -1,4 +1,4 @@
-use Rattle.std.proofs.Common.{refl, arith, rules, inl}
+use Rattle.std.proofs.Common.{arith, rules, inl}
 use Rattle.bcder.specs.x690.Identifier.{AreOctets}
 use Rattle.bcder.proofs.Beginnings.{has_identifier, identifier_stands, begins_no_identifier}
 use Rattle.bcder.proofs.Peeking.{some_followed}
