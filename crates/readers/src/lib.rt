@@ -7,6 +7,8 @@ ghost use Rattle.bcder.specs.calls.Views.{Moved};
 #[cfg(test)]
 mod asserts;
 #[cfg(test)]
+mod crl;
+#[cfg(test)]
 mod entries;
 #[cfg(test)]
 mod filters;

@@ -12,8 +12,8 @@ use std::process::Abort;
 use std::test::Fail;
 use user::decode_extensions;
 use writers::{
-    Part, Request, Text, write_and_read, write_and_read_signed, write_each, write_numbers,
-    write_request,
+    Part, Request, Text, write_and_read, write_and_read_signed, write_chosen, write_each,
+    write_numbers, write_request,
 };
 
 /// What a request asks for, made with openssl: a name of two attributes, a key on the curve
@@ -87,6 +87,17 @@ fn lists_through_an_iterator(rt: HostRuntime) -> Result<(), Fail> {
     ];
     holds(&rt, octets.as_slice() == wanted.as_slice());
     Ok(())
+}
+
+#[test]
+fn octets_that_are_chosen(rt: HostRuntime) {
+    let mut octets = Vec::new(rt.alloc());
+    let written = write_chosen(rt.alloc(), &[0, 5, 0, 44], Mode::Der, &mut octets);
+    holds(&rt, written.is_ok());
+    holds(
+        &rt,
+        octets.as_slice() == [0x04, 0x02, 0x05, 0x2C].as_slice(),
+    );
 }
 
 #[test]

@@ -5,8 +5,8 @@ ghost use Rattle.bcder.specs.calls.Views.{Moved, MovedContent, MovedOctets};
 
 use crate::asserts::{done, holds, same};
 use crate::over::{failing_sip, sip};
-use bcder::Mode;
 use bcder::decode::{Constructed, Content, DecodeError, Primitive, SliceSource, Source, walk};
+use bcder::{Integer, Mode, OctetString};
 use std::alloc::{AllocError, Global};
 use std::fmt::Debug;
 use std::process::Abort;
@@ -165,6 +165,25 @@ fn failed_sources_fail_content(rt: HostRuntime) {
         holds(&rt, failing > 1 || decoded.is_err());
         holds(&rt, failing < last || decoded.is_ok());
     }
+}
+
+/// An INTEGER with a spare octet (X.690, 8.3.2), and an OCTET STRING in segments in DER (10.2).
+const NO_VALUES: [&[u8]; 2] = [&[0x02, 0x02, 0x00, 0x05], &[0x24, 0x03, 0x04, 0x01, 0xAA]];
+
+/// They are encodings by their headers and lengths, and the readers of their types refuse them.
+#[test]
+fn encodings_that_are_no_values(rt: HostRuntime) {
+    let alloc = rt.alloc();
+    for octets in NO_VALUES {
+        let walked = Mode::Der.decode(octets, |cons| walk(cons));
+        same(&rt, done(&rt, walked), Some(()));
+    }
+    let integer = Mode::Der.decode(NO_VALUES[0], |cons| Integer::take_from(alloc, cons));
+    let refused = integer.err().expect(&rt, "a spare octet");
+    holds(&rt, refused.content_error().is_some());
+    let string = Mode::Der.decode(NO_VALUES[1], |cons| OctetString::take_from(alloc, cons));
+    let refused = string.err().expect(&rt, "segments in DER");
+    holds(&rt, refused.content_error().is_some());
 }
 
 /// How values are debugged.

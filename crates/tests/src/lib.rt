@@ -18,6 +18,8 @@ mod deep;
 #[cfg(test)]
 mod encodes;
 #[cfg(test)]
+mod identifiers;
+#[cfg(test)]
 mod integers;
 #[cfg(test)]
 mod loops;

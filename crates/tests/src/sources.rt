@@ -5,10 +5,10 @@ use bcder::decode::{
     BytesSource, CaptureSource, ContentError, DecodeError, IntoSource, LimitedSource, Message, Pos,
     SliceSource, Source,
 };
-use bcder::encode::EncodeError;
+use bcder::encode::{EncodeError, WriteError};
 use bcder::{NoMemory, Tag};
 use bytes::Bytes;
-use std::alloc::Global;
+use std::alloc::{AllocFailed, Global};
 use std::convert::Infallible;
 use std::process::Abort;
 use support::borrows::{
@@ -325,6 +325,8 @@ fn positions(rt: HostRuntime) {
     let last = Pos::from(usize::MAX) + Pos::from(1);
     shows(&rt, rt.alloc(), &last, "18446744073709551615");
     shows(&rt, rt.alloc(), &(Pos::default() + Pos::from(7)), "7");
+    same(&rt, usize::from(last), usize::MAX);
+    same(&rt, usize::from(Pos::from(3) + Pos::from(4)), 7);
 }
 
 #[test]
@@ -337,6 +339,20 @@ fn slices(rt: HostRuntime) {
     assert_at(&rt, rt.alloc(), &slice, "5");
     same(&rt, slice.len(), 3);
     holds(&rt, !slice.is_empty());
+}
+
+#[test]
+fn slices_from_an_offset(rt: HostRuntime) {
+    let mut slice = SliceSource::with_offset(b"12345678", Pos::from(100));
+    assert_at(&rt, rt.alloc(), &slice, "100");
+    slice.advance(3);
+    same(&rt, slice.split_to(2), b"45".as_slice());
+    assert_at(&rt, rt.alloc(), &slice, "105");
+    same(&rt, slice.len(), 3);
+    let error = slice.content_err(ContentError::from_static("no"));
+    shows(&rt, rt.alloc(), &error, "no (at position 105)");
+    let last = SliceSource::with_offset(b"1", Pos::from(usize::MAX));
+    assert_at(&rt, rt.alloc(), &last, "18446744073709551615");
 }
 
 #[test]
@@ -475,6 +491,19 @@ fn want_of_memory_stays(rt: HostRuntime) {
     );
 }
 
+/// The error of a source that lacks memory becomes that of another source.
+#[test]
+fn a_source_without_memory(rt: HostRuntime) {
+    let failed = DecodeError::from(NoMemory).convert::<SipError>();
+    holds(&rt, failed.is_memory() && !failed.is_source());
+    let lacked = DecodeError::<NoMemory>::no_memory().convert::<SipError>();
+    holds(&rt, lacked.is_memory());
+    let error = DecodeError::<NoMemory>::content(ContentError::from("bad"), Pos::from(3));
+    let refused = error.convert::<SipError>();
+    holds(&rt, !refused.is_memory() && !refused.is_source());
+    shows(&rt, rt.alloc(), &refused, "bad (at position 3)");
+}
+
 /// What a refused growth answers becomes the error of a call on content, and of one that encodes.
 #[test]
 fn want_of_memory_goes_on(rt: HostRuntime) {
@@ -489,6 +518,48 @@ fn want_of_memory_goes_on(rt: HostRuntime) {
         DecodeError::<SipError>::from_alloc(NoMemory).is_memory(),
     );
     same(&rt, EncodeError::from(NoMemory), EncodeError::NoMemory);
+}
+
+/// So many octets that no memory has room for them, in a function that encodes and one that writes.
+fn encodes(alloc: Global) -> Result<Vec<u8>, EncodeError> {
+    Ok(Vec::with_capacity(alloc, usize::MAX)?)
+}
+
+fn writes(alloc: Global) -> Result<Vec<u8>, WriteError> {
+    Ok(Vec::with_capacity(alloc, usize::MAX)?)
+}
+
+#[test]
+fn want_of_memory_in_writers(rt: HostRuntime) {
+    let encoded = encodes(rt.alloc());
+    holds(&rt, matches!(encoded, Err(EncodeError::NoMemory)));
+    let written = writes(rt.alloc());
+    holds(
+        &rt,
+        matches!(written, Err(WriteError::Refused(EncodeError::NoMemory))),
+    );
+}
+
+/// A refused push, and one that was refused elsewhere.
+#[test]
+fn refusals_in_writers(rt: HostRuntime) {
+    same(
+        &rt,
+        EncodeError::from(AllocFailed { value: 7u8 }),
+        EncodeError::NoMemory,
+    );
+    shows(
+        &rt,
+        rt.alloc(),
+        &WriteError::from(AllocFailed { value: 7u8 }),
+        "out of memory",
+    );
+    shows(
+        &rt,
+        rt.alloc(),
+        &WriteError::from(NoMemory),
+        "out of memory",
+    );
 }
 
 #[test]
