@@ -1,6 +1,7 @@
 //! Reads a list of revoked certificates (RFC 5280, section 5.1).
-//! It shows a loop that keeps values with `push`, object identifiers that must have the fewest
-//! octets, and how to decode a value inside an OCTET STRING that was kept.
+//!
+//! This module shows a loop that keeps values with `push`, object identifiers that must have the
+//! fewest octets, and how to decode a value inside an OCTET STRING that was kept.
 ghost use Rattle.bcder.specs.calls.Views.{Moved};
 
 use crate::certificate::{Time, skip_algorithm};

@@ -37,7 +37,7 @@ pub(crate) fn take_list<L: List, S: Source>(
     Ok(list)
 }
 
-/// Takes a list with this tag, or returns the empty list if it is left out.
+/// Takes a list with this tag, if it comes next, and adds its SEQUENCEs to `empty`.
 pub(crate) fn take_opt_list<L: List, S: Source>(
     tag: Tag,
     empty: L,
