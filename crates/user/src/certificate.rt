@@ -146,7 +146,7 @@ impl Certificate {
         Ok(certificate)
     }
 
-    /// Takes the signed part, in one closure.
+    /// Takes the SEQUENCE that is signed, in one closure.
     fn take_signed<S: Source>(
         alloc: Global,
         cons: &mut Constructed<'_, S>,

@@ -87,8 +87,10 @@ impl Validity {
         })
     }
 
-    /// Takes the signed part of a certificate, and returns its validity. Before it come an optional
-    /// version, a serial number, the signature's algorithm and the issuer's name.
+    /// Takes the signed part of a certificate, and returns its validity.
+    ///
+    /// The validity follows an optional version, a serial number, the signature's algorithm and the
+    /// issuer's name.
     fn take_signed<S: Source>(
         alloc: Global,
         cons: &mut Constructed<'_, S>,

@@ -43,7 +43,7 @@ impl PrimitiveContent for Text<'_> {
 /// A part of a name: its kind and its text.
 #[derive(Clone, Copy)]
 pub struct Part<'a> {
-    /// The contents octets of the object identifier of its kind.
+    /// The contents octets of the object identifier that names the kind.
     pub kind: &'a [u8],
 
     /// The text of the part.

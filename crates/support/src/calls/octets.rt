@@ -162,7 +162,7 @@ fn read<S: Source>(
     }
 }
 
-/// Takes the next value, which has to be primitive, and returns what the reader answers.
+/// Takes the next value, which has to be primitive, and returns the answer of the reader.
 pub fn ask<S: Source>(
     cons: &mut Constructed<'_, S>,
     alloc: Global,
@@ -222,7 +222,7 @@ fn read_content<S: Source>(
     }
 }
 
-/// Takes the next value, and returns what the reader of content answers.
+/// Takes the next value, and returns the answer of the reader of content.
 pub fn ask_content<S: Source>(
     cons: &mut Constructed<'_, S>,
     alloc: Global,
