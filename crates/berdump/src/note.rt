@@ -23,7 +23,7 @@ fn add_hex(alloc: Global, text: &mut String, octets: &[u8]) -> Result<(), NoMemo
     Ok(())
 }
 
-/// Appends a number in decimal, if it has at most 64 bits.
+/// Appends a number in decimal if it has at most 64 bits, else its octets in hexadecimal.
 fn add_number(alloc: Global, text: &mut String, mode: Mode, octets: &[u8]) -> Result<(), NoMemory> {
     if let Ok(number) = Primitive::decode_slice(octets, mode, |octets| octets.to_i64()) {
         write!(text, " :{number}")?;

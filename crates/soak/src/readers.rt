@@ -110,8 +110,8 @@ fn passes<S: Source>(
     }
 }
 
-/// Returns whether a way returns and leaves what the plain reader says. A refused capture leaves
-/// all octets, and content that `decode` doesn't refuse.
+/// Returns whether a call gives the result of the plain reader, and leaves what that leaves. A
+/// refused capture leaves all octets, and content that `decode` doesn't refuse.
 fn is_same<S: Source>(source: &mut S, alloc: Global, way: Way, found: &Found<'_>) -> bool {
     let count = found.octets.len();
     match found

@@ -23,8 +23,8 @@ fn take_numbers<S: Source>(
 /// A mode, a SEQUENCE, and its numbers in order, or `None` if it is refused.
 type Line = (Mode, &'static [u8], Option<&'static [u8]>);
 
-/// Refused are a number below zero, one after another, a value that isn't an INTEGER, and a value
-/// that is cut.
+/// Refused are a negative number, alone or after another number, a value that isn't an INTEGER, and
+/// a value that is cut.
 const LINES: [Line; 7] = [
     (Mode::Der, &[0x30, 0x00], Some(&[])),
     (

@@ -35,7 +35,7 @@ pub enum Width {
     W128,
 }
 
-/// Returns whether the octets are the signed number 5, by the octets' own readers.
+/// Returns whether the octets are the signed number 5, by the readers of `Primitive`.
 fn is_signed<S: Source>(
     octets: &mut Primitive<'_, S>,
     width: Width,
@@ -51,7 +51,7 @@ fn is_signed<S: Source>(
     }
 }
 
-/// Returns whether the octets are the unsigned number 5, by the octets' own readers.
+/// Returns whether the octets are the unsigned number 5, by the readers of `Primitive`.
 fn is_unsigned<S: Source>(
     octets: &mut Primitive<'_, S>,
     width: Width,
