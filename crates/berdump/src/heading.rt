@@ -1,11 +1,11 @@
-//! What a line shows of a value.
+//! Formats what a line shows of a value.
 ghost use Rattle.std.specs.Prelude.{Some};
 
 use bcder::Tag;
 use std::fmt;
 
-/// A value that was met: its tag, its form and its depth, where its header stands, and the lengths
-/// of its header and of its contents.
+/// What was read of a value's header: the tag, the form, the depth, where the header is, and the
+/// lengths of the header and of the contents.
 #[derive(Clone, Copy, Debug)]
 pub struct Heading {
     /// The tag of the value.
@@ -14,21 +14,21 @@ pub struct Heading {
     /// Whether the encoding is constructed.
     pub constructed: bool,
 
-    /// How many values it is inside of.
+    /// The number of values around it.
     pub depth: usize,
 
-    /// How many octets stand before its header.
+    /// The number of octets before its header.
     pub offset: usize,
 
     /// The number of its identifier octets and length octets.
     pub header: usize,
 
-    /// The number of its contents octets; none where end-of-contents octets end them.
+    /// The number of its contents octets, or `None` if end-of-contents octets end them.
     pub len: Option<usize>,
 }
 
 /// Writes the offset, the depth, the two lengths, the form and the tag, aligned as `openssl
-/// asn1parse -i` does, the tag indented by the depth, up to 64 columns.
+/// asn1parse -i` does. The tag is indented by the depth, up to 64 columns.
 impl fmt::Display for Heading {
     ghost use Rattle.std.specs.Prelude.{Some};
     ghost use Rattle.berdump.specs.Lines.{heading_text};
@@ -85,7 +85,7 @@ impl fmt::Display for Name {
     }
 }
 
-/// A number to the right of five columns.
+/// A number, aligned to the right in five columns.
 #[derive(Clone, Copy)]
 struct Right(usize);
 
@@ -101,7 +101,7 @@ impl fmt::Display for Right {
     }
 }
 
-/// A number to the left of two columns.
+/// A number, aligned to the left in two columns.
 #[derive(Clone, Copy)]
 struct Left(usize);
 
@@ -135,7 +135,7 @@ impl fmt::Display for Length {
     }
 }
 
-/// So many spaces.
+/// This number of spaces.
 #[derive(Clone, Copy)]
 struct Indent(usize);
 

@@ -1,4 +1,4 @@
-//! Encodings that strings hold.
+//! Finds encodings that strings hold.
 #![tactic(auto, using(bcder::specs::laws::Moved::steps))]
 
 ghost use Rattle.std.specs.Prelude.{◌≡◌, ◌∷◌, ◌++◌, ℕ, List, true, false};
@@ -12,7 +12,7 @@ use bcder::decode::SliceSource;
 use bcder::{Mode, NoMemory, Tag};
 use std::alloc::Global;
 
-/// Whether octets are the encodings of values in the mode.
+/// Returns whether octets are the encodings of values in the mode.
 fn is_list(alloc: Global, mode: Mode, octets: &[u8]) -> Result<bool, NoMemory>
     ensures yes { IfOk result (λ answer. answer ≡ true → IsList mode octets.now) }
     ensures no { IfOk result (λ answer. answer ≡ false → IsNoList mode octets.now) }
@@ -33,7 +33,8 @@ fn is_list(alloc: Global, mode: Mode, octets: &[u8]) -> Result<bool, NoMemory>
     }
 }
 
-/// The octets of a bit string without unused bits in contents octets (X.690, 8.6.2.2).
+/// Returns the octets of a bit string without unused bits, from its contents octets (X.690,
+/// 8.6.2.2).
 fn bits_in(contents: &[u8]) -> Option<&[u8]>
     ensures some { IfSome result (λ r. contents.now ≡ 0 ∷ r.now) }
     ensures none { IfNone result ((r : List ℕ) → contents.now ≡ 0 ∷ r → ⊥) }
@@ -44,8 +45,8 @@ fn bits_in(contents: &[u8]) -> Option<&[u8]>
     }
 }
 
-/// The octets of a string in contents octets: all of an OCTET STRING, all but the first of a BIT
-/// STRING without unused bits.
+/// Returns the octets of a string, from its contents octets: all of an OCTET STRING, all but the
+/// first of a BIT STRING without unused bits.
 fn string_in(tag: Tag, contents: &[u8]) -> Option<&[u8]>
     ensures some { IfSome result (λ r. (front : List ℕ) × IsFront tag front
         × (contents.now ≡ front ++ r.now)) }
@@ -61,7 +62,7 @@ fn string_in(tag: Tag, contents: &[u8]) -> Option<&[u8]>
     }
 }
 
-/// The octets of a string that are the encodings of values, one or more.
+/// Returns the octets of a string if they are the encodings of one or more values.
 pub(crate) fn held_in(
     alloc: Global,
     mode: Mode,
@@ -84,7 +85,7 @@ pub(crate) fn held_in(
     }
 }
 
-/// The octets that are gone into: those that a string holds, if `inside`.
+/// Returns the octets whose values are listed too: those that a string holds, if `inside`.
 pub(crate) fn gone_into(inside: bool, held: Option<&[u8]>) -> Option<&[u8]>
     ensures some { IfSome result (λ r. held.entry ≡ Some r) }
     ensures inside { IfSome result (λ _. inside ≡ true) }

@@ -1,4 +1,4 @@
-//! Listing the values of an encoding.
+//! Lists the values of an encoding.
 ghost use Rattle.std.specs.Prelude.{◌≡◌, ◌≢◌, ◌+◌, ◌<◌, ◌^◌, [], ◌∷◌, length};
 ghost use Rattle.std.specs.Prelude.{IfOk, OnOk, IfErr, string_bytes};
 ghost use Rattle.berdump.specs.Answers.{IsUnlisted, IsUnwritten, Listed, Written};
@@ -17,7 +17,7 @@ use std::alloc::Global;
 use std::collections::VecDeque;
 use std::{fmt, io};
 
-/// Why octets are refused.
+/// The reason why octets are refused.
 #[derive(Clone, Copy, Debug)]
 pub enum Reason {
     /// No value begins here in the mode.
@@ -44,13 +44,14 @@ impl fmt::Display for Reason {
     }
 }
 
-/// Why octets weren't listed.
+/// The reason why octets weren't listed.
 #[derive(Debug, Drop)]
 pub enum ListError {
-    /// They are no encodings of values in the mode: the place where this was seen, and why.
+    /// The octets aren't the encodings of values in the mode: the offset at which this was seen,
+    /// and why.
     Refused(usize, Reason),
 
-    /// There was no memory.
+    /// Memory ran out.
     NoMemory,
 
     /// The target failed.
@@ -67,8 +68,8 @@ impl From<NoMemory> for ListError {
     }
 }
 
-/// What may be said of contents octets, which hold encodings or don't. That it stands in one line is
-/// told by a look at it: no note has a newline.
+/// Returns the note on contents octets, which hold encodings or don't. No note has a newline; the
+/// check for one proves that the line is one line.
 fn note_of(
     alloc: Global,
     mode: Mode,
@@ -89,7 +90,7 @@ fn note_of(
     Ok(note)
 }
 
-/// The line of a value with these contents octets, which hold encodings or don't.
+/// Returns the line of a value with these contents octets, which hold encodings or don't.
 fn line(
     alloc: Global,
     mode: Mode,
@@ -129,7 +130,7 @@ fn write_line<W: io::Write>(
     }
 }
 
-/// The octets that are left of the innermost open value, and how many octets stand before them.
+/// The octets that are left of the innermost open value, and the number of octets before them.
 #[derive(Clone, Copy)]
 struct Place<'a> {
     rest: &'a [u8],
@@ -158,8 +159,8 @@ fn open_value<'a, W: io::Write>(
     write_line(alloc, mode, heading, contents, true, target)
 }
 
-/// Lists a primitive value whose contents octets stand at an offset, and opens it if they hold
-/// encodings that are gone into.
+/// Lists a primitive value whose contents octets are at an offset, and opens it if it holds
+/// encodings that are to be listed.
 fn list_primitive<'a, W: io::Write>(
     alloc: Global,
     mode: Mode,
@@ -201,7 +202,7 @@ fn list_primitive<'a, W: io::Write>(
     Ok(Place { rest, at })
 }
 
-/// Lists the value at the front of the octets, which stand at an offset, and opens it if values
+/// Lists the value that the octets, which are at an offset, begin with, and opens it if values
 /// inside it are to be listed.
 fn list_value<'a, W: io::Write>(
     alloc: Global,
@@ -267,13 +268,15 @@ fn list_value<'a, W: io::Write>(
 }
 
 /// Writes a line for each value that the octets encode in the mode, and for each value inside it,
-/// before those inside. If `inside`, the values whose encodings an OCTET STRING or a BIT STRING holds
-/// are inside it too.
+/// before those inside. If `inside` is true, the values whose encodings an OCTET STRING or a BIT
+/// STRING holds count as inside it.
 ///
 /// # Errors
 ///
-/// Where the octets are no encodings of values in the mode, once the lines of the values up to
-/// there are written; where there is no memory; and where the target fails.
+/// - `Refused` if the octets aren't the encodings of values in the mode. The lines of the values up
+///   to there were written.
+/// - `NoMemory` if memory runs out.
+/// - `Target` if the target fails.
 pub fn list<W: io::Write>(
     alloc: Global,
     mode: Mode,

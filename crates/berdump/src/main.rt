@@ -1,9 +1,9 @@
 //! Lists the values of BER, CER or DER data.
 //!
 //! `berdump [--ber|--cer|--der] [--inside] [FILE]` reads the file, or standard input, as values in
-//! the rules that are named, else in BER, and prints a line for each value, before those of the
-//! values inside it: its offset, its depth, the lengths of its header and of its contents, its
-//! form, its tag, and what the contents octets of a primitive value mean.
+//! the encoding rules that are named, else in BER. It prints a line for each value, before those of
+//! the values inside it: the offset, the depth, the lengths of the header and of the contents, the
+//! form, the tag, and what the contents octets of a primitive value mean.
 #![tactic(auto)]
 
 pub mod heading;
@@ -19,7 +19,7 @@ use std::io::{BufWriter, Read};
 use std::process::ExitCode;
 use std::{env, fs, io};
 
-/// The octets of a file, or of standard input.
+/// Returns the octets of a file, or of standard input.
 fn octets_of(rt: &HostRuntime, file: Option<&str>) -> io::Result<Vec<u8>> {
     if let Some(path) = file {
         return fs::read(rt, path);
@@ -29,7 +29,7 @@ fn octets_of(rt: &HostRuntime, file: Option<&str>) -> io::Result<Vec<u8>> {
     Ok(octets)
 }
 
-/// The arguments without the name of the program.
+/// Returns the arguments without the name of the program.
 fn arguments(rt: &HostRuntime) -> io::Result<Vec<String>> {
     let mut args = env::args(rt)?;
     let _program = args.next();

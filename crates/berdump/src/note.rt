@@ -1,4 +1,4 @@
-//! What the contents octets of a primitive value of a universal tag mean, as text.
+//! Notes in text what the contents octets of a primitive value with a universal tag mean.
 #![tactic(auto, using(bcder::specs::laws::Moved::steps))]
 
 use bcder::decode::{Primitive, SliceSource};
@@ -9,10 +9,10 @@ use bcder::string::{
 use bcder::{Mode, NoMemory, Oid, Tag};
 use std::alloc::Global;
 
-/// How many octets are shown in hexadecimal.
+/// The number of octets that are shown in hexadecimal.
 const WIDTH: usize = 32;
 
-/// Adds octets in hexadecimal, the first of them where they are many.
+/// Appends octets in hexadecimal, only the first of them if there are many.
 fn add_hex(alloc: Global, text: &mut String, octets: &[u8]) -> Result<(), NoMemory> {
     let shown = octets.split_at(octets.len().min(WIDTH)).0;
     let digits = hex::encode(alloc, shown)?;
@@ -23,7 +23,7 @@ fn add_hex(alloc: Global, text: &mut String, octets: &[u8]) -> Result<(), NoMemo
     Ok(())
 }
 
-/// Adds a number in decimal, if it has at most 64 bits.
+/// Appends a number in decimal if it has at most 64 bits, else its octets in hexadecimal.
 fn add_number(alloc: Global, text: &mut String, mode: Mode, octets: &[u8]) -> Result<(), NoMemory> {
     if let Ok(number) = Primitive::decode_slice(octets, mode, |octets| octets.to_i64()) {
         write!(text, " :{number}")?;
@@ -36,7 +36,7 @@ fn add_number(alloc: Global, text: &mut String, mode: Mode, octets: &[u8]) -> Re
     add_hex(alloc, text, octets)
 }
 
-/// Whether a set accepts a text.
+/// Returns whether a set accepts a text.
 fn is_of<L: TextCharSet>(alloc: Global, text: &str) -> Result<bool, NoMemory> {
     match RestrictedString::<L>::from_str(alloc, text) {
         Ok(_) => Ok(true),
@@ -45,14 +45,14 @@ fn is_of<L: TextCharSet>(alloc: Global, text: &str) -> Result<bool, NoMemory> {
     }
 }
 
-/// Whether a text is shown as it stands: it has no control characters.
+/// Returns whether a text is shown as it is: whether it has no control characters.
 fn is_shown(text: &str) -> bool {
     text.as_bytes()
         .iter()
         .all(|octet| *octet >= 0x20 && *octet != 0x7F)
 }
 
-/// Whether octets are a text of the set of a tag.
+/// Returns whether octets are a text of the tag's character set.
 fn is_text(alloc: Global, tag: Tag, text: &str) -> Result<bool, NoMemory> {
     if tag == Tag::UTF8_STRING {
         Ok(true)
@@ -71,8 +71,8 @@ fn is_text(alloc: Global, tag: Tag, text: &str) -> Result<bool, NoMemory> {
     }
 }
 
-/// Adds whether the contents octets of a primitive value hold encodings, and what they mean: nothing
-/// where the tag isn't universal.
+/// Appends whether the contents octets of a primitive value hold encodings, and what they mean
+/// (nothing if the tag isn't universal).
 pub(crate) fn add_note(
     alloc: Global,
     text: &mut String,
@@ -97,7 +97,8 @@ pub(crate) fn add_note(
         }
     }
     if tag == Tag::OID {
-        // The octets are shown where they stand, so that want of memory can't pass for a refusal.
+        // The octets are shown where they are, so that running out of memory can't pass for a
+        // refusal.
         if Primitive::decode_slice(octets, mode, |octets| Oid::skip_primitive(octets)).is_ok() {
             let oid = Oid(octets);
             write!(text, " :{oid}")?;

@@ -9,15 +9,15 @@ use std::collections::VecDeque;
 /// A value whose contents are being listed, by how they end.
 #[derive(Clone, Copy)]
 pub(crate) enum Open<'a> {
-    /// After a number of contents octets; these octets stand behind them.
+    /// The contents end after a number of octets. These octets follow them.
     Definite(&'a [u8]),
 
-    /// At end-of-contents octets.
+    /// The contents end at end-of-contents octets.
     Indefinite,
 }
 
-/// Closes the innermost value if it ends where these octets begin. Answers the number of its
-/// end-of-contents octets, and the octets behind it.
+/// Closes the innermost value if it ends where these octets begin. Returns the number of its
+/// end-of-contents octets, and the octets after it.
 pub(crate) fn close<'a>(
     mode: Mode,
     opened: &mut VecDeque<Open<'a>>,

@@ -1,7 +1,7 @@
-//! What the arguments ask for.
+//! Reads the arguments.
 use bcder::Mode;
 
-/// A file to be listed, or standard input, and how.
+/// The file to be listed, or standard input, and how.
 #[derive(Clone, Copy)]
 pub(crate) struct Request<'a> {
     pub(crate) mode: Mode,
@@ -9,7 +9,7 @@ pub(crate) struct Request<'a> {
     pub(crate) file: Option<&'a str>,
 }
 
-/// What the arguments ask for, or the first that asks for nothing.
+/// Returns what the arguments ask for, or the first argument that asks for nothing.
 pub(crate) fn read(args: &[String]) -> Result<Request<'_>, &str> {
     let mut request = Request {
         mode: Mode::Ber,

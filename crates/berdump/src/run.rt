@@ -1,4 +1,4 @@
-//! Listing what was read: octets, or the blocks of a text (RFC 7468).
+//! Lists what was read: octets, or the blocks of a text (RFC 7468).
 ghost use Rattle.std.specs.Prelude.{◌≡◌, ◌≢◌, ◌++◌, [], IfSome, OnOk, OnErr};
 ghost use Rattle.std.specs.Io.KnownBytes.{Appends, Keeps};
 ghost use Rattle.berdump.specs.Front.{AppendsFront};
@@ -13,13 +13,13 @@ use base64::engine::general_purpose::STANDARD;
 use std::alloc::Global;
 use std::io;
 
-/// What begins the line before a block.
+/// The beginning of the line before a block.
 const BEGIN: &str = "-----BEGIN ";
 
-/// What is said where the target fails.
+/// The message if the target fails.
 const UNWRITTEN: &str = "the output can't be written";
 
-/// Writes a message, and lets a failure of the target go. Answers the exit status.
+/// Writes a message, ignores a failure of the target, and returns the exit status.
 fn tell<E: io::Write>(err: &mut E, message: &str) -> u8
     ensures { result ≡ 1 }
 {
@@ -27,7 +27,7 @@ fn tell<E: io::Write>(err: &mut E, message: &str) -> u8
     1
 }
 
-/// The same of an error.
+/// Writes the message of an error, ignores a failure of the target, and returns the exit status.
 fn tell_error<E: io::Write>(err: &mut E, error: &ListError) -> u8
     ensures { result ≡ 1 }
 {
@@ -41,7 +41,7 @@ fn tell_error<E: io::Write>(err: &mut E, error: &ListError) -> u8
     }
 }
 
-/// Lists octets on `out`. Answers the exit status, and says on `err` why it isn't 0.
+/// Lists octets on `out`, and returns the exit status. If it isn't 0, `err` says why.
 fn run_octets<W: io::Write, E: io::Write>(
     alloc: Global,
     request: Request<'_>,
@@ -65,7 +65,7 @@ fn run_octets<W: io::Write, E: io::Write>(
     }
 }
 
-/// Writes an empty line, if what follows isn't the first.
+/// Writes an empty line, unless what follows is the first block.
 fn set_apart<W: io::Write>(is_first: bool, out: &mut W) -> Result<(), io::Error>
     ensures ok { OnOk result
         (Appends (W.contents out.old) (W.contents out.new) (between is_first)) }
@@ -78,7 +78,7 @@ fn set_apart<W: io::Write>(is_first: bool, out: &mut W) -> Result<(), io::Error>
     write_octets(out, b"\n")
 }
 
-/// Lists the octets of a block, behind an empty line if it isn't the first.
+/// Lists the octets of a block, after an empty line if it isn't the first.
 fn run_block<W: io::Write, E: io::Write>(
     alloc: Global,
     request: Request<'_>,
@@ -100,12 +100,12 @@ fn run_block<W: io::Write, E: io::Write>(
     }
 }
 
-/// The label of a line that begins or ends a block.
+/// Returns the label of a line that begins or ends a block.
 fn label_of<'a>(line: &'a str, front: &str) -> Option<&'a str> {
     line.trim_end().strip_prefix(front)?.strip_suffix("-----")
 }
 
-/// The text that octets are, if it has a line that begins a block.
+/// Returns the octets as a text, if they are one and it has a line that begins a block.
 fn blocks_in(octets: &[u8]) -> Option<&str>
     ensures { IfSome result (λ _. MayBegin octets.now) }
 {
@@ -122,7 +122,7 @@ fn blocks_in(octets: &[u8]) -> Option<&str>
     }
 }
 
-/// Lists each block of a text, set apart by an empty line, up to the first that is refused.
+/// Lists the blocks of a text, with an empty line between them, up to the first that is refused.
 fn run_blocks<W: io::Write, E: io::Write>(
     alloc: Global,
     request: Request<'_>,
@@ -173,8 +173,8 @@ fn run_blocks<W: io::Write, E: io::Write>(
     0
 }
 
-/// Lists octets, or the blocks of the text that they are, on `out`. Answers the exit status, and
-/// says on `err` why it isn't 0.
+/// Lists octets on `out`, or the blocks of the text that they are, and returns the exit status. If
+/// it isn't 0, `err` says why.
 pub fn run<W: io::Write, E: io::Write>(
     alloc: Global,
     request: Request<'_>,

@@ -1,4 +1,4 @@
-//! The lines of all values, gathered.
+//! Gathers the lines of all values.
 ghost use Rattle.std.specs.Prelude.{◌≡◌, ◌++◌, [], IfOk, IfErr, IfSome, IfNone, OnOk, string_bytes};
 ghost use Rattle.bcder.specs.calls.Views.{Moved, of_constructed};
 ghost use Rattle.berlist.specs.Lines.{line};
@@ -11,7 +11,7 @@ use bcder::{Mode, NoMemory, Tag};
 use std::alloc::Global;
 use std::fmt;
 
-/// What a line shows.
+/// What a line shows of a value.
 #[derive(Clone, Copy)]
 struct Heading {
     tag: Tag,
@@ -36,7 +36,7 @@ impl fmt::Display for Heading {
     }
 }
 
-/// Adds the line of a value to a text.
+/// Appends the line of a value to a text.
 fn add_line(text: &mut String, tag: Tag, constructed: bool, depth: usize) -> Result<(), NoMemory>
     ensures { OnOk result (string_bytes text.new ≡ string_bytes text.old
         ++ line (record { tag = tag; constructed = constructed; depth = depth })) }
@@ -50,7 +50,7 @@ fn add_line(text: &mut String, tag: Tag, constructed: bool, depth: usize) -> Res
     Ok(())
 }
 
-/// Adds the lines of the next value to a text, or answers `None` at the end of the content.
+/// Appends the lines of the next value to a text, or returns `None` at the end of the content.
 fn next_lines<S: Source>(
     alloc: Global,
     cons: &mut Constructed<'_, S>,
@@ -83,7 +83,7 @@ fn next_lines<S: Source>(
     passed
 }
 
-/// The lines of all values up to the end of the content.
+/// Returns the lines of all values up to the end of the content.
 fn all_lines<S: Source>(
     alloc: Global,
     cons: &mut Constructed<'_, S>,
@@ -99,7 +99,8 @@ fn all_lines<S: Source>(
     Ok(text)
 }
 
-/// The lines of all values, if the octets are the encodings of values in the mode.
+/// Returns the lines of all values, or `None` if the octets aren't the encodings of values in the
+/// mode.
 #[tactic(auto, using(bcder::specs::laws::Moved::untouched_is_moved))]
 pub(crate) fn lines(alloc: Global, mode: Mode, octets: &[u8]) -> Result<Option<String>, NoMemory>
     ensures { IfOk result (IsListOf string_bytes mode octets.now) }

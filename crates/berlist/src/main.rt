@@ -1,8 +1,8 @@
 //! Lists the headings of BER, CER or DER data.
 //!
-//! `berlist MODE HEX` reads the octets that HEX spells as values in the rules that MODE names,
-//! `ber`, `cer` or `der`, and prints a line for each value, before those of the values inside it:
-//! its depth, its tag, and whether it is primitive or constructed.
+//! `berlist MODE HEX` reads the octets that HEX spells as values in the encoding rules that MODE
+//! names: `ber`, `cer` or `der`. It prints a line for each value, before those of the values inside
+//! it: the depth, the tag, and whether the value is primitive or constructed.
 #![tactic(auto)]
 
 ghost use Rattle.std.specs.Prelude.{◌≡◌, ℕ, List, OnOk, IfErr, codes, map, string_bytes};
@@ -21,19 +21,19 @@ use std::error::Error;
 use std::process::ExitCode;
 use std::{env, fmt, io};
 
-/// What is said where the arguments ask for nothing.
+/// The message for arguments that ask for nothing.
 const USAGE: &str = "usage: berlist ber|cer|der HEX\n";
 
-/// Why octets weren't listed.
+/// The reason why octets weren't listed.
 #[derive(Debug, Drop)]
 pub enum ListError {
-    /// The octets are no encodings of values in the mode. Nothing was written.
+    /// The octets aren't the encodings of values in the mode. Nothing was written.
     Refused,
 
-    /// There is no memory for the lines. Nothing was written.
+    /// Memory for the lines ran out. Nothing was written.
     NoMemory,
 
-    /// The target failed. A beginning of the lines was written, and not all of them.
+    /// The target failed. A proper prefix of the lines was written.
     Target(io::Error),
 }
 
@@ -71,7 +71,8 @@ impl From<NoMemory> for ListError {
 /// Writes a line for each value that the octets encode in the mode, and for each value inside it,
 /// before those inside: the depth, the tag, and `primitive` or `constructed`.
 ///
-/// All lines are gathered before the first is written, so that a refusal writes nothing.
+/// All lines are gathered before the first is written, so nothing is written if the octets are
+/// refused.
 pub fn list<W: io::Write>(
     alloc: Global,
     mode: Mode,
@@ -92,17 +93,22 @@ pub fn list<W: io::Write>(
     }
 }
 
-/// Writes a message, and lets a failure of the target go.
+/// Writes a message, and ignores a failure of the target.
 fn tell<E: io::Write>(err: &mut E, message: &str)
     ensures { AppendsFront (E.contents err.old) (E.contents err.new) message.now }
 {
     let _ = target::write_octets(err, message.as_bytes());
 }
 
-/// Lists what the arguments (without the name of the program) ask for on `out`, and answers the
-/// exit status: 0, 1 where it was refused, where there was no memory or where `out` failed, and 2
-/// with a usage line on `err` where the arguments are no mode and an even number of hexadecimal
-/// digits. A failure of `err` changes nothing.
+/// Lists on `out` what the arguments (without the name of the program) ask for, and returns the
+/// exit status.
+///
+/// - 0: the lines were written.
+/// - 1: the octets were refused, memory ran out, or `out` failed.
+/// - 2: the arguments aren't a mode and an even number of hexadecimal digits. A usage line is
+///   written on `err`.
+///
+/// A failure of `err` changes nothing.
 pub fn run<W: io::Write, E: io::Write>(
     alloc: Global,
     args: &[String],
@@ -143,7 +149,7 @@ pub fn run<W: io::Write, E: io::Write>(
     }
 }
 
-/// The arguments without the name of the program.
+/// Returns the arguments without the name of the program.
 fn arguments(rt: &HostRuntime) -> io::Result<Vec<String>> {
     let mut args = env::args(rt)?;
     let _program = args.next();
@@ -155,7 +161,7 @@ fn main(rt: HostRuntime) -> ExitCode {
     let mut err = rt.stderr();
     let args = match arguments(&rt) {
         Ok(args) => args,
-        // An argument that is no text is no mode, and no hexadecimal digits.
+        // An argument that isn't text is neither a mode nor hexadecimal digits.
         Err(error) if error.kind() == io::ErrorKind::InvalidData => {
             tell(&mut err, USAGE);
             return ExitCode::from(2);

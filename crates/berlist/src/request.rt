@@ -1,4 +1,4 @@
-//! What the arguments ask for.
+//! Reads the arguments.
 ghost use Rattle.std.specs.Prelude.{◌≡◌, ◌↔◌, ℕ, List, Ok, Some, None, IfOk, IsErr, MatchOption};
 ghost use Rattle.std.specs.Prelude.{IsTrue, map, string_bytes};
 ghost use Rattle.bcder.specs.declared.mode.Mode.{Mode as TheMode};
@@ -28,7 +28,7 @@ fn mode_named(word: &str) -> Option<Mode>
     }
 }
 
-/// Whether a text is an even number of hexadecimal digits, of either case.
+/// Returns whether a text is an even number of hexadecimal digits, in either case.
 fn is_hex(text: &str) -> bool
     ensures { IsTrue result ↔ (octets : List ℕ) × (decode_of text.now ≡ Ok octets) }
 {
@@ -39,8 +39,8 @@ fn is_hex(text: &str) -> bool
             .all(|digit| digit.is_ascii_hexdigit())
 }
 
-/// The mode and the octets that the arguments name, if they are `ber`, `cer` or `der` and an even
-/// number of hexadecimal digits.
+/// Returns the mode and the octets that the arguments name, or `None` if they aren't `ber`, `cer`
+/// or `der` and an even number of hexadecimal digits.
 pub(crate) fn read(alloc: Global, args: &[String]) -> Result<Option<Request>, NoMemory>
     ensures asked { IfOk result (λ r. MatchOption r
         (AsksNothing (map string_bytes args.now))

@@ -6,7 +6,8 @@ ghost use Rattle.berlist.specs.Front.{AppendsShorter};
 use std::io;
 use std::io::{Error, ErrorKind, Write};
 
-/// Writes all octets. A target that takes none of some octets has failed, and any error ends it.
+/// Writes all octets. A target that takes none of the octets has failed, and any error ends the
+/// loop.
 pub(crate) fn write_octets<W: Write>(target: &mut W, octets: &[u8]) -> Result<(), io::Error>
     ensures ok { OnOk result (Appends (W.contents target.old) (W.contents target.new) octets.now) }
     ensures err { OnErr result

@@ -1,22 +1,22 @@
-//! Comparisons of the tests. Each is a call, so that a test isn't proved along both ways out of it.
-//! None answers a refusal: a test that went on after one by `?` would be proved once more for each
-//! `?`, with all that it owns there. [`done`] ends the test in its place.
+//! Assertions of the tests. Each is a call, so that a test isn't proved along both ways out of it.
+//! None returns an error: a test that went on with `?` after one would be proved once more for each
+//! `?`, with all that it owns there. [`done`] ends the test instead.
 ghost use Rattle.std.specs.Prelude.{◌≡◌, Ok};
 
 use std::fmt::Debug;
 use std::process::Abort;
 
-/// The value is the wanted one.
+/// Asserts that the value is the wanted one.
 pub fn same<T: PartialEq + Debug + Drop>(rt: &impl Abort, found: T, wanted: T) {
     assert_eq!(rt; found, wanted);
 }
 
-/// That is so.
+/// Asserts that `fact` is true.
 pub fn holds(rt: &impl Abort, fact: bool) {
     assert!(rt; fact);
 }
 
-/// What a call answers that is not to be refused.
+/// Returns the result of a call that must not be refused.
 pub fn done<T, E: Debug>(rt: &impl Abort, outcome: Result<T, E>) -> T
     ensures { outcome ≡ Ok result }
 {

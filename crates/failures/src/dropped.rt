@@ -1,4 +1,4 @@
-//! Refusals that a closure drops, at any depth.
+//! Tests of errors that a closure drops, at any depth.
 #![tactic(auto, using(bcder::specs::laws::Moved::steps))]
 
 ghost use Rattle.bcder.specs.calls.Views.{Moved, MovedContent};
@@ -10,7 +10,7 @@ use bcder::{Mode, Tag};
 use std::alloc::Global;
 use std::process::Abort;
 
-/// No take, skip or capture succeeds.
+/// Checks that no take, skip or capture succeeds.
 fn takes_nothing<S: Source>(rt: &impl Abort, alloc: Global, cons: &mut Constructed<'_, S>)
     ensures { Moved S.stream cons }
 {
@@ -21,7 +21,7 @@ fn takes_nothing<S: Source>(rt: &impl Abort, alloc: Global, cons: &mut Construct
     holds(rt, cons.capture_all(alloc).is_err());
 }
 
-/// A call that takes a constructed value, whose closure is handed what is inside.
+/// A call that takes a constructed value, whose closure gets what is inside.
 #[derive(Clone, Copy, Debug, PartialEq, Eq)]
 enum Take {
     Value,
@@ -51,7 +51,7 @@ enum Last {
     SkipOne,
 }
 
-/// Where refusals are dropped.
+/// Where errors are dropped.
 #[derive(Drop)]
 struct Drops<'a, R> {
     rt: &'a R,
@@ -60,12 +60,12 @@ struct Drops<'a, R> {
     /// The call at each level.
     take: Take,
 
-    /// At which level: 0 is that of what is in the outermost value.
+    /// The level at which the error is dropped. Level 0 is inside the outermost value.
     level: usize,
 }
 
 impl<'a, R: Abort> Drops<'a, R> {
-    /// The tag of the values at each level.
+    /// Returns the tag of the values at each level.
     fn tag(&self) -> Tag {
         match self.take {
             Take::Set | Take::OptSet => Tag::SET,
@@ -73,8 +73,8 @@ impl<'a, R: Abort> Drops<'a, R> {
         }
     }
 
-    /// What a closure answers that met this refusal at a level, and tries other calls if it drops
-    /// it.
+    /// Returns the result of a closure that met this result at a level. If the closure drops the
+    /// error there, checks that other calls fail too.
     fn settle<S: Source>(
         &self,
         cons: &mut Constructed<'_, S>,
@@ -95,9 +95,9 @@ impl<'a, R: Abort> Drops<'a, R> {
     }
 }
 
-/// What stands at a level.
+/// A value at a level.
 trait Nested {
-    /// Takes it, and drops the refusal if it is to be dropped here.
+    /// Takes the value, and drops the error if it is to be dropped here.
     fn take<S: Source, R: Abort>(
         &self,
         drops: &Drops<'_, R>,
@@ -172,7 +172,7 @@ struct Around<T> {
 }
 
 impl<T: Nested> Around<T> {
-    /// Takes what is in content that is constructed.
+    /// Takes what is in constructed content.
     fn take_content<S: Source, R: Abort>(
         &self,
         drops: &Drops<'_, R>,
@@ -186,7 +186,7 @@ impl<T: Nested> Around<T> {
         }
     }
 
-    /// Takes the value by a call that refuses where there is none.
+    /// Takes the value by a call that refuses if there is none.
     fn enter<S: Source, R: Abort>(
         &self,
         drops: &Drops<'_, R>,
@@ -208,7 +208,7 @@ impl<T: Nested> Around<T> {
         }
     }
 
-    /// Takes the value by a call that answers `None` where there is none.
+    /// Takes the value by a call that returns `None` if there is none.
     fn enter_opt<S: Source, R: Abort>(
         &self,
         drops: &Drops<'_, R>,
@@ -267,12 +267,12 @@ impl<T: Nested> Nested for Around<T> {
     }
 }
 
-/// A value around another one, which stands a level deeper.
+/// Creates a value around another one, which is a level deeper.
 fn nest<T: Nested>(level: usize, inner: T) -> Around<T> {
     Around { level, inner }
 }
 
-/// The INTEGER in five values is refused.
+/// Checks that the INTEGER in five values is refused.
 fn refuses<S: Source>(rt: &impl Abort, drops: &Drops<'_, impl Abort>, source: &mut S, call: Last) {
     let number = Number { level: 4, call };
     let inner = nest(1, nest(2, nest(3, number)));
@@ -284,14 +284,14 @@ fn refuses<S: Source>(rt: &impl Abort, drops: &Drops<'_, impl Abort>, source: &m
     );
 }
 
-/// A truncated INTEGER in five values of definite length.
+/// Returns a truncated INTEGER in five values of definite length.
 fn definite(tag: u8) -> [u8; 13] {
     [
         tag, 0x0B, tag, 0x09, tag, 0x07, tag, 0x05, tag, 0x03, 0x02, 0x02, 0x01,
     ]
 }
 
-/// The same in values of indefinite length.
+/// Returns a truncated INTEGER in five values of indefinite length.
 fn indefinite(tag: u8) -> [u8; 13] {
     [
         tag, 0x80, tag, 0x80, tag, 0x80, tag, 0x80, tag, 0x80, 0x02, 0x02, 0x01,
@@ -324,7 +324,7 @@ const LASTS: [Last; 8] = [
     Last::SkipOne,
 ];
 
-/// Octets are refused over each source, whatever the call on the innermost value is.
+/// Checks that octets are refused over each source, whatever the call on the innermost value is.
 fn check(rt: &impl Abort, drops: &Drops<'_, impl Abort>, octets: &[u8]) {
     for call in LASTS {
         refuses(rt, drops, &mut SliceSource::new(octets), call);
@@ -333,7 +333,7 @@ fn check(rt: &impl Abort, drops: &Drops<'_, impl Abort>, octets: &[u8]) {
     }
 }
 
-/// Wherever a closure drops the refusal, the enclosing takes and `decode` refuse.
+/// Checks that the enclosing takes and `decode` refuse, wherever a closure drops the error.
 #[test]
 fn dropped_refusals_are_refused(rt: HostRuntime) {
     for take in TAKES {

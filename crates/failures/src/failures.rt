@@ -1,5 +1,5 @@
-//! Sources that fail: each request in turn, in each call on content that reads, alone and in calls
-//! around it.
+//! Tests of sources that fail: each request in turn, in each call on content that reads, alone and
+//! in calls around it.
 #![tactic(auto, using(bcder::specs::laws::Moved::steps))]
 
 mod trial;
@@ -13,7 +13,7 @@ use support::calls::{
 };
 use trial::{Place, Trial};
 
-/// Where each call is tried.
+/// The places where each call is tried.
 const PLACES: [Place; 15] = [
     Place::Dropped,
     Place::Answered,
@@ -32,8 +32,8 @@ const PLACES: [Place; 15] = [
     Place::Inside(Take::OptSet),
 ];
 
-/// Tries a call in each place, over a source that gives no more than what is asked for, and over
-/// one that gives all it has.
+/// Tries a call in each place, over a source that gives no more than is requested, and over one
+/// that gives all it has.
 fn run(rt: &impl Abort, alloc: Global, trial: Trial<'_>) {
     for place in PLACES {
         trial.run(rt, alloc, place, false);
@@ -41,7 +41,7 @@ fn run(rt: &impl Abort, alloc: Global, trial: Trial<'_>) {
     }
 }
 
-/// The same of the calls of some lines.
+/// Tries the calls of some lines in each place, over both sources.
 fn run_lines(rt: &impl Abort, alloc: Global, lines: &[Line]) {
     for (mode, octets, calls, wanted, left) in lines {
         for call in *calls {
@@ -97,7 +97,7 @@ fn strings(rt: HostRuntime) {
     run_lines(&rt, rt.alloc(), &STRINGS);
 }
 
-/// A string of 1001 octets, in CER (X.690, 9.2).
+/// Returns a string of 1001 octets, in CER (X.690, 9.2).
 fn long_string(rt: &impl Abort, alloc: Global) -> Vec<u8> {
     let mut list = Vec::new(alloc);
     done(

@@ -1,5 +1,5 @@
-//! Tests of failures, one by one: sources whose requests fail, targets that fail, and refusals that
-//! a closure drops.
+//! Tests of failures, one by one: sources whose requests fail, targets that fail, and errors that a
+//! closure drops.
 #![tactic(auto)]
 
 #[cfg(test)]

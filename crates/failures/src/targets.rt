@@ -1,5 +1,5 @@
-//! Targets that fail: at each call in turn, under each encoder. What they hold then is a front of
-//! the encoding that lacks some of it.
+//! Tests of targets that fail, at each call in turn, under each encoder. They then hold a proper
+//! prefix of the encoding.
 #![tactic(auto)]
 
 mod encoders;
@@ -24,10 +24,10 @@ use support::encoders::Zeros;
 /// How a target fails.
 #[derive(Clone, Copy, Debug, PartialEq, Eq)]
 enum Failure {
-    /// It answers that it took no octet.
+    /// It returns that it took no octet.
     Nothing,
 
-    /// It answers an error of this kind.
+    /// It returns an error of this kind.
     Error(ErrorKind),
 }
 
@@ -38,8 +38,8 @@ const FAILURES: [Failure; 3] = [
     Failure::Error(ErrorKind::BrokenPipe),
 ];
 
-/// A target that takes one octet a call, or all it is handed, and fails at the call of the number
-/// `failing`, counted from 1, or at none where that is 0.
+/// A target that takes one octet a call, or all that it gets. The call with the number `failing`,
+/// counted from 1, fails; if it is 0, none does.
 #[derive(Drop)]
 struct Target {
     taken: Vec<u8>,
@@ -73,7 +73,7 @@ impl Write for Target {
 }
 
 impl Target {
-    /// One that has taken nothing.
+    /// Creates a target that has taken nothing.
     fn new(alloc: Global, one_by_one: bool, failing: usize, failure: Failure) -> Target {
         Target {
             taken: Vec::new(alloc),
@@ -84,7 +84,7 @@ impl Target {
         }
     }
 
-    /// It was called as often as it took for these octets, and holds all of them.
+    /// Checks that the target was called as often as these octets need, and holds all of them.
     fn check_whole(&self, rt: &impl Abort, outcome: &Result<(), WriteError>, wanted: &[u8]) {
         holds(rt, outcome.is_ok());
         holds(rt, self.taken.as_slice() == wanted);
@@ -92,8 +92,8 @@ impl Target {
         holds(rt, !self.one_by_one || self.calls == wanted.len());
     }
 
-    /// It failed, and that is told. It wasn't called again, and holds a front of the octets and
-    /// not all.
+    /// Checks that the target failed, that the encoder reports this, that it didn't call the target
+    /// again, and that the target holds a proper prefix of the octets.
     fn check_failed(&self, rt: &impl Abort, outcome: Result<(), WriteError>, wanted: &[u8]) {
         let kind = match outcome {
             Err(WriteError::Target(error)) => Some(error.kind()),
@@ -132,8 +132,8 @@ impl Writer<'_> {
         }
     }
 
-    /// Each call of the target's fails in turn, until there are no more: in this way, and with so
-    /// many octets a call.
+    /// Lets each call of the target fail in turn, until there are no more: in this way, and with
+    /// one octet a call or all.
     fn run(
         &self,
         rt: &impl Abort,
@@ -153,7 +153,7 @@ impl Writer<'_> {
         }
     }
 
-    /// The same in each way.
+    /// Lets each call of the target fail in turn, in each way.
     fn run_all(&self, rt: &impl Abort, alloc: Global, mode: Mode, wanted: &[u8]) {
         for failure in FAILURES {
             self.run(rt, alloc, mode, wanted, false, failure);
@@ -162,7 +162,7 @@ impl Writer<'_> {
     }
 }
 
-/// The same of each encoder.
+/// Lets each call of the target fail in turn, in each way, for the encoder of each line.
 fn run_lines(rt: &impl Abort, alloc: Global, lines: &[Line]) {
     for (encoder, mode, wanted) in lines {
         Writer::Short(*encoder).run_all(rt, alloc, *mode, *wanted);
@@ -199,7 +199,8 @@ fn lists_of_values(rt: HostRuntime) {
     run_lines(&rt, rt.alloc(), &LISTS);
 }
 
-/// Each primitive value of the lines, of up to 64 contents octets, is one call of the target's.
+/// Checks that each primitive value of the lines, of up to 64 contents octets, is one call of the
+/// target.
 fn at_once(rt: &impl Abort, alloc: Global, lines: &[Line]) {
     for (encoder, mode, wanted) in lines {
         if wanted.first().is_some_and(|leading| leading & 0x20 == 0) {
@@ -216,7 +217,8 @@ fn small_values_at_once(rt: HostRuntime) {
     at_once(&rt, rt.alloc(), &STRINGS);
 }
 
-/// So are values under a tag of several octets, and those of a type of one's own.
+/// Checks that values under a tag of several octets, and those of a user's type, are one call of
+/// the target too.
 #[test]
 fn small_values_of_other_kinds_at_once(rt: HostRuntime) {
     let mut target = Target::new(rt.alloc(), false, 0, Failure::Nothing);
@@ -234,7 +236,7 @@ fn small_values_of_other_kinds_at_once(rt: HostRuntime) {
     same(&rt, target.calls, 2);
 }
 
-/// Over 1000 octets, in CER: in segments.
+/// Checks strings of over 1000 octets in CER, which are written in segments.
 #[test]
 fn in_segments(rt: HostRuntime) {
     let alloc = rt.alloc();

@@ -11,15 +11,15 @@ use std::alloc::{AllocError, Global};
 /// A BIT STRING of twelve bits.
 const VALUE: [u8; 5] = [0x03, 0x03, 0x04, 0x0A, 0xF0];
 
-/// Its octets.
+/// The octets of this bit string.
 const OCTETS: [u8; 2] = [0x0A, 0xF0];
 
-/// Whether a bit string is this one.
+/// Returns whether a bit string is this one.
 fn is_it(bits: &BitString) -> bool {
     bits.unused() == 4 && bits.octet_slice() == Some(OCTETS.as_slice())
 }
 
-/// Takes it, and tells whether it is the one.
+/// Takes a bit string, and returns whether it is this one.
 fn take<S: Source>(
     cons: &mut Constructed<'_, S>,
     alloc: Global,
@@ -29,7 +29,7 @@ fn take<S: Source>(
     Ok(is_it(&BitString::take_from(alloc, cons)?))
 }
 
-/// The same of its content.
+/// Takes a bit string from its content, and returns whether it is this one.
 fn take_content<S: Source>(
     cons: &mut Constructed<'_, S>,
     alloc: Global,
@@ -43,7 +43,7 @@ fn take_content<S: Source>(
     Ok(is_it(&bits))
 }
 
-/// Runs both over a source.
+/// Makes both calls over a source.
 fn run_over<S: Source>(
     rt: &HostRuntime,
     over: &str,
@@ -57,7 +57,7 @@ fn run_over<S: Source>(
     tell_over(rt, "BitString::from_content", over, end)
 }
 
-/// The octets of a bit string that are shared stay what they are.
+/// Shares the octets of a bit string, which stays as it is.
 fn shares(bits: &BitString) -> End {
     match bits.octet_bytes() {
         Ok(octets) => answered(octets.as_slice() == OCTETS.as_slice()),
@@ -65,7 +65,7 @@ fn shares(bits: &BitString) -> End {
     }
 }
 
-/// The same of one that is cloned.
+/// Clones a bit string, which stays as it is.
 fn clones(bits: &BitString) -> End {
     let clone: Result<BitString, AllocError> = bits.clone();
     match clone {

@@ -1,4 +1,4 @@
-//! Captured values: made of encoders, put one behind the other, decoded in part.
+//! Captured values: made of encoders, put one after the other, decoded in part.
 use crate::end::{End, answered, made, refused, tell};
 use anyhow::Error;
 use bcder::captured::CapturedBuilder;
@@ -10,7 +10,7 @@ use support::encoders::Nulls;
 /// The INTEGER 5.
 const FIVE: [u8; 3] = [0x02, 0x01, 0x05];
 
-/// How a call ended that gathers this value.
+/// Returns how a call ended that gathers this value.
 fn gathers(gathered: Result<Captured, EncodeError>) -> End {
     match gathered {
         Ok(captured) => answered(captured.as_slice() == FIVE.as_slice()),
@@ -25,7 +25,7 @@ fn with_capacity(alloc: Global) -> End {
     })
 }
 
-/// A refused `extend` leaves what was held, and what is added then stands behind it.
+/// Extends a builder. A refused `extend` leaves what was held, and what is added then follows it.
 fn extends(alloc: Global) -> Result<End, Error> {
     let mut builder = Captured::builder(alloc, Mode::Der);
     builder.extend(5u8.encode())?;
@@ -42,7 +42,7 @@ fn extends(alloc: Global) -> Result<End, Error> {
     })
 }
 
-/// How `freeze` ends, which gives up the values.
+/// Returns how `freeze` ends, which consumes the values.
 fn freezes(alloc: Global) -> Result<End, Error> {
     let mut builder = Captured::builder(alloc, Mode::Der);
     builder.extend(5u8.encode())?;
@@ -56,7 +56,7 @@ fn five(alloc: Global) -> Result<Captured, Error> {
     Ok(5u8.encode().to_captured(alloc, Mode::Der)?)
 }
 
-/// How `into_builder` ends, which gives up the values.
+/// Returns how `into_builder` ends, which consumes the values.
 fn continues(alloc: Global) -> Result<End, Error> {
     let captured = five(alloc)?;
     let Ok(builder) = captured.into_builder(alloc) else {
@@ -65,7 +65,7 @@ fn continues(alloc: Global) -> Result<End, Error> {
     Ok(answered(builder.freeze()?.as_slice() == FIVE.as_slice()))
 }
 
-/// The same where the octets are shared, and have to be copied.
+/// Returns how `into_builder` ends if the octets are shared and have to be copied.
 fn continues_shared(alloc: Global) -> Result<End, Error> {
     let captured = five(alloc)?;
     let shared = captured.bytes()?;
@@ -95,7 +95,8 @@ fn shares(alloc: Global) -> Result<End, Error> {
     })
 }
 
-/// The items of an iterator that is cloned for them, and so are they. It stays what it is.
+/// Counts the items of an `Iter`, for which its iterator and the items are cloned. The `Iter` stays
+/// as it is.
 fn lists(alloc: Global) -> Result<End, Error> {
     let mut values = Vec::new(alloc);
     values.push(five(alloc)?)?;
@@ -112,7 +113,7 @@ fn lists(alloc: Global) -> Result<End, Error> {
     })
 }
 
-/// Values that are decoded in part stay where there is no memory.
+/// Decodes values in part. They stay if memory runs out.
 fn decodes(alloc: Global) -> Result<End, Error> {
     let mut captured = five(alloc)?;
     let decoded = captured.decode_partial(|cons| cons.take_u8());

@@ -17,7 +17,8 @@ fn encodes(alloc: Global) -> End {
     }
 }
 
-/// A target in memory that can't grow has failed, and holds a front of what was to be written.
+/// Writes to a target in memory. If it can't grow it fails, and holds a prefix of what was to be
+/// written.
 fn writes(alloc: Global) -> End {
     let wanted = [0x02, 0x02, 0x00, 0xC8];
     let mut target = Vec::new(alloc);
@@ -42,15 +43,15 @@ pub fn run(rt: &HostRuntime) -> Result<(), Error> {
     tell(rt, "Values::write_encoded", writes(rt.alloc()))
 }
 
-/// As many octets as no address space has.
+/// More octets than any address space has.
 const BEYOND: usize = 1 << 62;
 
-/// How a call ended that can't have the memory.
+/// Returns how a call ended for which there can't be enough memory.
 fn wants<T: Drop>(outcome: Result<T, EncodeError>) -> End {
     refused(matches!(outcome, Err(EncodeError::NoMemory)), true)
 }
 
-/// A refused `extend` leaves what was held.
+/// Extends a builder beyond memory. The refused `extend` leaves what was held.
 fn extends_beyond(alloc: Global) -> Result<End, Error> {
     let mut builder = Captured::builder(alloc, Mode::Cer);
     builder.extend(5u8.encode())?;
@@ -59,7 +60,7 @@ fn extends_beyond(alloc: Global) -> Result<End, Error> {
     Ok(refused(matches!(end, End::NoMemory), left))
 }
 
-/// Calls that want memory on any machine.
+/// Makes calls that run out of memory on any machine.
 pub fn run_beyond_memory(rt: &HostRuntime) -> Result<(), Error> {
     let alloc = rt.alloc();
     let end = wants(Zeros(BEYOND).to_encoded_bytes(alloc, Mode::Der));

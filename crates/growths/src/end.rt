@@ -6,22 +6,23 @@ use bcder::decode::DecodeError;
 /// How a call ended.
 #[derive(Clone, Copy)]
 pub enum End {
-    /// It answered what it should.
+    /// The call returned what it should.
     Answered,
 
-    /// There was no memory, and what it should leave is left.
+    /// Memory ran out, and what the call should leave is left.
     NoMemory,
 
-    /// Neither.
+    /// Neither of these.
     Wrong,
 }
 
-/// How a call ended that answered this, right or not.
+/// Returns how a call ended that returned a result, right or not.
 pub fn answered(right: bool) -> End {
     if right { End::Answered } else { End::Wrong }
 }
 
-/// How a call ended that refused for want of memory, if it did, and left what it should, if it did.
+/// Returns how a call ended that refused, by whether memory ran out, and whether what it should
+/// leave is left.
 pub fn refused(memory: bool, left: bool) -> End {
     if memory && left {
         End::NoMemory
@@ -30,7 +31,7 @@ pub fn refused(memory: bool, left: bool) -> End {
     }
 }
 
-/// How a call ended that reads and leaves nothing to look at.
+/// Returns how a call ended that reads and leaves nothing to look at.
 pub fn read<E: Drop>(outcome: Result<bool, DecodeError<E>>) -> End {
     match outcome {
         Ok(right) => answered(right),
@@ -38,7 +39,7 @@ pub fn read<E: Drop>(outcome: Result<bool, DecodeError<E>>) -> End {
     }
 }
 
-/// The same of a call whose only refusal is want of memory.
+/// Returns how a call ended that is refused only if memory runs out.
 pub fn made(outcome: Result<bool, NoMemory>) -> End {
     match outcome {
         Ok(right) => answered(right),

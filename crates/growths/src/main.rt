@@ -1,7 +1,8 @@
-//! Calls that take memory. A line for each says how it ended: it answered what it should, or want
-//! of memory, and left what it should. What is left is looked at, or used by a call that follows.
+//! Makes calls that allocate. A line for each says how it ended: it returned what it should, or
+//! memory ran out, and it left what it should. What is left is looked at, or used by a call that
+//! follows.
 //!
-//! The last calls want more memory than any machine has. `edits/growths` runs this program with
+//! The last calls need more memory than any machine has. `edits/growths` runs this program with
 //! each allocation refused in turn.
 #![tactic(auto, using(bcder::specs::laws::Moved::steps))]
 

@@ -8,7 +8,7 @@ use bcder::{Integer, NoMemory, Oid, Unsigned};
 use bytes::Bytes;
 use std::alloc::{AllocError, Global};
 
-/// Whether an integer has these contents octets.
+/// Returns how a call ended that makes the integer with these contents octets.
 fn is(made: Result<Integer, NoMemory>, octets: &[u8]) -> End {
     match made {
         Ok(integer) => answered(integer.as_slice() == octets),
@@ -16,7 +16,7 @@ fn is(made: Result<Integer, NoMemory>, octets: &[u8]) -> End {
     }
 }
 
-/// The same of an unsigned one.
+/// Returns how a call ended that makes the unsigned integer with these contents octets.
 fn is_unsigned(made: Result<Unsigned, NoMemory>, octets: &[u8]) -> End {
     match made {
         Ok(integer) => answered(integer.as_slice() == octets),
@@ -96,7 +96,7 @@ fn of_unsigned(alloc: Global) -> [(&'static str, End); 5] {
     ]
 }
 
-/// Whether an unsigned integer that is made of octets has these contents octets.
+/// Returns how a call ended that makes the unsigned integer with these contents octets from octets.
 fn is_of(made: Result<Unsigned, IntegerError>, octets: &[u8]) -> End {
     match made {
         Ok(integer) => answered(integer.as_slice() == octets),
@@ -117,7 +117,7 @@ fn run_of_octets(rt: &HostRuntime) -> Result<(), Error> {
     tell(rt, "Unsigned::from_bytes", end)
 }
 
-/// The octets of `2.5.29.19`.
+/// The contents octets of `2.5.29.19`.
 const IDENTIFIER: [u8; 3] = [0x55, 0x1D, 0x13];
 
 fn identifier(alloc: Global) -> End {
@@ -160,7 +160,7 @@ fn boxed(alloc: Global) -> Result<End, Error> {
     }))
 }
 
-/// Integers that are cloned stay what they are.
+/// Clones integers, which stay as they are.
 fn cloned(alloc: Global) -> Result<End, Error> {
     let number = Integer::from_i64(alloc, -129)?;
     let clone: Result<Integer, AllocError> = number.clone();
@@ -181,7 +181,7 @@ fn cloned_unsigned(alloc: Global) -> Result<End, Error> {
     })
 }
 
-/// The same of an identifier.
+/// Clones an object identifier, which stays as it is.
 fn cloned_identifier(alloc: Global) -> Result<End, Error> {
     let oid: Oid<Vec<u8>> = Oid(IDENTIFIER.to_vec(alloc)?);
     let clone: Result<Oid<Vec<u8>>, AllocError> = oid.clone();

@@ -1,4 +1,4 @@
-//! Restricted character strings: made of texts, read, cloned, and given up for their octets.
+//! Restricted character strings: made of texts, read, cloned, and consumed for their octets.
 ghost use Rattle.bcder.specs.calls.Views.{Moved};
 
 use crate::end::{End, answered, made, read, tell};
@@ -11,15 +11,15 @@ use std::alloc::{AllocError, Global};
 /// The text of each string.
 const TEXT: &str = "aé";
 
-/// Its octets in two segments, of which the first ends inside a character.
+/// The octets of the text in two segments, the first of which ends inside a character.
 const CUT: &[u8] = &[0x2C, 0x07, 0x04, 0x02, 0x61, 0xC3, 0x04, 0x01, 0xA9];
 
-/// Whether a string has the characters of the text.
+/// Returns whether a string has the characters of the text.
 fn is_it(string: &Utf8String) -> bool {
     string.eq_octets(TEXT.as_bytes())
 }
 
-/// How a call ended that makes a string of the text.
+/// Returns how a call ended that makes a string of the text.
 fn made_of(outcome: Result<Utf8String, StringError>) -> End {
     match outcome {
         Ok(string) => answered(is_it(&string)),
@@ -28,7 +28,7 @@ fn made_of(outcome: Result<Utf8String, StringError>) -> End {
     }
 }
 
-/// Takes a string, and tells whether it has the characters of the text.
+/// Takes a string, and returns whether it has the characters of the text.
 fn take<S: Source>(
     cons: &mut Constructed<'_, S>,
     alloc: Global,
@@ -38,7 +38,7 @@ fn take<S: Source>(
     Ok(is_it(&Utf8String::take_from(alloc, cons)?))
 }
 
-/// The same of one that may be there.
+/// Takes an optional string, and returns whether it has the characters of the text.
 fn take_opt<S: Source>(
     cons: &mut Constructed<'_, S>,
     alloc: Global,
@@ -51,7 +51,7 @@ fn take_opt<S: Source>(
     }
 }
 
-/// The same of its content.
+/// Takes a string from its content, and returns whether it has the characters of the text.
 fn take_content<S: Source>(
     cons: &mut Constructed<'_, S>,
     alloc: Global,
@@ -65,7 +65,7 @@ fn take_content<S: Source>(
     Ok(is_it(&string))
 }
 
-/// A clone has the same characters.
+/// Clones a string. The clone has the same characters.
 fn clones(string: &Utf8String) -> End {
     let clone: Result<Utf8String, AllocError> = string.clone();
     match clone {

@@ -9,7 +9,7 @@ use std::alloc::{AllocError, Global};
 /// Three octets.
 const OCTETS: [u8; 3] = [0x01, 0x02, 0x03];
 
-/// Whether these octets are answered; then whether the source still has as many in front.
+/// Shares octets of a source, which still begins with all of them.
 fn shares<S: Source>(alloc: Global, source: &mut S) -> Result<End, S::Error> {
     if source.request(3)? < 3 {
         return Ok(End::Wrong);
@@ -22,7 +22,7 @@ fn shares<S: Source>(alloc: Global, source: &mut S) -> Result<End, S::Error> {
     })
 }
 
-/// The octets within a limit, all of which are taken or none.
+/// Takes all octets within a limit, or none.
 fn takes_all<S: Source>(alloc: Global, source: &mut S) -> Result<End, S::Error> {
     let mut limited = LimitedSource::new(source);
     limited.set_limit(Some(3));
@@ -37,7 +37,7 @@ fn takes_all<S: Source>(alloc: Global, source: &mut S) -> Result<End, S::Error> 
     }
 }
 
-/// The octets that were passed over, which are left where they can't be had.
+/// Captures the octets that were skipped. They are left if memory runs out.
 fn captures<S: Source>(alloc: Global, source: &mut S) -> Result<End, S::Error> {
     let mut view = CaptureSource::new(source);
     if view.request(3)? < 3 {
@@ -52,7 +52,7 @@ fn captures<S: Source>(alloc: Global, source: &mut S) -> Result<End, S::Error> {
     })
 }
 
-/// A source over shared octets, in two parts.
+/// Splits a source over shared octets in two.
 fn splits(source: &mut BytesSource) -> End {
     if source.len() < 1 {
         return End::Wrong;

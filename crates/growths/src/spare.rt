@@ -1,7 +1,8 @@
-//! Calls that take no memory. They are made between growths of two sizes that nothing else asks
-//! for, by which `edits/growths` knows where to refuse each growth; what they answer is told behind.
+//! Makes calls that don't allocate. They are made between two allocations of sizes that nothing
+//! else asks for, by which `edits/growths` knows where to refuse each allocation. What they return
+//! is printed afterwards.
 //!
-//! The last lines are a control: calls that take memory, made there too.
+//! The last lines are a control: calls that allocate, made at the same place.
 mod read;
 mod values;
 mod written;
@@ -13,12 +14,12 @@ use read::Tally;
 use std::alloc::Global;
 use values::Things;
 
-/// The sizes of the growths before these calls and behind them.
+/// The size of the allocation before these calls; `END` is the one after them.
 const BEGIN: usize = 7654321;
 
 const END: usize = 7654322;
 
-/// A growth of a size. The text in it is printed, so that it is made.
+/// Allocates a size. The text in it is printed, so that the allocation is made.
 fn mark(rt: &HostRuntime, size: usize, text: &str) -> Result<(), Error> {
     let mut growth = String::with_capacity(rt.alloc(), size)?;
     growth.push_str(text)?;
@@ -26,7 +27,7 @@ fn mark(rt: &HostRuntime, size: usize, text: &str) -> Result<(), Error> {
     Ok(())
 }
 
-/// Tells how several calls ended.
+/// Prints how several calls ended.
 fn tell_all(rt: &HostRuntime, ends: &[(&str, bool)]) -> Result<(), Error> {
     for (call, right) in ends {
         let end = if *right { End::Answered } else { End::Wrong };
@@ -35,7 +36,7 @@ fn tell_all(rt: &HostRuntime, ends: &[(&str, bool)]) -> Result<(), Error> {
     Ok(())
 }
 
-/// Room for what is written.
+/// Returns room for what is written.
 fn room(alloc: Global) -> Result<Vec<u8>, Error> {
     Ok(Vec::with_capacity(alloc, 2000)?)
 }
@@ -94,7 +95,7 @@ fn make(rt: &HostRuntime, things: &Things) -> Result<Ends, Error> {
     Ok(ends)
 }
 
-/// Makes them with values that are let go before anything else is told.
+/// Makes the calls with values that are dropped before anything else is printed.
 fn make_with_things(rt: &HostRuntime) -> Result<Ends, Error> {
     let things = Things::new(rt.alloc())?;
     make(rt, &things)

@@ -11,14 +11,14 @@ use std::alloc::{AllocError, Global};
 /// The octets of each string.
 const OCTETS: &[u8] = b"abcd";
 
-/// A value with these in one piece, and one with them in three segments.
+/// A value with these octets in one piece, and one with them in three segments.
 const WHOLE: &[u8] = &[0x04, 0x04, 0x61, 0x62, 0x63, 0x64];
 
 const CUT: &[u8] = &[
     0x24, 0x0A, 0x04, 0x01, 0x61, 0x04, 0x01, 0x62, 0x04, 0x02, 0x63, 0x64,
 ];
 
-/// Takes the string of a value, and tells whether it has these octets.
+/// Takes the string of a value, and returns whether it has these octets.
 fn take_opt<S: Source>(
     cons: &mut Constructed<'_, S>,
     alloc: Global,
@@ -31,7 +31,7 @@ fn take_opt<S: Source>(
     }
 }
 
-/// The same of its content.
+/// Takes the string of a value from its content, and returns whether it has these octets.
 fn take_content<S: Source>(
     cons: &mut Constructed<'_, S>,
     alloc: Global,
@@ -45,7 +45,7 @@ fn take_content<S: Source>(
     Ok(string.eq_octets(OCTETS))
 }
 
-/// Runs both over a source.
+/// Makes both calls over a source.
 fn run_over<S: Source>(
     rt: &HostRuntime,
     over: &str,
@@ -77,14 +77,14 @@ fn run_readers(rt: &HostRuntime) -> Result<(), Error> {
     )
 }
 
-/// The string of a value.
+/// Returns the string of a value.
 fn string_of(alloc: Global, value: &[u8]) -> Result<OctetString, Error> {
     let mut octets = SliceSource::new(value);
     let string = Mode::Ber.decode_lent(&mut octets, |cons| OctetString::take_from(alloc, cons))?;
     Ok(string)
 }
 
-/// Whether a string has these octets in so many parts.
+/// Returns whether a string has these octets in this number of parts.
 fn is_it(string: &OctetString, parts: usize) -> bool {
     let mut count = 0usize;
     for _ in string {
@@ -93,7 +93,7 @@ fn is_it(string: &OctetString, parts: usize) -> bool {
     count == parts && string.eq_octets(OCTETS)
 }
 
-/// A clone is cut in the same way.
+/// Clones a string. The clone is cut in the same way.
 fn clones(string: &OctetString, parts: usize) -> End {
     let clone: Result<OctetString, AllocError> = string.clone();
     match clone {
@@ -102,7 +102,7 @@ fn clones(string: &OctetString, parts: usize) -> End {
     }
 }
 
-/// The octets in one piece, beside the string that they are of.
+/// Joins the octets of a string in one piece, and leaves the string.
 fn joins(alloc: Global, string: &OctetString, parts: usize) -> End {
     match string.to_bytes(alloc) {
         Ok(octets) => answered(octets.as_slice() == OCTETS && is_it(string, parts)),
@@ -110,7 +110,7 @@ fn joins(alloc: Global, string: &OctetString, parts: usize) -> End {
     }
 }
 
-/// The same where the string is given up.
+/// Joins the octets of a string in one piece, and consumes the string.
 fn gives_up(alloc: Global, string: OctetString) -> End {
     match string.into_bytes(alloc) {
         Ok(octets) => answered(octets.as_slice() == OCTETS),
@@ -118,7 +118,7 @@ fn gives_up(alloc: Global, string: OctetString) -> End {
     }
 }
 
-/// Whether a source gives these octets, one by one, and no others.
+/// Returns whether a source gives these octets, one by one, and no others.
 fn gives<S: Source>(source: &mut S) -> Result<bool, S::Error> {
     for octet in OCTETS {
         if source.request(1)? == 0 || source.slice().first() != Some(octet) {
@@ -129,7 +129,7 @@ fn gives<S: Source>(source: &mut S) -> Result<bool, S::Error> {
     Ok(source.request(1)? == 0)
 }
 
-/// More is asked of a source than one segment holds. Where there is no memory to join them, the
+/// Requests more of a source than one segment holds. If memory runs out while they are joined, the
 /// octets are given one by one.
 fn requests<S: Source>(source: &mut S) -> Result<End, S::Error> {
     let outcome = source.request(3);
@@ -141,7 +141,7 @@ fn requests<S: Source>(source: &mut S) -> Result<End, S::Error> {
     })
 }
 
-/// The octet in front of a source, shared.
+/// Shares the next octet of a source.
 fn shares<S: Source>(alloc: Global, source: &mut S) -> Result<End, S::Error> {
     if source.request(1)? < 1 {
         return Ok(End::Wrong);

@@ -45,7 +45,7 @@ const TAKES: [(&str, Take); 14] = [
     ("Constructed::collect_some", Take::Collect),
 ];
 
-/// Takes the octets of a primitive value, as what they are kept as.
+/// Takes the octets of a primitive value, as the type in which they are kept.
 fn take_of<S: Source>(
     cons: &mut Constructed<'_, S>,
     alloc: Global,
@@ -74,7 +74,7 @@ fn take_of<S: Source>(
     }
 }
 
-/// Takes octets, and tells whether they are these.
+/// Takes octets, and returns whether they are these.
 fn take_octets<S: Source>(
     cons: &mut Constructed<'_, S>,
     alloc: Global,
@@ -96,7 +96,7 @@ fn take_octets<S: Source>(
     Ok(octets.as_slice() == wanted)
 }
 
-/// Skips the next value by a closure that refuses nothing.
+/// Skips the next value with a closure that refuses nothing.
 fn skip_opt<S: Source>(
     cons: &mut Constructed<'_, S>,
     alloc: Global,
@@ -106,7 +106,7 @@ fn skip_opt<S: Source>(
     cons.skip_opt(alloc, &mut |_tag, _constructed, _depth| Ok(()))
 }
 
-/// The same of a value that has to be there.
+/// Skips the next value, which has to be there, with a closure that refuses nothing.
 fn skip_next<S: Source>(
     cons: &mut Constructed<'_, S>,
     alloc: Global,
@@ -117,7 +117,7 @@ fn skip_next<S: Source>(
     Ok(true)
 }
 
-/// Skips values, and tells whether there was one.
+/// Skips values, and returns whether there was one.
 fn skip<S: Source>(
     cons: &mut Constructed<'_, S>,
     alloc: Global,
@@ -136,12 +136,12 @@ fn skip<S: Source>(
     }
 }
 
-/// The numbers that are collected, more than a vector has room for after two growths.
+/// The numbers that are collected, more than a vector has room for after two allocations.
 const NUMBERS: [u8; 20] = [
     19, 18, 17, 16, 15, 14, 13, 12, 11, 10, 9, 8, 7, 6, 5, 4, 3, 2, 1, 0,
 ];
 
-/// Collects numbers, and tells whether they are those.
+/// Collects numbers, and returns whether they are these.
 fn collect<S: Source>(
     cons: &mut Constructed<'_, S>,
     alloc: Global,
@@ -152,7 +152,7 @@ fn collect<S: Source>(
     Ok(numbers.as_slice() == NUMBERS.as_slice())
 }
 
-/// Takes a value, and tells whether it is the one that is there.
+/// Takes a value, and returns whether it is the one that is there.
 fn take_value<S: Source>(
     cons: &mut Constructed<'_, S>,
     alloc: Global,
@@ -184,7 +184,7 @@ const CAPTURES: [(&str, Kind); 3] = [
     ("Constructed::capture", Kind::Closure),
 ];
 
-/// Captures values, and tells whether they are these octets.
+/// Captures values, and returns whether they are these octets.
 fn capture<S: Source>(
     cons: &mut Constructed<'_, S>,
     alloc: Global,
@@ -201,7 +201,7 @@ fn capture<S: Source>(
     Ok(captured.as_slice() == wanted)
 }
 
-/// Captures values. Where there is no memory they are left, and are captured then.
+/// Captures values. If memory runs out they are left, and are captured then.
 fn capture_again<S: Source>(
     cons: &mut Constructed<'_, S>,
     alloc: Global,
@@ -219,7 +219,7 @@ fn capture_again<S: Source>(
     }
 }
 
-/// A value of three octets with a tag of X.680, 8.4.
+/// Returns a value of three octets with a tag of X.680, 8.4.
 fn short(alloc: Global, number: u8, octets: &[u8]) -> Result<Vec<u8>, Error> {
     let mut value = Vec::new(alloc);
     value.push(number)?;
@@ -228,10 +228,10 @@ fn short(alloc: Global, number: u8, octets: &[u8]) -> Result<Vec<u8>, Error> {
     Ok(value)
 }
 
-/// Sequences in one another, more than calls go down.
+/// The number of nested SEQUENCEs, more than there are levels of calls.
 const LEVELS: usize = 70;
 
-/// The octets of so many sequences, in DER, put together from the last one on.
+/// Returns the octets of nested SEQUENCEs in DER, built from the last one on.
 fn deep(alloc: Global, levels: usize) -> Result<Vec<u8>, Error> {
     let mut value = Vec::new(alloc);
     for _ in 0..levels {
@@ -246,7 +246,7 @@ fn deep(alloc: Global, levels: usize) -> Result<Vec<u8>, Error> {
     Ok(value)
 }
 
-/// An INTEGER for each of the numbers.
+/// Returns an INTEGER for each of the numbers.
 fn integers(alloc: Global) -> Result<Vec<u8>, Error> {
     let mut values = Vec::new(alloc);
     for number in NUMBERS {
@@ -258,7 +258,7 @@ fn integers(alloc: Global) -> Result<Vec<u8>, Error> {
 /// Contents octets of an integer and of an object identifier.
 const CONTENTS: [u8; 3] = [0x55, 0x1D, 0x13];
 
-/// The value that is there for a call.
+/// Returns the value that is there for a call.
 fn value_for(alloc: Global, take: Take) -> Result<Vec<u8>, Error> {
     match take {
         Take::Octets => short(alloc, 0x04, &CONTENTS),
@@ -299,7 +299,7 @@ const STRINGS: [(&str, &[u8], &[u8]); 3] = [
     ),
 ];
 
-/// Takes an octet string, and tells whether it has these octets.
+/// Takes an octet string, and returns whether it has these octets.
 fn take_string<S: Source>(
     cons: &mut Constructed<'_, S>,
     alloc: Global,
@@ -314,7 +314,7 @@ fn string_of<S: Source>(alloc: Global, source: &mut S, wanted: &[u8]) -> End {
     read(Mode::Ber.decode_lent(source, |cons| take_string(cons, alloc, wanted)))
 }
 
-/// A length that lies, of which there are fewer octets: refused for that, before memory is asked
+/// A false length, larger than the number of octets. It is refused for that, before memory is asked
 /// for.
 const LYING: &[u8] = &[0x04, 0x84, 0xFF, 0xFF, 0xFF, 0xFF, 0x41];
 
@@ -341,7 +341,8 @@ fn end_of<S: Source>(alloc: Global, source: &mut S, take: Take) -> End {
     read(Mode::Der.decode_lent(source, |cons| take_value(cons, alloc, take, &CONTENTS)))
 }
 
-/// Where memory is wanted again, the captured values are not left, which is wrong.
+/// Captures values. If memory runs out a second time, the values that were to be captured aren't
+/// left, which is wrong.
 fn captured_of<S: Source>(alloc: Global, source: &mut S, call: Kind, wanted: &[u8]) -> End {
     match Mode::Der.decode_lent(source, |cons| capture_again(cons, alloc, call, wanted)) {
         Ok(end) => end,

@@ -5,11 +5,11 @@ use bcder::encode::{EncodeError, PrimitiveContent, Values, WriteError};
 use bcder::{Mode, OctetString};
 use std::alloc::Global;
 
-/// What 1001 octets begin with in CER that are an OCTET STRING themselves.
+/// The first octets in CER of 1001 octets that are an OCTET STRING themselves.
 const FRONT: [u8; 10] = [0x24, 0x80, 0x04, 0x82, 0x03, 0xE8, 0x04, 0x82, 0x03, 0xE5];
 
-/// Over 1000 octets are gathered before they are written in CER. Where there is no memory for them,
-/// a front of what is to be written was.
+/// Wraps over 1000 octets, which are gathered before they are written in CER. If memory for them
+/// runs out, a prefix of what is to be written was.
 fn wraps(alloc: Global) -> Result<End, Error> {
     let zeros = [0; 997];
     let octets: &[u8] = &zeros;

@@ -40,20 +40,20 @@ pub enum Call {
     U64,
     OptU64,
 
-    /// `skip_u8_if` and its optional form, of the number of the step.
+    /// `skip_u8_if` and its optional form, with the number of the step.
     SkipU8If,
     SkipOptU8If,
 
-    /// `walk`, which is no call of content but passes over its next value.
+    /// `walk`, which isn't a method of content but skips its next value.
     Walk,
 
-    /// `set_mode` to the Basic Encoding Rules.
+    /// `set_mode` to BER.
     SetBer,
 
-    /// `take_sequence` with a closure that does the steps inside and drops what they refuse.
+    /// `take_sequence` with a closure that does the steps inside and drops their errors.
     Enter,
 
-    /// `decode` with a closure that does all other steps and drops what they refuse.
+    /// `decode` with a closure that does all other steps and drops their errors.
     Decode,
 }
 
@@ -95,7 +95,7 @@ pub const CALLS: [(&str, Call); 34] = [
     ("decode", Call::Decode),
 ];
 
-/// The refusal of a closure: no call answers it by itself.
+/// The number by which a closure refuses. No call returns it by itself.
 pub const OWN: u8 = 200;
 
 /// The words for the tags.
@@ -109,16 +109,16 @@ const TAGS: [(&str, Tag); 7] = [
     ("END_OF_VALUE", Tag::END_OF_VALUE),
 ];
 
-/// What a closure does with the content that it is handed.
+/// What a closure does with the content that it gets.
 #[derive(Clone, Copy, Debug, PartialEq, Eq)]
 pub enum Use {
-    /// It passes over two values, or over all octets.
+    /// It skips two values, or all octets.
     Pass,
 
     /// It leaves the content as it is.
     Leave,
 
-    /// It passes over the content, and refuses.
+    /// It skips the content, and refuses.
     Refuse,
 
     /// It asks for content of the other form.
@@ -133,19 +133,19 @@ const USES: [(&str, Use); 4] = [
     ("ask", Use::Ask),
 ];
 
-/// What a call answered.
+/// What a call returned.
 #[derive(Clone, Copy, Debug, PartialEq, Eq)]
 pub enum Answer {
-    /// A value, or that all went well.
+    /// A value, or success.
     Taken,
 
-    /// A truth value.
+    /// A boolean.
     Truth(bool),
 
     /// A number.
     Number(u64),
 
-    /// That no such value is there.
+    /// There is no such value.
     Absent,
 
     /// A refusal with a fixed text.
@@ -186,17 +186,17 @@ pub struct TakeStep {
     pub answer: Answer,
 }
 
-/// The tag that a word stands for.
+/// Returns the tag that a word names.
 pub fn tag_of(word: &str) -> Result<Tag, Malformed> {
     find(&TAGS, word)
 }
 
-/// The answer that a word stands for.
+/// Returns the answer that a word names.
 pub fn answer_of(word: &str) -> Result<Answer, Malformed> {
     find(&ANSWERS, word)
 }
 
-/// What kind of error it is, of a call for this tag.
+/// Returns what kind of error it is, of a call for this tag.
 pub fn error_kind<E>(error: &DecodeError<E>, tag: Tag) -> Answer {
     match error.content_error() {
         Some(ContentError::Static(_)) => Answer::Static,
@@ -213,7 +213,7 @@ pub fn error_kind<E>(error: &DecodeError<E>, tag: Tag) -> Answer {
 }
 
 impl Step for TakeStep {
-    /// A step, as `CALL=ANSWER`, `CALL:TAG=ANSWER` or `CALL:TAG:USE=ANSWER`, where TAG may be a
+    /// Reads a step: `CALL=ANSWER`, `CALL:TAG=ANSWER` or `CALL:TAG:USE=ANSWER`, where TAG may be a
     /// number, and ANSWER may be `=` and a number.
     fn of(_alloc: Global, word: &str) -> Result<TakeStep, Error> {
         let (what, answer) = word.split_once('=').ok_or(Malformed)?;

@@ -1,6 +1,6 @@
-//! Lines of data that can't be read.
+//! The error of lines of data that can't be read.
 
-/// A line of the data without one of its fields, or with a word that isn't known.
+/// A line of the data lacks one of its fields, or has an unknown word.
 #[derive(Debug, Drop, thiserror::Error)]
 #[error("a line is malformed")]
 pub struct Malformed;

@@ -1,10 +1,10 @@
-//! Files of data, whose lines are compared one by one.
+//! Compares files of data line by line.
 use crate::tally::{Differing, Tally};
 use anyhow::Error;
 use std::alloc::Global;
 use std::fs::{self, Files};
 
-/// Whether a line of data says nothing.
+/// Returns whether a line of data says nothing.
 fn is_comment(line: &str) -> bool {
     line.is_empty() || line.starts_with('#')
 }

@@ -1,13 +1,13 @@
-//! Lines of steps on content.
+//! Reads lines of steps on content.
 use crate::calls::{Answer, answer_of};
 use crate::fields::{modes_of, next, number, octets_of};
 use anyhow::Error;
 use bcder::Mode;
 use std::alloc::Global;
 
-/// A step that a word of the data says.
+/// A step that a word of the data names.
 pub trait Step: Drop {
-    /// The step that a word says.
+    /// Reads the step that a word names.
     fn of(alloc: Global, word: &str) -> Result<Self, Error>;
 }
 
@@ -17,17 +17,17 @@ pub struct Row<T: Drop> {
     pub modes: Vec<Mode>,
     pub octets: Vec<u8>,
 
-    /// On the content that `enter` enters.
+    /// The steps on the content that `enter` enters.
     pub inside: Vec<T>,
 
-    /// At top level.
+    /// The steps at top level.
     pub outside: Vec<T>,
 
-    /// How `decode` refuses, if it does, or how many octets are left.
+    /// How many octets are left, or how `decode` refuses.
     pub left: Result<usize, Answer>,
 }
 
-/// The steps of a field, which are separated by spaces, or none for `-`.
+/// Reads the steps of a field, which are separated by spaces, or none from `-`.
 fn steps_of<T: Step>(alloc: Global, field: &str) -> Result<Vec<T>, Error> {
     let mut steps = Vec::new(alloc);
     if field == "-" {
@@ -39,7 +39,7 @@ fn steps_of<T: Step>(alloc: Global, field: &str) -> Result<Vec<T>, Error> {
     Ok(steps)
 }
 
-/// How many octets are left, or how `decode` refuses.
+/// Reads how many octets are left, or how `decode` refuses.
 fn left_of(field: &str) -> Result<Result<usize, Answer>, Error> {
     match answer_of(field) {
         Ok(answer) => Ok(Err(answer)),
@@ -47,7 +47,7 @@ fn left_of(field: &str) -> Result<Result<usize, Answer>, Error> {
     }
 }
 
-/// The row of a line.
+/// Reads the row of a line.
 pub fn row_of<T: Step>(alloc: Global, line: &str) -> Result<Row<T>, Error> {
     let mut fields = line.split('\t');
     let modes = modes_of(alloc, next(&mut fields)?)?;

@@ -1,8 +1,8 @@
-//! Answers that were compared.
+//! Counts answers that were compared.
 
-/// What was compared of a kind of data.
+/// The result of comparing one kind of data.
 pub trait Differing {
-    /// How many answers differ in all.
+    /// Returns how many answers differ in all.
     fn differ(&self) -> u64;
 }
 
@@ -14,7 +14,7 @@ pub struct Tally {
 }
 
 impl Tally {
-    /// Counts an answer that is the wanted one, or is not.
+    /// Counts an answer, which is the wanted one or isn't.
     pub fn count(&mut self, same: bool) {
         self.compared = self.compared.saturating_add(1);
         if !same {
@@ -22,7 +22,7 @@ impl Tally {
         }
     }
 
-    /// Counts the answers of another tally too.
+    /// Adds the counts of another tally.
     pub fn join(&mut self, other: Tally) {
         self.compared = self.compared.saturating_add(other.compared);
         self.differ = self.differ.saturating_add(other.differ);
@@ -35,7 +35,7 @@ impl Differing for Tally {
     }
 }
 
-/// What was compared of one kind after the other.
+/// Returns how many answers differ in several tallies.
 pub fn differ_in(tallies: &[Tally]) -> u64 {
     let mut all = Tally::default();
     for tally in tallies {

@@ -1,8 +1,8 @@
-//! Tells the contents octets of object identifiers.
+//! Prints the contents octets of object identifiers.
 //!
-//! `mkoid ARG..` prints a line for each argument. For an object identifier, its components in
-//! decimal joined by dots, it has the octets in decimal, as `[85,29,19,]` for `2.5.29.19`. For any
-//! other argument it has the argument and why it is none.
+//! `mkoid ARG..` prints a line for each argument. If the argument is an object identifier, its
+//! components in decimal joined by dots, the line has the octets in decimal, as `[85,29,19,]` for
+//! `2.5.29.19`. For any other argument it has the argument and the reason why it is none.
 #![tactic(auto)]
 
 ghost use Rattle.std.specs.Prelude.{◌≡◌, OnOk, OnErr, IfOk, IfErr, map, string_bytes};
@@ -20,7 +20,7 @@ use std::alloc::Global;
 use std::process::ExitCode;
 use std::{env, io};
 
-/// The line of an identifier: its octets in decimal, each followed by a comma, in brackets.
+/// Returns the line of an identifier: its octets in decimal, each followed by a comma, in brackets.
 fn octets_line(alloc: Global, octets: &[u8]) -> Result<String, NoMemory>
     ensures { IfOk result (λ line. string_bytes line ≡ octets_line octets.now) }
 {
@@ -32,7 +32,7 @@ fn octets_line(alloc: Global, octets: &[u8]) -> Result<String, NoMemory>
     Ok(line)
 }
 
-/// The line of an argument that names an identifier, or why there is none.
+/// Returns the line of an argument that is an identifier, or the reason why there is none.
 fn line_of(alloc: Global, arg: &str) -> Result<String, OidError>
     ensures named { IfOk result (λ line. IsNamed arg.now (string_bytes line)) }
     ensures refused { IfErr result (λ e. RefusesText arg.now e) }
@@ -46,7 +46,7 @@ fn line_of(alloc: Global, arg: &str) -> Result<String, OidError>
     }
 }
 
-/// The text of a refusal.
+/// Returns the text of a refusal.
 fn text_of(error: &OidError) -> &'static str
     ensures { result.now ≡ error_text error.now }
 {
@@ -59,7 +59,7 @@ fn text_of(error: &OidError) -> &'static str
     }
 }
 
-/// Writes the line of an argument that is refused, which takes no memory.
+/// Writes the line of an argument that is refused. It allocates nothing.
 fn write_refusal<W: io::Write>(arg: &str, error: &OidError, target: &mut W) -> Result<(), io::Error>
     ensures ok { OnOk result (Appends
         (W.contents target.old) (W.contents target.new) (refusal_line arg.now error.now)) }
@@ -72,7 +72,7 @@ fn write_refusal<W: io::Write>(arg: &str, error: &OidError, target: &mut W) -> R
     target::write_octets(target, b".\n".as_slice())
 }
 
-/// Writes the line of an argument. Where there is no memory to tell an identifier, the line says so.
+/// Writes the line of an argument. If memory runs out for an identifier, the line says so.
 fn write_line<W: io::Write>(alloc: Global, arg: &str, target: &mut W) -> Result<(), io::Error>
     ensures ok { OnOk result (WritesLine arg.now (W.contents target.old) (W.contents target.new)) }
     ensures err { OnErr result
@@ -85,9 +85,11 @@ fn write_line<W: io::Write>(alloc: Global, arg: &str, target: &mut W) -> Result<
 }
 
 /// Writes a line for each argument: the octets of the object identifier that it names, or why it
-/// names none, or that there is no memory to tell those that it names.
+/// names none. If memory runs out for one that it names, the line says so.
 ///
-/// An error is one of the target. Of the line that met it a beginning may have been written.
+/// # Errors
+///
+/// Returns the error of the target. A prefix of the line on which it failed may have been written.
 pub fn lines<W: io::Write>(alloc: Global, args: &[String], target: &mut W) -> Result<(), io::Error>
     ensures ok { OnOk result (WritesAll (map string_bytes args.now)
         (W.contents target.old) (W.contents target.new)) }
@@ -100,7 +102,7 @@ pub fn lines<W: io::Write>(alloc: Global, args: &[String], target: &mut W) -> Re
     Ok(())
 }
 
-/// The arguments without the name of the program.
+/// Returns the arguments without the name of the program.
 fn arguments(rt: &HostRuntime) -> io::Result<Vec<String>> {
     let mut args = env::args(rt)?;
     let _program = args.next();

@@ -1,16 +1,16 @@
-//! Comparisons of the tests. Each is a call, so that a test isn't proved along both ways out of it,
-//! and [`done`] ends the test where `?` would be one more way out.
+//! Assertions of the tests. Each is a call, so that a test isn't proved along both ways out of it.
+//! [`done`] ends the test where `?` would be one more way out.
 ghost use Rattle.std.specs.Prelude.{◌≡◌, Ok};
 
 use std::fmt::Debug;
 use std::process::Abort;
 
-/// That is so.
+/// Asserts that `fact` is true.
 pub fn holds(rt: &impl Abort, fact: bool) {
     assert!(rt; fact);
 }
 
-/// What a call answers that is not to be refused.
+/// Returns the result of a call that must not be refused.
 pub fn done<T, E: Debug>(rt: &impl Abort, outcome: Result<T, E>) -> T
     ensures { outcome ≡ Ok result }
 {

@@ -1,5 +1,5 @@
-//! Tests that read and write entries of a revocation list, basic constraints, and single octets. What
-//! is expected is what openssl wrote, and what `openssl crl` shows of it.
+//! Tests that read and write entries of a list of revoked certificates, basic constraints, and
+//! single octets. The expected values are what openssl wrote, and what `openssl crl` shows of it.
 #![tactic(auto, using(bcder::specs::laws::Moved::untouched_is_moved))]
 
 ghost use Rattle.bcder.specs.calls.Views.{Moved};
@@ -13,22 +13,22 @@ use std::process::Abort;
 use user::{Time, decode_entries, take_octet, take_reason};
 use writers::{Basic, Entry, gather_entries};
 
-/// The revoked certificates of a list, made with openssl: the first for its key's compromise.
+/// The revoked certificates of a list made with openssl, the first for the compromise of its key.
 const ENTRIES: &str = "\
 303b302102021000170d3236313132303130313131325a300c300a0603551d1504030a0101301602050deadbeef1170d\
 3236313132313131313231335a";
 
-/// The extensions of the first.
+/// The extensions of the first entry.
 const REASON: &[u8] = &[
     0x30, 0x0C, 0x30, 0x0A, 0x06, 0x03, 0x55, 0x1D, 0x15, 0x04, 0x03, 0x0A, 0x01, 0x01,
 ];
 
-/// Their serial numbers and dates.
+/// The serial numbers and dates of the entries.
 const FIRST: (&[u8], &str) = (&[0x10, 0x00], "261120101112Z");
 
 const SECOND: (&[u8], &str) = (&[0x0D, 0xEA, 0xDB, 0xEE, 0xF1], "261121111213Z");
 
-/// The number of the reason that an extension gives.
+/// Takes what is inside an extension, and returns the number of its reason.
 fn take_one<S: Source>(
     alloc: Global,
     cons: &mut Constructed<'_, S>,
@@ -39,7 +39,7 @@ fn take_one<S: Source>(
     take_reason(alloc, cons)
 }
 
-/// The extensions give this reason, and no more.
+/// Asserts that the extensions give this reason, and no more.
 fn is_reason(rt: &impl Abort, alloc: Global, extensions: Captured, wanted: u8) {
     let found = extensions.decode(|cons| cons.take_sequence(|cons| take_one(alloc, cons)));
     holds(rt, done(rt, found) == wanted);
@@ -61,7 +61,7 @@ fn entries_are_read(rt: HostRuntime) {
     is_reason(&rt, rt.alloc(), extensions, 1);
 }
 
-/// An entry to be written.
+/// Creates an entry to be written.
 fn entry(
     rt: &impl Abort,
     alloc: Global,
@@ -75,7 +75,7 @@ fn entry(
     }
 }
 
-/// Both entries.
+/// Creates both entries.
 fn both(rt: &impl Abort, alloc: Global) -> [Entry; 2] {
     let captured = Mode::Der.decode(REASON, |cons| cons.capture_one(alloc));
     let first = entry(rt, alloc, FIRST, Some(done(rt, captured)));
@@ -101,7 +101,7 @@ fn entries_are_written(rt: HostRuntime) {
     holds(&rt, written.as_slice() == wanted.as_slice());
 }
 
-/// Basic constraints, and what openssl wrote of them.
+/// Basic constraints, and what openssl wrote for them.
 const BASICS: [(Basic, &[u8]); 2] = [
     (
         Basic {

@@ -1,5 +1,5 @@
-//! Tests that put together a search filter of filters, as `writers` does, and read it, as `user`
-//! does. The octets are what pyasn1 encodes of the same.
+//! Tests that build a search filter of filters, as `writers` does, and read it, as `user` does. The
+//! octets are pyasn1's encoding of the same filter.
 use crate::asserts::{done, holds};
 use bcder::{Captured, Mode};
 use std::alloc::Global;
@@ -7,11 +7,11 @@ use std::process::Abort;
 use user::{Filter as Found, decode_filter};
 use writers::Filter;
 
-/// `(&(|(cn=Babs)(objectClass=*))(!(cn=Tim)))`.
+/// The octets of `(&(|(cn=Babs)(objectClass=*))(!(cn=Tim)))`.
 const FILTER: &str = "\
 a028a119a30a0402636e040442616273870b6f626a656374436c617373a20ba3090402636e040354696d";
 
-/// The attribute `cn` with this value.
+/// Creates the filter for the attribute `cn` with this value.
 fn named(rt: &impl Abort, alloc: Global, value: &[u8]) -> Filter {
     Filter::Equal {
         name: done(rt, String::from_str(alloc, "cn")),
@@ -19,7 +19,7 @@ fn named(rt: &impl Abort, alloc: Global, value: &[u8]) -> Filter {
     }
 }
 
-/// Two filters.
+/// Puts two filters into a vector.
 fn two(rt: &impl Abort, alloc: Global, first: Filter, second: Filter) -> Vec<Filter> {
     let mut filters = Vec::new(alloc);
     done(rt, filters.push(first));
@@ -27,7 +27,7 @@ fn two(rt: &impl Abort, alloc: Global, first: Filter, second: Filter) -> Vec<Fil
     filters
 }
 
-/// The filter.
+/// Creates the filter of these octets.
 fn filter(rt: &impl Abort, alloc: Global) -> Filter {
     let present = Filter::Present(done(rt, String::from_str(alloc, "objectClass")));
     let either = Filter::Or(two(rt, alloc, named(rt, alloc, b"Babs"), present));
@@ -45,7 +45,7 @@ fn a_filter_of_filters(rt: HostRuntime) {
     holds(&rt, found.as_slice() == wanted.as_slice());
 }
 
-/// It asks for the attribute `cn` with this value.
+/// Returns whether a filter asks for the attribute `cn` with this value.
 fn is_named(found: &Found, value: &[u8]) -> bool {
     match found {
         Found::Equal { name, value: own } => name.as_slice() == b"cn".as_slice()
@@ -54,7 +54,7 @@ fn is_named(found: &Found, value: &[u8]) -> bool {
     }
 }
 
-/// `(|(cn=Babs)(objectClass=*))`.
+/// Returns whether a filter is `(|(cn=Babs)(objectClass=*))`.
 fn is_either(found: &Found) -> bool {
     match found {
         Found::Or(filters) if filters.len() == 2 => {
@@ -68,7 +68,7 @@ fn is_either(found: &Found) -> bool {
     }
 }
 
-/// `(!(cn=Tim))`.
+/// Returns whether a filter is `(!(cn=Tim))`.
 fn is_other(found: &Found) -> bool {
     match found {
         Found::Not(filter) => is_named(filter, b"Tim"),
@@ -76,7 +76,7 @@ fn is_other(found: &Found) -> bool {
     }
 }
 
-/// The filter.
+/// Returns whether a filter is the one of these octets.
 fn is_filter(found: &Found) -> bool {
     match found {
         Found::And(filters) if filters.len() == 2 => {
@@ -93,7 +93,7 @@ fn a_filter_of_filters_is_read(rt: HostRuntime) {
     holds(&rt, is_filter(&found));
 }
 
-/// The octets are refused to this depth, by this text.
+/// Asserts that the octets are refused at this depth, with this text.
 fn is_refused(rt: &impl Abort, alloc: Global, depth: u8, octets: &[u8], text: &str) {
     let error = decode_filter(alloc, depth, octets)
         .err()
@@ -108,7 +108,7 @@ fn a_filter_of_deeper_filters_is_refused(rt: HostRuntime) {
     is_refused(&rt, rt.alloc(), 1, &octets, "filters nested too deep");
 }
 
-/// `not` of none and of two, a filter of another kind, and none.
+/// Tries `not` of no filter and of two, filters of another kind, and no value.
 #[test]
 fn what_is_no_filter_is_refused(rt: HostRuntime) {
     let alloc = rt.alloc();

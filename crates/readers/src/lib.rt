@@ -1,4 +1,4 @@
-//! Tests that run the readers of `user` on data from outside. What is expected is what `openssl
+//! Tests that run the readers of `user` on data from outside. The expected values are what `openssl
 //! asn1parse` shows of it.
 #![tactic(auto)]
 
@@ -66,15 +66,16 @@ const SIGNED: &str = "\
 31ebd135957cdfcd8f6be617793e5b56e88b3f3ba072024fc749164d408b022100efebee83c4118d0ff6b8be5f35e9dc\
 251fe15bd4d840c44cce33282d2c6db4ce";
 
-/// The same without certificates and attributes, and with the identifier of its signer's key.
+/// A signed message like `SIGNED`, without certificates and attributes, and with the identifier of
+/// the signer's key.
 const SIGNED_BY_KEY: &str = "\
 3081b906092a864886f70d010702a081ab3081a8020103310d300b0609608648016503040201301406092a864886f70d\
 010701a007040568656c6c6f317e307c0201038014e99878ffb45190c9d4ea736b64cb1c63c924998e300b0609608648\
 016503040201300a06082a8648ce3d04030204483046022100bcb76fd83c45054c4bf895e6a8d41bada1458e695b5854\
 5c7f867032a3f1b87b022100f7b9833480244ab1c5365ab1ff00fc1c4ec7f5d4c7a8964ba996fcdd58da1f2d";
 
-/// A signed message in BER, made with openssl cms in a stream: `hello`. Its segment was cut into two by hand;
-/// openssl takes the signature of it still.
+/// A signed message in BER, made with openssl cms in a stream: `hello`. Its segment was cut into
+/// two by hand; openssl still accepts its signature.
 const SIGNED_IN_SEGMENTS: &str = "\
 308006092a864886f70d010702a0803080020101310d300b0609608648016503040201308006092a864886f70d010701\
 a08024800402686504036c6c6f0000000000003181b53081b2020101304a3032310b3009060355040613024e4c310d30\
@@ -83,7 +84,7 @@ a08024800402686504036c6c6f0000000000003181b53081b2020101304a3032310b300906035504
 8a3424e44ba7f2c91bc1fc81412bf575b36194a2cbcb8140022100aa2f6ae4f696b533350483802baef3c46d009b7b5d\
 9deb6e0ff18133a2b989b0000000000000";
 
-/// The blocks of addresses of RFC 3779, appendix B: five of IPv4, and all of the issuer's of IPv6.
+/// The blocks of addresses of RFC 3779, appendix B: five of IPv4, and for IPv6 all of the issuer's.
 const ADDRESSES: &str = "\
 3035302b040300010130240304040a00200304000a00400303000a01300c0304040a02300304000a02400303000a0330\
 06040200020500";
@@ -151,7 +152,7 @@ fn reads_blocks_of_addresses(rt: HostRuntime) -> Result<(), Fail> {
     Ok(())
 }
 
-/// Steps without an end, which take nothing, over the content of a SEQUENCE.
+/// Repeats a step that takes nothing, without an end, over the content of a SEQUENCE.
 #[tactic(auto, using(bcder::specs::laws::Moved::untouched_is_moved))]
 fn stay<S: Source>(cons: &mut Constructed<'_, S>) -> Result<(), DecodeError<S::Error>>
     ensures { Moved S.stream cons }

@@ -1,4 +1,5 @@
-//! The validity of a certificate that openssl made. The times are those that openssl shows.
+//! Tests of the validity of a certificate that openssl made. The expected times are those that
+//! openssl shows.
 
 use crate::CERTIFICATE;
 use std::test::Fail;

@@ -1,6 +1,8 @@
-//! Tests that write a request as `writers` does, read what extensions say, and write and read
-//! numbers, identifiers and octets. What is expected of the first two is what openssl wrote, and
-//! what `openssl asn1parse` shows of it; of the others it is worked out by hand.
+//! Tests that write a request as `writers` does, read extensions, and write and read numbers,
+//! identifiers and octets.
+//!
+//! For requests and extensions the expected values are what openssl wrote, and what `openssl
+//! asn1parse` shows of it. The others are worked out by hand.
 ghost use Rattle.bcder.specs.calls.Views.{Moved, MovedOctets};
 
 use crate::asserts::holds;
@@ -24,7 +26,7 @@ const REQUEST: &str = "\
 55c5c9bba9e74490db62f61bcebfcf181a77c3e69a90a312c06c71112f8dfe005cb47bf8f3d5146c77a017301506092a\
 864886f70d01090731080c06736563726574";
 
-/// The contents octets of its key.
+/// The contents octets of the key.
 const KEY: &str = "\
 00042e4381ade79c967d2da11600cde454b67eb64324f51b0f55c5c9bba9e74490db62f61bcebfcf181a77c3e69a90a3\
 12c06c71112f8dfe005cb47bf8f3d5146c77";
@@ -35,7 +37,7 @@ const EXTENSIONS: &str = "\
 92d3d298d07ec0ac24c8ace602aa2d0ef45630120603551d130101ff040830060101ff020103300e0603551d0f0101ff\
 040403020106";
 
-/// 2.5.4.10.
+/// The object identifier 2.5.4.10.
 const ORGANIZATION: ConstOid = Oid(&[0x55, 0x04, 0x0A]);
 
 #[test]
@@ -110,7 +112,7 @@ fn extensions_by_their_identifiers(rt: HostRuntime) -> Result<(), Fail> {
     Ok(())
 }
 
-/// Basic constraints that hold an INTEGER in place of a SEQUENCE.
+/// Tries basic constraints that hold an INTEGER in place of a SEQUENCE.
 #[test]
 fn other_basic_constraints_are_refused(rt: HostRuntime) {
     let octets: &[u8] = &[
@@ -119,7 +121,7 @@ fn other_basic_constraints_are_refused(rt: HostRuntime) {
     holds(&rt, decode_extensions(rt.alloc(), octets).is_err());
 }
 
-/// An integer, one that isn't negative, and an identifier, inside a SEQUENCE.
+/// Takes an integer, one that isn't negative, and an object identifier, inside a SEQUENCE.
 #[tactic(auto, using(bcder::specs::laws::Moved::untouched_is_moved))]
 fn take_three<S: Source>(
     alloc: Global,
@@ -166,7 +168,7 @@ fn numbers_and_identifiers(rt: HostRuntime) -> Result<(), Fail> {
     Ok(())
 }
 
-/// How many octets are lent, and how many are left then.
+/// Returns how many octets are borrowed, and how many are left after that.
 #[tactic(auto, using(bcder::specs::laws::Moved::untouched_is_moved))]
 fn look_and_take<S: Source>(
     octets: &mut Primitive<'_, S>,
@@ -188,7 +190,7 @@ fn octets_are_lent_and_left(rt: HostRuntime) -> Result<(), Fail> {
     Ok(())
 }
 
-/// The value has these contents octets in DER.
+/// Asserts that the value has these contents octets in DER.
 fn is_octets<P: PrimitiveContent>(
     rt: &impl Abort,
     alloc: Global,

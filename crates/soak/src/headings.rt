@@ -1,9 +1,9 @@
-//! The headings of a value and of those inside it, by the plain reader's look at headers.
+//! Finds the headings of a value and of those inside it, by the plain reader's look at headers.
 use bcder::plain::{end_at, front_at, skip_one};
 use bcder::{Mode, Tag};
 use std::alloc::{AllocError, Global};
 
-/// The tag and the form of a value, and how many values it stands inside.
+/// The tag and the form of a value, and the number of values around it.
 #[derive(Clone, Copy, Debug, PartialEq)]
 pub struct Heading {
     pub tag: Tag,
@@ -11,10 +11,11 @@ pub struct Heading {
     pub depth: usize,
 }
 
-/// Where the contents of a value end, by the number of octets left; none where octets mark the end.
+/// Where the contents of a value end, by the number of octets left, or `None` if end-of-contents
+/// octets mark the end.
 type End = Option<usize>;
 
-/// Leaves the values that end in front of these octets, and answers what stands behind their ends.
+/// Leaves the values that end before these octets, and returns what follows their ends.
 fn leave<'a>(mode: Mode, ends: &mut Vec<End>, octets: &'a [u8]) -> &'a [u8] {
     let mut rest = octets;
     for _ in 0..ends.len() {
@@ -31,7 +32,7 @@ fn leave<'a>(mode: Mode, ends: &mut Vec<End>, octets: &'a [u8]) -> &'a [u8] {
     rest
 }
 
-/// The headings of the value that these octets are.
+/// Returns the headings of the value that these octets are.
 pub fn headings_of(alloc: Global, mode: Mode, octets: &[u8]) -> Result<Vec<Heading>, AllocError> {
     let mut headings = Vec::new(alloc);
     let mut ends = Vec::new(alloc);
@@ -59,7 +60,7 @@ pub fn headings_of(alloc: Global, mode: Mode, octets: &[u8]) -> Result<Vec<Headi
     Ok(headings)
 }
 
-/// How many octets the value at the front takes, by the plain reader.
+/// Returns how many octets the value that comes next has, by the plain reader.
 pub fn size_of(mode: Mode, octets: &[u8]) -> Option<usize> {
     let rest = skip_one(mode, octets)?;
     octets.len().checked_sub(rest.len())

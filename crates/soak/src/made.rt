@@ -1,19 +1,19 @@
-//! Octets that are values by the rules of a mode, made without the library, and such octets spoiled.
+//! Makes octets that are values in a mode, without the library, and spoils such octets.
 use crate::random::Random;
 use bcder::Mode;
 use std::alloc::{AllocError, Global};
 use std::convert::TryFrom;
 
-/// Values, one behind the other.
+/// Values, one after the other.
 #[derive(Drop)]
 pub struct Made {
     octets: Vec<u8>,
 
-    /// Where each of them begins.
+    /// Where each of the values begins.
     starts: Vec<usize>,
 }
 
-/// Adds identifier octets of any class (X.690, 8.1.2), one in four in the long form.
+/// Appends identifier octets of any class (X.690, 8.1.2), one in four in the long form.
 fn put_identifier(
     random: &mut Random,
     constructed: bool,
@@ -39,7 +39,8 @@ fn put_identifier(
     }
 }
 
-/// Adds length octets of the definite form (8.1.3), in BER one in four with more than it takes.
+/// Appends length octets of the definite form (8.1.3). In BER one in four has more octets than
+/// needed.
 fn put_length(
     random: &mut Random,
     mode: Mode,
@@ -69,7 +70,7 @@ fn put_length(
     Ok(())
 }
 
-/// Adds end-of-contents octets (8.1.5), in BER one in eight with a length of the long form.
+/// Appends end-of-contents octets (8.1.5). In BER one in eight has a length of the long form.
 fn put_end(random: &mut Random, mode: Mode, octets: &mut Vec<u8>) -> Result<(), AllocError> {
     if mode != Mode::Ber || !random.one_of(8) {
         return octets.extend_from_slice(&[0x00, 0x00]);
@@ -103,7 +104,7 @@ impl Made {
         Ok(())
     }
 
-    /// Puts the last values, `count` of them, inside a constructed one.
+    /// Puts the last `count` values inside a constructed one.
     fn enclose(
         &mut self,
         alloc: Global,
@@ -136,7 +137,7 @@ impl Made {
     }
 }
 
-/// Octets that are one value or a few.
+/// Returns octets that are one value or a few.
 pub fn values(alloc: Global, random: &mut Random, mode: Mode) -> Result<Vec<u8>, AllocError> {
     let mut made = Made::new(alloc);
     made.add(random, mode)?;
@@ -154,7 +155,7 @@ pub fn values(alloc: Global, random: &mut Random, mode: Mode) -> Result<Vec<u8>,
 /// Octets that headers are made of.
 const TELLING: [u8; 8] = [0x00, 0x04, 0x1F, 0x24, 0x30, 0x7F, 0x80, 0x81];
 
-/// The octets up to a place, others, and those from another place on.
+/// Returns the octets up to `to`, then `others`, then the octets from `from` on.
 fn spliced(
     alloc: Global,
     octets: &[u8],
@@ -168,8 +169,8 @@ fn spliced(
     Ok(whole)
 }
 
-/// The octets, of which half are changed: cut, with another octet or some more, or with a piece of
-/// them left out or doubled.
+/// Returns the octets, spoiled in half of the cases: cut, with another octet or some more, or with
+/// a piece of them left out or doubled.
 pub fn spoiled(alloc: Global, random: &mut Random, octets: Vec<u8>) -> Result<Vec<u8>, AllocError> {
     let at = random.below(octets.len());
     let to = random.below(octets.len().saturating_add(1));

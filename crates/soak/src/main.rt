@@ -1,7 +1,10 @@
-//! Makes values from a fixed seed, some of them spoiled, reads them in every way over three
-//! sources, and compares the answers, what is left and the headings with one another. Then it makes
-//! structures, has the encoders write them, and reads them back. What differs is printed in
-//! hexadecimal, and the status is then 1.
+//! Compares the readers with each other, and the encoders with the readers, on values made from a
+//! fixed seed.
+//!
+//! First it makes values, spoils some of them, and reads them in every way over three sources. It
+//! compares the answers, what is left and the headings with one another. Then it makes structures,
+//! has the encoders write them, and reads them back. What differs is printed in hexadecimal, and
+//! then the exit status is 1.
 #![tactic(auto, using(bcder::specs::laws::Moved::untouched_is_moved))]
 
 mod headings;
@@ -21,10 +24,10 @@ use std::alloc::Global;
 use std::fmt;
 use tally::Tally;
 
-/// How many values, and how many structures, are made by the rules of each mode.
+/// How many values, and how many structures, are made in each mode.
 const COUNT: u64 = 100_000;
 
-/// Answers differ.
+/// The error that answers differ.
 #[derive(Clone, Copy, Debug)]
 struct Differ;
 
@@ -36,8 +39,8 @@ impl fmt::Display for Differ {
 
 impl std::error::Error for Differ {}
 
-/// Compares the readers on values that are made by the rules of a mode, read in that mode and, one
-/// in eight, in each other one.
+/// Compares the readers on values that are made in a mode. They are read in that mode and, one in
+/// eight, in each other one.
 fn read_values(rt: &HostRuntime, mode: Mode, random: &mut Random) -> Result<(), Error> {
     let alloc = rt.alloc();
     let mut tally = Tally::default();
@@ -65,7 +68,7 @@ fn read_values(rt: &HostRuntime, mode: Mode, random: &mut Random) -> Result<(), 
     Ok(())
 }
 
-/// Compares structures with what is written of them by the rules of a mode, and read back.
+/// Compares structures with what is written of them in a mode, and read back.
 fn write_values(rt: &HostRuntime, mode: Mode, random: &mut Random) -> Result<(), Error> {
     let alloc = rt.alloc();
     let mut tally = Tally::default();

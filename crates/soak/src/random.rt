@@ -1,6 +1,6 @@
-//! Numbers that follow from a seed, the same in each run.
+//! Returns numbers that follow from a seed, so that each run gets the same.
 
-/// A linear congruential generator of 64 bits (Knuth's), which gives the upper half of them.
+/// A linear congruential generator of 64 bits (Knuth's), which returns the upper half of them.
 #[derive(Clone, Copy, Debug)]
 pub struct Random {
     state: u64,
@@ -11,7 +11,7 @@ impl Random {
         Random { state: seed }
     }
 
-    /// The next number, of 32 bits.
+    /// Returns the next number, of 32 bits.
     fn next(&mut self) -> u64 {
         self.state = self
             .state
@@ -20,12 +20,12 @@ impl Random {
         self.state / 4_294_967_296
     }
 
-    /// A number below another one, or 0 where that is 0.
+    /// Returns a number below `bound`, or 0 if that is 0.
     pub fn below(&mut self, bound: usize) -> usize {
         (self.next() as usize).checked_rem(bound).unwrap_or(0)
     }
 
-    /// Whether a number of so many is the first.
+    /// Returns true once in `count` times, on average.
     pub fn one_of(&mut self, count: usize) -> bool {
         self.below(count) == 0
     }

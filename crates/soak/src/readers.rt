@@ -1,4 +1,4 @@
-//! Each way over the value at the front, over each source, against the plain reader.
+//! Compares each way over the next value, over each source, with the plain reader.
 ghost use Rattle.bcder.specs.calls.Views.{Moved};
 
 use crate::headings::{Heading, headings_of, size_of};
@@ -11,7 +11,7 @@ use bytes::Bytes;
 use std::alloc::{AllocError, Global};
 use support::sip::Sip;
 
-/// A call that passes over the next value.
+/// A call that skips or takes the next value.
 #[derive(Clone, Copy, Debug, PartialEq, Eq)]
 enum Way {
     Walk,
@@ -29,7 +29,7 @@ const WAYS: [Way; 5] = [
     Way::TakeValue,
 ];
 
-/// What the plain reader finds in front of octets.
+/// What the plain reader finds at the start of octets.
 #[derive(Drop)]
 struct Found<'a> {
     mode: Mode,
@@ -39,7 +39,7 @@ struct Found<'a> {
 }
 
 impl Found<'_> {
-    /// Whether a captured value has the octets of the one in front.
+    /// Returns whether a captured value has the octets of the one that was found.
     fn is_captured(&self, captured: &[u8]) -> bool {
         match self.size {
             Some(size) => self.octets.get(..size) == Some(captured),
@@ -48,7 +48,7 @@ impl Found<'_> {
     }
 }
 
-/// Skips the next value, and answers whether it has the headings that were found.
+/// Skips the next value, and returns whether it has the headings that were found.
 #[tactic(auto, using(bcder::specs::laws::Moved::steps))]
 fn skips<S: Source>(
     cons: &mut Constructed<'_, S>,
@@ -88,7 +88,7 @@ fn takes<S: Source>(
     Ok(taken.is_some())
 }
 
-/// Whether a value was passed over as it was found. The refusal of a capture is dropped.
+/// Returns whether a value was skipped as it was found. The error of a capture is dropped.
 #[tactic(auto, using(bcder::specs::laws::Moved::steps))]
 fn passes<S: Source>(
     cons: &mut Constructed<'_, S>,
@@ -110,8 +110,8 @@ fn passes<S: Source>(
     }
 }
 
-/// Whether a way answers and leaves what the plain reader says. A refused capture leaves all
-/// octets, and content that `decode` doesn't refuse.
+/// Returns whether a call gives the result of the plain reader, and leaves what that leaves. A
+/// refused capture leaves all octets, and content that `decode` doesn't refuse.
 fn is_same<S: Source>(source: &mut S, alloc: Global, way: Way, found: &Found<'_>) -> bool {
     let count = found.octets.len();
     match found
@@ -127,7 +127,7 @@ fn is_same<S: Source>(source: &mut S, alloc: Global, way: Way, found: &Found<'_>
     }
 }
 
-/// Compares all ways over all sources with the plain reader, which finds these octets in front.
+/// Compares all ways over all sources with what the plain reader finds in these octets.
 pub fn compare(
     alloc: Global,
     mode: Mode,

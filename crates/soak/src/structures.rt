@@ -1,10 +1,10 @@
-//! Structures of values, made without the library, and the octets that are written of them.
+//! Makes structures of values, without the library, and the octets that are to be written of them.
 use crate::random::Random;
 use bcder::{Mode, Tag};
 use std::alloc::{AllocError, Global};
 use std::convert::TryFrom;
 
-/// What a constructed value is tagged by.
+/// The tag of a constructed value.
 #[derive(Clone, Copy, Debug, PartialEq, Eq)]
 pub enum Kind {
     Sequence,
@@ -13,7 +13,7 @@ pub enum Kind {
     Private(u32),
 }
 
-/// The last number of a tag that three octets behind the first tell.
+/// The largest number of a tag that fits three octets after the first.
 const LAST: u32 = 0x1F_FFFF;
 
 impl Kind {
@@ -26,7 +26,7 @@ impl Kind {
         }
     }
 
-    /// Its class and form, and its number (X.690, 8.1.2.2).
+    /// Returns the class and form, and the number (X.690, 8.1.2.2).
     fn identifier(self) -> (u8, u32) {
         match self {
             Kind::Sequence => (0x20, 16),
@@ -37,7 +37,7 @@ impl Kind {
     }
 }
 
-/// A part of a structure: a value, or what begins or ends one that others stand inside.
+/// A part of a structure: a value, or the beginning or the end of a value with others inside.
 #[derive(Drop)]
 pub enum Part {
     Begin(Kind),
@@ -52,7 +52,7 @@ pub enum Part {
     /// An object identifier, by its contents octets.
     Identifier(Vec<u8>),
 
-    /// Bits, by their octets, of which so many at the end aren't used.
+    /// Bits, by the number of those that aren't used at the end, and their octets.
     Bits(u8, Vec<u8>),
     Octets(Vec<u8>),
 
@@ -60,7 +60,7 @@ pub enum Part {
     Text(Vec<u8>),
 }
 
-/// Random octets, fewer than so many.
+/// Returns random octets, fewer than `most`.
 fn octets(alloc: Global, random: &mut Random, most: usize) -> Result<Vec<u8>, AllocError> {
     let mut octets = Vec::new(alloc);
     for _ in 0..random.below(most) {
@@ -69,12 +69,12 @@ fn octets(alloc: Global, random: &mut Random, most: usize) -> Result<Vec<u8>, Al
     Ok(octets)
 }
 
-/// How many octets a string has at most: one in 64 has so many that CER cuts it.
+/// Returns how many octets a string has at most. One in 64 may be so long that CER cuts it.
 fn most(random: &mut Random) -> usize {
     if random.one_of(64) { 3300 } else { 20 }
 }
 
-/// A text of printable letters.
+/// Returns a text of printable letters.
 fn text(alloc: Global, random: &mut Random) -> Result<Vec<u8>, AllocError> {
     let most = most(random);
     let mut text = octets(alloc, random, most)?;
@@ -84,7 +84,7 @@ fn text(alloc: Global, random: &mut Random) -> Result<Vec<u8>, AllocError> {
     Ok(text)
 }
 
-/// A number of any number of bits.
+/// Returns a number of any number of bits.
 fn number(random: &mut Random) -> i128 {
     let mut octets = [0u8; 16];
     for octet in &mut octets {
@@ -94,7 +94,8 @@ fn number(random: &mut Random) -> i128 {
     i128::from_be_bytes(octets).wrapping_shr(bits)
 }
 
-/// The contents octets of an object identifier: one to four subidentifiers, of up to three octets.
+/// Returns the contents octets of an object identifier: one to four subidentifiers, of up to three
+/// octets.
 fn identifier(alloc: Global, random: &mut Random) -> Result<Vec<u8>, AllocError> {
     let mut octets = Vec::new(alloc);
     for _ in 0..=random.below(4) {
@@ -108,7 +109,7 @@ fn identifier(alloc: Global, random: &mut Random) -> Result<Vec<u8>, AllocError>
     Ok(octets)
 }
 
-/// A value that no others stand inside.
+/// Returns a value without values inside.
 fn value(alloc: Global, random: &mut Random) -> Result<Part, AllocError> {
     Ok(match random.below(8) {
         0 => Part::Truth(random.one_of(2)),
@@ -137,7 +138,7 @@ fn value(alloc: Global, random: &mut Random) -> Result<Part, AllocError> {
     })
 }
 
-/// A structure of up to 12 parts and their ends, one behind the other.
+/// Returns a structure of up to 12 parts and their ends, in order.
 pub fn structure(alloc: Global, random: &mut Random) -> Result<Vec<Part>, AllocError> {
     let mut parts = Vec::new(alloc);
     let mut open = 0usize;
@@ -166,7 +167,7 @@ pub fn structure(alloc: Global, random: &mut Random) -> Result<Vec<Part>, AllocE
     Ok(parts)
 }
 
-/// Adds identifier octets (8.1.2).
+/// Appends identifier octets (8.1.2).
 fn put_identifier(class_and_form: u8, number: u32, octets: &mut Vec<u8>) -> Result<(), AllocError> {
     let [_, high, middle, low] = number.to_be_bytes();
     if number < 31 {
@@ -184,7 +185,7 @@ fn put_identifier(class_and_form: u8, number: u32, octets: &mut Vec<u8>) -> Resu
     Ok(octets.push(low & 0x7F)?)
 }
 
-/// Adds length octets of the definite form, as few as can be (8.1.3, 10.1).
+/// Appends the fewest length octets of the definite form (8.1.3, 10.1).
 fn put_length(len: usize, octets: &mut Vec<u8>) -> Result<(), AllocError> {
     let [high, middle, upper, low] = u32::try_from(len).unwrap_or(0).to_be_bytes();
     match len {
@@ -195,14 +196,14 @@ fn put_length(len: usize, octets: &mut Vec<u8>) -> Result<(), AllocError> {
     }
 }
 
-/// Adds a primitive value of a universal tag below 31.
+/// Appends a primitive value with a universal tag below 31.
 fn put(tag: u8, contents: &[u8], octets: &mut Vec<u8>) -> Result<(), AllocError> {
     octets.push(tag)?;
     put_length(contents.len(), octets)?;
     octets.extend_from_slice(contents)
 }
 
-/// The fewest octets of a number in two's complement (8.3.2).
+/// Returns the fewest octets of a number in two's complement (8.3.2).
 fn fewest(digits: &[u8]) -> &[u8] {
     let mut rest = digits;
     for _ in 0..digits.len() {
@@ -216,7 +217,7 @@ fn fewest(digits: &[u8]) -> &[u8] {
     rest
 }
 
-/// The contents octets of a number that isn't negative.
+/// Returns the contents octets of a number that isn't negative.
 pub fn unsigned(alloc: Global, digits: &[u8]) -> Result<Vec<u8>, AllocError> {
     let mut octets = Vec::new(alloc);
     octets.push(0x00)?;
@@ -224,7 +225,7 @@ pub fn unsigned(alloc: Global, digits: &[u8]) -> Result<Vec<u8>, AllocError> {
     fewest(&octets).to_vec(alloc)
 }
 
-/// The octets of bits in a mode: in CER and DER those that aren't used are zero (11.2.1).
+/// Returns the octets of bits in a mode. In CER and DER those that aren't used are zero (11.2.1).
 pub fn padded(alloc: Global, mode: Mode, unused: u8, octets: &[u8]) -> Result<Vec<u8>, AllocError> {
     let mut padded = octets.to_vec(alloc)?;
     if mode != Mode::Ber {
@@ -236,7 +237,7 @@ pub fn padded(alloc: Global, mode: Mode, unused: u8, octets: &[u8]) -> Result<Ve
     Ok(padded)
 }
 
-/// Adds a string, in CER of over 1000 octets in segments of 1000 (9.2).
+/// Appends a string, which in CER is in segments of 1000 octets if it has more (9.2).
 fn put_string(mode: Mode, tag: u8, string: &[u8], octets: &mut Vec<u8>) -> Result<(), AllocError> {
     if mode != Mode::Cer || string.len() <= 1000 {
         return put(tag, string, octets);
@@ -248,7 +249,7 @@ fn put_string(mode: Mode, tag: u8, string: &[u8], octets: &mut Vec<u8>) -> Resul
     octets.extend_from_slice(&[0x00, 0x00])
 }
 
-/// Adds a value that no others stand inside.
+/// Appends a value without values inside.
 fn put_value(
     alloc: Global,
     mode: Mode,
@@ -272,8 +273,8 @@ fn put_value(
     }
 }
 
-/// The octets of a structure by the rules of a mode, which a BER encoder writes as a DER encoder
-/// does, but for bits that aren't used.
+/// Returns the octets of a structure in a mode. A BER encoder writes it as a DER encoder does,
+/// except for bits that aren't used.
 pub fn octets_of(alloc: Global, mode: Mode, parts: &[Part]) -> Result<Vec<u8>, AllocError> {
     let mut octets = Vec::new(alloc);
     let mut outer = Vec::new(alloc);

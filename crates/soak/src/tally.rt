@@ -1,4 +1,4 @@
-//! Answers that were compared.
+//! Counts answers that were compared.
 
 /// How many answers were compared, of how many values, and whether one differs.
 #[derive(Clone, Copy, Debug, Default)]
@@ -10,7 +10,7 @@ pub struct Tally {
 }
 
 impl Tally {
-    /// Counts an answer that is the wanted one, or is not.
+    /// Counts an answer, which is the wanted one or isn't.
     pub fn count(&mut self, same: bool) {
         self.compared = self.compared.saturating_add(1);
         if !same {

@@ -1,4 +1,4 @@
-//! Structures that the encoders write, and that are read back.
+//! Compares structures that the encoders write, and that are read back.
 ghost use Rattle.bcder.specs.calls.Views.{Moved};
 
 use crate::random::Random;
@@ -28,7 +28,7 @@ fn write_number(number: i128, target: &mut CapturedBuilder) -> Result<(), Error>
     Ok(target.extend(number.encode())?)
 }
 
-/// The bit string of up to 1000 octets, of which so many bits aren't used.
+/// Returns the bit string of up to 1000 octets, with this number of unused bits.
 fn bits_of(alloc: Global, unused: u8, octets: &[u8]) -> Result<BitString, Error> {
     if octets.is_empty() || octets.len() > 1000 || unused > 7 {
         return Ok(BitString::new(0, Bytes::new()));
@@ -55,7 +55,7 @@ fn write_string(alloc: Global, part: &Part, target: &mut CapturedBuilder) -> Res
     }
 }
 
-/// Writes a value that no others stand inside.
+/// Writes a value without values inside.
 fn write_value(alloc: Global, part: &Part, target: &mut CapturedBuilder) -> Result<(), Error> {
     match part {
         Part::Truth(truth) => Ok(target.extend(truth.encode())?),
@@ -98,7 +98,7 @@ fn write(alloc: Global, mode: Mode, parts: &[Part]) -> Result<Captured, Error> {
     Ok(target.freeze()?)
 }
 
-/// Takes a number or an identifier, and answers whether it is that of a part.
+/// Takes a number or an object identifier, and returns whether it is that of a part.
 fn takes_number<S: Source>(
     cons: &mut Constructed<'_, S>,
     alloc: Global,
@@ -124,7 +124,7 @@ fn takes_number<S: Source>(
     }
 }
 
-/// Takes a string, and answers whether it is that of a part.
+/// Takes a string, and returns whether it is that of a part.
 fn takes_string<S: Source>(
     cons: &mut Constructed<'_, S>,
     alloc: Global,
@@ -148,7 +148,7 @@ fn takes_string<S: Source>(
     }
 }
 
-/// Takes a value that no others stand inside, and answers whether it is a part.
+/// Takes a value without values inside, and returns whether it is a part.
 fn takes<S: Source>(
     cons: &mut Constructed<'_, S>,
     alloc: Global,
@@ -172,7 +172,7 @@ fn takes<S: Source>(
     }
 }
 
-/// Takes a constructed value out of values, and answers what stands inside.
+/// Takes a constructed value out of values, and returns what is inside.
 #[tactic(auto, using(bcder::specs::laws::Moved::steps))]
 fn open(alloc: Global, values: &mut Captured, kind: Kind) -> Option<Captured> {
     let taken = values.decode_partial(|cons| {
@@ -181,14 +181,14 @@ fn open(alloc: Global, values: &mut Captured, kind: Kind) -> Option<Captured> {
     taken.ok()
 }
 
-/// Takes the next value, and answers whether it is a part.
+/// Takes the next value, and returns whether it is a part.
 #[tactic(auto, using(bcder::specs::laws::Moved::steps))]
 fn is_next(alloc: Global, values: &mut Captured, part: &Part) -> bool {
     let taken = values.decode_partial(|cons| takes(cons, alloc, part));
     taken.is_ok_and(|same| same)
 }
 
-/// Whether values are those of a structure.
+/// Returns whether values are those of a structure.
 fn is_read(alloc: Global, values: Captured, parts: &[Part]) -> Result<bool, Error> {
     let mut values = values;
     let mut outer = Vec::new(alloc);
@@ -221,8 +221,8 @@ fn is_read(alloc: Global, values: Captured, parts: &[Part]) -> Result<bool, Erro
     Ok(values.as_slice().is_empty())
 }
 
-/// Compares what is written of a structure with its octets, and what is read of them with it.
-/// Answers whether all is the same.
+/// Compares what is written of a new structure with its octets, and what is read of them with the
+/// structure. Returns the octets if anything differs.
 pub fn compare(
     alloc: Global,
     mode: Mode,

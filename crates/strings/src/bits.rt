@@ -1,4 +1,4 @@
-//! Bit strings: worked values, as they are read and written.
+//! Tests of bit strings: worked values, as they are read and written.
 #![tactic(auto, using(bcder::specs::laws::Moved::steps))]
 
 ghost use Rattle.bcder.specs.calls.Views.{Moved};
@@ -31,7 +31,7 @@ const READERS: [Reader; 4] = [
     Reader::SkipContent,
 ];
 
-/// The next value, or nothing where it was passed over.
+/// Reads the next value, or returns `None` if the reader skipped it.
 fn read<S: Source>(
     cons: &mut Constructed<'_, S>,
     alloc: Global,
@@ -66,7 +66,7 @@ const BER: [bool; 3] = [true, false, false];
 
 const NONE: [bool; 3] = [false, false, false];
 
-/// What bcder is tested with; the example of X.690, 8.6.4.2; and what is none.
+/// What bcder is tested with, the example of X.690, 8.6.4.2, and octets that aren't bit strings.
 const ROWS: [Row; 20] = [
     (
         &[0x03, 0x07, 0x04, 0x64, 0x65, 0x61, 0x64, 0x62, 0xD0],
@@ -135,7 +135,7 @@ const ROWS: [Row; 20] = [
     (&[0x23, 0x00], NONE, 0, &[], 0),
 ];
 
-/// A reader answers what the row says.
+/// Checks that a reader returns what the row says.
 fn check<S: Source>(
     rt: &impl Abort,
     alloc: Global,
@@ -163,7 +163,7 @@ fn check<S: Source>(
     }
 }
 
-/// Each reader answers so over each source.
+/// Checks that each reader returns what the row says, over each source.
 fn check_row(rt: &impl Abort, alloc: Global, mode: Mode, row: &Row, taken: bool) {
     for reader in READERS {
         let octets = row.0;
@@ -207,14 +207,15 @@ fn values_that_are_read(rt: HostRuntime) {
     }
 }
 
-/// Octets behind a header and an unused count of 0.
+/// Returns the octets of `zeros` after a header and an unused count of 0, which are `front`.
 fn behind(rt: &impl Abort, alloc: Global, front: &[u8], zeros: &[u8]) -> Vec<u8> {
     let mut octets = done(rt, front.to_vec(alloc));
     done(rt, octets.extend_from_slice(zeros));
     octets
 }
 
-/// What is read of octets in a mode: how many octets with bits, if any.
+/// Reads octets in a mode, and returns how many octets with bits they have, or `None` if they are
+/// refused.
 fn octets_read(rt: &impl Abort, alloc: Global, mode: Mode, octets: &[u8]) -> Option<usize> {
     let mut source = sip(rt, alloc, octets);
     let skipped = mode.decode_lent(
@@ -233,7 +234,7 @@ fn octets_read(rt: &impl Abort, alloc: Global, mode: Mode, octets: &[u8]) -> Opt
     }
 }
 
-/// CER has a primitive string of at most 1000 contents octets (X.690, 9.2).
+/// Checks that a primitive string in CER has at most 1000 contents octets (X.690, 9.2).
 #[test]
 fn long_values_that_are_read(rt: HostRuntime) {
     let zeros = [0u8; 1000];
@@ -277,7 +278,7 @@ fn octets_one_by_one(rt: HostRuntime) {
     same(&rt, places.count(), 2);
 }
 
-/// The bit string that octets are in BER.
+/// Returns the bit string that octets are in BER.
 fn bits_of(rt: &impl Abort, alloc: Global, octets: &[u8]) -> BitString {
     let taken = Mode::Ber.decode(
         shared(rt, alloc, octets),
@@ -286,7 +287,7 @@ fn bits_of(rt: &impl Abort, alloc: Global, octets: &[u8]) -> BitString {
     done(rt, taken)
 }
 
-/// Unused bits are compared too.
+/// Checks that unused bits are compared too.
 #[test]
 fn equal_bit_strings(rt: HostRuntime) {
     let alloc = rt.alloc();
@@ -333,13 +334,13 @@ fn bit_strings_of_several_octets(rt: HostRuntime) {
     );
 }
 
-/// A bit string of so many octets 00, of which no bits are unused.
+/// Returns a bit string of 999 octets `00` if `few`, else of 1000, without unused bits.
 fn zeros_of(rt: &impl Abort, alloc: Global, zeros: &[u8; 1000], few: bool) -> BitString {
     let octets = if few { &zeros[..999] } else { &zeros[..] };
     BitString::new(0, done(rt, Bytes::copy_from_slice(alloc, octets)))
 }
 
-/// CER has a primitive string of at most 1000 contents octets (X.690, 9.2).
+/// Checks that a primitive string in CER has at most 1000 contents octets (X.690, 9.2).
 #[test]
 fn long_slices_in_cer(rt: HostRuntime) {
     let alloc = rt.alloc();
@@ -376,7 +377,7 @@ fn long_bit_strings_in_cer(rt: HostRuntime) {
     writes(&rt, alloc, &long.encode_ref(), Mode::Der, &basic);
 }
 
-/// Contents octets alone.
+/// Checks contents octets without a header.
 #[test]
 fn contents_of_bit_strings(rt: HostRuntime) {
     let alloc = rt.alloc();

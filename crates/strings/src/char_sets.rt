@@ -1,4 +1,5 @@
-//! Character sets: which octets are strings, and which characters these spell (X.680, 41; RFC 3629).
+//! Tests of character sets: which octets are strings, and which characters these spell (X.680, 41;
+//! RFC 3629).
 use crate::asserts::{done, holds, same};
 use crate::string_octets::read;
 use bcder::string::{
@@ -10,7 +11,7 @@ use std::process::Abort;
 use std::str;
 use user::latin_1::Latin1;
 
-/// The characters of octets, one after the other.
+/// Returns the characters of octets, in order.
 fn spelled<L: CharSet>(
     rt: &impl Abort,
     alloc: Global,
@@ -29,7 +30,7 @@ fn spelled<L: CharSet>(
     None
 }
 
-/// Octets spell a text of the set, or are none of its strings.
+/// Checks that octets spell a text of the set, or aren't one of its strings.
 fn spell<L: CharSet>(rt: &impl Abort, alloc: Global, octets: &[u8], wanted: Option<&str>) {
     let found = spelled::<L>(rt, alloc, OctetStringOctets::new(octets), octets.len());
     same(rt, found.as_deref(), wanted);
@@ -42,8 +43,8 @@ fn spell<L: CharSet>(rt: &impl Abort, alloc: Global, octets: &[u8], wanted: Opti
 
 // ---- UTF-8
 
-/// The first and the last character of each length, and beside the surrogates; and what is next to
-/// them.
+/// The first and the last character of each length, and those beside the surrogates, with their
+/// neighbours.
 const BOUNDARIES: [(&[u8], Option<&str>); 24] = [
     (&[], Some("")),
     (&[0x00], Some("\u{0}")),
@@ -79,7 +80,7 @@ fn utf8_at_its_boundaries(rt: HostRuntime) {
     }
 }
 
-/// Each first octet with each second octet, and up to two tails behind them, is what std says.
+/// Checks each first octet with each second octet, and up to two tails after them, against std.
 #[test]
 fn utf8_as_std_has_it(rt: HostRuntime) {
     let alloc = rt.alloc();
@@ -147,7 +148,7 @@ const NUMERIC: &[u8] = b"0123456789 ";
 const PRINTABLE: &[u8] =
     b"ABCDEFGHIJKLMNOPQRSTUVWXYZabcdefghijklmnopqrstuvwxyz0123456789 '()+,-./:=?";
 
-/// One octet is the character of its number, where the set has it.
+/// Checks that one octet is the character with its number, if the set has that.
 fn has<L: CharSet>(rt: &impl Abort, alloc: Global, octet: u8, wanted: bool) {
     let mut text = String::new(alloc);
     done(rt, text.push(octet as char));
@@ -166,7 +167,7 @@ fn each_octet_is_a_character_or_none(rt: HostRuntime) {
     }
 }
 
-/// What stands behind the first octet counts, and the first.
+/// Checks that the first octet counts, and those after it.
 #[test]
 fn each_octet_counts(rt: HostRuntime) {
     let alloc = rt.alloc();
@@ -179,7 +180,7 @@ fn each_octet_counts(rt: HostRuntime) {
 
 // ---- octets of a text
 
-/// The octets of a text are these, or the set hasn't its characters.
+/// Checks that a text gives these octets, or that the set lacks one of its characters.
 fn gives<L: CharSet>(rt: &impl Abort, alloc: Global, text: &str, wanted: Option<&[u8]>) {
     match L::from_str(alloc, text) {
         Ok(octets) => same(rt, Some(octets.as_slice()), wanted),

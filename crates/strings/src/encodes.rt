@@ -1,11 +1,11 @@
-//! What encoders write, compared: octets, sizes and refusals.
+//! Assertions on what encoders write: octets, sizes and refusals.
 use crate::asserts::{holds, same};
 use bcder::Mode;
 use bcder::encode::{EncodeError, Values, WriteError};
 use std::alloc::Global;
 use std::process::Abort;
 
-/// The values are written as these octets, and their size is told.
+/// Asserts that the values are written as these octets, and that `encoded_len` is their number.
 pub fn writes<V: Values>(rt: &impl Abort, alloc: Global, values: &V, mode: Mode, wanted: &[u8])
     requires { V.can_encode values.now }
 {
@@ -15,7 +15,7 @@ pub fn writes<V: Values>(rt: &impl Abort, alloc: Global, values: &V, mode: Mode,
     same(rt, values.encoded_len(mode), Ok(wanted.len()));
 }
 
-/// The values are refused for this reason, and nothing is written.
+/// Asserts that the values are refused for this reason, and nothing is written.
 pub fn refuses<V: Values>(
     rt: &impl Abort,
     alloc: Global,
@@ -34,7 +34,8 @@ pub fn refuses<V: Values>(
     same(rt, values.encoded_len(mode), Err(wanted));
 }
 
-/// The values have so many octets in each mode, or are refused for this reason and not written.
+/// Asserts that the values have this number of octets in each mode, or are refused for this reason
+/// and not written.
 pub fn sizes<V: Values>(
     rt: &impl Abort,
     alloc: Global,

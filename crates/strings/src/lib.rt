@@ -1,4 +1,4 @@
-//! Tests of strings over the library, with values from outside that are no lines of data: bit
+//! Tests of strings over the library, with values from outside that aren't lines of data: bit
 //! strings, octet strings and restricted character strings, as they are read and written. There is
 //! one module for each subject.
 #![tactic(auto)]

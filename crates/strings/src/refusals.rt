@@ -1,5 +1,5 @@
-//! Octets that mean nothing are refused for what they are, also where memory would be asked for if
-//! they meant something.
+//! Tests that octets that mean nothing are refused for what they are, even if a reader would
+//! allocate for octets that mean something.
 #![tactic(auto, using(bcder::specs::laws::Moved::steps))]
 
 use crate::asserts::{done, holds};
@@ -10,7 +10,7 @@ use bcder::{BitString, Integer, Mode, OctetString, Oid, Unsigned};
 use std::alloc::Global;
 use std::process::Abort;
 
-/// A reader that takes memory.
+/// A reader that allocates.
 #[derive(Clone, Copy)]
 enum Reader {
     Integer,
@@ -23,7 +23,7 @@ enum Reader {
     All,
 }
 
-/// Whether a call was refused for the octets.
+/// Returns whether a call was refused for the octets.
 fn for_octets<T: Drop, E: Drop>(outcome: Result<T, DecodeError<E>>) -> bool {
     match outcome {
         Ok(_) => false,
@@ -31,7 +31,7 @@ fn for_octets<T: Drop, E: Drop>(outcome: Result<T, DecodeError<E>>) -> bool {
     }
 }
 
-/// Whether a reader refuses what stands in front for the octets.
+/// Returns whether a reader refuses the next value for its octets.
 fn refuses<S: Source>(alloc: Global, mode: Mode, source: &mut S, reader: Reader) -> bool {
     match reader {
         Reader::Integer => {
@@ -55,7 +55,7 @@ fn refuses<S: Source>(alloc: Global, mode: Mode, source: &mut S, reader: Reader)
     }
 }
 
-/// The same over each source.
+/// Checks over each source that a reader refuses the octets for what they are.
 fn check(rt: &impl Abort, alloc: Global, mode: Mode, octets: &[u8], reader: Reader) {
     let mut lent = SliceSource::new(octets);
     holds(rt, refuses(alloc, mode, &mut lent, reader));
@@ -144,7 +144,8 @@ fn octets_that_are_no_characters(rt: HostRuntime) {
     check(&rt, alloc, Mode::Der, &[0x04, 0x01, 0x61], Reader::Utf8);
 }
 
-/// A primitive value of 1001 contents octets, one more than a string in one piece has in CER.
+/// Returns a primitive value of 1001 contents octets, one more than a string in one piece has in
+/// CER.
 fn piece(rt: &impl Abort, alloc: Global, tag: u8) -> Vec<u8> {
     let mut octets = Vec::new(alloc);
     done(rt, octets.extend_from_slice(&[tag, 0x82, 0x03, 0xE9]));

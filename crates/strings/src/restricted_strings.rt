@@ -1,4 +1,5 @@
-//! Restricted character strings: which values are read as one, and their characters (X.690, 8.23).
+//! Tests of restricted character strings: which values are read as one, and their characters
+//! (X.690, 8.23).
 use crate::asserts::{done, holds, same, shows};
 use bcder::decode::{BytesSource, SliceSource, Source};
 use bcder::encode::Values;
@@ -13,7 +14,7 @@ use std::process::Abort;
 use support::sip::Sip;
 use user::latin_1::Latin1;
 
-/// The string of a set in front of a source, if there is one.
+/// Reads the next value of a source as a string of a set, if it is one.
 #[tactic(auto, using(bcder::specs::laws::Moved::steps))]
 fn read<L: CharSet, S: Source>(
     alloc: Global,
@@ -24,7 +25,7 @@ fn read<L: CharSet, S: Source>(
     read.ok()
 }
 
-/// What is read shows this text, or nothing is read.
+/// Checks that what is read shows this text, or that nothing is read.
 fn check_read<L: CharSet, S: Source>(
     rt: &impl Abort,
     alloc: Global,
@@ -38,7 +39,7 @@ fn check_read<L: CharSet, S: Source>(
     }
 }
 
-/// The same over each source.
+/// Checks over each source that what is read shows this text, or that nothing is read.
 fn check<L: CharSet>(
     rt: &impl Abort,
     alloc: Global,
@@ -82,7 +83,7 @@ fn other_strings_that_are_read(rt: HostRuntime) {
     check::<Latin1>(&rt, alloc, Mode::Der, &[0x14, 0x02, 0x61, 0xE9], Some("aé"));
 }
 
-/// A string behind a null is refused, and this is said of it.
+/// Checks that a string after a NULL is refused with this text.
 #[tactic(auto, using(bcder::specs::laws::Moved::steps))]
 fn check_refusal(rt: &impl Abort, alloc: Global, octets: &[u8], text: &str) {
     let read = Mode::Ber.decode(SliceSource::new(octets), |cons| {
@@ -95,7 +96,7 @@ fn check_refusal(rt: &impl Abort, alloc: Global, octets: &[u8], text: &str) {
     }
 }
 
-/// Characters are refused where the content begins that they stand in.
+/// Checks that characters are refused at the position where the content begins that they are in.
 #[test]
 fn where_a_string_is_refused(rt: HostRuntime) {
     let alloc = rt.alloc();
@@ -107,7 +108,7 @@ fn where_a_string_is_refused(rt: HostRuntime) {
     check_refusal(&rt, alloc, &indefinite, text);
 }
 
-/// Octets make a string of the set, or don't.
+/// Returns whether octets make a string of the set.
 fn made<L: CharSet>(rt: &impl Abort, alloc: Global, octets: &[u8]) -> bool {
     let octets = done(rt, Bytes::copy_from_slice(alloc, octets));
     RestrictedString::<L>::new(OctetString::new(octets)).is_ok()
@@ -134,7 +135,7 @@ fn octets_that_make_a_string(rt: HostRuntime) {
     );
 }
 
-/// A text makes a string of these octets, which has its characters.
+/// Checks that a text makes a string of these octets, which has its characters.
 fn check_text<L: CharSet>(rt: &impl Abort, alloc: Global, text: &str, octets: &[u8]) {
     let lent = done(rt, RestrictedString::<L>::from_str(alloc, text));
     same(rt, lent.as_slice(), Some(octets));
@@ -175,7 +176,7 @@ fn texts_that_make_none(rt: HostRuntime) {
     same(&rt, refused.err(), Some(StringError::CharSet));
 }
 
-/// A text is lent where the string came in one piece.
+/// Checks that the text is borrowed if the string came in one piece.
 fn check_lent<L: TextCharSet>(rt: &impl Abort, alloc: Global, octets: &[u8], text: Option<&str>) {
     let string = read::<L, _>(alloc, Mode::Ber, &mut SliceSource::new(octets));
     match &string {
@@ -195,7 +196,7 @@ fn texts_that_are_lent(rt: HostRuntime) {
     check_lent::<Utf8CharSet>(&rt, alloc, &cut, None);
 }
 
-/// It is written as these octets, and read from them as an equal string.
+/// Checks that a string is written as these octets, and read from them as an equal string.
 fn check_written<L: CharSet>(
     rt: &impl Abort,
     alloc: Global,
@@ -228,7 +229,7 @@ fn strings_are_written(rt: HostRuntime) {
     same(&rt, owned.as_slice(), b"\x13\x0CThis is okay");
 }
 
-/// 1001 letters: in CER two segments (9.2).
+/// Checks 1001 letters, which are two segments in CER (9.2).
 #[test]
 fn a_long_string_is_written(rt: HostRuntime) {
     let alloc = rt.alloc();

@@ -1,4 +1,4 @@
-//! Octet strings by their octets, whether they were cut or not.
+//! Tests of octet strings by their octets, whether they were cut or not.
 use crate::asserts::{done, holds, same};
 use bcder::decode::SliceSource;
 use bcder::{Mode, OctetString};
@@ -9,12 +9,12 @@ use std::convert::TryFrom;
 use std::hash::{DefaultHasher, FoldHasher, Hash, Hasher};
 use std::process::Abort;
 
-/// A string in one piece.
+/// Returns a string in one piece.
 pub(crate) fn whole(rt: &impl Abort, alloc: Global, octets: &[u8]) -> OctetString {
     OctetString::new(done(rt, Bytes::copy_from_slice(alloc, octets)))
 }
 
-/// What two hashers answer, of which one tells how it was handed the octets.
+/// Returns the results of two hashers, one of which says how it got the octets.
 fn hashes_of(string: &OctetString) -> (u64, u64) {
     let mut one = DefaultHasher::new();
     string.hash(&mut one);
@@ -25,7 +25,7 @@ fn hashes_of(string: &OctetString) -> (u64, u64) {
 
 // ---- what a string gives
 
-/// Its octets come in every way.
+/// Checks the octets of a string, in every way to get them.
 fn check_octets(rt: &impl Abort, alloc: Global, string: OctetString, wanted: &[u8]) {
     let mut octets = Vec::new(alloc);
     for octet in string.octets() {
@@ -38,7 +38,7 @@ fn check_octets(rt: &impl Abort, alloc: Global, string: OctetString, wanted: &[u
     same(rt, done(rt, string.into_bytes(alloc)).as_slice(), wanted);
 }
 
-/// And its parts.
+/// Checks the parts of a string.
 fn check_parts(rt: &impl Abort, string: &OctetString, wanted: &[&[u8]]) {
     let mut parts = string.iter();
     for part in wanted {
@@ -97,7 +97,7 @@ const ORDERED: [&[u8]; 9] = [
     &[0xFF],
 ];
 
-/// Two of them, by their octets.
+/// Checks that two of them are compared by their octets.
 fn check_pair(rt: &impl Abort, alloc: Global, one: (usize, &[u8]), other: (usize, &[u8])) {
     let x = whole(rt, alloc, one.1);
     let y = whole(rt, alloc, other.1);
@@ -119,7 +119,7 @@ fn strings_in_their_order(rt: HostRuntime) {
 
 // ---- hashing
 
-/// A hasher that counts how often it is handed octets, and how many it is handed last.
+/// A hasher that counts how often it gets octets, and how many it gets last.
 #[derive(Drop)]
 struct Counter {
     calls: u64,
@@ -143,7 +143,7 @@ impl Hasher for Counter {
     }
 }
 
-/// The octets are handed over in blocks.
+/// Checks that a hasher gets the octets in blocks.
 #[test]
 fn no_hasher_is_called_for_each_octet(rt: HostRuntime) {
     let alloc = rt.alloc();
@@ -158,7 +158,7 @@ fn no_hasher_is_called_for_each_octet(rt: HostRuntime) {
 
 // ---- strings that were cut
 
-/// A string as it is read in BER.
+/// Reads a string in BER.
 #[tactic(auto, using(bcder::specs::laws::Moved::steps))]
 pub(crate) fn read(rt: &impl Abort, alloc: Global, encoding: &[u8]) -> OctetString {
     let mut source = SliceSource::new(encoding);
@@ -166,15 +166,15 @@ pub(crate) fn read(rt: &impl Abort, alloc: Global, encoding: &[u8]) -> OctetStri
     done(rt, read)
 }
 
-/// Adds a segment.
+/// Appends a segment.
 fn push_segment(rt: &impl Abort, content: &mut Vec<u8>, octets: &[u8]) {
     let len = done(rt, u8::try_from(octets.len()));
     done(rt, content.extend_from_slice(&[0x04, len]));
     done(rt, content.extend_from_slice(octets));
 }
 
-/// The segments of octets that are cut behind each whose bit is set, with an empty one in front of
-/// the one of a number.
+/// Returns the segments of octets that are cut after each whose bit is set, with an empty segment
+/// before the one with the number `empty`.
 fn segments(rt: &impl Abort, alloc: Global, octets: &[u8], ends: u8, empty: usize) -> Vec<u8> {
     let mut content = Vec::new(alloc);
     let mut segment = Vec::new(alloc);
@@ -198,7 +198,7 @@ fn segments(rt: &impl Abort, alloc: Global, octets: &[u8], ends: u8, empty: usiz
     content
 }
 
-/// The string of segments.
+/// Returns the string of segments.
 fn of_segments(rt: &impl Abort, alloc: Global, segments: &[u8]) -> OctetString {
     let mut encoding = Vec::new(alloc);
     done(rt, encoding.extend_from_slice(&[0x24, 0x80]));
@@ -207,7 +207,7 @@ fn of_segments(rt: &impl Abort, alloc: Global, segments: &[u8]) -> OctetString {
     read(rt, alloc, encoding.as_slice())
 }
 
-/// A string that is cut so.
+/// Returns a string that is cut in this way.
 pub(crate) fn cut(
     rt: &impl Abort,
     alloc: Global,
@@ -219,7 +219,7 @@ pub(crate) fn cut(
     of_segments(rt, alloc, content.as_slice())
 }
 
-/// It is compared as it would be in one piece.
+/// Checks that a string that was cut is compared as it would be in one piece.
 fn check_order(
     rt: &impl Abort,
     alloc: Global,
@@ -235,7 +235,7 @@ fn check_order(
     same(rt, string.eq_octets(octets), order == Ordering::Equal);
 }
 
-/// `abcdef`, cut in one way.
+/// Checks `abcdef`, cut in one way.
 fn check_cut(rt: &impl Abort, alloc: Global, ends: u8, empty: usize) {
     let string = cut(rt, alloc, b"abcdef", ends, empty);
     check_order(rt, alloc, &string, b"abcde", Ordering::Greater);
@@ -249,7 +249,7 @@ fn check_cut(rt: &impl Abort, alloc: Global, ends: u8, empty: usize) {
     check_octets(rt, alloc, string, b"abcdef");
 }
 
-/// All 32 ways, each with an empty segment at each place, or with none.
+/// Checks all 32 ways, each with an empty segment at each place, or with none.
 #[test]
 fn cut_in_every_way(rt: HostRuntime) {
     for ends in 32..64 {
@@ -259,7 +259,7 @@ fn cut_in_every_way(rt: HostRuntime) {
     }
 }
 
-/// Two that are cut in different ways.
+/// Checks two strings that are cut in different ways.
 fn check_cuts(rt: &impl Abort, alloc: Global, one: u8, other: u8) {
     let string = cut(rt, alloc, b"abcdef", one, 1);
     let equal = cut(rt, alloc, b"abcdef", other, 0);
@@ -279,7 +279,7 @@ fn cut_in_two_ways(rt: HostRuntime) {
     }
 }
 
-/// `ab` in two segments, against octets: how it is compared with them.
+/// How `ab` in two segments compares with these octets.
 const COMPARED: [(&[u8], Ordering); 7] = [
     (b"abc", Ordering::Less),
     (b"ab", Ordering::Equal),
@@ -344,8 +344,8 @@ fn parts_and_octets(rt: HostRuntime) {
     }
 }
 
-/// 120 octets in segments of a size, hashed as they are in one piece: blocks begin and end within
-/// segments.
+/// Checks that 120 octets in segments of a size are hashed as they are in one piece. Blocks begin
+/// and end within segments.
 fn check_hash(rt: &impl Abort, alloc: Global, size: usize) {
     let mut octets = Vec::new(alloc);
     for place in 0..120u8 {

@@ -1,4 +1,4 @@
-//! Octet strings as sources.
+//! Tests of octet strings as sources.
 use crate::asserts::{done, holds, same, shows};
 use crate::string_octets::{cut, read, whole};
 use bcder::decode::{IntoSource, Source};
@@ -6,7 +6,7 @@ use bcder::{Mode, OctetString};
 use std::alloc::Global;
 use std::process::Abort;
 
-/// It gives these octets one by one.
+/// Checks that a string gives these octets one by one.
 fn check_one_by_one(rt: &impl Abort, string: OctetString, wanted: &[u8]) {
     let mut source = string.into_source();
     for octet in wanted {
@@ -17,7 +17,7 @@ fn check_one_by_one(rt: &impl Abort, string: OctetString, wanted: &[u8]) {
     same(rt, done(rt, source.take_opt_u8()), None);
 }
 
-/// And several at once, behind the first ones.
+/// Checks that a string gives several octets at once, after the first ones.
 fn check_at_once(
     rt: &impl Abort,
     alloc: Global,
@@ -36,7 +36,7 @@ fn check_at_once(
     same(rt, done(rt, source.request(wanted.len() + 1)), wanted.len());
 }
 
-/// `abcdef`, cut in one way.
+/// Checks `abcdef`, cut in one way.
 fn check_cut(rt: &impl Abort, alloc: Global, ends: u8, empty: usize) {
     check_one_by_one(rt, cut(rt, alloc, b"abcdef", ends, empty), b"abcdef");
     check_at_once(
@@ -55,7 +55,7 @@ fn check_cut(rt: &impl Abort, alloc: Global, ends: u8, empty: usize) {
     );
 }
 
-/// All 32 ways, each with an empty segment at each place, or with none.
+/// Checks all 32 ways, each with an empty segment at each place, or with none.
 #[test]
 fn cut_in_every_way(rt: HostRuntime) {
     for ends in 32..64 {
@@ -73,7 +73,7 @@ fn in_one_piece(rt: HostRuntime) {
     check_one_by_one(&rt, whole(&rt, alloc, b""), b"");
 }
 
-/// Parts are joined only where more is asked for than one holds.
+/// Checks that parts are joined only if more octets are requested than one holds.
 #[test]
 fn a_segment_is_lent(rt: HostRuntime) {
     let encoding = [0x24, 0x07, 0x04, 0x02, 0x61, 0x62, 0x04, 0x01, 0x63];
@@ -85,14 +85,14 @@ fn a_segment_is_lent(rt: HostRuntime) {
     same(&rt, source.slice(), b"abc");
 }
 
-/// The number that the octets of a string are.
+/// Returns the number that the octets of a string encode.
 #[tactic(auto, using(bcder::specs::laws::Moved::steps))]
 fn number_in(rt: &impl Abort, mode: Mode, string: OctetString) -> u8 {
     let read = mode.decode(string, |cons| cons.take_u8());
     done(rt, read)
 }
 
-/// A number that stands in two segments.
+/// Decodes a number that is in two segments.
 #[test]
 fn a_string_is_decoded(rt: HostRuntime) {
     let encoding = [0x24, 0x07, 0x04, 0x01, 0x02, 0x04, 0x02, 0x01, 0x05];
@@ -102,7 +102,7 @@ fn a_string_is_decoded(rt: HostRuntime) {
     }
 }
 
-/// The position is that among the octets of the string.
+/// Checks that the position is that among the octets of the string.
 #[test]
 fn positions(rt: HostRuntime) {
     let mut source = cut(&rt, rt.alloc(), b"abcdef", 42, 1).into_source();

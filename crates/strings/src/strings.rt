@@ -1,5 +1,5 @@
-//! Octet strings that are read: how long their segments may be, how deep they may be nested, and
-//! what stands where none is read. What a row of octets holds is data, in `vectors`.
+//! Tests of octet strings that are read: how long their segments may be, how deep they may be
+//! nested, and what is left if none is read. What a row of octets holds is data, in `vectors`.
 #![tactic(auto, using(bcder::specs::laws::Moved::steps))]
 
 ghost use Rattle.bcder.specs.calls.Views.{Moved};
@@ -11,7 +11,7 @@ use bcder::{Mode, OctetString, Tag};
 use std::alloc::Global;
 use std::process::Abort;
 
-/// Identifier octets and length octets, and the contents octets of a segment: zeros.
+/// Appends a segment of zeros: identifier octets, length octets and contents octets.
 fn put_segment(rt: &impl Abort, octets: &mut Vec<u8>, len: usize) {
     let high = (len / 256 % 256) as u8;
     let low = (len % 256) as u8;
@@ -27,7 +27,7 @@ fn put_segment(rt: &impl Abort, octets: &mut Vec<u8>, len: usize) {
     }
 }
 
-/// A string that is cut into segments of so many octets, of indefinite length.
+/// Returns a string of indefinite length, cut into segments of these lengths.
 fn cut(rt: &impl Abort, alloc: Global, lens: &[usize]) -> Vec<u8> {
     let mut octets = Vec::new(alloc);
     done(rt, octets.extend_from_slice(&[0x24, 0x80]));
@@ -38,7 +38,7 @@ fn cut(rt: &impl Abort, alloc: Global, lens: &[usize]) -> Vec<u8> {
     octets
 }
 
-/// The string that is all octets of a source, if they are one.
+/// Returns the string that all octets of a source are, if they are one.
 fn read<S: Source>(alloc: Global, mode: Mode, source: &mut S) -> Option<OctetString> {
     let string = match mode.decode_lent(source, |cons| OctetString::take_from(alloc, cons)) {
         Ok(string) => string,
@@ -50,7 +50,7 @@ fn read<S: Source>(alloc: Global, mode: Mode, source: &mut S) -> Option<OctetStr
     }
 }
 
-/// Whether the parts of a string have these lengths, and are zeros.
+/// Returns whether the parts of a string have these lengths, and are zeros.
 fn has_parts(string: &OctetString, lens: &[usize]) -> bool {
     let mut parts = string.iter();
     for len in lens {
@@ -66,7 +66,7 @@ fn has_parts(string: &OctetString, lens: &[usize]) -> bool {
     parts.next().is_none()
 }
 
-/// A string that is cut into parts of these lengths is read as these parts, or refused.
+/// Checks that a string cut into parts of these lengths is read as these parts, or refused.
 fn check_cut<S: Source>(
     rt: &impl Abort,
     alloc: Global,
@@ -84,8 +84,7 @@ fn check_cut<S: Source>(
     }
 }
 
-/// Lengths of segments, and whether there may be such ones in CER (X.690, 9.2). In BER there may be
-/// any, and in DER none.
+/// Lengths of segments, and whether CER allows them (X.690, 9.2). BER allows any, and DER none.
 const CUTS: [(&[usize], bool); 16] = [
     (&[], false),
     (&[0], false),
@@ -133,7 +132,7 @@ fn segments_have_a_length_in_each_mode(rt: HostRuntime) {
     }
 }
 
-/// A string in one piece is read as that piece, or refused.
+/// Checks that a string in one piece is read as that piece, or refused.
 fn check_whole<S: Source>(
     rt: &impl Abort,
     alloc: Global,
@@ -198,10 +197,10 @@ fn one_piece_has_a_length_in_each_mode(rt: HostRuntime) {
     }
 }
 
-/// How many segments are in one another.
+/// The depth of the nested segments.
 const LEVELS: usize = 100_000;
 
-/// Segments of indefinite length, each in the one before it, around the octet `a`.
+/// Returns segments of indefinite length, each inside the one before it, around the octet `a`.
 fn nested(rt: &impl Abort, alloc: Global) -> Vec<u8> {
     let mut octets = Vec::new(alloc);
     for _ in 0..LEVELS {
@@ -214,7 +213,7 @@ fn nested(rt: &impl Abort, alloc: Global) -> Vec<u8> {
     octets
 }
 
-/// They are one part in BER, and no string in CER and DER.
+/// Checks that nested segments are one part in BER, and no string in CER and DER.
 fn check_nested<S: Source>(rt: &impl Abort, alloc: Global, mode: Mode, source: &mut S) {
     match read(alloc, mode, source) {
         Some(string) => {
@@ -238,7 +237,7 @@ fn segments_may_be_nested_to_any_depth(rt: HostRuntime) {
     }
 }
 
-/// The refusal of what is another tag.
+/// Returns whether a call was refused since the next value has another tag.
 fn expects<T: Drop, E: Drop>(outcome: Result<T, DecodeError<E>>, tag: Tag) -> bool {
     match outcome {
         Ok(_) => false,
@@ -249,7 +248,7 @@ fn expects<T: Drop, E: Drop>(outcome: Result<T, DecodeError<E>>, tag: Tag) -> bo
     }
 }
 
-/// No string is there, and the INTEGER 5 that is stays.
+/// Checks that there is no string, and that the INTEGER 5, which is there, is left.
 fn take_five<S: Source>(
     rt: &impl Abort,
     alloc: Global,
@@ -283,7 +282,7 @@ fn where_no_string_is_another_value_stays(rt: HostRuntime) {
     }
 }
 
-/// The string that the content of a value of another tag is.
+/// Returns the string that the content of a value with another tag is.
 fn read_tagged<S: Source>(alloc: Global, mode: Mode, source: &mut S) -> Option<OctetString> {
     let read = mode.decode_lent(source, |cons| {
         cons.take_value_if(Tag::CTX_0, |content| {
@@ -338,7 +337,7 @@ fn content_of_any_tag_is_read(rt: HostRuntime) {
     }
 }
 
-/// Octets that are a string in BER, and where its segments stand.
+/// Octets that are a string in BER, and where its segments are.
 const TABLES: [(&[u8], &str); 3] = [
     (&[0x24, 0x00], "[]"),
     (
@@ -353,7 +352,7 @@ const TABLES: [(&[u8], &str); 3] = [
     ),
 ];
 
-/// A string that was cut shows where its segments stand.
+/// Checks that a string that was cut shows where its segments are.
 #[test]
 fn the_table_tells_where_segments_stand(rt: HostRuntime) {
     let alloc = rt.alloc();
@@ -368,7 +367,7 @@ fn the_table_tells_where_segments_stand(rt: HostRuntime) {
     }
 }
 
-/// Octets that are a string, or none, in a mode, and how many parts they are.
+/// Octets that are a string in a mode and its number of parts, or octets that aren't a string.
 const INPUTS: [(Mode, &[u8], Option<usize>); 5] = [
     (Mode::Der, &[0x04, 0x03, 0x61, 0x62, 0x63], Some(1)),
     (
@@ -390,8 +389,8 @@ const INPUTS: [(Mode, &[u8], Option<usize>); 5] = [
 /// More requests than any of these strings needs.
 const REQUESTS: usize = 64;
 
-/// Each request of the source fails once. Then the source is told as the cause, and otherwise what
-/// is there is answered as it is.
+/// Lets each request of the source fail once. Then the error is the source's; otherwise the result
+/// is the usual one.
 #[test]
 fn a_failing_source_is_told(rt: HostRuntime) {
     let alloc = rt.alloc();

@@ -1,5 +1,5 @@
-//! What is written of octet strings: in segments, in one piece, as they came, and of values that
-//! are wrapped into one (X.690, 8.7, 9.2, 10.2).
+//! Tests of what is written of octet strings: in segments, in one piece, as they came, and with
+//! values wrapped into one (X.690, 8.7, 9.2, 10.2).
 #![tactic(auto, using(bcder::specs::laws::Moved::steps))]
 
 ghost use Rattle.std.specs.Prelude.{◌<◌};
@@ -14,7 +14,7 @@ use std::alloc::Global;
 use std::process::Abort;
 use support::encoders::{Nulls, Zeros};
 
-/// Octets that differ from those near them.
+/// Returns octets that differ from those near them.
 fn octets_of(rt: &impl Abort, alloc: Global, len: usize) -> Vec<u8> {
     let mut octets = Vec::new(alloc);
     for index in 0..len {
@@ -23,7 +23,8 @@ fn octets_of(rt: &impl Abort, alloc: Global, len: usize) -> Vec<u8> {
     octets
 }
 
-/// Octets behind a header, and then those that follow them behind the next, and so on.
+/// Returns the first octets after a header, the octets that follow them after the next header, and
+/// so on.
 fn spell(rt: &impl Abort, alloc: Global, octets: &[u8], pieces: &[(&[u8], usize)]) -> Vec<u8> {
     let mut spelled = Vec::new(alloc);
     let mut rest = octets;
@@ -37,7 +38,7 @@ fn spell(rt: &impl Abort, alloc: Global, octets: &[u8], pieces: &[(&[u8], usize)
     spelled
 }
 
-/// The string that a source holds, if it is one in the mode.
+/// Returns the string that a source holds, if it is one in the mode.
 fn read<S: Source>(alloc: Global, mode: Mode, source: &mut S) -> Option<OctetString> {
     match mode.decode_lent(source, |cons| OctetString::take_from(alloc, cons)) {
         Ok(string) => Some(string),
@@ -45,7 +46,7 @@ fn read<S: Source>(alloc: Global, mode: Mode, source: &mut S) -> Option<OctetStr
     }
 }
 
-/// The string that octets are in a mode.
+/// Returns the string that octets are in a mode.
 fn taken(rt: &impl Abort, alloc: Global, mode: Mode, octets: &[u8]) -> OctetString {
     done(
         rt,
@@ -53,7 +54,7 @@ fn taken(rt: &impl Abort, alloc: Global, mode: Mode, octets: &[u8]) -> OctetStri
     )
 }
 
-/// A string of these octets that was cut into segments of so many octets.
+/// Returns a string of these octets, cut into segments of this length.
 fn cut(rt: &impl Abort, alloc: Global, octets: &[u8], each: usize) -> OctetString
     requires { 0 < each }
 {
@@ -140,7 +141,7 @@ const SEGMENTED: [(usize, &[u8], &[(&[u8], usize)]); 9] = [
     ),
 ];
 
-/// A string is written so in CER and DER, however it was cut.
+/// Checks that a string is written so in CER and DER, however it was cut.
 fn check_string(rt: &impl Abort, alloc: Global, string: &OctetString, cer: &[u8], der: &[u8]) {
     writes(rt, alloc, &string.encode_ref(), Mode::Cer, cer);
     writes(rt, alloc, &string.encode_ref(), Mode::Der, der);
@@ -176,7 +177,7 @@ fn strings_in_segments(rt: HostRuntime) {
     }
 }
 
-/// What is written in CER is read, and written back unchanged.
+/// Checks that what is written in CER is read, and written back unchanged.
 #[test]
 fn segments_are_read_back(rt: HostRuntime) {
     let alloc = rt.alloc();
@@ -283,7 +284,7 @@ fn a_value_in_a_string(rt: HostRuntime) {
     );
 }
 
-/// An encoding of 1001 octets, inside a string in CER.
+/// Checks an encoding of 1001 octets, inside a string in CER.
 #[test]
 fn a_long_value_in_a_string(rt: HostRuntime) {
     let alloc = rt.alloc();

@@ -1,4 +1,4 @@
-//! Sources over borrowed ones: what the owner of the borrowed one knows afterwards.
+//! Sources over borrowed ones, and what the owner of the borrowed source knows afterwards.
 ghost use Rattle.std.specs.Prelude.{◌≡◌, ◌<◌, ◌≤◌, ◌++◌, length, take, drop, Some};
 ghost use Rattle.std.specs.Prelude.{IfOk, IfErr, IfSome, OnOk, OnErr, if◌then◌else◌};
 ghost use Rattle.std.specs.Bool.{OnTrue};
@@ -9,7 +9,7 @@ use bcder::decode::{CaptureSource, DecodeError, LimitedSource, Source};
 use bytes::Bytes;
 use std::alloc::Global;
 
-/// Why octets could not be taken.
+/// The reason why octets could not be taken.
 #[derive(Debug, Drop, PartialEq, Eq)]
 pub enum TakeError<E> {
     /// The source failed.
@@ -18,11 +18,11 @@ pub enum TakeError<E> {
     /// There are fewer octets.
     Short,
 
-    /// There was no memory.
+    /// Memory ran out.
     NoMemory,
 }
 
-/// Takes exactly `len` octets: those up to a limit that is set over the source, and then ends.
+/// Takes exactly `len` octets, by a limit over the source. The limited source then ends.
 pub fn take_exactly<S: Source>(
     source: &mut S,
     alloc: Global,
@@ -48,7 +48,7 @@ pub fn take_exactly<S: Source>(
     }
 }
 
-/// Passes over two octets, where there are two.
+/// Skips two octets, if there are two.
 pub fn pass_two<S: Source>(source: &mut S) -> Result<bool, S::Error>
     ensures two { IfOk result (λ b. (S.stream source.new).rest
         ≡ (if b then drop 2 (S.stream source.old).rest else (S.stream source.old).rest)) }
@@ -63,7 +63,8 @@ pub fn pass_two<S: Source>(source: &mut S) -> Result<bool, S::Error>
     Ok(true)
 }
 
-/// Passes over two octets up to a limit, which a source over the borrowed one has until it ends.
+/// Skips two octets, if there are two within a limit. A source over the borrowed one has the limit,
+/// until it ends.
 pub fn pass_two_within<S: Source>(source: &mut S, limit: usize) -> Result<bool, S::Error>
     ensures two { IfOk result (λ b. (S.stream source.new).rest
         ≡ (if b then drop 2 (S.stream source.old).rest else (S.stream source.old).rest)) }
@@ -75,7 +76,7 @@ pub fn pass_two_within<S: Source>(source: &mut S, limit: usize) -> Result<bool, 
     pass_two(&mut limited)
 }
 
-/// Captures two octets, where there are two, else none.
+/// Captures two octets if there are two, else none.
 pub fn capture_two<S: Source>(source: &mut S, alloc: Global) -> Result<Bytes, TakeError<S::Error>>
     ensures count { IfOk result (λ b. 2 ≤ length (S.stream source.old).rest → length b ≡ 2) }
     ensures value { IfOk result
@@ -90,7 +91,7 @@ pub fn capture_two<S: Source>(source: &mut S, alloc: Global) -> Result<Bytes, Ta
     view.into_bytes(alloc).map_err(|_| TakeError::NoMemory)
 }
 
-/// Looks whether there are two octets, and takes none.
+/// Returns whether there are two octets, and takes none.
 pub fn has_two<S: Source>(source: &mut S) -> Result<bool, S::Error>
     ensures ok { IfOk result (λ b. OnTrue b (2 ≤ length (S.stream source.old).rest)) }
     ensures rest { (S.stream source.new).rest ≡ (S.stream source.old).rest }
@@ -99,7 +100,7 @@ pub fn has_two<S: Source>(source: &mut S) -> Result<bool, S::Error>
     pass_two(&mut CaptureSource::new(source))
 }
 
-/// Passes over two octets, where there are two, by a capturing source that is skipped.
+/// Skips two octets, if there are two, by a capturing source that is skipped.
 pub fn skip_two<S: Source>(source: &mut S) -> Result<bool, S::Error>
     ensures two { IfOk result (λ b. (S.stream source.new).rest
         ≡ (if b then drop 2 (S.stream source.old).rest else (S.stream source.old).rest)) }
@@ -115,8 +116,8 @@ pub fn skip_two<S: Source>(source: &mut S) -> Result<bool, S::Error>
     Ok(found)
 }
 
-/// The source without its first two octets, if it has two: a source over a borrow of it has taken
-/// them and ended.
+/// Returns the source without its first two octets, if it has two. A source over a borrow of it has
+/// taken them and ended.
 pub fn without_two<S: Source + Drop>(mut source: S) -> Result<Option<S>, S::Error>
     ensures { IfOk result (λ o. IfSome o (λ s. (S.stream s).rest ≡ drop 2 (S.stream source).rest)) }
 {
@@ -128,8 +129,8 @@ pub fn without_two<S: Source + Drop>(mut source: S) -> Result<Option<S>, S::Erro
     }
 }
 
-/// Captures two octets, where there are two, by a call for every source. It asks once more, so that
-/// what was passed over is surely available.
+/// Captures two octets, if there are two, by a call for every source. It requests once more, so
+/// that the octets that were skipped are surely available.
 pub fn capture_passed<S: Source>(
     source: &mut S,
     alloc: Global,

@@ -1,5 +1,5 @@
-//! The calls on content that read, one list, and what they answer of octets: for tests of sources
-//! that fail and of memory that is refused.
+//! A list of the calls on content that read, and of what they return for which octets. Tests of
+//! failing sources and of refused allocations use it.
 #![tactic(auto, using(bcder::specs::laws::Moved::steps))]
 
 mod answer;

@@ -1,11 +1,11 @@
-//! Decoding: what the owner of a borrowed source knows afterwards.
+//! Decoding from a borrowed source, and what its owner knows afterwards.
 ghost use Rattle.std.specs.Prelude.{◌≡◌, ℕ, ◌+◌, ◌≤◌, List, ◌++◌, ◌∷◌, length, IfOk, OnOk};
 ghost use Rattle.bcder.specs.calls.Views.{Moved};
 
 use bcder::Mode;
 use bcder::decode::{Constructed, DecodeError, Source};
 
-/// Takes the next value, which has to be empty, and says whether there was one.
+/// Takes the next value, which has to be empty, and returns whether there was one.
 #[tactic(auto, using(bcder::specs::laws::Moved::steps))]
 pub fn take_empty<S: Source>(cons: &mut Constructed<'_, S>) -> Result<bool, DecodeError<S::Error>>
     ensures moves { Moved S.stream cons }
@@ -13,7 +13,7 @@ pub fn take_empty<S: Source>(cons: &mut Constructed<'_, S>) -> Result<bool, Deco
     Ok(cons.take_opt_value(|_tag, _content| Ok(()))?.is_some())
 }
 
-/// Takes two empty values, where there are two, and goes on with the source that they stood in.
+/// Takes two empty values, if there are two, from a borrowed source. Its owner goes on with it.
 #[tactic(auto, using(bcder::specs::laws::Moved::untouched_is_moved))]
 pub fn two_empty<S: Source>(source: &mut S, mode: Mode) -> Result<bool, DecodeError<S::Error>>
     ensures passed { (passed : List ℕ)
@@ -24,7 +24,7 @@ pub fn two_empty<S: Source>(source: &mut S, mode: Mode) -> Result<bool, DecodeEr
     mode.decode_lent(source, |cons| Ok(take_empty(cons)? && take_empty(cons)?))
 }
 
-/// The same of a source that is handed over.
+/// Takes two empty values, if there are two, from a source that is consumed.
 #[tactic(auto, using(bcder::specs::laws::Moved::untouched_is_moved))]
 pub fn two_empty_of<S: Source + Drop>(
     source: S,
@@ -33,7 +33,7 @@ pub fn two_empty_of<S: Source + Drop>(
     mode.decode(source, |cons| Ok(take_empty(cons)? && take_empty(cons)?))
 }
 
-/// Takes the next value, which has to be empty, and drops the refusal of one that isn't.
+/// Takes the next value, which has to be empty, and drops the error if it isn't.
 #[tactic(auto, using(bcder::specs::laws::Moved::untouched_is_moved))]
 pub fn drop_refusal<S: Source>(source: &mut S, mode: Mode) -> Result<(), DecodeError<S::Error>>
     ensures passed { (passed : List ℕ)
@@ -45,7 +45,7 @@ pub fn drop_refusal<S: Source>(source: &mut S, mode: Mode) -> Result<(), DecodeE
     })
 }
 
-/// Takes two empty values and then the octet behind them.
+/// Takes two empty values and then the octet after them.
 pub fn octet_behind<S: Source>(source: &mut S, mode: Mode) -> Result<u8, DecodeError<S::Error>>
     ensures behind { IfOk result (λ octet. (passed : List ℕ)
         × ((S.stream source.old).rest ≡ passed ++ octet ∷ (S.stream source.new).rest)) }

@@ -1,4 +1,4 @@
-//! Encoders for tests: values of any size.
+//! Encoders of values of any size, for tests.
 ghost use Rattle.std.specs.Prelude.{◌≡◌};
 ghost use Rattle.bcder.specs.x690.Identifier.{universal};
 ghost use Rattle.bcder.specs.calls.Encoders.{SizeOfValues, WritesParts};
@@ -12,7 +12,7 @@ use bcder::encode::{EncodeError, PrimitiveContent, Values, WriteError};
 use bcder::{Mode, Tag};
 use std::io;
 
-/// So many octets `00`, as the contents octets of an OCTET STRING (X.690, 8.7).
+/// This number of octets `00`, as the contents octets of an OCTET STRING (X.690, 8.7).
 #[derive(Clone, Copy, Debug)]
 pub struct Zeros(pub usize);
 
@@ -39,11 +39,11 @@ impl PrimitiveContent for Zeros {
     ghost lawful = { λ x _. Exactly_lawful (zeros x.0) (zeros_are x.0) };
 }
 
-/// So many NULLs, one after the other (X.690, 8.8).
+/// This number of NULLs, one after the other (X.690, 8.8).
 #[derive(Clone, Copy, Debug)]
 pub struct Nulls(pub usize);
 
-/// How many octets they have.
+/// Returns the number of octets of `count` NULLs.
 fn nulls_len(count: usize) -> Result<usize, EncodeError>
     ensures { SizeOfValues (Joined (NullsMean count)) ⊥ result }
 {
@@ -53,7 +53,7 @@ fn nulls_len(count: usize) -> Result<usize, EncodeError>
     }
 }
 
-/// Writes them.
+/// Writes `count` NULLs.
 fn write_nulls<W: io::Write>(count: usize, mode: Mode, target: &mut W) -> Result<(), WriteError>
     ensures { WritesParts W.contents target (NullsMean count) ⊥ result }
 {

@@ -1,9 +1,11 @@
-//! What the crates of tests share, and uses of the library that state what a caller knows from its
+//! What the test crates share, and functions that state what a caller of the library knows from its
 //! contracts alone.
 //!
-//! [`sip`] is a source that can fail and makes available no more than what was asked for, or all it
-//! has. [`encoders`] has values of any size, and [`calls`] the calls that read, as data: which there
-//! are, and what each answers of which octets. [`borrows`], [`decoding`] and [`tags`] are callers.
+//! - [`sip`] is a source that can fail. It makes available no more than is requested, or all it
+//!   has.
+//! - [`encoders`] has values of any size.
+//! - [`calls`] lists the calls that read, and what each returns for which octets, as data.
+//! - [`borrows`], [`decoding`] and [`tags`] are callers.
 #![tactic(auto)]
 
 pub mod borrows;

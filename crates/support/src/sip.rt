@@ -1,4 +1,4 @@
-//! A source for tests, which makes available exactly what is asked for, and can fail.
+//! A source for tests that makes available exactly what is requested, and can fail.
 ghost use Rattle.std.specs.Prelude.{◌≡◌, ℕ, ◌+◌, ◌-◌, ◌^◌, ◌<◌, ◌≤◌, length, drop};
 ghost use Rattle.bcder.specs.x690.Identifier.{AreOctets};
 ghost use Rattle.support.specs.Sip.{sipped, sipped_sound};
@@ -10,7 +10,7 @@ use std::alloc::Global;
 use std::error::Error;
 use std::fmt;
 
-/// A request failed.
+/// The error of a request that failed.
 #[derive(Clone, Copy, Debug, PartialEq, Eq)]
 pub struct SipError;
 
@@ -26,8 +26,8 @@ impl fmt::Display for SipError {
 
 impl Error for SipError {}
 
-/// A source over octets that has available what the last request asked for and no more, or all that
-/// are left at each request, and whose request of a given number fails.
+/// A source over octets, one of whose requests can be made to fail. A request makes available what
+/// it asks for and no more ([`new`](Self::new)), or all that is left ([`whole`](Self::whole)).
 #[derive(Drop)]
 pub struct Sip {
     octets: Vec<u8>,
@@ -43,8 +43,8 @@ pub struct Sip {
 }
 
 impl Sip {
-    /// A source over `octets`, of which none is available. The request of the number `failing`
-    /// fails, counted from 1, or none where that is 0.
+    /// Creates a source over `octets`, of which none is available yet. The request with the number
+    /// `failing`, counted from 1, fails; if it is 0, none does.
     pub fn new(octets: Vec<u8>, failing: usize) -> Sip
         ensures { ⟦<Sip as Source>⟧.stream result ≡ sipped octets.items 0 0 0 }
     {
@@ -60,7 +60,8 @@ impl Sip {
         }
     }
 
-    /// The same, of which each request makes all octets available that are left.
+    /// Creates a source like [`new`](Self::new), but each request makes all octets available that
+    /// are left.
     pub fn whole(octets: Vec<u8>, failing: usize) -> Sip
         ensures { ⟦<Sip as Source>⟧.stream result ≡ sipped octets.items 0 0 0 }
     {
@@ -69,7 +70,7 @@ impl Sip {
         sip
     }
 
-    /// How many requests failed.
+    /// Returns how many requests failed.
     pub fn faults(&self) -> usize
         ensures { result ≡ (⟦<Sip as Source>⟧.stream self.now).faults }
     {
@@ -77,7 +78,7 @@ impl Sip {
     }
 }
 
-// What a slice's type says of its items, for the proof alone.
+// States what a slice's type says of its items, for the proof alone.
 fn see_octets(octets: &[u8])
     ensures are_octets { AreOctets octets.now }
     ensures fit { length octets.now < 2 ^ 64 }

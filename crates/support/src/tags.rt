@@ -5,21 +5,21 @@ ghost use Rattle.bcder.specs.calls.TagText.{tag_text};
 use bcder::{Mode, Tag};
 use std::alloc::{AllocError, Global};
 
-/// Whether two tags are equal: of one class and one number.
+/// Returns whether two tags are equal: whether they have the same class and number.
 pub fn same(one: Tag, other: Tag) -> bool
     ensures { IsTrue result ↔ (one ≡ other) }
 {
     one == other
 }
 
-/// How a tag is shown.
+/// Returns the text of a tag.
 pub fn shown(alloc: Global, tag: Tag) -> Result<String, AllocError>
     ensures { IfOk result (λ text. string_bytes text ≡ tag_text tag) }
 {
     tag.to_string(alloc)
 }
 
-/// The set of rules where none is named.
+/// Returns the default mode.
 pub fn usual() -> Mode
     ensures { result ≡ Mode.Ber }
 {

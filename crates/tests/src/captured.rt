@@ -1,4 +1,5 @@
-//! Captured values: what they are written as and where they are refused, and how they are built.
+//! Tests of captured values: how they are written, in which modes they are refused, and how they
+//! are built.
 #![tactic(auto, using(bcder::specs::laws::Moved::untouched_is_moved))]
 
 ghost use Rattle.bcder.specs.calls.Views.{Moved};
@@ -23,7 +24,7 @@ fn all<S: Source>(
     cons.capture_all(alloc)
 }
 
-/// Passes over a value, and captures the next.
+/// Skips a value, and captures the next.
 #[tactic(auto, using(bcder::specs::laws::Moved::steps))]
 fn second<S: Source>(
     cons: &mut Content<'_, S>,
@@ -35,7 +36,7 @@ fn second<S: Source>(
     cons.capture_one(alloc)
 }
 
-/// Passes over a value in BER.
+/// Skips a value in BER.
 #[tactic(auto, using(bcder::specs::laws::Moved::steps))]
 fn pass_in_ber<S: Source>(
     cons: &mut Content<'_, S>,
@@ -48,7 +49,7 @@ fn pass_in_ber<S: Source>(
     Ok(())
 }
 
-/// Captures what is passed over in BER.
+/// Captures what is skipped in BER.
 #[tactic(auto, using(bcder::specs::laws::Moved::steps))]
 fn passed_in_ber<S: Source>(
     cons: &mut Content<'_, S>,
@@ -59,7 +60,7 @@ fn passed_in_ber<S: Source>(
     cons.capture(alloc, |inner| pass_in_ber(inner, alloc))
 }
 
-/// All values of the octets, captured in a mode.
+/// Captures all values of the octets in a mode.
 fn capture(rt: &impl Abort, alloc: Global, octets: &[u8], mode: Mode) -> Captured {
     done(
         rt,
@@ -67,14 +68,15 @@ fn capture(rt: &impl Abort, alloc: Global, octets: &[u8], mode: Mode) -> Capture
     )
 }
 
-/// These octets are held, from position 0, and are written in this mode as they stand.
+/// Asserts that the value holds these octets, from position 0, and writes them unchanged in this
+/// mode.
 fn holds_from_start(rt: &impl Abort, alloc: Global, captured: Captured, mode: Mode, wanted: &[u8]) {
     same(rt, captured.as_slice(), wanted);
     writes(rt, alloc, &captured, mode, wanted);
     shows(rt, alloc, &captured.into_source().pos(), "0");
 }
 
-/// The values are refused in this mode, since they were captured in another.
+/// Asserts that the values are refused in this mode, since they were captured in another.
 fn not_in<V: Values>(rt: &impl Abort, alloc: Global, values: &V, mode: Mode)
     requires { V.can_encode values.now }
 {
@@ -116,7 +118,7 @@ fn refused_where_there_are_none(rt: HostRuntime) {
     not_in(&rt, rt.alloc(), &none, Mode::Cer);
 }
 
-/// What a sequence in BER holds, which is an INTEGER.
+/// Captures what a SEQUENCE in BER holds: an INTEGER.
 fn held(rt: &impl Abort, alloc: Global) -> Captured {
     let octets = [0x30, 0x80, 0x02, 0x01, 0x05, 0x00, 0x00];
     let captured = Mode::Ber.decode(SliceSource::new(&octets), |cons| {
@@ -246,7 +248,7 @@ fn a_refused_extend_changes_nothing(rt: HostRuntime) {
     holds_from_start(&rt, rt.alloc(), captured, Mode::Der, &[0x02, 0x01, 0x01]);
 }
 
-/// The INTEGER 5 behind an empty OCTET STRING.
+/// Captures the INTEGER 5, which follows an empty OCTET STRING.
 fn behind_another(rt: &impl Abort, alloc: Global) -> Captured {
     let octets = [0x04, 0x00, 0x02, 0x01, 0x05];
     done(
@@ -276,7 +278,7 @@ fn more_behind_captured_values(rt: HostRuntime) {
     holds_from_start(&rt, rt.alloc(), captured, Mode::Der, &wanted);
 }
 
-/// An INTEGER, nothing, and NULL.
+/// Returns an INTEGER, nothing, and NULL, each captured.
 fn several(rt: &impl Abort, alloc: Global) -> Vec<Captured> {
     let mut list = Vec::new(alloc);
     done(

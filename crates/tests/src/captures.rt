@@ -1,4 +1,4 @@
-//! Captures, and captured values, beside the typed readers.
+//! Tests of captures, and of captured values, beside the typed readers.
 #![tactic(auto, using(bcder::specs::laws::Moved::steps))]
 
 ghost use Rattle.bcder.specs.calls.Views.{Moved};
@@ -10,7 +10,7 @@ use bcder::{Captured, Mode};
 use std::alloc::Global;
 use std::process::Abort;
 
-/// Skips a value, and refuses then.
+/// Skips a value, then returns an error.
 fn skip_and_refuse<S: Source>(
     cons: &mut Constructed<'_, S>,
     alloc: Global,
@@ -21,7 +21,7 @@ fn skip_and_refuse<S: Source>(
     Err(cons.content_err(ContentError::from_static("refused")))
 }
 
-/// A refused capture leaves the INTEGER 5.
+/// Checks that a refused capture leaves the INTEGER 5.
 fn take_five<S: Source>(
     rt: &impl Abort,
     alloc: Global,
@@ -57,7 +57,7 @@ fn a_refused_capture_leaves_the_values(rt: HostRuntime) {
     check_refused(&rt, alloc, &mut sip(&rt, alloc, octets));
 }
 
-/// All values, captured.
+/// Captures all values.
 fn capture_values(rt: &impl Abort, alloc: Global, octets: &[u8], mode: Mode) -> Captured {
     let mut source = SliceSource::new(octets);
     done(
@@ -66,7 +66,7 @@ fn capture_values(rt: &impl Abort, alloc: Global, octets: &[u8], mode: Mode) -> 
     )
 }
 
-/// What is decoded in part is gone, and a refusal leaves what is there.
+/// Checks that what is decoded in part is gone, and that a refusal leaves what is there.
 #[test]
 fn captured_values_are_decoded_in_part(rt: HostRuntime) {
     let octets = &[0x02, 0x01, 0x01, 0x02, 0x01, 0x02];

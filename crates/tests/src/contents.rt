@@ -1,4 +1,4 @@
-//! Content: what it says of itself, why it refuses, and what stands after its source failed.
+//! Tests of content: what it says of itself, why it refuses, and its state after its source failed.
 #![tactic(auto, using(bcder::specs::laws::Moved::untouched_is_moved))]
 
 ghost use Rattle.bcder.specs.calls.Views.{Moved, MovedContent, MovedOctets};
@@ -11,7 +11,7 @@ use std::alloc::{AllocError, Global};
 use std::fmt::Debug;
 use std::process::Abort;
 
-/// Passes over what is inside a value.
+/// Skips what is inside a value.
 fn pass<S: Source>(content: &mut Content<'_, S>) -> Result<(), DecodeError<S::Error>>
     ensures { MovedContent S.stream content }
 {
@@ -22,7 +22,7 @@ fn pass<S: Source>(content: &mut Content<'_, S>) -> Result<(), DecodeError<S::Er
     }
 }
 
-/// Passes over a value, if there is one.
+/// Skips a value, if there is one.
 fn pass_one<S: Source>(values: &mut Constructed<'_, S>) -> Result<(), DecodeError<S::Error>>
     ensures { Moved S.stream values }
 {
@@ -30,7 +30,8 @@ fn pass_one<S: Source>(values: &mut Constructed<'_, S>) -> Result<(), DecodeErro
     Ok(())
 }
 
-/// Three octets are owed, and none once they are passed. Other rules hold from when they are set.
+/// Checks that three octets are left, and none after they are skipped. Another mode holds once it
+/// is set.
 #[tactic(auto, using(bcder::specs::laws::Moved::steps))]
 fn check_octets<S: Source>(
     rt: &impl Abort,
@@ -48,7 +49,7 @@ fn check_octets<S: Source>(
     Ok(())
 }
 
-/// Other rules hold from when they are set.
+/// Checks that another mode holds once it is set.
 #[tactic(auto, using(bcder::specs::laws::Moved::steps))]
 fn check_values<S: Source>(
     rt: &impl Abort,
@@ -63,7 +64,7 @@ fn check_values<S: Source>(
     pass_one(values)
 }
 
-/// Content of one form is refused as one of the other, and stays.
+/// Checks that content of one form is refused as content of the other, and stays.
 fn check_form<S: Source>(
     rt: &impl Abort,
     content: &mut Content<'_, S>,
@@ -80,7 +81,7 @@ fn check_form<S: Source>(
     pass(content)
 }
 
-/// Content of both forms, first as it is, then asked for its form.
+/// Checks content of both forms, first as it is, then asked for its form.
 fn check_all<S: Source>(
     rt: &impl Abort,
     cons: &mut Constructed<'_, S>,
@@ -96,7 +97,7 @@ fn check_all<S: Source>(
     cons.take_value(|_, content| check_form(rt, content, mode, false))
 }
 
-/// Content knows its rules, its form and how many octets it owes.
+/// Checks that content knows its mode, its form and how many octets it has left.
 #[test]
 fn content_tells_of_itself(rt: HostRuntime) {
     let octets = &[
@@ -117,7 +118,8 @@ fn content_tells_of_itself(rt: HostRuntime) {
     }
 }
 
-/// Takes a value, and drops the error of a source that failed: then no other one is taken.
+/// Takes a value, and drops the error if the source fails. Checks that no other value is taken
+/// then.
 #[tactic(auto, using(bcder::specs::laws::Moved::steps))]
 fn take_failing<S: Source>(rt: &impl Abort, cons: &mut Constructed<'_, S>)
     ensures { Moved S.stream cons }
@@ -132,7 +134,8 @@ fn take_failing<S: Source>(rt: &impl Abort, cons: &mut Constructed<'_, S>)
     }
 }
 
-/// The same of a value in a sequence, which then is refused.
+/// Takes a value inside a SEQUENCE, and drops the error if the source fails. Checks that the
+/// SEQUENCE is refused then.
 #[tactic(auto, using(bcder::specs::laws::Moved::steps))]
 fn enter_failing<S: Source>(rt: &impl Abort, cons: &mut Constructed<'_, S>)
     ensures { Moved S.stream cons }
@@ -150,7 +153,7 @@ fn enter_failing<S: Source>(rt: &impl Abort, cons: &mut Constructed<'_, S>)
     }
 }
 
-/// Each request of the source fails once, and the last of these numbers is that of none.
+/// Lets each request of the source fail once. The last number is more than there are requests.
 #[test]
 fn failed_sources_fail_content(rt: HostRuntime) {
     let octets = &[0x30, 0x03, 0x02, 0x01, 0x05];
@@ -186,7 +189,7 @@ fn encodings_that_are_no_values(rt: HostRuntime) {
     holds(&rt, refused.content_error().is_some());
 }
 
-/// How values are debugged.
+/// Returns the debug text of values.
 fn debugged<S: Source + Debug>(
     alloc: Global,
     cons: &Constructed<'_, S>,
@@ -194,7 +197,7 @@ fn debugged<S: Source + Debug>(
     format!(in alloc; "{cons:?}")
 }
 
-/// Values are debugged by their fields, the rules among them.
+/// Checks that the debug text of values has their fields, the mode among them.
 #[test]
 fn values_are_debugged(rt: HostRuntime) {
     let alloc = rt.alloc();

@@ -1,4 +1,4 @@
-//! Decoding over an owned and over a borrowed source, with values from outside.
+//! Tests of decoding over an owned and over a borrowed source, with values from outside.
 use crate::asserts::{done, holds, same};
 use crate::over::{failing_sip, shared, sip};
 use bcder::Mode;
@@ -7,7 +7,7 @@ use bytes::Bytes;
 use std::process::Abort;
 use support::decoding::{drop_refusal, octet_behind, take_empty, two_empty, two_empty_of};
 
-// NULL and an empty SEQUENCE, and an octet behind them, which `decode` leaves.
+// NULL and an empty SEQUENCE, and an octet after them, which `decode` leaves.
 const TWO: &[u8] = &[0x05, 0x00, 0x30, 0x00, 0x2A];
 
 fn check_behind<S: Source>(rt: &impl Abort, source: &mut S, mode: Mode) {
@@ -65,7 +65,7 @@ fn the_mode_is_handed_on(rt: HostRuntime) {
     }
 }
 
-// The INTEGER 5 isn't empty: its header is passed over, and the refusal dropped.
+// The INTEGER 5 isn't empty: its header is skipped, and the error dropped.
 fn check_dropped<S: Source>(rt: &impl Abort, source: &mut S) {
     holds(
         rt,
@@ -82,7 +82,7 @@ fn a_dropped_refusal_is_refused(rt: HostRuntime) {
     check_dropped(&rt, &mut sip(&rt, rt.alloc(), octets));
 }
 
-// Whether the source begins with two empty values.
+// Checks whether the source begins with two empty values.
 fn are_two<S: Source + Drop>(rt: &impl Abort, source: S, mode: Mode, wanted: bool) {
     same(rt, done(rt, two_empty_of(source, mode)), wanted);
 }

@@ -1,4 +1,5 @@
-//! Values in values, deeper than calls may be in calls: skipping takes no level of calls for one.
+//! Tests of values nested deeper than calls may be: skipping needs no level of calls for a level of
+//! values.
 #![tactic(auto, using(bcder::specs::laws::Moved::untouched_is_moved))]
 
 ghost use Rattle.bcder.specs.calls.Views.{Moved};
@@ -11,10 +12,11 @@ use bytes::Bytes;
 use std::alloc::Global;
 use std::process::Abort;
 
-/// How many sequences are opened.
+/// The number of sequences that are opened.
 const LEVELS: usize = 100_000;
 
-/// What a closure was told: how many headings, and whether they were those of nested sequences.
+/// What a closure was told: the number of headings, and whether they were those of nested
+/// sequences.
 #[derive(Clone, Copy)]
 struct Told {
     calls: usize,
@@ -22,7 +24,8 @@ struct Told {
 }
 
 impl Told {
-    /// The next heading is that of a sequence, one level deeper than the one before it.
+    /// Records the next heading, which should be that of a sequence, one level deeper than the one
+    /// before it.
     fn hear(&mut self, tag: Tag, constructed: bool, depth: usize) {
         if tag != Tag::SEQUENCE || !constructed || depth != self.calls {
             self.nested = false;
@@ -31,7 +34,7 @@ impl Told {
     }
 }
 
-/// Skips the next value, and keeps what the closure is told.
+/// Skips the next value, and records what the closure is told.
 fn skip_told<S: Source>(
     cons: &mut Constructed<'_, S>,
     alloc: Global,
@@ -46,8 +49,8 @@ fn skip_told<S: Source>(
     cons.skip(alloc, &mut op)
 }
 
-/// The value is skipped up to the end of the source, or refused for its octets, after so many
-/// calls, one for each level, at its depth.
+/// Checks that the value is skipped up to the end of the source, or refused for its octets, after
+/// this number of calls, one for each level, at its depth.
 fn check<S: Source>(
     rt: &impl Abort,
     alloc: Global,
@@ -71,7 +74,7 @@ fn check<S: Source>(
     holds(rt, told.nested);
 }
 
-/// Captures the next value whole, or refuses it for its octets.
+/// Checks that the next value is captured whole, or refused for its octets.
 fn capture_whole<S: Source>(
     rt: &impl Abort,
     alloc: Global,
@@ -88,7 +91,7 @@ fn capture_whole<S: Source>(
     Ok(())
 }
 
-/// The value is captured up to the end of the source, or refused, and all is left.
+/// Checks that the value is captured up to the end of the source, or refused and all is left.
 fn check_captured<S: Source>(
     rt: &impl Abort,
     alloc: Global,
@@ -105,7 +108,7 @@ fn check_captured<S: Source>(
     same(rt, done(rt, source.skip(octets.len())), left);
 }
 
-/// Sequences of indefinite length, each in the one before it.
+/// Returns sequences of indefinite length, each inside the one before it.
 fn nested(rt: &impl Abort, alloc: Global) -> Vec<u8> {
     let mut octets = Vec::new(alloc);
     for _ in 0..LEVELS {
@@ -115,8 +118,8 @@ fn nested(rt: &impl Abort, alloc: Global) -> Vec<u8> {
     octets
 }
 
-/// How many octets of the nested sequences are there, the rules, whether they are skipped, and
-/// after how many calls that ends: each level has two octets at its front and two at its end.
+/// How many octets of the nested sequences are there, the mode, whether they are skipped, and after
+/// how many calls that ends. Each level has two octets at its beginning and two at its end.
 const ROWS: [(usize, Mode, bool, usize); 5] = [
     (4 * LEVELS, Mode::Ber, true, LEVELS),
     (4 * LEVELS, Mode::Cer, true, LEVELS),

@@ -1,4 +1,4 @@
-//! What encoders write: octets from worked examples, sizes, and refusals.
+//! Tests of what encoders write: octets from worked examples, sizes, and refusals.
 use crate::asserts::{done, holds, same};
 use bcder::encode::{
     Choice2, Choice3, EncodeError, Nothing, PrimitiveContent, Values, WriteError, iter, sequence,
@@ -11,7 +11,7 @@ use std::io::{ErrorKind, Write};
 use std::process::Abort;
 use support::encoders::{Nulls, Zeros};
 
-/// The values are written as these octets, and their size is told.
+/// Asserts that the values are written as these octets, and that `encoded_len` is their number.
 pub fn writes<V: Values>(rt: &impl Abort, alloc: Global, values: &V, mode: Mode, wanted: &[u8])
     requires { V.can_encode values.now }
 {
@@ -21,7 +21,7 @@ pub fn writes<V: Values>(rt: &impl Abort, alloc: Global, values: &V, mode: Mode,
     same(rt, values.encoded_len(mode), Ok(wanted.len()));
 }
 
-/// The same octets in each mode.
+/// Asserts that the values are written as these octets in each mode.
 fn writes_always<V: Values>(rt: &impl Abort, alloc: Global, values: &V, wanted: &[u8])
     requires { V.can_encode values.now }
 {
@@ -30,7 +30,7 @@ fn writes_always<V: Values>(rt: &impl Abort, alloc: Global, values: &V, wanted: 
     writes(rt, alloc, values, Mode::Der, wanted);
 }
 
-/// The values are refused for this reason, and nothing is written.
+/// Asserts that the values are refused for this reason, and nothing is written.
 pub fn refuses<V: Values>(
     rt: &impl Abort,
     alloc: Global,
@@ -163,7 +163,7 @@ fn octets_and_references(rt: HostRuntime) {
     }
 }
 
-/// CER has a primitive string of at most 1000 contents octets (X.690, 9.2).
+/// Checks that a primitive string in CER has at most 1000 contents octets (X.690, 9.2).
 #[test]
 fn long_octets_in_cer(rt: HostRuntime) {
     let alloc = rt.alloc();
@@ -192,7 +192,7 @@ fn long_octets_in_cer(rt: HostRuntime) {
     writes(&rt, alloc, &long.encode(), Mode::Der, &wanted);
 }
 
-/// A primitive value has these contents octets.
+/// Asserts that a primitive value has these contents octets.
 fn contents<P: PrimitiveContent + Drop>(rt: &impl Abort, alloc: Global, number: P, wanted: &[u8]) {
     match number.to_encoded_bytes(alloc, Mode::Der) {
         Ok(bytes) => holds(rt, bytes.as_slice() == wanted),
@@ -306,7 +306,7 @@ fn headers(rt: HostRuntime) {
     holds(&rt, target.as_slice() == wanted.as_slice());
 }
 
-/// The tag is written as these identifier octets.
+/// Asserts that the tag is written as these identifier octets.
 fn identifier(rt: &impl Abort, alloc: Global, tag: Tag, form: bool, wanted: &[u8]) {
     let mut target = Vec::new(alloc);
     holds(rt, tag.write_encoded(form, &mut target).is_ok());
@@ -357,7 +357,8 @@ fn refusals(rt: HostRuntime) {
     );
 }
 
-/// The values have so many octets in each mode, or are refused for this reason and not written.
+/// Asserts that the values have this number of octets in each mode, or are refused for this reason
+/// and not written.
 pub fn sizes<V: Values>(
     rt: &impl Abort,
     alloc: Global,
@@ -389,7 +390,7 @@ fn encoders_of_any_size(rt: HostRuntime) {
     writes_always(&rt, rt.alloc(), &Nulls(0), &[]);
 }
 
-/// Four octets tell lengths below 2^32, and the indefinite form any.
+/// Checks the longest lengths: four octets suffice below 2^32, and the indefinite form for any.
 #[test]
 fn the_longest_lengths(rt: HostRuntime) {
     let long = Err(EncodeError::LengthTooLarge);
@@ -404,7 +405,7 @@ fn the_longest_lengths(rt: HostRuntime) {
     sizes(&rt, rt.alloc(), &inside, [long, Ok(4294967305), long]);
 }
 
-/// Sizes that a `usize` doesn't count. A length is looked at before a sum.
+/// Checks sizes that don't fit a `usize`. A length is checked before a sum.
 #[test]
 fn the_largest_sizes(rt: HostRuntime) {
     let many = Nulls(9223372036854775807);
@@ -421,7 +422,7 @@ fn the_largest_sizes(rt: HostRuntime) {
     sizes(&rt, rt.alloc(), &sequence(many), [long, over, long]);
 }
 
-/// Takes nothing.
+/// A target that takes nothing.
 #[derive(Clone, Copy, Drop)]
 struct Full;
 

@@ -1,4 +1,4 @@
-//! Integers, booleans and null: worked values.
+//! Tests of integers, booleans and null: worked values.
 #![tactic(auto, using(bcder::specs::laws::Moved::steps))]
 
 ghost use Rattle.bcder.specs.calls.Views.{Moved, MovedOctets};
@@ -16,7 +16,7 @@ use std::process::Abort;
 
 // ---- reading octets
 
-/// Which refusal it is: of another number, of another tag, or one of the library's own.
+/// Returns which refusal it is: of another number, of another tag, or one of the library's own.
 fn kind<T: Drop, E: Drop>(outcome: Result<T, DecodeError<E>>) -> u8 {
     match outcome {
         Ok(_) => 0,
@@ -29,7 +29,7 @@ fn kind<T: Drop, E: Drop>(outcome: Result<T, DecodeError<E>>) -> u8 {
     }
 }
 
-/// A reader that refuses leaves the octets to the next one.
+/// Checks that a reader that refuses leaves the octets to the next one.
 fn read_twice<S: Source>(
     rt: &impl Abort,
     octets: &mut Primitive<'_, S>,
@@ -49,7 +49,7 @@ fn a_refused_reader_takes_nothing(rt: HostRuntime) {
     same(&rt, kind(left), 3);
 }
 
-/// The truth value that octets are.
+/// Returns the boolean that octets are.
 fn truth(octets: &[u8], mode: Mode) -> Option<bool> {
     match Primitive::decode_slice(octets, mode, |p| p.to_bool()) {
         Ok(value) => Some(value),
@@ -70,7 +70,7 @@ fn booleans(rt: HostRuntime) {
     same(&rt, truth(&[0x01], Mode::Der), None);
 }
 
-/// All octets, and lent ones.
+/// Checks all octets, taken and borrowed.
 #[test]
 fn octets_as_they_are(rt: HostRuntime) {
     let alloc = rt.alloc();
@@ -101,7 +101,7 @@ fn look_and_take<S: Source>(
     octets.take_all(alloc)
 }
 
-/// The same of the octets of an INTEGER.
+/// Looks at the octets of an INTEGER that a reader refused. They stay until they are taken.
 fn look_and_take_value<S: Source>(
     rt: &impl Abort,
     alloc: Global,
@@ -140,14 +140,14 @@ fn take_five<S: Source>(
     Ok(())
 }
 
-/// Passes over the INTEGER 200.
+/// Skips the INTEGER 200.
 fn skip_200<S: Source>(cons: &mut Constructed<'_, S>) -> u8
     ensures { Moved S.stream cons }
 {
     kind(cons.skip_u8_if(200))
 }
 
-/// Passes over it, if there is an INTEGER.
+/// Skips the INTEGER 200, if there is an INTEGER.
 fn skip_opt_200<S: Source>(cons: &mut Constructed<'_, S>) -> u8
     ensures { Moved S.stream cons }
 {
@@ -180,7 +180,7 @@ fn takes(rt: HostRuntime) {
     );
 }
 
-/// The kind of refusal of `skip_u8_if(200)`, from a slice.
+/// Returns the kind of refusal of `skip_u8_if(200)`, from a slice.
 fn skipped(octets: &[u8]) -> u8 {
     match Mode::Der.decode_lent(&mut SliceSource::new(octets), |cons| Ok(skip_200(cons))) {
         Ok(kind) => kind,
@@ -188,7 +188,7 @@ fn skipped(octets: &[u8]) -> u8 {
     }
 }
 
-/// That of `skip_opt_u8_if(200)`, where `decode` refuses too.
+/// Returns the kind of refusal of `skip_opt_u8_if(200)`, from a slice. `decode` may refuse too.
 fn skipped_opt(octets: &[u8]) -> u8 {
     match Mode::Der.decode_lent(&mut SliceSource::new(octets), |cons| Ok(skip_opt_200(cons))) {
         Ok(kind) => kind,
@@ -206,7 +206,7 @@ fn skips_of_a_number(rt: HostRuntime) {
     same(&rt, skipped_opt(&[]), 0);
 }
 
-/// The refusal of another number names the one that was expected.
+/// Checks that the refusal of another number names the one that was expected.
 #[test]
 fn another_number_is_named(rt: HostRuntime) {
     let mut source = SliceSource::new(&[0x02, 0x01, 0x05]);
@@ -237,7 +237,7 @@ fn nulls(rt: HostRuntime) {
 
 // ---- integers
 
-/// Numbers in their order, with their contents octets.
+/// Numbers in ascending order, with their contents octets.
 const ORDERED: [(i128, &[u8]); 11] = [
     (-32769, &[0xFF, 0x7F, 0xFF]),
     (-32768, &[0x80, 0x00]),
@@ -258,7 +258,7 @@ fn hash_of(integer: &Integer) -> u64 {
     hasher.finish()
 }
 
-/// Two of them are compared as their numbers.
+/// Checks that two of them are compared as their numbers are.
 fn check_pair(rt: &impl Abort, alloc: Global, one: (i128, &[u8]), other: (i128, &[u8])) {
     let x = done(rt, Integer::from_i128(alloc, one.0));
     let y = done(rt, Integer::from_i128(alloc, other.0));
@@ -306,7 +306,7 @@ fn the_ends_of_the_largest_types(rt: HostRuntime) {
     same(&rt, i128::try_from(most), Err(OverflowError));
 }
 
-/// The octets of the unsigned number that octets are.
+/// Checks the octets of the unsigned number that octets are.
 fn check_unsigned(rt: &impl Abort, alloc: Global, octets: &[u8], wanted: &[u8]) {
     let copied = done(rt, Unsigned::from_slice(alloc, octets));
     same(rt, copied.as_slice(), wanted);

@@ -1,6 +1,8 @@
-//! Tests of the library with values from outside that are no lines of data: those are in `vectors`
-//! and `values`. There is one module for each subject, and each runs over the source of `support`
-//! too. Tests of strings and of failures are in `strings` and `failures`.
+//! Tests of the library with values from outside that aren't lines of data. Lines of data are in
+//! `vectors` and `values`.
+//!
+//! There is one module for each subject, and each also runs over the source of `support`. Tests of
+//! strings and of failures are in `strings` and `failures`.
 #![tactic(auto)]
 
 #[cfg(test)]

@@ -1,4 +1,4 @@
-//! Loops that collect values.
+//! Tests of loops that collect values.
 #![tactic(auto, using(bcder::specs::laws::Moved::steps))]
 
 ghost use Rattle.bcder.specs.calls.Views.{Moved};
@@ -10,7 +10,7 @@ use bcder::decode::{Constructed, ContentError, DecodeError, SliceSource, Source}
 use std::alloc::Global;
 use std::process::Abort;
 
-/// The numbers of a SEQUENCE OF INTEGER.
+/// Takes the numbers of a SEQUENCE OF INTEGER.
 fn take_numbers<S: Source>(
     alloc: Global,
     cons: &mut Constructed<'_, S>,
@@ -20,10 +20,11 @@ fn take_numbers<S: Source>(
     cons.take_sequence(|cons| cons.collect_some(alloc, |cons| cons.take_opt_u8()))
 }
 
-/// A SEQUENCE, and its numbers in their order, or none where it is refused.
+/// A mode, a SEQUENCE, and its numbers in order, or `None` if it is refused.
 type Line = (Mode, &'static [u8], Option<&'static [u8]>);
 
-/// Refused are a number below zero, one after another, what is no INTEGER, and a value that is cut.
+/// Refused are a negative number, alone or after another number, a value that isn't an INTEGER, and
+/// a value that is cut.
 const LINES: [Line; 7] = [
     (Mode::Der, &[0x30, 0x00], Some(&[])),
     (
@@ -68,8 +69,8 @@ fn numbers_are_collected(rt: HostRuntime) {
     }
 }
 
-/// Three, one and two, for a source of which each request fails once. The last of these numbers is
-/// that of none.
+/// Collects three, one and two from a source, each request of which fails once. The last number is
+/// more than there are requests.
 #[test]
 fn a_failed_source_ends_the_collecting(rt: HostRuntime) {
     let alloc = rt.alloc();
@@ -88,7 +89,7 @@ fn a_failed_source_ends_the_collecting(rt: HostRuntime) {
     }
 }
 
-/// Numbers of content without a limit, and the NULL behind them.
+/// Collects numbers of content without a limit, and takes the NULL after them.
 fn take_up_to_null<S: Source>(
     alloc: Global,
     cons: &mut Constructed<'_, S>,
@@ -114,7 +115,7 @@ fn what_the_closure_leaves_is_left(rt: HostRuntime) {
     check_up_to_null(&rt, alloc, &mut sip(&rt, alloc, octets));
 }
 
-/// The next number, if there is one, which isn't to be nine.
+/// Takes the next number, if there is one, and refuses nine.
 fn take_but_nine<S: Source>(
     cons: &mut Constructed<'_, S>,
 ) -> Result<Option<u8>, DecodeError<S::Error>>
@@ -138,7 +139,7 @@ fn the_refusal_is_that_of_the_closure(rt: HostRuntime) {
     shows(&rt, alloc, why, "a nine");
 }
 
-/// Collects numbers up to the end of the content, and goes on there, which takes nothing.
+/// Collects numbers up to the end of the content and beyond it, where a call takes nothing.
 fn collect_inside<S: Source>(
     alloc: Global,
     cons: &mut Constructed<'_, S>,
@@ -152,7 +153,7 @@ fn collect_inside<S: Source>(
     })
 }
 
-/// The same inside a SEQUENCE.
+/// Collects numbers inside a SEQUENCE, up to its end and beyond it.
 fn collect_on<S: Source>(
     alloc: Global,
     cons: &mut Constructed<'_, S>,
@@ -173,7 +174,7 @@ fn check_on<S: Source>(rt: &impl Abort, alloc: Global, source: &mut S, wanted: u
     same(rt, calls, wanted);
 }
 
-/// A call that takes nothing is the last one.
+/// Checks that a call that takes nothing is the last one.
 #[test]
 fn a_call_that_takes_nothing_is_refused(rt: HostRuntime) {
     let alloc = rt.alloc();

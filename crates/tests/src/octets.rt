@@ -1,5 +1,5 @@
-//! Contents octets one by one: within a value, at its end and beyond, where fewer come than are owed,
-//! and from a source that fails.
+//! Tests that take contents octets one by one: within a value, at its end and beyond, if there are
+//! fewer than the length says, and from a source that fails.
 #![tactic(auto, using(bcder::specs::laws::Moved::steps))]
 
 ghost use Rattle.bcder.specs.calls.Views.{MovedOctets};
@@ -11,7 +11,7 @@ use bcder::decode::{DecodeError, Primitive, SliceSource, Source};
 use std::process::Abort;
 use support::calls::Answer;
 
-/// A call that takes contents octets, or passes over so many.
+/// A call that takes contents octets, or skips this number of them.
 #[derive(Clone, Copy)]
 enum Call {
     Octet,
@@ -19,7 +19,7 @@ enum Call {
     Skip(usize),
 }
 
-/// A call, what it answers, and how many octets are owed then.
+/// A call, what it returns, and how many octets are left by the length after it.
 type Step = (Call, Answer, usize);
 
 /// Octets, calls on the contents octets of the first value, and whether that ends as it should, so
@@ -89,7 +89,7 @@ const LINES: [Line; 6] = [
     ),
 ];
 
-/// What a call answers, or the source's failure.
+/// Makes a call, and returns its answer or the source's failure.
 fn ask<S: Source>(octets: &mut Primitive<'_, S>, call: Call) -> Result<Answer, S::Error>
     ensures { MovedOctets S.stream octets }
 {
@@ -107,7 +107,8 @@ fn ask<S: Source>(octets: &mut Primitive<'_, S>, call: Call) -> Result<Answer, S
     }
 }
 
-/// Makes a call. Where the source fails no octet is taken, and the call answers as ever then.
+/// Makes a call. If the source fails, no octet is taken, and the call gives its usual result when
+/// it is made again.
 fn take_step<S: Source>(
     rt: &impl Abort,
     octets: &mut Primitive<'_, S>,
@@ -143,7 +144,7 @@ fn take_steps<S: Source>(
     take_step(rt, octets, fourth)
 }
 
-/// Makes the calls of a line on the next value: whether the source failed.
+/// Makes the calls of a line on the next value, and returns whether the source failed.
 fn check<S: Source>(rt: &impl Abort, source: &mut S, line: Line) -> bool {
     let (_, steps, whole) = line;
     let outcome = Mode::Ber.decode_lent(source, |cons| {
@@ -157,7 +158,8 @@ fn check<S: Source>(rt: &impl Abort, source: &mut S, line: Line) -> bool {
     false
 }
 
-/// The same of a source that doesn't fail, and the next value is left.
+/// Makes the calls of a line over a source that doesn't fail, and checks that the next value is
+/// left.
 fn check_whole<S: Source>(rt: &impl Abort, source: &mut S, line: Line) {
     holds(rt, !check(rt, source, line));
     if line.2 {
@@ -174,7 +176,7 @@ fn octets_are_taken_one_by_one(rt: HostRuntime) {
     }
 }
 
-/// Each request of the source fails once, and the last of these numbers is that of none.
+/// Lets each request of the source fail once. The last number is more than there are requests.
 #[test]
 fn failed_sources_leave_octets(rt: HostRuntime) {
     let last = 32usize;

@@ -1,5 +1,5 @@
-//! What is said of octets that are refused, and where: a row for each rule of X.690 that they break,
-//! and files of each mode that were cut.
+//! Tests of what is said of octets that are refused, and where: a row for each rule of X.690 that
+//! they break, and files in each mode that were cut.
 #![tactic(auto, using(bcder::specs::laws::Moved::untouched_is_moved))]
 
 use crate::asserts::{holds, same, shows};
@@ -9,7 +9,7 @@ use bcder::{Mode, Tag};
 use std::alloc::Global;
 use std::process::Abort;
 
-/// Octets that are refused in a mode, what is said of them, and at which position.
+/// Octets that are refused in a mode, the text of the error, and the position.
 type Row = (Mode, &'static [u8], &'static str, &'static str);
 
 fn skipped<S: Source>(
@@ -83,7 +83,7 @@ const TAGS: [Row; 9] = [
     (Mode::Ber, &[0x1F], HEADER, "0"),
     (Mode::Cer, &[0x05, 0x00, 0x5F, 0x81], HEADER, "2"),
     (Mode::Der, &[0xBF, 0x81, 0x80], HEADER, "0"),
-    // 8.1.2.2: 30 is told by the leading octet
+    // 8.1.2.2: a number up to 30 is in the leading octet
     (Mode::Ber, &[0x1F, 0x1E, 0x00], TAG, "0"),
     // 8.1.2.4.2 c: bits 7 to 1 of the first octet of the number are zero
     (
@@ -181,7 +181,7 @@ const LENGTHS: [Row; 11] = [
 ];
 
 const CONTENTS: [Row; 6] = [
-    // the position is that behind the header
+    // the position is that after the header
     (Mode::Ber, &[0x30, 0x03, 0x04, 0x02, 0x61], LONG, "4"),
     (Mode::Der, &[0x30, 0x04, 0x31, 0x03, 0x05, 0x00], LONG, "4"),
     // 8.1.5

@@ -1,4 +1,4 @@
-//! Skipping: the calls that a closure gets, and how the skip ends.
+//! Tests of skipping: the calls that a closure gets, and how the skip ends.
 #![tactic(auto, using(bcder::specs::laws::Moved::untouched_is_moved))]
 
 ghost use Rattle.bcder.specs.calls.Views.{Moved};
@@ -10,7 +10,7 @@ use bcder::{Mode, Tag};
 use std::alloc::Global;
 use std::process::Abort;
 
-/// Skips the next value and writes down the headings that the closure is told, which refuses a tag.
+/// Skips the next value and records the headings that the closure gets. The closure refuses a tag.
 fn told<S: Source>(
     cons: &mut Constructed<'_, S>,
     alloc: Global,
@@ -47,7 +47,7 @@ fn check<S: Source>(
     same(rt, text.as_str() == wanted, true);
 }
 
-/// Rules, octets, the tag that the closure refuses, and what it is told.
+/// The mode, the octets, the tag that the closure refuses, and the headings that it gets.
 const ROWS: [(Mode, &[u8], Tag, &str); 7] = [
     (
         Mode::Ber,

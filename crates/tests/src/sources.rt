@@ -1,4 +1,4 @@
-//! Sources and errors, with values from outside. The digits are ASCII octets.
+//! Tests of sources and errors, with values from outside. The digits are ASCII octets.
 use crate::asserts::{done, holds, same, shows};
 use crate::over::{failing_sip, shared, sip};
 use bcder::decode::{
@@ -17,7 +17,7 @@ use support::borrows::{
 };
 use support::sip::SipError;
 
-// What is left of a source.
+// Asserts what is left of a source.
 fn assert_rest<S: Source>(rt: &impl Abort, source: &mut S, rest: &[u8]) {
     same(rt, done(rt, source.request(rest.len())), rest.len());
     same(rt, source.slice(), rest);
@@ -27,7 +27,7 @@ fn assert_rest<S: Source>(rt: &impl Abort, source: &mut S, rest: &[u8]) {
     );
 }
 
-// A limit over a capturing source over a limit.
+// Checks a limit over a capturing source over a limit.
 fn check_nested<S: Source + Drop>(rt: &impl Abort, alloc: Global, source: S) {
     let mut inner = LimitedSource::new(source);
     inner.set_limit(Some(4));
@@ -76,7 +76,7 @@ fn sips(rt: HostRuntime) {
     same(&rt, source.faults(), 0);
 }
 
-// A failed request, in the middle of a source.
+// Checks a failed request, in the middle of a source.
 #[test]
 fn failed_skip(rt: HostRuntime) {
     let mut source = failing_sip(&rt, rt.alloc(), b"1234", 2);
@@ -157,7 +157,7 @@ fn limits(rt: HostRuntime) {
     check_limit(&rt, sip(&rt, rt.alloc(), octets));
 }
 
-/// Whether a call refused by a fixed text.
+/// Returns whether a call was refused with a fixed text.
 fn is_static<T: Drop, E: Drop>(outcome: Result<T, DecodeError<E>>) -> bool {
     match outcome {
         Ok(_) => false,
@@ -165,7 +165,7 @@ fn is_static<T: Drop, E: Drop>(outcome: Result<T, DecodeError<E>>) -> bool {
     }
 }
 
-// Refusals of a source's own calls, over two octets.
+// Checks the refusals of a source's own calls, over two octets.
 fn check_static<S: Source + Drop>(rt: &impl Abort, alloc: Global, source: S) {
     let mut source = LimitedSource::new(source);
     source.set_limit(Some(3));
@@ -491,7 +491,7 @@ fn want_of_memory_stays(rt: HostRuntime) {
     );
 }
 
-/// The error of a source that lacks memory becomes that of another source.
+/// The error of a source that runs out of memory becomes that of another source.
 #[test]
 fn a_source_without_memory(rt: HostRuntime) {
     let failed = DecodeError::from(NoMemory).convert::<SipError>();
@@ -504,7 +504,8 @@ fn a_source_without_memory(rt: HostRuntime) {
     shows(&rt, rt.alloc(), &refused, "bad (at position 3)");
 }
 
-/// What a refused growth answers becomes the error of a call on content, and of one that encodes.
+/// Checks that the error of a refused allocation becomes the error of a call on content, and of one
+/// that encodes.
 #[test]
 fn want_of_memory_goes_on(rt: HostRuntime) {
     let grown = Vec::<u8>::with_capacity(rt.alloc(), usize::MAX);

@@ -1,4 +1,4 @@
-//! The constants of tags and of the sets of rules. How tags are shown and read is in `vectors`.
+//! Tests of the constants of tags and of modes. How tags are shown and read is in `vectors`.
 use crate::asserts::{done, holds, same};
 use bcder::{Mode, Tag};
 use std::process::Abort;
@@ -43,7 +43,7 @@ const UNIVERSAL: [(u32, Tag); 36] = [
     (36, Tag::RELATIVE_OID_IRI),
 ];
 
-/// The context-specific ones.
+/// The context-specific tags.
 const CONTEXT: [(u32, Tag); 7] = [
     (0, Tag::CTX_0),
     (1, Tag::CTX_1),
@@ -89,7 +89,7 @@ fn tags_are_debugged_by_their_fields(rt: HostRuntime) {
     assert_eq!(rt; text.as_str(), "Tag { class: ContextSpecific, number: 1 }");
 }
 
-/// The tests of a set of rules answer so: for the basic, canonical and distinguished ones.
+/// Compares what a mode says of itself with these answers: for BER, CER and DER.
 fn check_mode(rt: &impl Abort, mode: Mode, answers: [bool; 3]) {
     same(rt, [mode.is_ber(), mode.is_cer(), mode.is_der()], answers);
     same(

@@ -1,4 +1,4 @@
-//! Blocks of addresses that a certificate's holder may use (RFC 3779, section 2.2.3).
+//! Reads the blocks of addresses that a certificate's holder may use (RFC 3779, section 2.2.3).
 ghost use Rattle.bcder.specs.calls.Views.{Moved};
 
 use crate::lists::{List, take_list};
@@ -6,28 +6,28 @@ use bcder::decode::{Constructed, DecodeError, Source};
 use bcder::{BitString, Mode, OctetString, Tag};
 use std::alloc::Global;
 
-/// What such blocks hold, as far as it is read here.
+/// What is read of blocks of addresses.
 #[derive(Clone, Copy)]
 pub struct Addresses {
     alloc: Global,
 
-    /// The families of addresses.
+    /// The number of address families.
     pub families: u64,
 
-    /// The families whose addresses are those of the issuer.
+    /// The number of families that inherit the issuer's addresses.
     pub inherited: u64,
 
-    /// The prefixes of all families.
+    /// The number of prefixes in all families.
     pub prefixes: u64,
 
-    /// The ranges, each from a least to a largest address.
+    /// The number of ranges, each from a smallest to a largest address.
     pub ranges: u64,
 
-    /// The bits of the longest prefix.
+    /// The number of bits of the longest prefix.
     pub longest: usize,
 }
 
-/// Each family is a SEQUENCE of an OCTET STRING and a list of blocks, or NULL.
+/// Each family is a SEQUENCE of an OCTET STRING and a list of blocks, or NULL in its place.
 impl List for Addresses {
     fn take_one<S: Source>(
         &mut self,
@@ -45,7 +45,7 @@ impl List for Addresses {
 }
 
 impl Addresses {
-    /// A SEQUENCE OF families.
+    /// Takes a SEQUENCE OF families.
     pub fn take_from<S: Source>(
         alloc: Global,
         cons: &mut Constructed<'_, S>,
@@ -63,7 +63,8 @@ impl Addresses {
         take_list(Tag::SEQUENCE, none, cons)
     }
 
-    /// A block of addresses, if there is another: a prefix, which is a BIT STRING, or a range.
+    /// Takes the next block of addresses, if there is one: a prefix, which is a BIT STRING, or a
+    /// range.
     fn take_block<S: Source>(
         &mut self,
         cons: &mut Constructed<'_, S>,
@@ -91,7 +92,7 @@ impl Addresses {
     }
 }
 
-/// A range of addresses, if there is one: a SEQUENCE of two BIT STRINGs.
+/// Takes a range of addresses, if one comes next: a SEQUENCE of two BIT STRINGs.
 fn take_range<S: Source>(cons: &mut Constructed<'_, S>) -> Result<Option<()>, DecodeError<S::Error>>
     ensures { Moved S.stream cons }
 {
@@ -101,7 +102,7 @@ fn take_range<S: Source>(cons: &mut Constructed<'_, S>) -> Result<Option<()>, De
     })
 }
 
-/// Blocks of addresses at the front of a source that is handed in.
+/// Decodes blocks of addresses in DER from the start of a source.
 pub fn decode_addresses<S: Source + Drop>(
     alloc: Global,
     source: S,

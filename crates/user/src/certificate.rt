@@ -1,4 +1,4 @@
-//! Certificates (RFC 5280, section 4.1).
+//! Reads certificates (RFC 5280, section 4.1).
 ghost use Rattle.std.specs.Prelude.{◌≡◌, ℕ, List, ◌++◌};
 ghost use Rattle.bcder.specs.calls.Views.{Moved, MovedOctets};
 
@@ -9,18 +9,18 @@ use bcder::decode::{Constructed, ContentError, DecodeError, Primitive, Source, w
 use bcder::{Mode, Tag};
 use std::alloc::Global;
 
-/// A time, by the number of its octets.
+/// A time, of which only the number of octets is kept.
 #[derive(Clone, Copy, Debug)]
 pub enum Time {
-    /// With two digits for the year.
+    /// A time with two digits for the year.
     Utc(usize),
 
-    /// With four digits for the year.
+    /// A time with four digits for the year.
     Generalized(usize),
 }
 
 impl Time {
-    /// A value of one of two tags.
+    /// Takes a time, which has one of two tags.
     pub fn take_from<S: Source>(
         cons: &mut Constructed<'_, S>,
     ) -> Result<Time, DecodeError<S::Error>>
@@ -29,7 +29,7 @@ impl Time {
         cons.take_primitive(|tag, octets| Time::from_primitive(tag, octets))
     }
 
-    /// The same, from its tag and its contents octets.
+    /// Reads a time from the tag and the contents octets of a primitive value.
     fn from_primitive<S: Source>(
         tag: Tag,
         octets: &mut Primitive<'_, S>,
@@ -48,18 +48,18 @@ impl Time {
     }
 }
 
-/// A time span.
+/// The time during which a certificate is valid.
 #[derive(Clone, Copy, Debug)]
 pub struct Validity {
-    /// Its first time.
+    /// The first time.
     pub from: Time,
 
-    /// Its last time.
+    /// The last time.
     pub to: Time,
 }
 
 impl Validity {
-    /// A SEQUENCE of two times.
+    /// Takes a SEQUENCE of two times.
     pub fn take_from<S: Source>(
         cons: &mut Constructed<'_, S>,
     ) -> Result<Validity, DecodeError<S::Error>>
@@ -73,7 +73,7 @@ impl Validity {
     }
 }
 
-/// An algorithm: a SEQUENCE of an OBJECT IDENTIFIER and any parameters.
+/// Skips an algorithm: a SEQUENCE of an OBJECT IDENTIFIER and optional parameters.
 pub(crate) fn skip_algorithm<S: Source>(
     cons: &mut Constructed<'_, S>,
 ) -> Result<(), DecodeError<S::Error>>
@@ -82,7 +82,7 @@ pub(crate) fn skip_algorithm<S: Source>(
     cons.take_sequence(|cons| skip_algorithm_parts(cons))
 }
 
-/// What is inside that SEQUENCE.
+/// Skips what is inside the SEQUENCE of an algorithm.
 pub(crate) fn skip_algorithm_parts<S: Source>(
     cons: &mut Constructed<'_, S>,
 ) -> Result<(), DecodeError<S::Error>>
@@ -93,37 +93,37 @@ pub(crate) fn skip_algorithm_parts<S: Source>(
     Ok(())
 }
 
-/// What a certificate holds, as far as it is read here.
+/// What is read of a certificate.
 #[derive(Debug, Drop)]
 pub struct Certificate {
-    /// Its version, 1 without the field that says so. Unique identifiers come from 2 on, and
-    /// extensions from 3 on.
+    /// The version, which is 1 if the field is left out. Unique identifiers are read from version 2
+    /// on, extensions from version 3 on.
     pub version: u8,
 
-    /// The octets of its serial number.
+    /// The number of contents octets of the serial number.
     pub serial: usize,
 
-    /// Who issued it.
+    /// The name of the issuer.
     pub issuer: Name,
 
-    /// When it is valid.
+    /// The time during which the certificate is valid.
     pub validity: Validity,
 
-    /// Whose key it holds.
+    /// The name of the holder of the key.
     pub subject: Name,
 
-    /// The octets of its key.
+    /// The number of contents octets of the key, a BIT STRING.
     pub key: usize,
 
-    /// Its extensions.
+    /// The number of extensions.
     pub extensions: u64,
 
-    /// Those of them that are critical.
+    /// The number of critical extensions.
     pub critical: u64,
 }
 
 impl Certificate {
-    /// A SEQUENCE of what is signed, an algorithm and a signature.
+    /// Takes a SEQUENCE of the signed part, an algorithm and a signature.
     pub fn take_from<S: Source>(
         alloc: Global,
         cons: &mut Constructed<'_, S>,
@@ -133,7 +133,7 @@ impl Certificate {
         cons.take_sequence(|cons| Certificate::take_parts(alloc, cons))
     }
 
-    /// What is inside that SEQUENCE.
+    /// Takes what is inside the SEQUENCE of a certificate.
     pub(crate) fn take_parts<S: Source>(
         alloc: Global,
         cons: &mut Constructed<'_, S>,
@@ -146,7 +146,7 @@ impl Certificate {
         Ok(certificate)
     }
 
-    /// What is signed, in one closure.
+    /// Takes the SEQUENCE that is signed, in one closure.
     fn take_signed<S: Source>(
         alloc: Global,
         cons: &mut Constructed<'_, S>,
@@ -192,7 +192,8 @@ impl Certificate {
     }
 }
 
-/// A key: a SEQUENCE of an algorithm and a BIT STRING. It answers the number of its octets.
+/// Takes a key, a SEQUENCE of an algorithm and a BIT STRING, and returns the number of contents
+/// octets of the BIT STRING.
 fn take_key<S: Source>(cons: &mut Constructed<'_, S>) -> Result<usize, DecodeError<S::Error>>
     ensures { Moved S.stream cons }
 {
@@ -202,7 +203,7 @@ fn take_key<S: Source>(cons: &mut Constructed<'_, S>) -> Result<usize, DecodeErr
     })
 }
 
-/// Passes over a primitive value of a tag, if it is there.
+/// Skips the next value if it has the tag. It has to be primitive then.
 fn skip_opt_octets<S: Source>(
     tag: Tag,
     cons: &mut Constructed<'_, S>,
@@ -213,7 +214,7 @@ fn skip_opt_octets<S: Source>(
     Ok(())
 }
 
-/// How many extensions there are.
+/// The number of extensions, and how many of them are critical.
 #[derive(Clone, Copy)]
 struct Extensions {
     all: u64,
@@ -221,7 +222,7 @@ struct Extensions {
 }
 
 impl Extensions {
-    /// A SEQUENCE OF extensions, tagged by `[3]`, if it is there.
+    /// Takes a SEQUENCE OF extensions with the explicit tag `[3]`, if it is there.
     fn take_from<S: Source>(
         cons: &mut Constructed<'_, S>,
     ) -> Result<Option<Extensions>, DecodeError<S::Error>>
@@ -235,7 +236,7 @@ impl Extensions {
     }
 }
 
-/// Each is a SEQUENCE of an OBJECT IDENTIFIER, perhaps a BOOLEAN, and an OCTET STRING.
+/// Each extension is a SEQUENCE of an OBJECT IDENTIFIER, an optional BOOLEAN and an OCTET STRING.
 impl List for Extensions {
     fn take_one<S: Source>(
         &mut self,
@@ -250,7 +251,7 @@ impl List for Extensions {
     }
 }
 
-/// A certificate at the front of a source that is handed in.
+/// Decodes a certificate in DER from the start of a source.
 pub fn decode_certificate<S: Source + Drop>(
     alloc: Global,
     source: S,
@@ -262,7 +263,7 @@ pub fn decode_certificate<S: Source + Drop>(
     )
 }
 
-/// Two certificates at the front of a source whose owner goes on with what is left.
+/// Decodes two certificates in DER from a borrowed source. Its owner can go on with what is left.
 pub fn decode_two<S: Source>(
     alloc: Global,
     source: &mut S,

@@ -1,5 +1,7 @@
-//! A list of revoked certificates (RFC 5280, section 5.1): a loop that keeps what it takes by a
-//! `push`, identifiers in the fewest octets, and a value inside an OCTET STRING that is kept.
+//! Reads a list of revoked certificates (RFC 5280, section 5.1).
+//!
+//! This module shows a loop that keeps values with `push`, object identifiers that must have the
+//! fewest octets, and how to decode a value inside an OCTET STRING that was kept.
 ghost use Rattle.bcder.specs.calls.Views.{Moved};
 
 use crate::certificate::{Time, skip_algorithm};
@@ -11,35 +13,35 @@ use bcder::{ConstOid, Mode, OctetString, Oid, Tag, Unsigned};
 use std::alloc::Global;
 use std::convert::Infallible;
 
-/// The identifier of the extension that holds the number of the list.
+/// The identifier of the extension that holds the number of the list: 2.5.29.20.
 const CRL_NUMBER: ConstOid = Oid(&[0x55, 0x1D, 0x14]);
 
-/// What a list of revoked certificates holds, as far as it is read here.
+/// What is read of a list of revoked certificates.
 #[derive(Debug, Drop)]
 pub struct Crl {
-    /// Who issued it.
+    /// The name of the issuer.
     pub issuer: Name,
 
-    /// When it was issued.
+    /// When the list was issued.
     pub this_update: Time,
 
-    /// When the next one comes at the latest.
+    /// When the next list is issued at the latest.
     pub next_update: Option<Time>,
 
-    /// The certificates that were revoked.
+    /// The revoked certificates.
     pub revoked: Vec<Entry>,
 
-    /// Its number, if an extension holds one.
+    /// The number of the list, if an extension holds one.
     pub number: Option<Unsigned>,
 }
 
 impl Crl {
-    /// The list in DER.
+    /// Decodes a list in DER from the start of octets.
     pub fn decode(alloc: Global, octets: &[u8]) -> Result<Crl, DecodeError<Infallible>> {
         Mode::Der.decode(octets, |cons| Crl::take_from(alloc, cons))
     }
 
-    /// A SEQUENCE of what is signed, an algorithm, and a signature.
+    /// Takes a SEQUENCE of the signed part, an algorithm and a signature.
     pub fn take_from<S: Source>(
         alloc: Global,
         cons: &mut Constructed<'_, S>,
@@ -49,7 +51,7 @@ impl Crl {
         cons.take_sequence(|cons| Crl::take_signed(alloc, cons))
     }
 
-    /// What is inside that SEQUENCE.
+    /// Takes what is inside the SEQUENCE of a list.
     fn take_signed<S: Source>(
         alloc: Global,
         cons: &mut Constructed<'_, S>,
@@ -62,7 +64,7 @@ impl Crl {
         Ok(crl)
     }
 
-    /// What is inside the SEQUENCE that is signed.
+    /// Takes what is inside the SEQUENCE of the signed part.
     fn take_parts<S: Source>(
         alloc: Global,
         cons: &mut Constructed<'_, S>,
@@ -82,7 +84,7 @@ impl Crl {
         Ok(crl)
     }
 
-    /// A SEQUENCE OF extensions.
+    /// Takes a SEQUENCE OF extensions.
     fn take_extensions<S: Source>(
         &mut self,
         alloc: Global,
@@ -95,7 +97,8 @@ impl Crl {
         })
     }
 
-    /// What is inside an extension: its identifier, whether it is critical, and an OCTET STRING.
+    /// Takes what is inside an extension: its identifier, an optional BOOLEAN that says whether it
+    /// is critical, and an OCTET STRING.
     fn take_extension<S: Source>(
         &mut self,
         alloc: Global,
@@ -113,7 +116,7 @@ impl Crl {
     }
 }
 
-/// A time that may be left out.
+/// Takes a time, if one comes next.
 fn take_opt_time<S: Source>(
     cons: &mut Constructed<'_, S>,
 ) -> Result<Option<Time>, DecodeError<S::Error>>
@@ -127,7 +130,7 @@ fn take_opt_time<S: Source>(
     Ok(len.map(|len| Time::Generalized(len)))
 }
 
-/// The entries, a SEQUENCE OF that is left out where there are none.
+/// Takes the entries, a SEQUENCE OF that is left out if there are none.
 fn take_revoked<S: Source>(
     alloc: Global,
     cons: &mut Constructed<'_, S>,
@@ -155,7 +158,8 @@ fn take_revoked<S: Source>(
     Ok(revoked)
 }
 
-/// An identifier, each of whose subidentifiers is in the fewest octets (X.690, 8.19.2).
+/// Takes an object identifier, and refuses one with a subidentifier that isn't in the fewest octets
+/// (X.690, 8.19.2).
 fn take_identifier<S: Source>(
     alloc: Global,
     cons: &mut Constructed<'_, S>,
@@ -170,7 +174,7 @@ fn take_identifier<S: Source>(
     Err(cons.content_err(error))
 }
 
-/// The INTEGER that an OCTET STRING holds.
+/// Decodes the INTEGER inside an OCTET STRING.
 fn number_in<E>(alloc: Global, string: OctetString) -> Result<Unsigned, DecodeError<E>> {
     match Mode::Der.decode(string, |cons| Unsigned::take_from(alloc, cons)) {
         Ok(number) => Ok(number),

@@ -1,5 +1,4 @@
-//! What the extensions of a certificate say, chosen by their object identifiers (RFC 5280, section
-//! 4.2).
+//! Reads the extensions of a certificate, each by its object identifier (RFC 5280, section 4.2).
 ghost use Rattle.bcder.specs.calls.Views.{Moved};
 
 use crate::{skip_octets, take_len_of};
@@ -10,28 +9,28 @@ use std::alloc::Global;
 /// The identifier of basic constraints: 2.5.29.19.
 const BASIC_CONSTRAINTS: ConstOid = Oid(&[0x55, 0x1D, 0x13]);
 
-/// That of the uses of a key: 2.5.29.15.
+/// The identifier of key usage: 2.5.29.15.
 const KEY_USAGE: ConstOid = Oid(&[0x55, 0x1D, 0x0F]);
 
-/// Whether the key may sign certificates, and how many may stand below it.
+/// Basic constraints: whether the key may sign certificates, and how long the path below it may be.
 #[derive(Clone, Copy)]
 pub struct Basic {
-    /// Whether its holder is an authority.
+    /// Whether the holder is an authority.
     pub authority: bool,
 
-    /// The certificates that may stand between it and the last one, if that is limited.
+    /// How many certificates may come between this one and the last one, if that is limited.
     pub path: Option<u8>,
 }
 
 impl Basic {
-    /// A SEQUENCE of a BOOLEAN and an INTEGER, each of which may be left out.
+    /// Takes a SEQUENCE of a BOOLEAN and an INTEGER, each of which may be left out.
     fn take_from<S: Source>(cons: &mut Constructed<'_, S>) -> Result<Basic, DecodeError<S::Error>>
         ensures { Moved S.stream cons }
     {
         cons.take_sequence(|cons| Basic::take_parts(cons))
     }
 
-    /// What is inside that SEQUENCE.
+    /// Takes what is inside the SEQUENCE.
     fn take_parts<S: Source>(cons: &mut Constructed<'_, S>) -> Result<Basic, DecodeError<S::Error>>
         ensures { Moved S.stream cons }
     {
@@ -40,7 +39,7 @@ impl Basic {
         Ok(Basic { authority, path })
     }
 
-    /// The same SEQUENCE inside an OCTET STRING.
+    /// Takes an OCTET STRING with basic constraints inside.
     fn take_inside<S: Source>(cons: &mut Constructed<'_, S>) -> Result<Basic, DecodeError<S::Error>>
         ensures { Moved S.stream cons }
     {
@@ -51,7 +50,7 @@ impl Basic {
     }
 }
 
-/// The same, as the octets that an extension holds.
+/// Decodes basic constraints from the octets that an extension holds.
 fn decode_basic(octets: &[u8]) -> Result<Basic, ContentError> {
     match Constructed::decode(
         SliceSource::new(octets),
@@ -63,21 +62,21 @@ fn decode_basic(octets: &[u8]) -> Result<Basic, ContentError> {
     }
 }
 
-/// What is looked at of the extensions.
+/// What is read of the extensions.
 #[derive(Clone, Copy)]
 pub struct Extensions {
-    /// What basic constraints say, if they are there.
+    /// The basic constraints, if they are there.
     pub basic: Option<Basic>,
 
-    /// The contents octets of the key's uses, if they are there.
+    /// The number of contents octets of the OCTET STRING that holds the key usage, if it is there.
     pub usage: Option<usize>,
 
-    /// Those of other kinds.
+    /// The number of all other extensions.
     pub others: u64,
 }
 
 impl Extensions {
-    /// A SEQUENCE OF extensions, each a SEQUENCE.
+    /// Takes a SEQUENCE OF extensions, each a SEQUENCE.
     pub fn take_from<S: Source>(
         alloc: Global,
         cons: &mut Constructed<'_, S>,
@@ -95,8 +94,8 @@ impl Extensions {
         Ok(found)
     }
 
-    /// What is inside that SEQUENCE: an OBJECT IDENTIFIER, perhaps a BOOLEAN, and an OCTET STRING,
-    /// which is read by what the identifier says.
+    /// Takes what is inside the SEQUENCE of an extension: an OBJECT IDENTIFIER, an optional
+    /// BOOLEAN, and an OCTET STRING, which is read as the identifier says.
     fn take_one<S: Source>(
         &mut self,
         alloc: Global,
@@ -118,7 +117,7 @@ impl Extensions {
     }
 }
 
-/// The extensions at the front of octets.
+/// Decodes extensions in DER from the start of octets.
 pub fn decode_extensions(
     alloc: Global,
     octets: &[u8],

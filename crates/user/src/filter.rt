@@ -1,5 +1,5 @@
-//! Search filters of LDAP (RFC 4511, section 4.5.1.7): values that hold values of their own kind,
-//! to a depth that the caller allows.
+//! Reads search filters of LDAP (RFC 4511, section 4.5.1.7): values that hold values of their own
+//! kind, to a depth that the caller allows.
 #![tactic(auto, using(bcder::specs::laws::Moved::measures))]
 
 ghost use Rattle.bcder.specs.calls.Views.{Moved, MovedContent, MovedOctets};
@@ -10,31 +10,33 @@ use bytes::Bytes;
 use std::alloc::Global;
 use std::convert::Infallible;
 
-/// What an entry has to be like.
+/// A filter, which says what an entry has to match.
 #[derive(Drop)]
 pub enum Filter {
-    /// As all of these.
+    /// The entry matches all of these.
     And(Vec<Filter>),
 
-    /// As one of these.
+    /// The entry matches at least one of these.
     Or(Vec<Filter>),
 
-    /// Not as this.
+    /// The entry doesn't match this.
     Not(Box<Filter>),
 
-    /// With an attribute of this name and value.
+    /// The entry has an attribute with this name and value.
     Equal { name: Bytes, value: Bytes },
 
-    /// With an attribute of this name.
+    /// The entry has an attribute with this name.
     Present(Bytes),
 }
 
 impl Filter {
-    /// A filter, which holds filters to this depth: one that may hold none to depth 0.
+    /// Takes a filter. Filters inside it may be nested `depth` levels deep; at depth 0 it may hold
+    /// none.
     ///
     /// # Errors
     ///
-    /// Where none is there, or what is there isn't one or holds filters deeper than that.
+    /// Returns an error if there is no value, if the next value isn't a filter, or if it holds
+    /// filters nested deeper than `depth`.
     pub fn take_from<S: Source>(
         alloc: Global,
         depth: u8,
@@ -48,11 +50,13 @@ impl Filter {
         }
     }
 
-    /// The next filter, if there is another, which holds filters to this depth.
+    /// Takes the next filter, or returns `None` at the end of the content. Filters inside it may be
+    /// nested `depth` levels deep.
     ///
     /// # Errors
     ///
-    /// Where what is there isn't one, or holds filters deeper than that.
+    /// Returns an error if the next value isn't a filter, or if it holds filters nested deeper than
+    /// `depth`.
     #[cycle(filter)]
     pub fn take_opt_from<S: Source>(
         alloc: Global,
@@ -85,7 +89,7 @@ impl Filter {
         )
     }
 
-    /// The depth inside a filter that holds others.
+    /// Returns the depth that is left inside a filter that holds others.
     fn enter<S: Source>(depth: u8, cons: &Constructed<'_, S>) -> Result<u8, DecodeError<S::Error>> {
         match depth.checked_sub(1) {
             Some(within) => Ok(within),
@@ -93,7 +97,7 @@ impl Filter {
         }
     }
 
-    /// A primitive one: the name of an attribute that is there.
+    /// Takes a primitive filter: the name of an attribute that has to be there.
     fn take_name<S: Source>(
         alloc: Global,
         tag: Tag,
@@ -107,7 +111,7 @@ impl Filter {
         Ok(Filter::Present(octets.take_all(alloc)?))
     }
 
-    /// A filter of others, or of one other.
+    /// Makes a filter of the filters inside it, by its tag.
     fn of_filters<S: Source>(
         alloc: Global,
         tag: Tag,
@@ -129,7 +133,7 @@ impl Filter {
         }
     }
 
-    /// What isn't as this.
+    /// Makes a filter that negates another.
     fn not<E: Drop>(alloc: Global, filter: Filter) -> Result<Filter, DecodeError<E>> {
         match Box::new(alloc, filter) {
             Ok(filter) => Ok(Filter::Not(filter)),
@@ -137,7 +141,7 @@ impl Filter {
         }
     }
 
-    /// The name and the value of an attribute.
+    /// Takes the name and the value of an attribute.
     fn take_equal<S: Source>(
         alloc: Global,
         cons: &mut Constructed<'_, S>,
@@ -150,7 +154,8 @@ impl Filter {
     }
 }
 
-/// A filter at the front of octets in BER, which holds filters to this depth.
+/// Decodes a filter in BER from the start of octets. Filters inside it may be nested `depth` levels
+/// deep.
 pub fn decode_filter(
     alloc: Global,
     depth: u8,

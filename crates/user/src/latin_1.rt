@@ -1,5 +1,5 @@
-//! A character set of one's own, Latin-1, in which each octet is the character of its number. It is
-//! what old certificates have in a TeletexString.
+//! Defines a character set outside the library: Latin-1, in which each octet is the number of its
+//! character. Old certificates use it for a TeletexString.
 #![tactic(auto)]
 
 ghost use Rattle.std.specs.Prelude.{⊤};
@@ -13,7 +13,7 @@ use bcder::string::{CharSet, CharSetError, OctetStringOctets, StringError};
 use std::alloc::Global;
 use std::borrow::CowSlice;
 
-/// The set.
+/// The character set Latin-1.
 #[derive(Clone, Copy, Debug)]
 pub struct Latin1;
 

@@ -1,13 +1,16 @@
-//! Readers as users of the library write them: a certificate, a signed message, blocks of addresses,
-//! filters that hold filters, and small ones. [`validity`] is a whole one to begin with, and
-//! [`latin_1`] a character set of one's own.
+//! Readers as users of the library write them: a certificate, a signed message, blocks of
+//! addresses, filters that hold filters, and small ones. Begin with [`validity`], which is a whole
+//! reader. [`latin_1`] defines a character set.
 //!
-//! A function that takes from content has one clause, that it moves it: `Moved S.stream cons`. A
-//! closure has none, or that same one where it has more than two steps, a loop, or a choice by the
-//! form of content (`MovedContent S.stream content`). A loop is [`Constructed::while_some`], which
-//! asks for no more, and lists of SEQUENCEs share one (`lists`). [`count_all`] has a loop by
-//! `while let`, with an invariant and a measure in a file, and [`Filter`] a function that calls
-//! itself, with measures in one.
+//! A function that takes from content has one clause, `Moved S.stream cons`: it moves the content.
+//! A closure needs no clause, unless it has more than two steps, a loop, or a choice by the form of
+//! content. Then it has the same clause (`MovedContent S.stream content` for content of either
+//! form).
+//!
+//! Most loops are calls of [`Constructed::while_some`], which needs no further clause. Lists of
+//! SEQUENCEs share one such loop (`lists`). [`count_all`] shows a `while let` loop, whose invariant
+//! and measure are in a file of their own. [`Filter`] shows a function that calls itself; its
+//! measures are in such a file too.
 #![tactic(auto, using(bcder::specs::laws::Moved::untouched_is_moved))]
 
 ghost use Rattle.bcder.specs.calls.Views.{Moved, MovedContent, MovedOctets};
@@ -36,7 +39,7 @@ pub use revoked::{Entry, decode_entries, take_entries, take_reason};
 pub use signed::{Signed, decode_signed};
 use std::alloc::Global;
 
-/// The number of the contents octets, which are passed over.
+/// Skips the contents octets, and returns their number.
 fn take_len<S: Source>(octets: &mut Primitive<'_, S>) -> Result<usize, DecodeError<S::Error>>
     ensures { MovedOctets S.stream octets }
 {
@@ -45,7 +48,7 @@ fn take_len<S: Source>(octets: &mut Primitive<'_, S>) -> Result<usize, DecodeErr
     Ok(len)
 }
 
-/// Passes over a primitive value of a tag.
+/// Skips a primitive value with the tag.
 fn skip_octets<S: Source>(
     tag: Tag,
     cons: &mut Constructed<'_, S>,
@@ -55,7 +58,7 @@ fn skip_octets<S: Source>(
     cons.take_primitive_if(tag, |octets| octets.skip_all())
 }
 
-/// The number of the contents octets of a primitive value of a tag.
+/// Skips a primitive value with the tag, and returns the number of its contents octets.
 fn take_len_of<S: Source>(
     tag: Tag,
     cons: &mut Constructed<'_, S>,
@@ -65,14 +68,14 @@ fn take_len_of<S: Source>(
     cons.take_primitive_if(tag, |octets| take_len(octets))
 }
 
-/// The octet of an OCTET STRING that has one.
+/// Takes an OCTET STRING of one octet, and returns that octet.
 pub fn take_octet<S: Source>(cons: &mut Constructed<'_, S>) -> Result<u8, DecodeError<S::Error>>
     ensures { Moved S.stream cons }
 {
     cons.take_primitive_if(Tag::OCTET_STRING, |octets| octets.take_u8())
 }
 
-/// What is inside a SEQUENCE of primitive values, to be read later.
+/// Captures what is inside a SEQUENCE of primitive values, to be read later.
 pub fn capture_inside<S: Source>(
     alloc: Global,
     cons: &mut Constructed<'_, S>,
@@ -86,14 +89,14 @@ pub fn capture_inside<S: Source>(
     )
 }
 
-/// Passes over primitive values up to the end.
+/// Skips primitive values up to the end.
 fn skip_primitives<S: Source>(cons: &mut Constructed<'_, S>) -> Result<(), DecodeError<S::Error>>
     ensures { Moved S.stream cons }
 {
     cons.while_some(|cons| cons.take_opt_primitive(|_tag, octets| octets.skip_all()))
 }
 
-/// The number of primitive values up to the end, by a loop over them.
+/// Counts primitive values up to the end, in a loop over them.
 pub fn count_all<S: Source>(cons: &mut Constructed<'_, S>) -> Result<u64, DecodeError<S::Error>>
     ensures { Moved S.stream cons }
 {
@@ -104,7 +107,8 @@ pub fn count_all<S: Source>(cons: &mut Constructed<'_, S>) -> Result<u64, Decode
     Ok(all)
 }
 
-/// A value of either form: the octets of a primitive one, or the first value inside.
+/// Takes a value of either form, and returns the number of contents octets: its own if it is
+/// primitive, else those of the one primitive value inside.
 pub fn take_choice<S: Source>(cons: &mut Constructed<'_, S>) -> Result<usize, DecodeError<S::Error>>
     ensures { Moved S.stream cons }
 {
@@ -122,7 +126,8 @@ pub fn take_choice<S: Source>(cons: &mut Constructed<'_, S>) -> Result<usize, De
     )
 }
 
-/// The number of octets in a primitive value, which content is asked for.
+/// Takes a value that has to be primitive, which [`Content::as_primitive`] checks, and returns the
+/// number of its contents octets.
 pub fn take_primitive_len<S: Source>(
     cons: &mut Constructed<'_, S>,
 ) -> Result<usize, DecodeError<S::Error>>

@@ -1,4 +1,4 @@
-//! Lists of SEQUENCEs, which are read one by one.
+//! Reads lists of SEQUENCEs, one by one.
 ghost use Rattle.bcder.specs.calls.Views.{Moved};
 
 use bcder::Tag;
@@ -6,7 +6,7 @@ use bcder::decode::{Constructed, DecodeError, Source};
 
 /// What is kept of a list.
 pub(crate) trait List: Sized + Drop {
-    /// Takes what is inside the next SEQUENCE, and keeps what is looked at of it.
+    /// Takes what is inside the next SEQUENCE, and keeps what it needs of it.
     fn take_one<S: Source>(
         &mut self,
         cons: &mut Constructed<'_, S>,
@@ -14,7 +14,7 @@ pub(crate) trait List: Sized + Drop {
         ensures { Moved S.stream cons };
 }
 
-/// SEQUENCEs up to the end.
+/// Takes SEQUENCEs up to the end.
 fn take_each<L: List, S: Source>(
     list: &mut L,
     cons: &mut Constructed<'_, S>,
@@ -24,7 +24,7 @@ fn take_each<L: List, S: Source>(
     cons.while_some(|cons| cons.take_opt_sequence(|cons| list.take_one(cons)))
 }
 
-/// A list with a tag, from an empty one.
+/// Takes a list with this tag, and adds its SEQUENCEs to `empty`.
 pub(crate) fn take_list<L: List, S: Source>(
     tag: Tag,
     empty: L,
@@ -37,7 +37,7 @@ pub(crate) fn take_list<L: List, S: Source>(
     Ok(list)
 }
 
-/// The same, where the list may be left out: it is empty then.
+/// Takes a list with this tag, if it comes next, and adds its SEQUENCEs to `empty`.
 pub(crate) fn take_opt_list<L: List, S: Source>(
     tag: Tag,
     empty: L,

@@ -1,4 +1,4 @@
-//! Names, as text (RFC 5280, section 4.1.2.4).
+//! Reads names as text (RFC 5280, section 4.1.2.4).
 ghost use Rattle.bcder.specs.calls.Views.{Moved};
 
 use bcder::decode::{Constructed, DecodeError, Source, walk};
@@ -7,19 +7,19 @@ use bcder::{ConstOid, Oid};
 use std::alloc::Global;
 use std::fmt;
 
-/// What an attribute of a name says.
+/// The text of an attribute.
 #[derive(Debug, Drop)]
 pub enum Text {
     Utf8(Utf8String),
     Printable(PrintableString),
     Ia5(Ia5String),
 
-    /// A value of another type, which isn't read here.
+    /// A value of another type, which isn't read.
     Other,
 }
 
 impl Text {
-    /// A value of any type.
+    /// Takes a value of any type.
     fn take_from<S: Source>(
         alloc: Global,
         cons: &mut Constructed<'_, S>,
@@ -54,15 +54,15 @@ impl fmt::Display for Text {
 /// An attribute of a name.
 #[derive(Debug, Drop)]
 pub struct Attribute {
-    /// Of what kind it is, as 2.5.4.3 for a common name.
+    /// The kind of the attribute, such as 2.5.4.3 for a common name.
     pub kind: Oid,
 
-    /// What it says.
+    /// The text of the attribute.
     pub text: Text,
 }
 
 impl Attribute {
-    /// What is inside the SEQUENCE of an attribute.
+    /// Takes what is inside the SEQUENCE of an attribute.
     fn take_parts<S: Source>(
         alloc: Global,
         cons: &mut Constructed<'_, S>,
@@ -75,14 +75,14 @@ impl Attribute {
     }
 }
 
-/// A name: its attributes, in their order.
+/// A name: its attributes, in order.
 #[derive(Debug, Drop)]
 pub struct Name {
     attributes: Vec<Attribute>,
 }
 
 impl Name {
-    /// A SEQUENCE OF SET OF attributes, each a SEQUENCE of its kind and its text.
+    /// Takes a SEQUENCE OF SET OF attributes, each a SEQUENCE of its kind and its text.
     pub fn take_from<S: Source>(
         alloc: Global,
         cons: &mut Constructed<'_, S>,
@@ -100,7 +100,7 @@ impl Name {
         Ok(name)
     }
 
-    /// The next attribute, if there is another.
+    /// Takes the next attribute, if there is one.
     fn take_next<S: Source>(
         &mut self,
         alloc: Global,
@@ -118,12 +118,12 @@ impl Name {
         }
     }
 
-    /// The attributes, in their order.
+    /// Returns the attributes, in order.
     pub fn attributes(&self) -> &[Attribute] {
         self.attributes.as_slice()
     }
 
-    /// What the attribute of a kind says, of several the last.
+    /// Returns the text of the attribute of this kind, the last one if there are several.
     pub fn text_of(&self, kind: &ConstOid) -> Option<&Text> {
         let mut found = None;
         for attribute in &self.attributes {

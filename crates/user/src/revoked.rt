@@ -1,4 +1,5 @@
-//! What a revocation list says of each certificate (RFC 5280, section 5.1): lists that are kept.
+//! Reads the entries of a list of revoked certificates (RFC 5280, section 5.1), and shows how to
+//! keep a list.
 ghost use Rattle.bcder.specs.calls.Views.{Moved};
 
 use crate::certificate::Time;
@@ -7,21 +8,21 @@ use bcder::{Captured, Mode, Tag, Unsigned};
 use std::alloc::Global;
 use std::convert::Infallible;
 
-/// A certificate that was revoked.
+/// A revoked certificate.
 #[derive(Debug, Drop)]
 pub struct Entry {
-    /// Its serial number.
+    /// The serial number of the certificate.
     pub serial: Unsigned,
 
-    /// When it was revoked.
+    /// When the certificate was revoked.
     pub date: Time,
 
-    /// What more is said of it, to be read later.
+    /// The extensions of the entry, captured to be read later.
     pub extensions: Option<Captured>,
 }
 
 impl Entry {
-    /// The next entry, a SEQUENCE, if there is another.
+    /// Takes the next entry, a SEQUENCE, if there is one.
     pub fn take_opt_from<S: Source>(
         alloc: Global,
         cons: &mut Constructed<'_, S>,
@@ -31,7 +32,7 @@ impl Entry {
         cons.take_opt_sequence(|cons| Entry::take_parts(alloc, cons))
     }
 
-    /// What is inside that SEQUENCE.
+    /// Takes what is inside the SEQUENCE of an entry.
     fn take_parts<S: Source>(
         alloc: Global,
         cons: &mut Constructed<'_, S>,
@@ -49,7 +50,7 @@ impl Entry {
     }
 }
 
-/// The entries of a list: a SEQUENCE OF.
+/// Takes the entries of a list, which is a SEQUENCE OF.
 pub fn take_entries<S: Source>(
     alloc: Global,
     cons: &mut Constructed<'_, S>,
@@ -59,12 +60,13 @@ pub fn take_entries<S: Source>(
     cons.take_sequence(|cons| cons.collect_some(alloc, |cons| Entry::take_opt_from(alloc, cons)))
 }
 
-/// The entries of a list in DER.
+/// Decodes the entries of a list in DER from the start of octets.
 pub fn decode_entries(alloc: Global, octets: &[u8]) -> Result<Vec<Entry>, DecodeError<Infallible>> {
     Mode::Der.decode(octets, |cons| take_entries(alloc, cons))
 }
 
-/// The number of a reason: an ENUMERATED in an OCTET STRING.
+/// Takes an OCTET STRING that holds an ENUMERATED, and returns its number: the reason of a
+/// revocation.
 pub fn take_reason<S: Source>(
     alloc: Global,
     cons: &mut Constructed<'_, S>,
@@ -78,7 +80,7 @@ pub fn take_reason<S: Source>(
     }
 }
 
-/// An ENUMERATED.
+/// Takes an ENUMERATED.
 fn take_enumerated<S: Source>(cons: &mut Constructed<'_, S>) -> Result<u8, DecodeError<S::Error>>
     ensures { Moved S.stream cons }
 {

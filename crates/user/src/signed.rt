@@ -1,4 +1,4 @@
-//! Signed messages (RFC 5652, section 5).
+//! Reads signed messages (RFC 5652, section 5).
 ghost use Rattle.bcder.specs.calls.Views.{Moved};
 
 use crate::certificate::{Certificate, skip_algorithm, skip_algorithm_parts};
@@ -8,30 +8,30 @@ use bcder::decode::{Constructed, DecodeError, Source, walk};
 use bcder::{Mode, OctetString, Tag};
 use std::alloc::Global;
 
-/// What a signed message holds, as far as it is read here.
+/// What is read of a signed message.
 #[derive(Clone, Copy)]
 pub struct Signed {
-    /// Its digest algorithms.
+    /// The number of digest algorithms.
     pub digests: u64,
 
-    /// The octets of the message, if it is inside.
+    /// The number of octets of the message, if it is inside.
     pub message: Option<usize>,
 
-    /// Its certificates.
+    /// The number of certificates.
     pub certificates: u64,
 
-    /// Its revocation lists.
+    /// The number of revocation lists.
     pub lists: u64,
 
-    /// Its signers.
+    /// The number of signers.
     pub signers: u64,
 
-    /// The attributes of all signers.
+    /// The number of attributes of all signers.
     pub attributes: u64,
 }
 
 impl Signed {
-    /// A SEQUENCE of an OBJECT IDENTIFIER and, tagged by `[0]`, what is signed and by whom.
+    /// Takes a SEQUENCE of an OBJECT IDENTIFIER and, with the explicit tag `[0]`, the signed data.
     pub fn take_from<S: Source>(
         alloc: Global,
         cons: &mut Constructed<'_, S>,
@@ -46,7 +46,7 @@ impl Signed {
         })
     }
 
-    /// The parts of it.
+    /// Takes the parts of the signed data.
     fn take_parts<S: Source>(
         alloc: Global,
         cons: &mut Constructed<'_, S>,
@@ -75,8 +75,10 @@ impl Signed {
     }
 }
 
-/// What is signed: a SEQUENCE of an OBJECT IDENTIFIER and, if it is inside, the message, tagged by
-/// `[0]`, which may be cut into segments. It answers the number of the message's octets.
+/// Takes what is signed, and returns the number of the message's octets if it is inside.
+///
+/// It is a SEQUENCE of an OBJECT IDENTIFIER and, with the explicit tag `[0]`, the optional message,
+/// which may be cut into segments.
 fn take_message<S: Source>(
     alloc: Global,
     cons: &mut Constructed<'_, S>,
@@ -104,7 +106,7 @@ impl List for Algorithms {
     }
 }
 
-/// How many certificates there are.
+/// The number of certificates.
 #[derive(Clone, Copy)]
 struct Certificates {
     alloc: Global,
@@ -122,7 +124,7 @@ impl List for Certificates {
     }
 }
 
-/// The number of values up to the end, of which only the headers are looked at.
+/// Skips the values up to the end, of which it reads only the headers, and returns their number.
 fn count_values<S: Source>(cons: &mut Constructed<'_, S>) -> Result<u64, DecodeError<S::Error>>
     ensures { Moved S.stream cons }
 {
@@ -131,7 +133,7 @@ fn count_values<S: Source>(cons: &mut Constructed<'_, S>) -> Result<u64, DecodeE
     Ok(count)
 }
 
-/// The next value, which is counted.
+/// Skips the next value, if there is one, and counts it.
 fn skip_value<S: Source>(
     count: &mut u64,
     cons: &mut Constructed<'_, S>,
@@ -145,7 +147,7 @@ fn skip_value<S: Source>(
     Ok(value)
 }
 
-/// How many signers there are, and attributes of all of them.
+/// The number of signers, and of the attributes of all of them.
 #[derive(Clone, Copy)]
 struct Signers {
     all: u64,
@@ -164,7 +166,7 @@ impl List for Signers {
     }
 }
 
-/// What is inside the SEQUENCE of a signer. It answers the number of its attributes.
+/// Takes what is inside the SEQUENCE of a signer, and returns the number of its attributes.
 fn take_signer<S: Source>(cons: &mut Constructed<'_, S>) -> Result<u64, DecodeError<S::Error>>
     ensures { Moved S.stream cons }
 {
@@ -178,8 +180,8 @@ fn take_signer<S: Source>(cons: &mut Constructed<'_, S>) -> Result<u64, DecodeEr
     Ok(signed.0.saturating_add(unsigned.0))
 }
 
-/// Who signed: a SEQUENCE of the name of an issuer and a serial number, or the octets of a key's
-/// identifier, tagged by `[0]`.
+/// Skips the name of a signer: a SEQUENCE of the issuer's name and a serial number, or the octets
+/// of a key identifier with the tag `[0]`.
 fn skip_signer_name<S: Source>(cons: &mut Constructed<'_, S>) -> Result<(), DecodeError<S::Error>>
     ensures { Moved S.stream cons }
 {
@@ -197,7 +199,7 @@ fn skip_signer_name<S: Source>(cons: &mut Constructed<'_, S>) -> Result<(), Deco
 #[derive(Clone, Copy)]
 struct Attributes(u64);
 
-/// Each is a SEQUENCE of an OBJECT IDENTIFIER and a SET OF any values.
+/// Each attribute is a SEQUENCE of an OBJECT IDENTIFIER and a SET OF any values.
 impl List for Attributes {
     fn take_one<S: Source>(
         &mut self,
@@ -210,7 +212,7 @@ impl List for Attributes {
     }
 }
 
-/// A signed message at the front of a source that is handed in.
+/// Decodes a signed message in BER from the start of a source.
 pub fn decode_signed<S: Source + Drop>(
     alloc: Global,
     source: S,

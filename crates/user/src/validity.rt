@@ -1,5 +1,6 @@
-//! The validity of a certificate (RFC 5280, section 4.1.2.5), and nothing else of it: a whole reader,
-//! from octets to what was wanted, with which docs/GUIDE.md begins.
+//! Reads the validity of a certificate (RFC 5280, section 4.1.2.5), and nothing else of it.
+//!
+//! This is a whole reader, from octets to the two times. The guide, docs/GUIDE.md, begins with it.
 ghost use Rattle.bcder.specs.calls.Views.{Moved};
 
 use bcder::decode::{Constructed, ContentError, DecodeError, IntoSource, Source};
@@ -18,14 +19,14 @@ pub enum Kind {
     Generalized,
 }
 
-/// A time: its kind, and its digits with the `Z` behind them.
+/// A time: its kind, and its digits followed by `Z`.
 #[derive(Debug, Drop)]
 pub struct Time {
     pub kind: Kind,
     pub text: Bytes,
 }
 
-/// From when, and until when, a certificate is valid.
+/// The time during which a certificate is valid.
 #[derive(Debug, Drop)]
 pub struct Validity {
     pub from: Time,
@@ -33,7 +34,7 @@ pub struct Validity {
 }
 
 impl Time {
-    /// The next value, which has to be a time.
+    /// Takes the next value, which has to be a time.
     fn take_from<S: Source>(
         alloc: Global,
         cons: &mut Constructed<'_, S>,
@@ -49,7 +50,8 @@ impl Time {
         })
     }
 
-    /// The time with this tag and text, if they are one: digits to the second, and a `Z`.
+    /// Makes a time of a tag and a text, or returns `None` if they aren't one: digits to the
+    /// second, and a `Z`.
     fn from_text(tag: Tag, text: Bytes) -> Option<Time> {
         let (kind, digits) = if tag == Tag::UTC_TIME {
             (Kind::Utc, 12)
@@ -71,7 +73,7 @@ impl Time {
 }
 
 impl Validity {
-    /// That of the next value, which has to be a certificate.
+    /// Takes the next value, which has to be a certificate, and returns its validity.
     pub fn take_from<S: Source>(
         alloc: Global,
         cons: &mut Constructed<'_, S>,
@@ -85,8 +87,10 @@ impl Validity {
         })
     }
 
-    /// That of the part that is signed: behind a version, which may be left out, a serial number,
-    /// the signature's algorithm and the issuer's name.
+    /// Takes the signed part of a certificate, and returns its validity.
+    ///
+    /// The validity follows an optional version, a serial number, the signature's algorithm and the
+    /// issuer's name.
     fn take_signed<S: Source>(
         alloc: Global,
         cons: &mut Constructed<'_, S>,
@@ -106,7 +110,8 @@ impl Validity {
         Ok(validity)
     }
 
-    /// That of the certificate that the octets are in DER. Octets behind it are refused.
+    /// Decodes a certificate in DER, and returns its validity. Octets after the certificate are
+    /// refused.
     pub fn of_certificate(
         alloc: Global,
         octets: &[u8],

@@ -1,4 +1,4 @@
-//! Bit strings: values that are read, and passed over.
+//! Compares bit strings: values that are read, and skipped.
 use anyhow::Error;
 use bcder::decode::{BytesSource, SliceSource, Source};
 use bcder::{BitString, Mode};
@@ -8,7 +8,8 @@ use lines::tally::Tally;
 use std::alloc::Global;
 use support::sip::Sip;
 
-/// The BIT STRING at the front of a source, and how many of so many octets are left behind.
+/// Takes the BIT STRING at the start of a source, and returns it with how many of `count` octets
+/// are left after it.
 fn take_bits<S: Source>(
     alloc: Global,
     mode: Mode,
@@ -25,7 +26,7 @@ fn take_bits<S: Source>(
     }
 }
 
-/// How many octets are left behind a BIT STRING at the front of octets that is passed over.
+/// Skips the BIT STRING at the start of octets, and returns how many octets are left after it.
 fn skip_bits(mode: Mode, octets: &[u8]) -> Option<usize> {
     let mut source = SliceSource::new(octets);
     match mode.decode_lent(&mut source, |cons| BitString::skip_in(cons)) {
@@ -34,7 +35,7 @@ fn skip_bits(mode: Mode, octets: &[u8]) -> Option<usize> {
     }
 }
 
-/// Whether so much was taken as an answer says.
+/// Returns whether what was taken is what an answer says.
 fn is_answer(
     alloc: Global,
     taken: Option<(BitString, usize)>,

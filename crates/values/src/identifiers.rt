@@ -1,4 +1,4 @@
-//! Object identifiers: their components and texts, reading them, and values that are read.
+//! Compares object identifiers: their components and texts, reading them, and values that are read.
 use anyhow::Error;
 use bcder::decode::{BytesSource, Primitive, SliceSource, Source};
 use bcder::oid::OidError;
@@ -41,8 +41,8 @@ impl Differing for Tallies {
     }
 }
 
-/// Compares whether contents octets are read as an identifier, with what text it is shown, and as
-/// what that is read back.
+/// Compares whether contents octets are read as an identifier, the text that shows it, and what
+/// this text is read as.
 pub fn compare_line(alloc: Global, line: &str, tallies: &mut Tallies) -> Result<(), Error> {
     let mut fields = line.split('\t');
     let octets = octets_of(alloc, next(&mut fields)?)?;
@@ -70,7 +70,7 @@ pub fn compare_line(alloc: Global, line: &str, tallies: &mut Tallies) -> Result<
     Ok(())
 }
 
-/// The word for why a text is no identifier.
+/// Returns the word for why a text isn't an identifier.
 fn reason(error: OidError) -> &'static str {
     match error {
         OidError::TooFew => "few",
@@ -81,7 +81,7 @@ fn reason(error: OidError) -> &'static str {
     }
 }
 
-/// Whether a text is an identifier of these contents octets, or is none for this reason.
+/// Returns whether a text is an identifier of these contents octets, or is none for this reason.
 fn is_read(alloc: Global, text: &str, wanted: &str) -> Result<bool, Error> {
     match Oid::from_str(alloc, text) {
         Ok(oid) => match octets_of(alloc, wanted) {
@@ -102,7 +102,7 @@ pub fn compare_text(alloc: Global, line: &str, tallies: &mut Tallies) -> Result<
     Ok(())
 }
 
-/// Whether a component of octets is this number, or isn't below 2^32 for `-`.
+/// Returns whether a component of octets is this number, or isn't below 2^32 for `-`.
 fn is_component(octets: &[u8], place: usize, number: &str) -> bool {
     match Oid(octets).iter().nth(place) {
         Some(component) => match component.to_u32() {
@@ -132,7 +132,8 @@ pub fn compare_components(alloc: Global, line: &str, tallies: &mut Tallies) -> R
     Ok(())
 }
 
-/// The OBJECT IDENTIFIER at the front of a source, and how many of so many octets are left behind.
+/// Takes the OBJECT IDENTIFIER at the start of a source, and returns it with how many of `count`
+/// octets are left after it.
 fn take_identifier<S: Source>(
     alloc: Global,
     mode: Mode,
@@ -149,7 +150,7 @@ fn take_identifier<S: Source>(
     }
 }
 
-/// Whether so much was taken as an answer says.
+/// Returns whether what was taken is what an answer says.
 fn is_answer(
     alloc: Global,
     taken: Option<(Bytes, usize)>,

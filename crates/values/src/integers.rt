@@ -1,4 +1,4 @@
-//! Integers: the numbers that contents octets are, in each type, and values that are read.
+//! Compares integers: the numbers that contents octets are, in each type, and values that are read.
 use crate::numbers::{self, Numbers, Readers, count, found};
 use crate::written;
 use anyhow::Error;
@@ -19,10 +19,10 @@ pub struct Tallies {
     /// Numbers read.
     pub readers: Readers,
 
-    /// Integers converted to them.
+    /// Integers converted to numbers.
     pub converted: Tally,
 
-    /// Integers made of them.
+    /// Integers made of numbers.
     pub made: Tally,
 
     /// Values read from sources.
@@ -109,7 +109,7 @@ fn compare_converted(integer: &Integer, text: &str, tally: &mut Tally) {
     );
 }
 
-/// Compares the octets of the integers that numbers are made.
+/// Compares the octets of the integers that are made of numbers.
 fn compare_made(alloc: Global, octets: &[u8], text: &str, tally: &mut Tally) -> Result<(), Error> {
     if let Ok(number) = text.parse::<i128>() {
         tally.count(Integer::from_i128(alloc, number)?.as_slice() == octets);
@@ -193,8 +193,8 @@ pub fn compare_order(alloc: Global, line: &str, tallies: &mut Tallies) -> Result
     Ok(())
 }
 
-/// The contents octets of the INTEGER at the front of a source, and how many of so many octets are
-/// left behind it.
+/// Takes the INTEGER at the start of a source, and returns its contents octets with how many of
+/// `count` octets are left after it.
 fn take_integer<S: Source>(
     alloc: Global,
     mode: Mode,
@@ -211,7 +211,7 @@ fn take_integer<S: Source>(
     }
 }
 
-/// Whether so much was taken as an answer says.
+/// Returns whether what was taken is what an answer says.
 fn is_answer(
     alloc: Global,
     taken: Option<(Bytes, usize)>,

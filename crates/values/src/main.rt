@@ -1,16 +1,16 @@
-//! Compares answers from outside with ours on what single values mean: integers, object identifiers,
-//! bit strings and tags.
+//! Compares expected answers from outside with those of the library, on what single values mean:
+//! integers, object identifiers, bit strings and tags.
 //!
-//! Each file of `data/` says in its head what its columns mean and where its answers come from: those
-//! that end in `_values.tsv` have answers of the Rust crate bcder 0.7.7, `integers.tsv` and
-//! `components.tsv` numbers that another language wrote, and the others are written by the rules of
-//! X.690.
+//! The head of each file of `data/` says what its columns mean and where its answers come from. The
+//! files that end in `_values.tsv` have answers of the Rust crate bcder 0.7.7. `integers.tsv` and
+//! `components.tsv` have numbers that another language wrote. The others are written by the rules
+//! of X.690.
 //!
 //! Then the readers of integers are compared with conversions of std on all contents of one and two
 //! octets.
 //!
-//! What is printed counts the answers of each kind that were compared, so that a line that is left
-//! out is seen.
+//! The output counts the answers of each kind that were compared, so that a line that is left out
+//! is noticed.
 #![tactic(auto, using(bcder::specs::laws::Moved::untouched_is_moved))]
 
 mod bits;

@@ -1,4 +1,4 @@
-//! The number that contents octets are, through every reader of integers.
+//! Compares the number that contents octets are, through every reader of integers.
 use anyhow::Error;
 use bcder::decode::{Primitive, SliceSource};
 use bcder::{Integer, Mode, Unsigned};
@@ -54,8 +54,8 @@ impl Differing for Readers {
     }
 }
 
-/// What contents octets are to be read as in each of Rust's types: none where the type doesn't hold
-/// the number, or where the octets are no integer's.
+/// The number that contents octets are, in each of Rust's types. It is `None` if the type can't
+/// hold the number, or if the octets aren't those of an integer.
 #[derive(Clone, Copy, Debug)]
 pub struct Numbers {
     as_u8: Option<u8>,
@@ -69,20 +69,20 @@ pub struct Numbers {
     as_i64: Option<i64>,
     as_i128: Option<i128>,
 
-    /// The octets are an integer's.
+    /// Whether the octets are those of an integer.
     is_integer: bool,
 
-    /// They are one's that isn't negative.
+    /// Whether they are those of an integer that isn't negative.
     is_unsigned: bool,
 }
 
 impl Numbers {
-    /// Of no integer.
+    /// Returns the numbers of octets that aren't those of an integer.
     fn none() -> Numbers {
         Numbers::of_text("-")
     }
 
-    /// Of the number that std reads in a text, or of none.
+    /// Returns the numbers that std reads in a text, if there are any.
     pub fn of_text(text: &str) -> Numbers {
         Numbers {
             as_u8: text.parse::<u8>().ok(),
@@ -100,7 +100,7 @@ impl Numbers {
         }
     }
 
-    /// Of a number, as std converts it.
+    /// Returns a number in each type, as std converts it.
     fn of(number: i128) -> Numbers {
         Numbers {
             as_u8: u8::try_from(number).ok(),
@@ -118,12 +118,13 @@ impl Numbers {
         }
     }
 
-    /// Of one octet, as std reads it in two's complement.
+    /// Returns the number of one octet, as std reads it in two's complement.
     fn of_one(octet: u8) -> Numbers {
         Numbers::of(i128::from(i8::from_be_bytes([octet])))
     }
 
-    /// Of two octets, whose first nine bits must not be all zero or all one (X.690, 8.3.2).
+    /// Returns the number of two octets, whose first nine bits must not be all zero or all one
+    /// (X.690, 8.3.2).
     fn of_two(first: u8, last: u8) -> Numbers {
         match (first, last >> 7) {
             (0x00, 0) | (0xFF, 1) => Numbers::none(),
@@ -132,7 +133,7 @@ impl Numbers {
     }
 }
 
-/// What was read, where it is no matter why nothing was.
+/// Returns what was read, or `None` for any error.
 pub fn found<T: Drop, E: Drop>(outcome: Result<T, E>) -> Option<T> {
     match outcome {
         Ok(value) => Some(value),
@@ -140,7 +141,7 @@ pub fn found<T: Drop, E: Drop>(outcome: Result<T, E>) -> Option<T> {
     }
 }
 
-/// What was read of a value that is there.
+/// Returns what was read, or `None` for an absent value or any error.
 fn present<T: Drop, E: Drop>(outcome: Result<Option<T>, E>) -> Option<T> {
     match outcome {
         Ok(value) => value,
@@ -179,7 +180,7 @@ fn compare_signed(octets: &[u8], mode: Mode, numbers: &Numbers, tally: &mut Tall
     count(tally, read, numbers.as_i128);
 }
 
-/// The same by the calls of `Unsigned` and `Integer`.
+/// Compares the calls of `Unsigned` and `Integer`.
 fn compare_from_unsigned(octets: &[u8], mode: Mode, numbers: &Numbers, tally: &mut Tally) {
     let read = found(Primitive::decode_slice(octets, mode, |p| Unsigned::u8_from_primitive(p)));
     count(tally, read, numbers.as_u8);
@@ -206,7 +207,7 @@ fn compare_from_signed(octets: &[u8], mode: Mode, numbers: &Numbers, tally: &mut
     count(tally, read, numbers.as_i128);
 }
 
-/// Those of `Content`, on the content of a value.
+/// Compares the calls of `Content`, on the content of a value.
 fn compare_content(value: &[u8], mode: Mode, numbers: &Numbers, tally: &mut Tally) {
     let source = SliceSource::new(value);
     let read = mode.decode(
@@ -234,7 +235,7 @@ fn compare_content(value: &[u8], mode: Mode, numbers: &Numbers, tally: &mut Tall
     count(tally, found(read), numbers.as_u64);
 }
 
-/// Those of `Constructed`.
+/// Compares the calls of `Constructed`.
 fn compare_taken(value: &[u8], mode: Mode, numbers: &Numbers, tally: &mut Tally) {
     let read = mode.decode(SliceSource::new(value), |cons| cons.take_u8());
     count(tally, found(read), numbers.as_u8);
@@ -246,7 +247,7 @@ fn compare_taken(value: &[u8], mode: Mode, numbers: &Numbers, tally: &mut Tally)
     count(tally, found(read), numbers.as_u64);
 }
 
-/// Their optional forms.
+/// Compares the optional calls of `Constructed`.
 fn compare_optional(value: &[u8], mode: Mode, numbers: &Numbers, tally: &mut Tally) {
     let read = mode.decode(SliceSource::new(value), |cons| cons.take_opt_u8());
     count(tally, present(read), numbers.as_u8);
@@ -258,7 +259,7 @@ fn compare_optional(value: &[u8], mode: Mode, numbers: &Numbers, tally: &mut Tal
     count(tally, present(read), numbers.as_u64);
 }
 
-/// Passes over the number if it is this one.
+/// Compares the calls that skip this number.
 fn compare_skipped(value: &[u8], mode: Mode, number: u8, numbers: &Numbers, readers: &mut Readers) {
     let same = numbers.as_u8 == Some(number);
     let source = SliceSource::new(value);
@@ -272,7 +273,7 @@ fn compare_skipped(value: &[u8], mode: Mode, number: u8, numbers: &Numbers, read
     readers.skipped.count(skipped.is_ok() == same);
 }
 
-/// Whether these octets are kept, or none are.
+/// Returns whether these octets are kept if that is wanted, else whether none are.
 fn keeps<E: Drop>(kept: Result<Bytes, E>, octets: &[u8], wanted: bool) -> bool {
     match kept {
         Ok(kept) => wanted && kept.as_slice() == octets,
@@ -280,7 +281,7 @@ fn keeps<E: Drop>(kept: Result<Bytes, E>, octets: &[u8], wanted: bool) -> bool {
     }
 }
 
-/// Those that keep the octets of the number.
+/// Compares the calls that keep the octets of the number.
 fn compare_kept(
     alloc: Global,
     value: &[u8],
@@ -321,7 +322,8 @@ fn compare_kept(
     ));
 }
 
-/// A value with a tag of X.680, 8.4, and these contents octets, of which there are fewer than 128.
+/// Returns a value with a tag of X.680, 8.4, and these contents octets, of which there are fewer
+/// than 128.
 fn value_of(alloc: Global, number: u8, octets: &[u8]) -> Result<Vec<u8>, Error> {
     let mut value = Vec::new(alloc);
     value.push(number)?;
@@ -330,7 +332,7 @@ fn value_of(alloc: Global, number: u8, octets: &[u8]) -> Result<Vec<u8>, Error> 
     Ok(value)
 }
 
-/// The sets of rules.
+/// The modes.
 const MODES: [Mode; 3] = [Mode::Ber, Mode::Cer, Mode::Der];
 
 /// Compares what each reader makes of contents octets in each mode.
@@ -358,8 +360,8 @@ pub fn compare(
     Ok(())
 }
 
-/// Compares the unsigned integers that are made of octets, whose value these two have. Its contents
-/// octets are the fewest that begin with a zero bit (X.690, 8.3.2).
+/// Compares the unsigned integers that are made of octets with the value of `first` and `last`.
+/// Their contents octets are the fewest that begin with a zero bit (X.690, 8.3.2).
 fn compare_made(
     alloc: Global,
     octets: &[u8],
@@ -380,8 +382,8 @@ fn compare_made(
     Ok(())
 }
 
-/// The truth value that contents octets are: one octet, all zero or not (X.690, 8.2), and in CER
-/// and DER all one then (11.1).
+/// Returns the boolean that contents octets are: one octet, all zero or not (X.690, 8.2). In CER
+/// and DER, true is all ones (11.1).
 fn truth_of(octets: &[u8], mode: Mode) -> Option<bool> {
     match octets {
         [0x00] => Some(false),
@@ -391,7 +393,7 @@ fn truth_of(octets: &[u8], mode: Mode) -> Option<bool> {
     }
 }
 
-/// Compares what the readers of truth values make of contents octets in each mode.
+/// Compares what the readers of booleans make of contents octets in each mode.
 fn compare_truths(alloc: Global, octets: &[u8], tally: &mut Tally) -> Result<(), Error> {
     let list = value_of(alloc, 0x01, octets)?;
     let value = list.as_slice();

@@ -1,4 +1,4 @@
-//! Identifier octets (X.690, 8.1.2), read over several sources, and how tags are shown.
+//! Compares identifier octets (X.690, 8.1.2), read over several sources, and how tags are shown.
 use crate::written::compare_tag;
 use anyhow::Error;
 use bcder::Tag;
@@ -50,7 +50,7 @@ impl Differing for Tallies {
     }
 }
 
-/// The tag of a class and a number.
+/// Returns the tag of a class and a number.
 fn tag_of(class: Class, number: usize) -> Result<Tag, Malformed> {
     if number > 2097151 {
         return Err(Malformed);
@@ -64,7 +64,7 @@ fn tag_of(class: Class, number: usize) -> Result<Tag, Malformed> {
     })
 }
 
-/// Whether a tag says that it is of this class, and of no other one.
+/// Returns whether a tag says that it is of this class, and of no other one.
 fn is_of(tag: Tag, class: Class) -> bool {
     tag.is_universal() == (class == Class::Universal)
         && tag.is_application() == (class == Class::Application)
@@ -79,13 +79,13 @@ fn is_at_end<S: Source>(source: &mut S) -> bool {
     }
 }
 
-/// Whether these are the tag and the mark of its encoding.
+/// Returns whether the tag and the form that were found are these.
 fn is_found(found: (Tag, bool), tag: Tag, constructed: bool) -> bool {
     let same = found.0 == tag;
     same && found.1 == constructed
 }
 
-/// Whether a call refuses by a fixed text.
+/// Returns whether a call refuses with a fixed text.
 fn is_static<T: Drop, E: Drop>(outcome: Result<T, DecodeError<E>>) -> bool {
     match outcome {
         Ok(_) => false,
@@ -93,7 +93,7 @@ fn is_static<T: Drop, E: Drop>(outcome: Result<T, DecodeError<E>>) -> bool {
     }
 }
 
-/// Whether `take_from` gives the tag and the mark, takes all octets, and then refuses.
+/// Returns whether `take_from` gives the tag and the form, takes all octets, and then refuses.
 fn takes<S: Source>(source: &mut S, tag: Tag, constructed: bool) -> bool {
     let Ok(found) = Tag::take_from(source) else {
         return false;
@@ -101,7 +101,7 @@ fn takes<S: Source>(source: &mut S, tag: Tag, constructed: bool) -> bool {
     is_found(found, tag, constructed) && is_at_end(source) && is_static(Tag::take_from(source))
 }
 
-/// Whether `take_opt_from` gives the tag and the mark, and then `None`.
+/// Returns whether `take_opt_from` gives the tag and the form, and then `None`.
 fn takes_opt<S: Source>(source: &mut S, tag: Tag, constructed: bool) -> bool {
     let Ok(Some(found)) = Tag::take_opt_from(source) else {
         return false;
@@ -109,7 +109,8 @@ fn takes_opt<S: Source>(source: &mut S, tag: Tag, constructed: bool) -> bool {
     is_found(found, tag, constructed) && matches!(Tag::take_opt_from(source), Ok(None))
 }
 
-/// Whether `take_from_if` takes the octets of this tag and gives the mark, and then gives `None`.
+/// Returns whether `take_from_if` takes the octets of this tag and gives the form, and then gives
+/// `None`.
 fn takes_if<S: Source>(source: &mut S, tag: Tag, constructed: bool) -> bool {
     match tag.take_from_if(source) {
         Ok(Some(found)) => found == constructed && matches!(tag.take_from_if(source), Ok(None)),
@@ -117,7 +118,8 @@ fn takes_if<S: Source>(source: &mut S, tag: Tag, constructed: bool) -> bool {
     }
 }
 
-/// Whether all three readers refuse by a fixed text, and take nothing: the first octet is left.
+/// Returns whether all three readers refuse with a fixed text, and take nothing: the first octet is
+/// left.
 fn refuses<S: Source>(source: &mut S, tag: Tag, first: u8) -> bool {
     is_static(Tag::take_from(source))
         && is_static(Tag::take_opt_from(source))
@@ -182,7 +184,7 @@ fn compare_octets(
     Ok(())
 }
 
-/// Compares octets that begin no tag with what the readers say of them.
+/// Compares octets that don't begin with a tag with what the readers say of them.
 fn compare_refused(alloc: Global, octets: &[u8], tag: Tag, tally: &mut Tally) -> Result<(), Error> {
     if let Some(first) = octets.first() {
         tally.count(refuses(&mut SliceSource::new(octets), tag, *first));
@@ -192,7 +194,8 @@ fn compare_refused(alloc: Global, octets: &[u8], tag: Tag, tally: &mut Tally) ->
     Ok(())
 }
 
-/// Compares the octets of a line with their tag, and with no tag where the last octet is missing.
+/// Compares the octets of a line with their tag, and checks that there is no tag if the last octet
+/// is missing.
 pub fn compare_line(alloc: Global, line: &str, tallies: &mut Tallies) -> Result<(), Error> {
     let mut fields = line.split('\t');
     let octets = octets_of(alloc, next(&mut fields)?)?;

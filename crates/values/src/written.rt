@@ -1,4 +1,4 @@
-//! Encoding: what is written of integers and of headers.
+//! Compares encoding: what is written of integers and of headers.
 use anyhow::Error;
 use bcder::encode::{
     EncodeError, PrimitiveContent, Values, WriteError, total_encoded_len, write_header,
@@ -9,7 +9,7 @@ use lines::fields::{find, next, octets_of};
 use lines::tally::Tally;
 use std::alloc::Global;
 
-/// Whether the value that is written is an INTEGER of these contents octets.
+/// Returns whether the value that is written is an INTEGER with these contents octets.
 fn is_written<P: PrimitiveContent + Drop>(alloc: Global, number: P, octets: &[u8]) -> bool {
     let mut target = Vec::new(alloc);
     for mode in [Mode::Ber, Mode::Cer, Mode::Der] {
@@ -59,7 +59,7 @@ pub fn compare_unsigned(alloc: Global, octets: &[u8], text: &str, tally: &mut Ta
     }
 }
 
-/// The same in each signed type.
+/// Compares what is written of the number that a text is, in each signed type that holds it.
 pub fn compare_signed(alloc: Global, octets: &[u8], text: &str, tally: &mut Tally) {
     if let Ok(number) = text.parse::<i8>() {
         tally.count(is_written(alloc, number, octets));

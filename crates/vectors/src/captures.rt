@@ -1,4 +1,4 @@
-//! Capturing: what is captured and by which rules, what is refused, and what stands then.
+//! Compares captures: what is captured and in which mode, what is refused, and what is left then.
 ghost use Rattle.bcder.specs.calls.Views.{Moved};
 
 use anyhow::Error;
@@ -21,35 +21,35 @@ enum Call {
     One,
     All,
 
-    /// `capture` with a closure that passes over the next value.
+    /// `capture` with a closure that skips the next value.
     Walk,
 
-    /// `capture` with a closure that passes over nothing.
+    /// `capture` with a closure that skips nothing.
     Nothing,
 
-    /// `capture` with a closure that sets the Basic Encoding Rules and passes over the next value.
+    /// `capture` with a closure that sets BER and skips the next value.
     Ber,
 
-    /// The same, which then refuses.
+    /// `capture` with a closure that sets BER, skips the next value and then refuses.
     BerRefuse,
 
-    /// `capture` with a closure that passes over the next value and then refuses.
+    /// `capture` with a closure that skips the next value and then refuses.
     Refuse,
 
-    /// `capture` with a closure that takes a value, which it refuses, and drops that refusal.
+    /// `capture` with a closure that takes a value, refuses it, and drops that error.
     Drop,
 
     /// `capture` with a closure that captures the next value.
     Nested,
 
-    /// `walk` and the calls that skip, which are no captures.
+    /// `walk` and the calls that skip. They aren't captures.
     Pass,
     Skip,
     SkipOpt,
     SkipOne,
     SkipAll,
 
-    /// `take_primitive_if` of an INTEGER, which is no capture.
+    /// `take_primitive_if` of an INTEGER. It isn't a capture.
     Integer,
 
     /// `take_sequence` with a closure that does the steps inside.
@@ -76,8 +76,8 @@ const CALLS: [(&str, Call); 16] = [
     ("enter", Call::Enter),
 ];
 
-/// A call, and its answer: octets with their rules, if these aren't those of the row, and with the
-/// position where they began, if that is said.
+/// A call, and its answer: octets with their mode, if it isn't that of the row, and with the
+/// position where they began, if the line has it.
 #[derive(Drop)]
 pub struct CaptureStep {
     call: Call,
@@ -88,7 +88,7 @@ pub struct CaptureStep {
 }
 
 impl Step for CaptureStep {
-    /// A step, as `CALL=ANSWER`, `CALL:OCTETS=ANSWER`, `CALL:OCTETS:MODE=ANSWER` or
+    /// Reads a step: `CALL=ANSWER`, `CALL:OCTETS=ANSWER`, `CALL:OCTETS:MODE=ANSWER` or
     /// `CALL:OCTETS:MODE:START=ANSWER`.
     fn of(alloc: Global, word: &str) -> Result<CaptureStep, Error> {
         let (what, answer) = word.split_once('=').ok_or(Malformed)?;
@@ -114,7 +114,7 @@ impl Step for CaptureStep {
     }
 }
 
-/// Passes over the next value, if there is one.
+/// Skips the next value, if there is one.
 fn pass<S: Source>(cons: &mut Constructed<'_, S>) -> Result<(), DecodeError<S::Error>>
     ensures { Moved S.stream cons }
 {
@@ -122,7 +122,7 @@ fn pass<S: Source>(cons: &mut Constructed<'_, S>) -> Result<(), DecodeError<S::E
     Ok(())
 }
 
-/// Passes over the next value by other rules.
+/// Skips the next value in BER.
 #[tactic(auto, using(bcder::specs::laws::Moved::steps))]
 fn pass_ber<S: Source>(cons: &mut Constructed<'_, S>) -> Result<(), DecodeError<S::Error>>
     ensures { Moved S.stream cons }
@@ -131,12 +131,12 @@ fn pass_ber<S: Source>(cons: &mut Constructed<'_, S>) -> Result<(), DecodeError<
     pass(cons)
 }
 
-/// Refuses.
+/// Returns the error by which a closure refuses.
 fn refuse<S: Source>(cons: &Constructed<'_, S>) -> DecodeError<S::Error> {
     cons.content_err(ContentError::ExpectedInteger(OWN))
 }
 
-/// Passes over the next value, and refuses then.
+/// Skips the next value, then refuses.
 #[tactic(auto, using(bcder::specs::laws::Moved::steps))]
 fn pass_and_refuse<S: Source>(
     cons: &mut Constructed<'_, S>,
@@ -152,7 +152,7 @@ fn pass_and_refuse<S: Source>(
     Err(refuse(cons))
 }
 
-/// Takes a value, whose octets it leaves, and drops the refusal of that.
+/// Takes a value, leaves its octets, and drops the error that this causes.
 #[tactic(auto, using(bcder::specs::laws::Moved::steps))]
 fn drop_refusal<S: Source>(cons: &mut Constructed<'_, S>)
     ensures { Moved S.stream cons }
@@ -160,7 +160,7 @@ fn drop_refusal<S: Source>(cons: &mut Constructed<'_, S>)
     let _ = cons.take_value(|_tag, _content| Ok(()));
 }
 
-/// Captures the next value, and gives it up.
+/// Captures the next value, and drops what is captured.
 #[tactic(auto, using(bcder::specs::laws::Moved::steps))]
 fn capture_inside<S: Source>(
     cons: &mut Constructed<'_, S>,
@@ -172,7 +172,7 @@ fn capture_inside<S: Source>(
     Ok(())
 }
 
-/// What a capture answers.
+/// Makes a capture, and returns its result.
 #[tactic(auto, using(bcder::specs::laws::Moved::steps))]
 fn capture<S: Source>(
     cons: &mut Constructed<'_, S>,
@@ -197,13 +197,13 @@ fn capture<S: Source>(
     }
 }
 
-/// The rules by which captured values are decoded.
+/// Returns the mode in which captured values are decoded.
 #[tactic(auto, using(bcder::specs::laws::Moved::untouched_is_moved))]
 pub fn label_of(captured: Captured) -> Option<Mode> {
     captured.decode(|cons| Ok(cons.mode())).ok()
 }
 
-/// Whether what was captured began at a position, if one is said.
+/// Returns whether what was captured began at this position, if one is given.
 fn begins_at(captured: &Captured, alloc: Global, start: Option<usize>) -> Result<bool, AllocError> {
     let Some(start) = start else {
         return Ok(true);
@@ -214,7 +214,7 @@ fn begins_at(captured: &Captured, alloc: Global, start: Option<usize>) -> Result
     Ok(shown.as_str() == wanted.as_str())
 }
 
-/// Whether a capture answers as the step says.
+/// Returns whether a capture gives the answer of the step.
 #[tactic(auto, using(bcder::specs::laws::Moved::steps))]
 fn captures<S: Source>(
     cons: &mut Constructed<'_, S>,
@@ -235,7 +235,7 @@ fn captures<S: Source>(
     }
 }
 
-/// What a step answers that captures nothing.
+/// Does a step that captures nothing, and returns its result.
 #[tactic(auto, using(bcder::specs::laws::Moved::steps))]
 fn pass_by<S: Source>(
     cons: &mut Constructed<'_, S>,
@@ -257,7 +257,7 @@ fn pass_by<S: Source>(
     }
 }
 
-/// Whether a step that captures nothing answers as it says.
+/// Returns whether a step that captures nothing gives its answer.
 #[tactic(auto, using(bcder::specs::laws::Moved::steps))]
 fn passes<S: Source>(cons: &mut Constructed<'_, S>, alloc: Global, step: &CaptureStep) -> bool
     ensures { Moved S.stream cons }
@@ -270,7 +270,7 @@ fn passes<S: Source>(cons: &mut Constructed<'_, S>, alloc: Global, step: &Captur
     answer == step.answer
 }
 
-/// What was compared: captures, other steps, and what `decode` answers and leaves.
+/// What was compared: captures, other steps, and what `decode` returns and leaves.
 #[derive(Clone, Copy, Debug, Default)]
 pub struct Tallies {
     pub captures: Tally,
@@ -284,7 +284,7 @@ impl Differing for Tallies {
     }
 }
 
-/// Does a step, and compares its answer. The content keeps its rules.
+/// Does a step, and compares its answer. The content keeps its mode.
 #[tactic(auto, using(bcder::specs::laws::Moved::steps))]
 fn compare_step<S: Source>(
     cons: &mut Constructed<'_, S>,
@@ -318,7 +318,7 @@ fn compare_steps<S: Source>(
     }
 }
 
-/// Enters a sequence, and does the steps there.
+/// Enters a SEQUENCE, and does the steps there.
 fn enter<S: Source>(
     cons: &mut Constructed<'_, S>,
     alloc: Global,

@@ -1,4 +1,4 @@
-//! Values that are cut: no reader finds one in a front of a value.
+//! Cuts values: no reader finds a value in a proper prefix of one.
 ghost use Rattle.bcder.specs.calls.Views.{Moved};
 
 use anyhow::Error;
@@ -45,7 +45,7 @@ enum Reader {
     Ia5String,
 }
 
-/// Those that read each value.
+/// The readers of any value.
 const OF_ALL: [Reader; 7] = [
     Reader::Walk,
     Reader::SkipOne,
@@ -56,7 +56,7 @@ const OF_ALL: [Reader; 7] = [
     Reader::TakeValue,
 ];
 
-/// Those that read values of one form or tag.
+/// The readers of values of one form or tag.
 const OF_SOME: [Reader; 20] = [
     Reader::TakePrimitive,
     Reader::TakeConstructed,
@@ -80,7 +80,7 @@ const OF_SOME: [Reader; 20] = [
     Reader::Ia5String,
 ];
 
-/// Passes over the next value, or over all values.
+/// Skips the next value, or all values.
 fn pass<S: Source>(
     cons: &mut Constructed<'_, S>,
     alloc: Global,
@@ -97,7 +97,7 @@ fn pass<S: Source>(
     found.ok_or(cons.content_err(ContentError::from_static("nothing there")))
 }
 
-/// Takes the next value, whatever stands inside.
+/// Takes the next value, whatever is inside.
 #[tactic(auto, using(bcder::specs::laws::Moved::steps))]
 fn take<S: Source>(
     cons: &mut Constructed<'_, S>,
@@ -118,7 +118,7 @@ fn take<S: Source>(
     }
 }
 
-/// Takes a truth value, null or an INTEGER.
+/// Takes a boolean, a null or an INTEGER.
 fn take_typed<S: Source>(
     cons: &mut Constructed<'_, S>,
     reader: Reader,
@@ -141,7 +141,7 @@ fn take_typed<S: Source>(
     Ok(())
 }
 
-/// Takes a number, an identifier or a bit string, or skips it.
+/// Takes a number, an object identifier or a bit string, or skips it.
 fn take_kept<S: Source>(
     cons: &mut Constructed<'_, S>,
     alloc: Global,
@@ -196,7 +196,7 @@ fn take_string<S: Source>(
     Ok(())
 }
 
-/// Captures the next value, or all values, and answers how many octets these have.
+/// Captures the next value, or all values, and returns the number of their octets.
 fn capture<S: Source>(
     cons: &mut Constructed<'_, S>,
     alloc: Global,
@@ -244,7 +244,8 @@ fn read<S: Source>(
     }
 }
 
-/// Whether a value is read, or none is, for the octets and for nothing else.
+/// Returns whether a value is read if one is wanted, or else is refused, for the octets and for
+/// nothing else.
 #[tactic(auto, using(bcder::specs::laws::Moved::steps))]
 fn is_read<S: Source>(
     source: &mut S,
@@ -280,7 +281,7 @@ fn compare(
     Ok(())
 }
 
-/// Compares that a value is read, and that no reader finds one in a front of it.
+/// Compares that a value is read, and that no reader finds one in a proper prefix of it.
 fn compare_value(
     alloc: Global,
     mode: Mode,
@@ -296,7 +297,7 @@ fn compare_value(
     Ok(())
 }
 
-/// The same of each value of octets, one behind the other, as the plain reader finds them.
+/// Compares each value of octets, as the plain reader finds them one after the other.
 fn compare_values(
     alloc: Global,
     mode: Mode,
@@ -324,7 +325,7 @@ pub fn compare_octets(alloc: Global, line: &str, tally: &mut Tally) -> Result<()
     Ok(())
 }
 
-/// The same of a line that begins with modes, in these.
+/// Compares the readers on the values of a line that begins with modes, in these modes.
 pub fn compare_line(alloc: Global, line: &str, tally: &mut Tally) -> Result<(), Error> {
     let mut fields = line.split('\t');
     let modes = modes_of(alloc, next(&mut fields)?)?;

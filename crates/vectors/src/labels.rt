@@ -1,4 +1,4 @@
-//! The rules that a capture is labelled by, where they are changed inside it.
+//! Compares the mode that a capture is labelled with, if the mode is changed inside it.
 ghost use Rattle.bcder.specs.calls.Views.{Moved, MovedOctets};
 
 use crate::captures::label_of;
@@ -11,19 +11,19 @@ use lines::tally::Tally;
 use std::alloc::Global;
 use support::sip::Sip;
 
-/// The content whose rules are set, of an INTEGER in a SEQUENCE in a SEQUENCE.
+/// The content whose mode is set, of an INTEGER in a SEQUENCE in a SEQUENCE.
 #[derive(Clone, Copy, Debug, PartialEq, Eq)]
 enum Place {
     /// The content of the capture itself.
     Around,
 
-    /// That of the outer SEQUENCE.
+    /// The content of the outer SEQUENCE.
     Outer,
 
-    /// That of the inner one.
+    /// The content of the inner SEQUENCE.
     Inner,
 
-    /// That of the INTEGER.
+    /// The content of the INTEGER.
     Primitive,
 }
 
@@ -35,7 +35,7 @@ const PLACES: [(&str, Place); 4] = [
     ("primitive", Place::Primitive),
 ];
 
-/// Rules that are set at a place, one after the other.
+/// The modes that are set at a place, one after the other.
 #[derive(Clone, Copy, Debug)]
 struct Change {
     place: Place,
@@ -43,7 +43,7 @@ struct Change {
     second: Mode,
 }
 
-/// Sets the rules of values, if they are the place.
+/// Sets the modes of values, if they are the place.
 #[tactic(auto, using(bcder::specs::laws::Moved::steps))]
 fn set_modes<S: Source>(cons: &mut Constructed<'_, S>, change: Change, place: Place)
     ensures { Moved S.stream cons }
@@ -54,7 +54,7 @@ fn set_modes<S: Source>(cons: &mut Constructed<'_, S>, change: Change, place: Pl
     }
 }
 
-/// Passes over the octets of the INTEGER.
+/// Skips the octets of the INTEGER.
 fn pass_octets<S: Source>(
     octets: &mut Primitive<'_, S>,
     change: Change,
@@ -68,7 +68,7 @@ fn pass_octets<S: Source>(
     octets.skip_all()
 }
 
-/// Passes over what is in the inner SEQUENCE.
+/// Skips what is in the inner SEQUENCE.
 fn pass_inner<S: Source>(
     cons: &mut Constructed<'_, S>,
     change: Change,
@@ -79,7 +79,7 @@ fn pass_inner<S: Source>(
     cons.take_primitive_if(Tag::INTEGER, |octets| pass_octets(octets, change))
 }
 
-/// Passes over what is in the outer SEQUENCE.
+/// Skips what is in the outer SEQUENCE.
 fn pass_outer<S: Source>(
     cons: &mut Constructed<'_, S>,
     change: Change,
@@ -90,7 +90,7 @@ fn pass_outer<S: Source>(
     cons.take_sequence(|inner| pass_inner(inner, change))
 }
 
-/// Passes over the outer SEQUENCE.
+/// Skips the outer SEQUENCE.
 fn pass_around<S: Source>(
     cons: &mut Constructed<'_, S>,
     change: Change,
@@ -108,11 +108,11 @@ struct Row {
     octets: Vec<u8>,
     change: Change,
 
-    /// The rules that the capture is labelled by.
+    /// The mode that the capture is labelled with.
     label: Mode,
 }
 
-/// Whether all octets are captured by these rules, and the content keeps its own.
+/// Returns whether all octets are captured with this mode, and the content keeps its own.
 #[tactic(auto, using(bcder::specs::laws::Moved::steps))]
 fn is_labelled<S: Source>(
     cons: &mut Constructed<'_, S>,
@@ -133,7 +133,8 @@ fn is_labelled<S: Source>(
     }
 }
 
-/// Whether that is so over a source.
+/// Returns whether all octets are captured with this mode over a source, and the content keeps its
+/// own.
 fn is_labelled_over<S: Source>(source: &mut S, alloc: Global, row: &Row, mode: Mode) -> bool {
     mode.decode_lent(source, |cons| Ok(is_labelled(cons, alloc, row, mode)))
         .is_ok_and(|same| same)

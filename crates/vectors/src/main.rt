@@ -1,14 +1,15 @@
-//! Compares answers from outside with ours, and two of our readers with one another: of calls that
-//! take, skip, keep and cut values. Those on what single values mean are in `values`.
+//! Compares expected answers from outside with those of the library, and two of its readers with
+//! each other. The calls are those that take, skip, keep and cut values. The program `values`
+//! compares what single values mean.
 //!
-//! Each file of `data/` says in its head what its columns mean and where its answers come from:
-//! `walk.tsv` and most of `octet_strings.tsv` have answers of the Rust crate bcder 0.7.7, and the
+//! The head of each file of `data/` says what its columns mean and where its answers come from.
+//! `walk.tsv` and most of `octet_strings.tsv` have answers of the Rust crate bcder 0.7.7. The
 //! others are written by the rules of X.690 and of the calls.
 //!
 //! Then `walk` and the plain reader are compared with each other on all short lists of some octets.
 //!
-//! What is printed counts the answers of each kind that were compared, so that a line that is left
-//! out is seen.
+//! The output counts the answers of each kind that were compared, so that a line that is left out
+//! is noticed.
 #![tactic(auto, using(bcder::specs::laws::Moved::untouched_is_moved))]
 
 mod captures;
@@ -122,10 +123,11 @@ fn replay_strings(rt: &HostRuntime) -> Result<(), Error> {
     print(rt, "octet strings taken", tally)
 }
 
-/// The files of data whose lines begin with octets, but for those with the octets of another one.
+/// The files of data whose lines begin with octets, except those that have the octets of another
+/// file.
 const OCTETS_FIRST: [&str; 2] = ["walk.tsv", "octet_strings.tsv"];
 
-/// Those whose lines begin with modes, and then have octets.
+/// The files of data whose lines begin with modes, followed by octets.
 const MODES_FIRST: [&str; 6] = [
     "fronts.tsv",
     "skips.tsv",

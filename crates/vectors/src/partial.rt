@@ -1,4 +1,4 @@
-//! Decoding captured values in part: what is taken, and what is left of them.
+//! Compares decoding captured values in part: what is taken, and what is left of them.
 ghost use Rattle.bcder.specs.calls.Views.{Moved};
 
 use crate::takes::perform;
@@ -11,7 +11,7 @@ use lines::row::Step;
 use lines::tally::Tally;
 use std::alloc::Global;
 
-/// Whether an answer is a value, or that none is there.
+/// Returns whether an answer is a value, or that there is none.
 fn is_taken(answer: Answer) -> bool {
     matches!(
         answer,
@@ -19,7 +19,7 @@ fn is_taken(answer: Answer) -> bool {
     )
 }
 
-/// Does a step, and refuses where it is refused.
+/// Does a step, and returns an error if it is refused.
 #[tactic(auto, using(bcder::specs::laws::Moved::steps))]
 fn take<S: Source>(
     cons: &mut Constructed<'_, S>,
@@ -35,7 +35,7 @@ fn take<S: Source>(
     }
 }
 
-/// All values of octets, captured, or `None` where they are refused.
+/// Captures all values of octets, or returns `None` if they are refused.
 fn captured(alloc: Global, mode: Mode, octets: &[u8]) -> Option<Captured> {
     let mut source = SliceSource::new(octets);
     match mode.decode_lent(&mut source, |cons| cons.capture_all(alloc)) {

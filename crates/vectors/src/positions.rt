@@ -1,4 +1,4 @@
-//! At which position content says that it is refused.
+//! Compares the position at which content says that it is refused.
 ghost use Rattle.bcder.specs.calls.Views.{Moved, MovedContent, MovedOctets};
 
 use crate::takes::{use_content, use_octets};
@@ -15,23 +15,23 @@ use lines::tally::Tally;
 use std::alloc::{AllocError, Global};
 use support::sip::Sip;
 
-/// Whose `content_err` is answered.
+/// The content whose `content_err` is called.
 #[derive(Clone, Copy, Debug, PartialEq, Eq)]
 enum Whose {
-    /// That of the values at top level.
+    /// The values at top level.
     Outside,
 
-    /// That of what is inside the next value.
+    /// The content of the next value.
     Content,
 
-    /// That of the octets inside the next value, which is primitive.
+    /// The octets inside the next value, which is primitive.
     Primitive,
 
-    /// That of the values inside the next value, which is constructed.
+    /// The values inside the next value, which is constructed.
     Constructed,
 }
 
-/// The words for whose it is.
+/// The words for this content.
 const WHOSE: [(&str, Whose); 4] = [
     ("outside", Whose::Outside),
     ("content", Whose::Content),
@@ -53,11 +53,11 @@ struct Row {
     /// How many values are taken inside, or whether octets are.
     inside: usize,
 
-    /// The position that the refusal bears.
+    /// The position that the error has.
     position: usize,
 }
 
-/// Takes so many values.
+/// Takes this number of values.
 fn take_some<S: Source>(
     cons: &mut Constructed<'_, S>,
     count: usize,
@@ -70,7 +70,7 @@ fn take_some<S: Source>(
     Ok(())
 }
 
-/// The refusal of octets, all of which are passed first where that is said.
+/// Refuses octets, all of which are skipped first if `inside` isn't 0.
 fn refuse_octets<S: Source>(
     octets: &mut Primitive<'_, S>,
     inside: usize,
@@ -83,7 +83,7 @@ fn refuse_octets<S: Source>(
     Err(Primitive::content_err(octets, ContentError::from_static("bad")))
 }
 
-/// The refusal of values, after so many of them.
+/// Refuses values, after taking `inside` of them.
 fn refuse_values<S: Source>(
     values: &mut Constructed<'_, S>,
     inside: usize,
@@ -94,7 +94,7 @@ fn refuse_values<S: Source>(
     Err(values.content_err(ContentError::from_static("bad")))
 }
 
-/// The refusal of content, all of which is passed first where that is said.
+/// Refuses content, all of which is skipped first if `inside` isn't 0.
 fn refuse_content<S: Source>(
     content: &mut Content<'_, S>,
     inside: usize,
@@ -107,7 +107,7 @@ fn refuse_content<S: Source>(
     Err(content.content_err(ContentError::from_static("bad")))
 }
 
-/// Refuses as `bad`.
+/// Refuses the content of a row with the text `bad`.
 fn refuse<S: Source>(
     cons: &mut Constructed<'_, S>,
     whose: Whose,
@@ -134,7 +134,8 @@ fn take_and_refuse<S: Source>(
     refuse(cons, row.whose, row.inside)
 }
 
-/// Whether a source that begins at the offset answers the refusal, with its text and its position.
+/// Returns whether a source that begins at the offset gives this error, with its text and its
+/// position.
 fn is_refused<S: Source>(alloc: Global, source: &mut S, row: &Row) -> Result<bool, AllocError> {
     match Mode::Ber.decode_lent(source, |cons| take_and_refuse(cons, row)) {
         Ok(_) => Ok(false),
@@ -146,7 +147,7 @@ fn is_refused<S: Source>(alloc: Global, source: &mut S, row: &Row) -> Result<boo
     }
 }
 
-/// The octets of a row behind as many others as its offset says.
+/// Returns the octets of a row after as many others as its offset says.
 fn behind_others(alloc: Global, row: &Row) -> Result<Vec<u8>, AllocError> {
     let mut all = Vec::new(alloc);
     for _ in 0..row.offset {
@@ -156,7 +157,7 @@ fn behind_others(alloc: Global, row: &Row) -> Result<Vec<u8>, AllocError> {
     Ok(all)
 }
 
-/// Whether the same is so for a source over the octets that has passed over its first ones.
+/// Returns whether a source that has skipped its first octets gives this error.
 fn is_refused_behind<S: Source>(
     alloc: Global,
     source: &mut S,

@@ -1,4 +1,4 @@
-//! Skipping: the headings that a closure is told, and the answer.
+//! Compares skips: the headings that a closure gets, and the answer.
 ghost use Rattle.bcder.specs.calls.Views.{Moved};
 
 use crate::walks::{self, compare_ways, compare_whole};
@@ -12,7 +12,7 @@ use lines::tally::{Differing, Tally};
 use std::alloc::Global;
 use support::sip::Sip;
 
-/// What was compared: headings that a closure is told, and what the other readers pass over.
+/// What was compared: the headings that a closure gets, and what the other readers skip.
 #[derive(Clone, Copy, Debug, Default)]
 pub struct Tallies {
     pub told: Tally,
@@ -34,15 +34,15 @@ struct Row<'a> {
     /// The tag that the closure refuses.
     refused: Option<Tag>,
 
-    /// The headings that it is told, or `-`.
+    /// The headings that the closure gets, or `-`.
     headings: &'a str,
     answer: Answer,
 
-    /// How many octets are left, where a value was taken or none was there.
+    /// How many octets are left, if a value was taken or there was none.
     left: usize,
 }
 
-/// Skips the next value, and writes down the headings that the closure is told.
+/// Skips the next value, and records the headings that the closure gets.
 #[tactic(auto, using(bcder::specs::laws::Moved::steps))]
 fn told<S: Source>(
     cons: &mut Constructed<'_, S>,
@@ -67,7 +67,8 @@ fn told<S: Source>(
     }
 }
 
-/// Whether `skip_opt`, or `skip` where one is wanted, tells, answers and leaves what a row says.
+/// Returns whether `skip_opt`, or `skip` if that is wanted, gives the headings and the answer of a
+/// row, and leaves what it says.
 fn tells<S: Source>(
     source: &mut S,
     alloc: Global,
@@ -97,7 +98,7 @@ fn tells<S: Source>(
     same && is_told
 }
 
-/// Compares what `skip_opt` and `skip` tell over a source made anew.
+/// Compares the headings of `skip_opt` and `skip`, each over a new source.
 fn compare_told(alloc: Global, row: &Row<'_>, mode: Mode, tally: &mut Tally) -> Result<(), Error> {
     for wanted in [false, true] {
         let mut slice = SliceSource::new(&row.octets);
@@ -110,7 +111,7 @@ fn compare_told(alloc: Global, row: &Row<'_>, mode: Mode, tally: &mut Tally) -> 
     Ok(())
 }
 
-/// Compares what the other readers pass over.
+/// Compares what the other readers skip.
 fn compare_others(
     alloc: Global,
     row: &Row<'_>,

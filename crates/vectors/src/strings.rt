@@ -1,4 +1,4 @@
-//! Octet strings: values that are read, in one piece or in parts.
+//! Compares octet strings: values that are read, in one piece or in parts.
 use anyhow::Error;
 use bcder::decode::{BytesSource, SliceSource, Source};
 use bcder::{Mode, OctetString};
@@ -8,7 +8,8 @@ use lines::tally::Tally;
 use std::alloc::Global;
 use support::sip::Sip;
 
-/// The OCTET STRING at the front of a source, and how many of so many octets are left behind.
+/// Takes the OCTET STRING at the start of a source, and returns it with how many of `count` octets
+/// are left after it.
 fn take_string<S: Source>(
     alloc: Global,
     mode: Mode,
@@ -25,7 +26,7 @@ fn take_string<S: Source>(
     }
 }
 
-/// Whether these are the parts of a string.
+/// Returns whether these are the parts of a string.
 fn are_parts(alloc: Global, string: &OctetString, wanted: &str) -> Result<bool, Error> {
     let mut parts = string.iter();
     if wanted != "none" {
@@ -39,7 +40,7 @@ fn are_parts(alloc: Global, string: &OctetString, wanted: &str) -> Result<bool, 
     Ok(string.as_slice().is_none() && parts.next().is_none())
 }
 
-/// Whether so much was taken as an answer says.
+/// Returns whether what was taken is what an answer says.
 fn is_answer(
     alloc: Global,
     taken: Option<(OctetString, usize)>,

@@ -1,4 +1,5 @@
-//! Taking values from content: which are taken, which are refused and how, and what stands then.
+//! Compares taking values from content: which are taken, which are refused and how, and what is
+//! left then.
 ghost use Rattle.bcder.specs.calls.Views.{Moved, MovedOctets, MovedContent};
 
 use anyhow::Error;
@@ -14,7 +15,7 @@ use lines::tally::{Differing, Tally};
 use std::alloc::{AllocError, Global};
 use support::sip::Sip;
 
-/// Passes over the values, two at most.
+/// Skips the values, two at most.
 fn pass_values<S: Source>(cons: &mut Constructed<'_, S>) -> Result<(), DecodeError<S::Error>>
     ensures { Moved S.stream cons }
 {
@@ -24,7 +25,8 @@ fn pass_values<S: Source>(cons: &mut Constructed<'_, S>) -> Result<(), DecodeErr
     Ok(())
 }
 
-/// What a closure does with values, of the tag that was to be told or of another.
+/// Does what the closure of a step does with values. If it got another tag than the expected one,
+/// it refuses.
 fn use_values<S: Source>(
     inner: &mut Constructed<'_, S>,
     told: bool,
@@ -45,7 +47,8 @@ fn use_values<S: Source>(
     }
 }
 
-/// What a closure does with octets, of the tag that was to be told or of another.
+/// Does what the closure of a step does with octets. If it got another tag than the expected one,
+/// it refuses.
 pub fn use_octets<S: Source>(
     inner: &mut Primitive<'_, S>,
     told: bool,
@@ -66,7 +69,7 @@ pub fn use_octets<S: Source>(
     }
 }
 
-/// Asks for content of the form that it has not.
+/// Asks for content of the other form.
 fn ask<S: Source>(content: &mut Content<'_, S>) -> Result<(), DecodeError<S::Error>>
     ensures { MovedContent S.stream content }
 {
@@ -77,7 +80,8 @@ fn ask<S: Source>(content: &mut Content<'_, S>) -> Result<(), DecodeError<S::Err
     }
 }
 
-/// What a closure does with content, of the tag that was to be told or of another.
+/// Does what the closure of a step does with content of either form. If it got another tag than the
+/// expected one, it refuses the content, unless it only asks for the other form.
 pub fn use_content<S: Source>(
     content: &mut Content<'_, S>,
     told: bool,
@@ -109,7 +113,7 @@ fn of_option<T: Drop, E: Drop>(outcome: Result<Option<T>, DecodeError<E>>, tag: 
     }
 }
 
-/// A call that takes a value of either form.
+/// Makes a call that takes a value of either form.
 #[tactic(auto, using(bcder::specs::laws::Moved::steps))]
 fn take_any<S: Source>(cons: &mut Constructed<'_, S>, step: TakeStep) -> Answer
     ensures { Moved S.stream cons }
@@ -135,7 +139,7 @@ fn take_any<S: Source>(cons: &mut Constructed<'_, S>, step: TakeStep) -> Answer
     }
 }
 
-/// A call that takes a primitive value.
+/// Makes a call that takes a primitive value.
 fn take_octets<S: Source>(cons: &mut Constructed<'_, S>, step: TakeStep) -> Answer
     ensures { Moved S.stream cons }
 {
@@ -160,7 +164,7 @@ fn take_octets<S: Source>(cons: &mut Constructed<'_, S>, step: TakeStep) -> Answ
     }
 }
 
-/// A call that takes a constructed value.
+/// Makes a call that takes a constructed value.
 fn take_values<S: Source>(cons: &mut Constructed<'_, S>, step: TakeStep) -> Answer
     ensures { Moved S.stream cons }
 {
@@ -185,7 +189,7 @@ fn take_values<S: Source>(cons: &mut Constructed<'_, S>, step: TakeStep) -> Answ
     }
 }
 
-/// A call that takes a sequence or a set.
+/// Makes a call that takes a SEQUENCE or a SET.
 fn take_list<S: Source>(cons: &mut Constructed<'_, S>, step: TakeStep) -> Answer
     ensures { Moved S.stream cons }
 {
@@ -207,7 +211,7 @@ fn take_list<S: Source>(cons: &mut Constructed<'_, S>, step: TakeStep) -> Answer
     }
 }
 
-/// A call that takes a truth value or null, or passes over the integer of a number.
+/// Makes a call that takes a boolean or a null, or skips the INTEGER of a number.
 #[tactic(auto, using(bcder::specs::laws::Moved::steps))]
 fn take_known<S: Source>(
     cons: &mut Constructed<'_, S>,
@@ -238,7 +242,7 @@ fn take_known<S: Source>(
     }
 }
 
-/// A call that takes an integer.
+/// Makes a call that takes an integer.
 #[tactic(auto, using(bcder::specs::laws::Moved::steps))]
 fn take_number<S: Source>(
     cons: &mut Constructed<'_, S>,
@@ -259,7 +263,7 @@ fn take_number<S: Source>(
     Ok(number.map(|number| Answer::Number(number)))
 }
 
-/// What a call answered that took a value of this tag, or passed over this number.
+/// Returns the answer of a call that took a value with this tag, or skipped this number.
 fn of_known<E: Drop>(
     outcome: Result<Option<Answer>, DecodeError<E>>,
     tag: Tag,
@@ -275,7 +279,7 @@ fn of_known<E: Drop>(
     }
 }
 
-/// A call, and what it answered.
+/// Makes a call, and returns its answer.
 #[tactic(auto, using(bcder::specs::laws::Moved::steps))]
 pub fn perform<S: Source>(cons: &mut Constructed<'_, S>, step: TakeStep) -> Answer
     ensures { Moved S.stream cons }
@@ -346,7 +350,7 @@ impl Counts {
         }
     }
 
-    /// What was counted of a call.
+    /// Returns what was counted of a call.
     pub fn of(&self, call: Call) -> Tally {
         for entry in &self.calls {
             if entry.0 == call {
@@ -378,7 +382,7 @@ fn compare_steps<S: Source>(cons: &mut Constructed<'_, S>, steps: &[TakeStep], c
     }
 }
 
-/// Enters a sequence, and does the steps there. The content has the mode of what is around it.
+/// Enters a SEQUENCE, and does the steps there. The content has the mode of what is around it.
 fn enter<S: Source>(
     cons: &mut Constructed<'_, S>,
     steps: &[TakeStep],

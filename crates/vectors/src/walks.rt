@@ -1,4 +1,4 @@
-//! Passing over the value at the front, in each way, and the plain reader.
+//! Compares the calls that skip the next value, and the plain reader.
 ghost use Rattle.bcder.specs.calls.Views.{Moved};
 
 use anyhow::Error;
@@ -10,14 +10,14 @@ use lines::tally::{Differing, Tally, differ_in};
 use std::alloc::{AllocError, Global};
 use support::sip::Sip;
 
-/// A call that passes over the next value.
+/// A call that skips the next value.
 #[derive(Clone, Copy, Debug, PartialEq, Eq)]
 enum Way {
     Walk,
     SkipOne,
     CaptureOne,
 
-    /// It passes over all values.
+    /// It skips all values.
     SkipAll,
 }
 
@@ -44,13 +44,13 @@ impl Differing for Tallies {
     }
 }
 
-/// How many octets the value at the front takes, by the plain reader.
+/// Returns how many octets the next value has, by the plain reader.
 fn plainly(mode: Mode, octets: &[u8]) -> Option<usize> {
     let rest = bcder::plain::skip_one(mode, octets)?;
     octets.len().checked_sub(rest.len())
 }
 
-/// Whether a value was passed over, and in so many octets where it was captured. The refusal of a
+/// Returns whether a value was skipped, or was captured with this number of octets. The error of a
 /// capture is dropped.
 #[tactic(auto, using(bcder::specs::laws::Moved::steps))]
 fn passes<S: Source>(
@@ -75,8 +75,8 @@ fn passes<S: Source>(
     }
 }
 
-/// Whether a value of so many octets is passed over in a source that has `count` of them, or none
-/// is. A refused capture leaves all octets, and content that `decode` doesn't refuse.
+/// Returns whether a value of `size` octets is skipped in a source that has `count` of them, or
+/// none is. A refused capture leaves all octets, and content that `decode` doesn't refuse.
 fn is_passed<S: Source>(
     source: &mut S,
     alloc: Global,
@@ -95,7 +95,7 @@ fn is_passed<S: Source>(
     }
 }
 
-/// Compares what is passed over, over three sources.
+/// Compares what is skipped, over three sources.
 fn compare_way(
     alloc: Global,
     mode: Mode,
@@ -114,7 +114,7 @@ fn compare_way(
     Ok(())
 }
 
-/// Compares what each reader passes over with the size of the value at the front, if one is there.
+/// Compares what each reader skips with the size of the value that comes next, if there is one.
 pub fn compare_ways(
     alloc: Global,
     mode: Mode,
@@ -142,7 +142,8 @@ pub fn compare_ways(
     )
 }
 
-/// The same where the octets are no more than that value, or don't begin with one.
+/// Compares what each reader skips, if the octets are no more than that value, or don't begin with
+/// one.
 pub fn compare_whole(
     alloc: Global,
     mode: Mode,
@@ -175,7 +176,7 @@ pub fn compare_line(alloc: Global, line: &str, tallies: &mut Tallies) -> Result<
     Ok(())
 }
 
-/// Compares that the value of a line of `fronts.tsv` is passed over, and no front of it is.
+/// Compares that the value of a line of `fronts.tsv` is skipped, and no proper prefix of it is.
 pub fn compare_fronts(alloc: Global, line: &str, tallies: &mut Tallies) -> Result<(), Error> {
     let mut fields = line.split('\t');
     let modes = modes_of(alloc, next(&mut fields)?)?;

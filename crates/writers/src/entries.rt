@@ -1,5 +1,8 @@
-//! Basic constraints, and entries of a revocation list (RFC 5280, sections 4.2.1.9 and 5.1): an
-//! encoder that a type's own method gives, and a list that is put together in memory.
+//! Writes basic constraints, and entries of a list of revoked certificates (RFC 5280, sections
+//! 4.2.1.9 and 5.1).
+//!
+//! This module shows a method that returns an encoder of a type, and a list that is built in
+//! memory.
 
 use bcder::captured::CapturedBuilder;
 use bcder::encode::{
@@ -9,42 +12,42 @@ use bcder::{Captured, Mode, Tag, Unsigned};
 use std::alloc::Global;
 use std::io;
 
-/// Whether a key may sign certificates, and how many may stand below it.
+/// Basic constraints: whether a key may sign certificates, and how long the path below it may be.
 #[derive(Clone, Copy)]
 pub struct Basic {
-    /// Whether its holder is an authority.
+    /// Whether the holder is an authority.
     pub authority: bool,
 
-    /// The certificates that may stand between it and the last one, if that is limited.
+    /// How many certificates may come between this one and the last one, if that is limited.
     pub path: Option<u8>,
 }
 
 impl Basic {
-    /// A SEQUENCE of a BOOLEAN and an INTEGER, which may be left out.
+    /// Returns an encoder of a SEQUENCE of a BOOLEAN and an INTEGER, which may be left out.
     pub fn encode(&self) -> Constructed<(Primitive<bool>, Option<Primitive<u8>>)> {
         encode::sequence((self.authority.encode(), self.path.map(|path| path.encode())))
     }
 }
 
-/// A certificate that was revoked.
+/// A revoked certificate.
 #[derive(Drop)]
 pub struct Entry {
-    /// Its serial number.
+    /// The serial number of the certificate.
     pub serial: Unsigned,
 
-    /// When it was revoked, as the text of a UTCTime.
+    /// When the certificate was revoked, as the text of a UTCTime.
     pub date: String,
 
-    /// What more is said of it.
+    /// The extensions of the entry, already encoded.
     pub extensions: Option<Captured>,
 }
 
 impl Entry {
-    /// Writes a SEQUENCE of its parts, which are lent.
+    /// Writes a SEQUENCE of the entry's parts, which are borrowed.
     ///
     /// # Errors
     ///
-    /// Those of [`Values::write_encoded`].
+    /// Returns the errors of [`Values::write_encoded`].
     pub fn write<W: io::Write>(&self, mode: Mode, target: &mut W) -> Result<(), WriteError> {
         let parts = (
             (&self.serial).encode(),
@@ -54,7 +57,7 @@ impl Entry {
         encode::sequence(&parts).write_encoded(mode, target)
     }
 
-    /// Adds the same to what is put together.
+    /// Adds this SEQUENCE to a builder.
     fn gather(&self, target: &mut CapturedBuilder) -> Result<(), EncodeError> {
         let parts = (
             (&self.serial).encode(),
@@ -65,11 +68,11 @@ impl Entry {
     }
 }
 
-/// A SEQUENCE OF entries, put together in memory.
+/// Encodes a SEQUENCE OF entries in memory.
 ///
 /// # Errors
 ///
-/// Those of [`CapturedBuilder::extend`].
+/// Returns the errors of [`CapturedBuilder::extend`].
 pub fn gather_entries(
     alloc: Global,
     entries: &[Entry],

@@ -1,36 +1,36 @@
-//! Search filters of LDAP (RFC 4511, section 4.5.1.7): values that hold values of their own kind,
-//! put together from the inside.
+//! Writes search filters of LDAP (RFC 4511, section 4.5.1.7): values that hold values of their own
+//! kind, built from the inside out.
 
 use bcder::captured::CapturedBuilder;
 use bcder::encode::{self, EncodeError, PrimitiveContent};
 use bcder::{Captured, Mode, Tag};
 use std::alloc::Global;
 
-/// What an entry has to be like.
+/// A filter, which says what an entry has to match.
 #[derive(Drop)]
 pub enum Filter {
-    /// As all of these.
+    /// The entry matches all of these.
     And(Vec<Filter>),
 
-    /// As one of these.
+    /// The entry matches at least one of these.
     Or(Vec<Filter>),
 
-    /// Not as this.
+    /// The entry doesn't match this.
     Not(Box<Filter>),
 
-    /// With an attribute of this name and value.
+    /// The entry has an attribute with this name and value.
     Equal { name: String, value: Vec<u8> },
 
-    /// With an attribute of this name.
+    /// The entry has an attribute with this name.
     Present(String),
 }
 
 impl Filter {
-    /// Adds the filter to what is put together.
+    /// Adds the encoding of the filter to a builder.
     ///
     /// # Errors
     ///
-    /// Those of [`CapturedBuilder::extend`].
+    /// Returns the errors of [`CapturedBuilder::extend`].
     pub fn gather(&self, alloc: Global, target: &mut CapturedBuilder) -> Result<(), EncodeError> {
         match self {
             Filter::And(filters) => {

@@ -1,6 +1,10 @@
-//! Writers as users of the library write them: a request for a certificate, with an encoder of a
-//! user's own, entries of a list, filters that hold filters, lists through an iterator, and numbers
-//! that are written and read again.
+//! Writers as users of the library write them.
+//!
+//! - [`write_request`] writes a request for a certificate, with an encoder for a type of the user.
+//! - [`Entry`] and [`gather_entries`] write the entries of a list.
+//! - [`Filter`] writes filters that hold filters.
+//! - [`write_each`] and [`write_numbers`] write lists through an iterator.
+//! - [`write_and_read`] writes a number and reads it back.
 #![tactic(auto)]
 
 mod entries;

@@ -1,7 +1,7 @@
-//! Lists that are written through an iterator over them, and octets that are chosen first.
+//! Writes lists through an iterator over their items, and octets that are chosen first.
 //!
-//! What `iter` asks of an iterator, that each clone gives the same items, is found by the lemmas
-//! that the next line names.
+//! `iter` requires that each clone of the iterator gives the same items. The lemmas that the next
+//! line names prove this.
 #![tactic(auto, using(bcder::specs::laws::Listed::gives_one_list))]
 
 ghost use Rattle.std.specs.Prelude.{◌≡◌, ◌≢◌, Any, All, IfErr};
@@ -17,7 +17,7 @@ use std::io;
 ///
 /// # Errors
 ///
-/// Those of [`Values::write_encoded`], but never for want of memory.
+/// Returns the errors of [`Values::write_encoded`], but never `NoMemory`.
 pub fn write_numbers<W: io::Write>(
     numbers: &[Primitive<u32>],
     mode: Mode,
@@ -32,7 +32,8 @@ pub fn write_numbers<W: io::Write>(
 ///
 /// # Errors
 ///
-/// Those of [`Values::write_encoded`]; for want of memory only where it may lack for a value.
+/// Returns the errors of [`Values::write_encoded`], among them `NoMemory` only if the encoder of
+/// one of the values may run out of memory.
 pub fn write_each<V: Values, W: io::Write>(
     values: &Vec<V>,
     mode: Mode,

@@ -1,4 +1,4 @@
-//! Numbers that are written, and read again.
+//! Writes numbers and reads them back.
 #![tactic(auto, using(bcder::specs::laws::Moved::untouched_is_moved))]
 
 ghost use Rattle.std.specs.Prelude.{◌≡◌, IfOk, IfErr};
@@ -16,11 +16,11 @@ use bcder::{Mode, Tag};
 use std::alloc::Global;
 use std::convert::Infallible;
 
-/// Writes a number, and reads it from what was written.
+/// Writes a number, and reads it back from what was written.
 ///
 /// # Errors
 ///
-/// `Target` where there is no memory for the octets.
+/// Returns `Target` if memory runs out for the octets.
 pub fn write_and_read(alloc: Global, number: u32, mode: Mode) -> Result<u32, WriteError>
     ensures number { IfOk result (λ read. read ≡ number) }
     ensures refused { IfErr result IsOfTarget }

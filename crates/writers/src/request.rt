@@ -1,4 +1,4 @@
-//! Requests for certificates (RFC 2986, section 4), as they are written.
+//! Writes requests for certificates (RFC 2986, section 4).
 ghost use Rattle.std.specs.Prelude.{◌≡◌};
 ghost use Rattle.bcder.specs.x690.Identifier.{universal, sequence_tag};
 ghost use Rattle.bcder.specs.calls.Meaning.{PieceMeans};
@@ -13,11 +13,11 @@ use bcder::laws::encoders::what_is_written_is_an_encoding;
 use bcder::{Mode, Oid, Tag};
 use std::io;
 
-/// A text, which is written as a UTF8String by its octets.
+/// A text that is encoded as a UTF8String.
 #[derive(Clone, Copy)]
 pub struct Text<'a>(pub &'a str);
 
-/// It means the octets of the text, of which there are at most 1000 in CER (X.690, 9.2).
+/// The encoder means the octets of the text, at most 1000 of them in CER (X.690, 9.2).
 impl PrimitiveContent for Text<'_> {
     ghost own_tag = { record { class = universal; number = 12 } };
 
@@ -43,35 +43,35 @@ impl PrimitiveContent for Text<'_> {
 /// A part of a name: its kind and its text.
 #[derive(Clone, Copy)]
 pub struct Part<'a> {
-    /// The contents octets of the identifier of its kind.
+    /// The contents octets of the object identifier that names the kind.
     pub kind: &'a [u8],
 
-    /// Its text.
+    /// The text of the part.
     pub text: Text<'a>,
 }
 
-/// What is asked for.
+/// What a request for a certificate asks for.
 #[derive(Clone, Copy)]
 pub struct Request<'a> {
     /// The organization that asks.
     pub organization: Part<'a>,
 
-    /// Who asks.
+    /// The name of who asks.
     pub name: Part<'a>,
 
-    /// The contents octets of the identifier of the key's kind.
+    /// The contents octets of the object identifier of the key's algorithm.
     pub algorithm: &'a [u8],
 
-    /// Those of the key's curve.
+    /// The contents octets of the object identifier of the key's curve.
     pub curve: &'a [u8],
 
-    /// The contents octets of the key as a BIT STRING.
+    /// The contents octets of the key, a BIT STRING.
     pub key: &'a [u8],
 
-    /// The contents octets of the identifier of an attribute.
+    /// The contents octets of the object identifier of an attribute.
     pub attribute: &'a [u8],
 
-    /// Its values.
+    /// The values of the attribute.
     pub values: &'a [Text<'a>],
 }
 
@@ -79,7 +79,7 @@ pub struct Request<'a> {
 ///
 /// # Errors
 ///
-/// Those of the target.
+/// Returns the errors of [`Values::write_encoded`].
 pub fn write_request<W: io::Write>(
     request: &Request<'_>,
     mode: Mode,
@@ -92,7 +92,8 @@ pub fn write_request<W: io::Write>(
     write_with_attributes(request, &sequence(&attribute), mode, target)
 }
 
-/// The same with these attributes: its key is a SEQUENCE of an algorithm and a BIT STRING.
+/// Writes the request with these attributes. The key is a SEQUENCE of an algorithm and a BIT
+/// STRING.
 fn write_with_attributes<A: Values, W: io::Write>(
     request: &Request<'_>,
     attributes: &A,
@@ -107,7 +108,8 @@ fn write_with_attributes<A: Values, W: io::Write>(
     write_with_key(request, &sequence(&key), attributes, mode, target)
 }
 
-/// The same with this key: its name is a SEQUENCE of SETs, each of one part.
+/// Writes the request with this key and these attributes. The name is a SEQUENCE of SETs of one
+/// part each.
 fn write_with_key<K: Values, A: Values, W: io::Write>(
     request: &Request<'_>,
     key: &K,
@@ -128,7 +130,7 @@ fn write_with_key<K: Values, A: Values, W: io::Write>(
     write_parts(&sequence(&subject), key, attributes, mode, target)
 }
 
-/// The SEQUENCE of these parts, after the version 0.
+/// Writes a SEQUENCE of the version 0 and these parts.
 fn write_parts<N: Values, K: Values, A: Values, W: io::Write>(
     name: &N,
     key: &K,

@@ -1,4 +1,4 @@
-//! A call that is tried: alone, with its refusal answered or dropped, and inside of others.
+//! A call that is tried: alone, with its error returned or dropped, and inside other calls.
 ghost use Rattle.bcder.specs.calls.Views.{Moved, MovedContent};
 
 use crate::asserts::{done, holds, same};
@@ -10,8 +10,8 @@ use std::process::Abort;
 use support::calls::{Answer, Call, Take, ask};
 use support::sip::Sip;
 
-/// A call, the rules and the octets that it reads, and what it answers and how many octets it
-/// leaves where the source doesn't fail.
+/// A call, the mode and the octets that it reads, and what it returns and how many octets it leaves
+/// if the source doesn't fail.
 #[derive(Clone, Copy)]
 pub struct Trial<'a> {
     pub mode: Mode,
@@ -29,19 +29,19 @@ pub struct Failing {
     pub whole: bool,
 }
 
-/// Where a call is made, and what becomes of its refusal.
+/// Where a call is made, and what becomes of its error.
 #[derive(Clone, Copy, Debug, PartialEq, Eq)]
 pub enum Place {
-    /// In `decode_lent`, which is not told of it.
+    /// In `decode_lent`, and the closure drops the error.
     Dropped,
 
-    /// In `decode`, which is told of it.
+    /// In `decode`, and the closure returns the error.
     Answered,
 
-    /// In a value that this call takes, which is not told of it.
+    /// In a value that this call takes, and the closure drops the error.
     Inside(Take),
 
-    /// In a capture, which is not told of it.
+    /// In a capture, and the closure drops the error.
     Captured,
 }
 
@@ -54,11 +54,11 @@ enum Met {
     /// In the call that is tried.
     InCall,
 
-    /// Behind it, in the same content.
+    /// After it, in the same content.
     Behind,
 }
 
-/// A source over octets, of which a request fails.
+/// Returns a source over octets, of which a request fails.
 fn source_of(rt: &impl Abort, alloc: Global, octets: &[u8], failing: Failing) -> Sip {
     if failing.whole {
         failing_whole(rt, alloc, octets, failing.number)
@@ -68,18 +68,19 @@ fn source_of(rt: &impl Abort, alloc: Global, octets: &[u8], failing: Failing) ->
 }
 
 impl Trial<'_> {
-    /// Whether the call is refused where the source doesn't fail.
+    /// Returns whether the call is refused if the source doesn't fail.
     fn is_refused(&self) -> bool {
         matches!(self.wanted, Answer::Lacking | Answer::Refused)
     }
 
-    /// A refusal of content is what is wanted.
+    /// Checks that the error is a refusal of content, and that a refusal is wanted.
     fn check_refusal<E: Drop>(&self, rt: &impl Abort, error: DecodeError<E>) {
         holds(rt, error.content_error().is_some());
         holds(rt, self.is_refused());
     }
 
-    /// After a failure of the source a capture answers as ever, and anything else is refused.
+    /// Makes the call again after the source failed. A capture gives its usual result, and any
+    /// other call is refused.
     fn ask_again<S: Source>(&self, rt: &impl Abort, alloc: Global, cons: &mut Constructed<'_, S>)
         ensures { Moved S.stream cons }
     {
@@ -92,7 +93,8 @@ impl Trial<'_> {
         }
     }
 
-    /// The call answers what is wanted, or the source failed in it: whether it did.
+    /// Checks that the call returns what is wanted, or that the source failed in it. Returns
+    /// whether the source failed.
     fn check_call<S: Source>(
         &self,
         rt: &impl Abort,
@@ -114,8 +116,8 @@ impl Trial<'_> {
 
     // ---- alone
 
-    /// The refusal is dropped: then `decode_lent` refuses, unless the content is usable. Whether
-    /// the source failed.
+    /// Drops the error, and checks that `decode_lent` refuses then, unless the content is usable.
+    /// Returns whether the source failed.
     fn check_dropped(&self, rt: &impl Abort, alloc: Global, failing: Failing) -> bool {
         let mut source = source_of(rt, alloc, self.octets, failing);
         let mut struck = false;
@@ -135,7 +137,8 @@ impl Trial<'_> {
         struck
     }
 
-    /// The refusal is answered: then `decode` answers it. Whether the source failed.
+    /// Returns the error from the closure, and checks that `decode` returns it. Returns whether the
+    /// source failed.
     #[tactic(auto, using(bcder::specs::laws::Moved::untouched_is_moved))]
     fn check_answered<S: Source + Drop>(&self, rt: &impl Abort, alloc: Global, source: S) -> bool {
         let call = self.call;
@@ -149,7 +152,7 @@ impl Trial<'_> {
 
     // ---- inside another call
 
-    /// Makes the call, and passes over what it leaves, whatever is refused.
+    /// Makes the call, and skips what it leaves, whatever is refused.
     fn settle<S: Source>(
         &self,
         rt: &impl Abort,
@@ -166,7 +169,7 @@ impl Trial<'_> {
         }
     }
 
-    /// The same in content, which has to be constructed.
+    /// Makes the call in content, which has to be constructed, and skips what it leaves.
     fn settle_content<S: Source>(
         &self,
         rt: &impl Abort,
@@ -183,7 +186,7 @@ impl Trial<'_> {
         (outcome, met)
     }
 
-    /// The same in a value of either form.
+    /// Makes the call in a value of either form, and skips what it leaves.
     fn enclose_value<S: Source>(
         &self,
         rt: &impl Abort,
@@ -225,7 +228,7 @@ impl Trial<'_> {
         (outcome, met)
     }
 
-    /// The same in a constructed value.
+    /// Makes the call in a constructed value, and skips what it leaves.
     fn enclose_constructed<S: Source>(
         &self,
         rt: &impl Abort,
@@ -263,7 +266,7 @@ impl Trial<'_> {
         (outcome, met)
     }
 
-    /// The same in a sequence or a set.
+    /// Makes the call in a SEQUENCE or a SET, and skips what it leaves.
     fn enclose_sequence<S: Source>(
         &self,
         rt: &impl Abort,
@@ -301,7 +304,7 @@ impl Trial<'_> {
         (outcome, met)
     }
 
-    /// The same in a value that a call takes.
+    /// Makes the call in a value that another call takes, and skips what it leaves.
     fn enclose<S: Source>(
         &self,
         rt: &impl Abort,
@@ -322,7 +325,8 @@ impl Trial<'_> {
         }
     }
 
-    /// The same in a capture. One that is refused leaves the content as it was.
+    /// Makes the call in a capture, and skips what it leaves. A capture that is refused leaves the
+    /// content as it was.
     fn enclose_capture<S: Source>(
         &self,
         rt: &impl Abort,
@@ -353,8 +357,8 @@ impl Trial<'_> {
         (outcome, met)
     }
 
-    /// The octets as the content of a value, the end of which isn't there where the call is refused
-    /// and fails.
+    /// Returns the octets as the content of a value. If the call is refused and the content fails,
+    /// the end of the value is missing.
     fn enclosed(&self, rt: &impl Abort, alloc: Global, identifier: u8) -> Vec<u8> {
         let mut list = Vec::new(alloc);
         let len = (self.octets.len() % 128) as u8;
@@ -367,7 +371,7 @@ impl Trial<'_> {
         list
     }
 
-    /// The octets that are there for a place.
+    /// Returns the octets for a place.
     fn octets_for(&self, rt: &impl Abort, alloc: Global, place: Place) -> Vec<u8> {
         match place {
             Place::Inside(Take::Set | Take::OptSet) => self.enclosed(rt, alloc, 0x31),
@@ -376,8 +380,8 @@ impl Trial<'_> {
         }
     }
 
-    /// The refusal is dropped inside another call: that one refuses, unless the content is usable.
-    /// Whether the source failed.
+    /// Drops the error inside another call, and checks that this call refuses, unless the content
+    /// is usable. Returns whether the source failed.
     fn check_inside(&self, rt: &impl Abort, alloc: Global, place: Place, failing: Failing) -> bool {
         let list = self.octets_for(rt, alloc, place);
         let mut source = source_of(rt, alloc, list.as_slice(), failing);
@@ -408,7 +412,8 @@ impl Trial<'_> {
 
     // ---- all
 
-    /// Tries the call where a request fails: whether there was one of that number.
+    /// Tries the call while a request fails, and returns whether there was a request with that
+    /// number.
     fn check(&self, rt: &impl Abort, alloc: Global, place: Place, failing: Failing) -> bool {
         match place {
             Place::Dropped => self.check_dropped(rt, alloc, failing),
@@ -419,7 +424,8 @@ impl Trial<'_> {
         }
     }
 
-    /// Tries it with no request that fails, and then with each, in turn, until there are no more.
+    /// Tries the call without a request that fails, and then with each in turn, until there are no
+    /// more.
     pub fn run(&self, rt: &impl Abort, alloc: Global, place: Place, whole: bool) {
         holds(
             rt,

@@ -1,4 +1,4 @@
-//! The encoders, one list.
+//! The encoders, in one list.
 #![tactic(auto, using(bcder::specs::laws::Listed::gives_one_list))]
 
 use super::lists::{Listed, write_listed};
@@ -11,16 +11,16 @@ use std::alloc::Global;
 use std::io;
 use std::process::Abort;
 
-/// An encoder of a value that is known.
+/// An encoder of a known value.
 #[derive(Clone, Copy, Debug, PartialEq, Eq)]
 pub enum Encoder {
     /// A value with the tag of its type.
     Value(Content),
 
-    /// The same by reference, with another tag.
+    /// A value by reference, with another tag.
     RefAs(Content),
 
-    /// The contents octets of the value.
+    /// The contents octets of a value.
     Contents(Content),
 
     /// Identifier octets.
@@ -36,7 +36,7 @@ pub enum Encoder {
     Listed(Listed),
 }
 
-/// A primitive value that is known.
+/// A known primitive value.
 #[derive(Clone, Copy, Debug, PartialEq, Eq)]
 pub enum Content {
     I8,
@@ -115,7 +115,7 @@ fn write_unsigned<W: io::Write>(
     }
 }
 
-/// The identifier of an extension, 2.5.29.19.
+/// The object identifier of an extension, 2.5.29.19.
 const EXTENSION: ConstOid = Oid(&[0x55, 0x1D, 0x13]);
 
 /// Writes a value whose octets are kept.
@@ -171,7 +171,7 @@ fn write_content<W: io::Write>(
     }
 }
 
-/// Writes what an encoder is of.
+/// Writes the value of an encoder.
 pub fn write<W: io::Write>(
     rt: &impl Abort,
     alloc: Global,

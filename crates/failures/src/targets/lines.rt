@@ -1,4 +1,4 @@
-//! What is written: an encoder, rules, and the octets.
+//! What is written: an encoder, a mode, and the octets.
 use super::encoders::{Content, Encoder};
 use super::lists::Listed;
 use super::strings::Text;

@@ -1,4 +1,4 @@
-//! Lists of values, constructed values, and one of several, as encoders.
+//! Encoders of lists of values, of constructed values, and of one of several values.
 #![tactic(auto, using(bcder::specs::laws::Listed::gives_one_list))]
 
 use super::tuples::write_tuple;
@@ -43,7 +43,7 @@ pub enum Listed {
     Built,
 }
 
-/// Three INTEGERs.
+/// The numbers of three INTEGERs.
 const NUMBERS: [u8; 3] = [1, 2, 3];
 
 /// Writes a constructed value.
@@ -130,7 +130,7 @@ fn write_one_of_three<W: io::Write>(
     choice.write_encoded(mode, target)
 }
 
-/// What is kept of an INTEGER and a NULL, in a mode.
+/// Captures an INTEGER and a NULL, in a mode.
 fn kept(rt: &impl Abort, alloc: Global, mode: Mode) -> Captured {
     let mut builder = CapturedBuilder::new(alloc, mode);
     done(rt, builder.extend(5u8.encode()));
@@ -159,7 +159,7 @@ fn write_captured<W: io::Write>(
     }
 }
 
-/// Writes them.
+/// Writes a list, a constructed value, or one of several.
 pub fn write_listed<W: io::Write>(
     rt: &impl Abort,
     alloc: Global,

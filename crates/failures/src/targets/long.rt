@@ -1,4 +1,4 @@
-//! Strings of over 1000 octets, as they are written in CER: in segments (X.690, 9.2).
+//! Strings of over 1000 octets, which CER writes in segments (X.690, 9.2).
 use super::strings::cut;
 use crate::asserts::done;
 use bcder::encode::{PrimitiveContent, Values, WriteError};
@@ -19,7 +19,7 @@ pub enum Long {
     Wrapped,
 }
 
-/// Each of them, and the first of its identifier octets.
+/// Each encoder, and the first of its identifier octets.
 pub const LONG: [(Long, u8); 5] = [
     (Long::Slice, 0x24),
     (Long::Whole, 0x24),
@@ -28,7 +28,7 @@ pub const LONG: [(Long, u8); 5] = [
     (Long::Wrapped, 0x24),
 ];
 
-/// The octets of the string. Those of a value that is wrapped are that value.
+/// Returns the octets of the string. For a wrapped value they are that value.
 pub fn octets_of(rt: &impl Abort, alloc: Global, long: Long) -> Vec<u8> {
     let mut octets = Vec::new(alloc);
     if long == Long::Wrapped {
@@ -40,7 +40,7 @@ pub fn octets_of(rt: &impl Abort, alloc: Global, long: Long) -> Vec<u8> {
     octets
 }
 
-/// These octets in segments.
+/// Returns these octets in segments.
 pub fn spelled(rt: &impl Abort, alloc: Global, identifier: u8, octets: &[u8]) -> Vec<u8> {
     let mut list = Vec::new(alloc);
     let (front, last) = octets.split_at(octets.len().min(1000));
@@ -53,7 +53,7 @@ pub fn spelled(rt: &impl Abort, alloc: Global, identifier: u8, octets: &[u8]) ->
     list
 }
 
-/// A string of these octets, cut after the first 600.
+/// Returns a string of these octets, cut after the first 600.
 fn in_two(rt: &impl Abort, alloc: Global, octets: &[u8]) -> OctetString {
     let mut list = Vec::new(alloc);
     let (front, last) = octets.split_at(octets.len().min(600));

@@ -1,4 +1,4 @@
-//! Strings, as encoders.
+//! Encoders of strings.
 use crate::asserts::done;
 use bcder::decode::SliceSource;
 use bcder::encode::{PrimitiveContent, Values, WriteError};
@@ -9,7 +9,7 @@ use std::alloc::Global;
 use std::io;
 use std::process::Abort;
 
-/// A string that is known.
+/// A known string.
 #[derive(Clone, Copy, Debug, PartialEq, Eq)]
 pub enum Text {
     Whole,
@@ -29,7 +29,7 @@ pub enum Text {
     WrappedRef,
 }
 
-/// The string "ab", in one piece.
+/// Returns the string "ab", in one piece.
 fn whole(rt: &impl Abort, alloc: Global) -> OctetString {
     OctetString::new(done(rt, Bytes::copy_from_slice(alloc, b"ab")))
 }
@@ -39,7 +39,7 @@ const CUT: &[u8] = &[
     0x24, 0x0A, 0x04, 0x01, 0x61, 0x24, 0x80, 0x04, 0x01, 0x62, 0x00, 0x00,
 ];
 
-/// That string.
+/// Returns the string that these octets are.
 #[tactic(auto, using(bcder::specs::laws::Moved::steps))]
 pub fn cut(rt: &impl Abort, alloc: Global, octets: &[u8]) -> OctetString {
     let mut source = SliceSource::new(octets);

@@ -1,9 +1,9 @@
-//! Tuples of each size, as encoders.
+//! Encoders of tuples of each size.
 use bcder::Mode;
 use bcder::encode::{Primitive, PrimitiveContent, Values, WriteError};
 use std::io;
 
-/// The INTEGER of a number.
+/// Returns an encoder of the INTEGER with this number.
 fn n(number: u8) -> Primitive<u8> {
     number.encode()
 }
@@ -75,7 +75,7 @@ fn write_largest<W: io::Write>(count: usize, mode: Mode, target: &mut W) -> Resu
     }
 }
 
-/// Writes a tuple of the INTEGERs from 1 on, of which there are as many as is asked for.
+/// Writes a tuple of `count` INTEGERs, from 1 on.
 pub fn write_tuple<W: io::Write>(
     count: usize,
     mode: Mode,

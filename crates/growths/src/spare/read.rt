@@ -7,7 +7,7 @@ use support::calls::{
     TYPED, Text, ask,
 };
 
-/// How calls ended: as they should, with want of memory, or otherwise.
+/// How calls ended: as they should, out of memory, or otherwise.
 #[derive(Clone, Copy)]
 pub struct Tally {
     name: &'static str,
@@ -26,7 +26,7 @@ impl Tally {
         }
     }
 
-    /// Counts a call that ended so.
+    /// Counts a call that ended in this way.
     fn count<E: Drop>(&mut self, found: Result<Answer, DecodeError<E>>, wanted: Answer) {
         let right = match found {
             Ok(found) => found == wanted,
@@ -52,7 +52,7 @@ impl Tally {
     }
 }
 
-/// Whether a call that takes a value takes memory for its octets, which are borrowed.
+/// Returns whether a call that takes a value allocates for its octets, which are borrowed.
 fn keeps(call: Call) -> bool {
     match call {
         Call::Capture(_) => true,
@@ -69,17 +69,17 @@ fn keeps(call: Call) -> bool {
     }
 }
 
-/// Whether a call ends without a value that it would keep.
+/// Returns whether a call ends without a value that it would keep.
 fn keeps_nothing(wanted: Answer) -> bool {
     matches!(wanted, Answer::Absent | Answer::Lacking)
 }
 
-/// Whether there are values deeper than four levels in one another.
+/// Returns whether values are nested more than four levels deep.
 fn is_deep(octets: &[u8]) -> bool {
     octets.starts_with(&[0x30, 0x0A])
 }
 
-/// The calls of some lines that take no memory.
+/// Counts the calls of some lines that don't allocate.
 fn count_lines(alloc: Global, name: &'static str, lines: &[Line]) -> Tally {
     let mut tally = Tally::new(name);
     for (mode, octets, calls, wanted, _) in lines {
@@ -95,7 +95,7 @@ fn count_lines(alloc: Global, name: &'static str, lines: &[Line]) -> Tally {
     tally
 }
 
-/// The calls that take no memory.
+/// Returns the counts of the calls that don't allocate.
 pub fn tallies(alloc: Global) -> [Tally; 7] {
     [
         count_lines(alloc, "takes by a closure", &TAKES),
@@ -108,7 +108,7 @@ pub fn tallies(alloc: Global) -> [Tally; 7] {
     ]
 }
 
-/// Counts the calls of some lines that keep octets, of which there are some.
+/// Counts the calls of some lines that keep octets, if there are any octets.
 fn control_lines(alloc: Global, lines: &[Line], tally: &mut Tally) {
     for (mode, octets, calls, wanted, _) in lines {
         for call in *calls {
@@ -121,7 +121,7 @@ fn control_lines(alloc: Global, lines: &[Line], tally: &mut Tally) {
     }
 }
 
-/// Calls that take memory.
+/// Returns the counts of calls that allocate.
 pub fn control(alloc: Global) -> Tally {
     let mut tally = Tally::new("control");
     control_lines(alloc, &CAPTURES, &mut tally);

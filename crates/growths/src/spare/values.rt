@@ -1,4 +1,4 @@
-//! Values that are kept: compared, hashed, shown, gone through and read.
+//! Values that are kept: compared, hashed, shown, iterated over and read.
 use anyhow::Error;
 use bcder::captured::CapturedBuilder;
 use bcder::decode::{IntoSource, LimitedSource, Primitive, SliceSource, Source};
@@ -29,21 +29,21 @@ const CUT: &[u8] = &[
     0x24, 0x0A, 0x04, 0x01, 0x61, 0x04, 0x01, 0x62, 0x04, 0x02, 0x63, 0x64,
 ];
 
-/// That string.
+/// Returns this string.
 fn cut(alloc: Global) -> Result<OctetString, Error> {
     let mut source = SliceSource::new(CUT);
     let string = Mode::Ber.decode_lent(&mut source, |cons| OctetString::take_from(alloc, cons))?;
     Ok(string)
 }
 
-/// The INTEGER 5, captured.
+/// Returns the INTEGER 5, captured.
 fn five(alloc: Global) -> Result<Captured, Error> {
     let mut builder = CapturedBuilder::new(alloc, Mode::Der);
     builder.extend(5u8.encode())?;
     Ok(builder.freeze()?)
 }
 
-/// The integers and the identifier.
+/// Returns the integers and the object identifier.
 fn numbers(alloc: Global) -> Result<(Integer, Unsigned, Oid<Bytes>), Error> {
     let integer = Integer::from_i64(alloc, -129)?;
     let unsigned = Unsigned::from_u8(alloc, 200)?;
@@ -51,7 +51,7 @@ fn numbers(alloc: Global) -> Result<(Integer, Unsigned, Oid<Bytes>), Error> {
     Ok((integer, unsigned, oid))
 }
 
-/// The strings in one piece.
+/// Returns the strings in one piece.
 fn strings(alloc: Global) -> Result<(BitString, OctetString, Utf8String), Error> {
     let bits = BitString::new(4, Bytes::copy_from_slice(alloc, &[0x0A, 0xFF])?);
     let whole = OctetString::new(Bytes::copy_from_slice(alloc, b"abcd")?);
@@ -78,14 +78,14 @@ impl Things {
     }
 }
 
-/// What a hasher that is handed a value ends with.
+/// Returns what a hasher that gets a value ends with.
 fn hash<T: Hash>(value: &T) -> u64 {
     let mut hasher = DefaultHasher::new();
     value.hash(&mut hasher);
     hasher.finish()
 }
 
-/// Integers are compared, and told in Rust's types.
+/// Compares integers, and converts them to Rust's types.
 fn integers(one: &Things) -> bool {
     one.integer == one.integer
         && one.integer.cmp(&one.integer) == Ordering::Equal
@@ -97,7 +97,7 @@ fn integers(one: &Things) -> bool {
         && one.integer.as_slice() == [0xFF, 0x7F].as_slice()
 }
 
-/// The same of unsigned ones.
+/// Compares unsigned integers, and converts them to Rust's types.
 fn unsigned_integers(one: &Things) -> bool {
     one.unsigned == one.unsigned
         && one.unsigned.cmp(&one.unsigned) == Ordering::Equal
@@ -107,7 +107,7 @@ fn unsigned_integers(one: &Things) -> bool {
         && one.unsigned.as_slice() == [0x00, 0xC8].as_slice()
 }
 
-/// Identifiers are compared and gone through.
+/// Compares object identifiers, and iterates over their components.
 fn identifiers(one: &Things) -> bool {
     let mut sum = 0u32;
     for part in one.oid.iter() {
@@ -116,20 +116,20 @@ fn identifiers(one: &Things) -> bool {
     one.oid == one.oid && one.oid.same_as(&one.oid) && hash(&one.oid) == hash(&one.oid) && sum == 55
 }
 
-/// A value is shown as a text, for which there is room.
+/// Shows an object identifier as a text, for which there is room.
 fn identifier_is_shown(oid: &Oid<Bytes>, text: &mut String) -> bool {
     text.clear();
     write!(text, "{oid}").is_ok() && text.as_str() == "2.5.29.19"
 }
 
-/// The same of a tag and of a string.
+/// Shows a tag and a string as a text, for which there is room.
 fn text_is_shown(string: &Utf8String, text: &mut String) -> bool {
     text.clear();
     let tag = Tag::OCTET_STRING;
     write!(text, "{tag}, {string}").is_ok() && text.as_str() == "OCTET STRING, aé"
 }
 
-/// Bit strings are compared and gone through.
+/// Compares bit strings, and iterates over them.
 fn bit_strings(one: &Things) -> bool {
     one.bits == one.bits
         && one.bits.bit(4)
@@ -140,7 +140,7 @@ fn bit_strings(one: &Things) -> bool {
         && one.bits.octet_slice() == Some([0x0A, 0xFF].as_slice())
 }
 
-/// Octet strings are compared, cut as they may be.
+/// Compares octet strings, cut or not.
 fn octet_strings_compared(one: &Things) -> bool {
     one.whole == one.cut
         && one.cut.cmp(&one.whole) == Ordering::Equal
@@ -149,7 +149,7 @@ fn octet_strings_compared(one: &Things) -> bool {
         && one.cut.cmp_octets(b"abce") == Ordering::Less
 }
 
-/// The same are gone through.
+/// Iterates over octet strings, cut or not.
 fn octet_strings_read(one: &Things) -> bool {
     one.cut.len() == 4
         && !one.cut.is_empty()
@@ -159,13 +159,13 @@ fn octet_strings_read(one: &Things) -> bool {
         && one.whole.as_slice() == Some(b"abcd".as_slice())
 }
 
-/// Whether these are the characters of a string.
+/// Returns whether these are the characters of a string.
 fn spells(string: &Utf8String) -> bool {
     let mut chars = string.chars();
     matches!(chars.next(), Some('a')) && matches!(chars.next(), Some('é')) && chars.next().is_none()
 }
 
-/// Strings of characters are compared and gone through.
+/// Compares strings of characters, and iterates over them.
 fn character_strings(one: &Things) -> bool {
     one.text == one.text
         && one.text.cmp(&one.text) == Ordering::Equal
@@ -174,7 +174,7 @@ fn character_strings(one: &Things) -> bool {
         && one.text.as_str() == Some("aé")
 }
 
-/// What these answer.
+/// Returns what these calls return.
 pub fn ends(one: &Things, text: &mut String) -> [(&'static str, bool); 9] {
     [
         ("Integer", integers(one)),
@@ -192,7 +192,7 @@ pub fn ends(one: &Things, text: &mut String) -> [(&'static str, bool); 9] {
     ]
 }
 
-/// Whether a source gives these octets, one by one, and no others.
+/// Returns whether a source gives these octets, one by one, and no others.
 fn gives<S: Source>(source: &mut S, wanted: &[u8]) -> bool {
     for octet in wanted {
         match source.take_opt_u8() {
@@ -203,7 +203,7 @@ fn gives<S: Source>(source: &mut S, wanted: &[u8]) -> bool {
     matches!(source.take_opt_u8(), Ok(None))
 }
 
-/// The octets within a limit are passed over, and no others are left there.
+/// Skips the octets within a limit, and returns whether no others are left there.
 fn passes_limit() -> bool {
     let mut source = LimitedSource::new(SliceSource::new(b"abcd"));
     source.set_limit(Some(3));
@@ -211,7 +211,7 @@ fn passes_limit() -> bool {
     skipped && source.unwrap().len() == 1
 }
 
-/// Tags are read.
+/// Reads tags.
 fn reads_tags() -> bool {
     let mut source = SliceSource::new(&[0x30, 0x9F, 0x81, 0x01, 0x02]);
     let taken = matches!(Tag::take_from(&mut source), Ok((Tag::SEQUENCE, true)));
@@ -220,14 +220,14 @@ fn reads_tags() -> bool {
     taken && opt && of_another && source.len() == 1
 }
 
-/// A string and captured values that calls give up.
+/// Returns a string and captured values, which calls consume.
 pub fn given_up(alloc: Global) -> Result<(OctetString, Captured), Error> {
     let cut = cut(alloc)?;
     let kept = five(alloc)?;
     Ok((cut, kept))
 }
 
-/// What sources answer, and calls that give up what they are called on.
+/// Returns what sources return, and calls that consume what they are called on.
 pub fn source_ends(given_up: (OctetString, Captured)) -> [(&'static str, bool); 5] {
     let (cut, kept) = given_up;
     let alone = Primitive::decode_slice(&[0x05], Mode::Der, |octets| octets.to_u8());

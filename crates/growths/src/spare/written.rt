@@ -1,4 +1,4 @@
-//! Encoders, over targets that hold their room.
+//! Encoders, over targets that have room.
 #![tactic(auto, using(bcder::specs::laws::Listed::gives_one_list))]
 
 use super::values::Things;
@@ -9,7 +9,7 @@ use bcder::encode::{
 use bcder::{BitString, Mode, OctetString, Oid, Tag};
 use std::alloc::Global;
 
-/// Values are told to have as many octets as these, and are written as these.
+/// Returns whether the values have this number of octets, and are written as these.
 fn writes<V: Values>(values: &V, mode: Mode, target: &mut Vec<u8>, wanted: &[u8]) -> bool
     requires { V.can_encode values.now }
 {
@@ -19,7 +19,7 @@ fn writes<V: Values>(values: &V, mode: Mode, target: &mut Vec<u8>, wanted: &[u8]
         && target.as_slice() == wanted
 }
 
-/// Values that keep octets, by reference.
+/// Writes values that keep octets, by reference.
 fn kept(things: &Things, target: &mut Vec<u8>) -> bool {
     let values = (
         (&things.integer).encode(),
@@ -34,7 +34,7 @@ fn kept(things: &Things, target: &mut Vec<u8>) -> bool {
     writes(&values, Mode::Der, target, &wanted)
 }
 
-/// Strings in one piece and cut, and captured values.
+/// Writes strings in one piece and cut, and captured values.
 fn strings(things: &Things, target: &mut Vec<u8>) -> bool {
     let values = (
         things.whole.encode_ref(),
@@ -49,13 +49,13 @@ fn strings(things: &Things, target: &mut Vec<u8>) -> bool {
     writes(&values, Mode::Der, target, &wanted)
 }
 
-/// A value that is wrapped.
+/// Writes a value that is wrapped.
 fn wrapped(alloc: Global, target: &mut Vec<u8>) -> bool {
     let value = OctetString::encode_wrapped(alloc, Mode::Der, true.encode());
     writes(&value, Mode::Cer, target, &[0x04, 0x03, 0x01, 0x01, 0xFF])
 }
 
-/// Octets of a slice.
+/// Writes octets of a slice.
 fn slices(target: &mut Vec<u8>) -> bool {
     let values = (
         OctetString::encode_slice(b"ab"),
@@ -70,7 +70,7 @@ fn slices(target: &mut Vec<u8>) -> bool {
     writes(&values, Mode::Der, target, &wanted)
 }
 
-/// Over 1000 octets in CER, in segments.
+/// Writes over 1000 octets in CER, in segments.
 fn segments(target: &mut Vec<u8>) -> bool {
     let octets = [0x61; 1001];
     let value = OctetString::encode_slice(&octets);
@@ -80,7 +80,7 @@ fn segments(target: &mut Vec<u8>) -> bool {
         && target.len() == 1011
 }
 
-/// Headers, and how long they are.
+/// Writes headers, and checks their lengths.
 fn headers(target: &mut Vec<u8>) -> bool {
     target.clear();
     total_encoded_len(Tag::SEQUENCE, 256) == Ok(260)
@@ -90,7 +90,7 @@ fn headers(target: &mut Vec<u8>) -> bool {
         && target.as_slice() == [0x30, 0x82, 0x01, 0x00, 0xDF, 0xFF, 0xFF, 0x7F].as_slice()
 }
 
-/// What these answer.
+/// Returns what these calls return.
 pub fn ends(alloc: Global, things: &Things, target: &mut Vec<u8>) -> [(&'static str, bool); 6] {
     [
         ("encoders of what is kept", kept(things, target)),
@@ -102,7 +102,7 @@ pub fn ends(alloc: Global, things: &Things, target: &mut Vec<u8>) -> [(&'static 
     ]
 }
 
-/// Signed and unsigned numbers, a boolean and a null.
+/// Writes signed and unsigned numbers, a boolean and a null.
 fn numbers(target: &mut Vec<u8>) -> bool {
     let values = (
         (
@@ -129,7 +129,7 @@ fn numbers(target: &mut Vec<u8>) -> bool {
     writes(&values, Mode::Der, target, &wanted)
 }
 
-/// Constructed values, in CER.
+/// Writes constructed values, in CER.
 fn constructed(target: &mut Vec<u8>) -> bool {
     let values = sequence((set(Nothing), true.encode().explicit(Tag::CTX_3)));
     let wanted = [
@@ -138,7 +138,7 @@ fn constructed(target: &mut Vec<u8>) -> bool {
     writes(&values, Mode::Cer, target, &wanted)
 }
 
-/// Lists: a slice, a slice through a closure, and an iterator.
+/// Writes lists: a slice, a slice through a closure, and an iterator.
 fn lists(target: &mut Vec<u8>) -> bool {
     let numbers = [1u8.encode(), 2u8.encode()];
     let values = (
@@ -153,7 +153,7 @@ fn lists(target: &mut Vec<u8>) -> bool {
     writes(&values, Mode::Der, target, &wanted)
 }
 
-/// What may be there, and one of several.
+/// Writes what may be there, and one of several.
 fn choices(target: &mut Vec<u8>) -> bool {
     let two: Choice2<_, Nothing> = Choice2::One(5u8.encode());
     let three: Choice3<Nothing, _, Nothing> = Choice3::Two(6u8.encode());
@@ -162,7 +162,7 @@ fn choices(target: &mut Vec<u8>) -> bool {
     writes(&values, Mode::Der, target, &wanted)
 }
 
-/// What these answer.
+/// Returns what these calls return.
 pub fn several_ends(target: &mut Vec<u8>) -> [(&'static str, bool); 4] {
     [
         ("encoders of numbers", numbers(target)),

@@ -1,28 +1,28 @@
-//! What calls on content answer.
+//! What calls on content return.
 
-/// What a call answers.
+/// What a call returns.
 #[derive(Clone, Copy, Debug, PartialEq, Eq)]
 pub enum Answer {
-    /// No value is there.
+    /// There is no such value.
     Absent,
 
-    /// Values were passed over.
+    /// Values were skipped.
     Passed,
 
-    /// A number, or how many octets were captured or taken.
+    /// A number; or how many octets, or bits of a bit string, were captured or taken.
     Number(usize),
 
-    /// A truth value.
+    /// A boolean.
     Truth(bool),
 
-    /// It is refused, since no such value is there, and the content stays usable.
+    /// An error, since there is no such value. The content stays usable.
     Lacking,
 
-    /// It is refused, and the content has failed.
+    /// An error, after which the content has failed.
     Refused,
 }
 
-/// A number, if there is one.
+/// Returns the answer of a call that returned a number, if there was a value.
 pub fn number(found: Option<u8>) -> Answer {
     match found {
         Some(number) => Answer::Number(usize::from(number)),
@@ -30,7 +30,7 @@ pub fn number(found: Option<u8>) -> Answer {
     }
 }
 
-/// Whether a value was passed over.
+/// Returns the answer of a call that skipped a value, if there was one.
 pub fn passed(found: Option<()>) -> Answer {
     match found {
         Some(()) => Answer::Passed,
@@ -38,7 +38,7 @@ pub fn passed(found: Option<()>) -> Answer {
     }
 }
 
-/// Whether it is so, if there is a value.
+/// Returns the answer of a call that returned a boolean, if there was a value.
 pub fn truth(found: Option<bool>) -> Answer {
     match found {
         Some(fact) => Answer::Truth(fact),
@@ -46,7 +46,7 @@ pub fn truth(found: Option<bool>) -> Answer {
     }
 }
 
-/// Octets of which there are so many, if there is a value.
+/// Returns the answer of a call that returned a number of octets, if there was a value.
 pub fn count(found: Option<usize>) -> Answer {
     match found {
         Some(len) => Answer::Number(len),

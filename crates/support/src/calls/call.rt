@@ -1,4 +1,4 @@
-//! The calls on content, one list.
+//! The calls on content, in one list.
 ghost use Rattle.bcder.specs.calls.Views.{Moved};
 
 use super::answer::Answer;
@@ -25,13 +25,13 @@ pub enum Call {
 }
 
 impl Call {
-    /// Whether its refusal leaves the content as it was.
+    /// Returns whether a refusal of the call leaves the content as it was.
     pub fn captures(self) -> bool {
         matches!(self, Call::Capture(_))
     }
 }
 
-/// What a call answers.
+/// Makes the call, and returns its answer.
 pub fn ask<S: Source>(
     cons: &mut Constructed<'_, S>,
     alloc: Global,

@@ -19,10 +19,10 @@ pub enum Kept {
     SkipIdentifierIf,
 }
 
-/// An object identifier that is asked for: 2.5.29.19.
+/// The object identifier that `skip_if` asks for: 2.5.29.19.
 const EXTENSION: ConstOid = Oid(&[0x55, 0x1D, 0x13]);
 
-/// How many octets are kept.
+/// Takes a value, if there is one, and returns the number of its contents octets.
 fn len_of<S: Source>(
     cons: &mut Constructed<'_, S>,
     alloc: Global,
@@ -38,7 +38,7 @@ fn len_of<S: Source>(
     }
 }
 
-/// Passes over an object identifier.
+/// Skips an object identifier.
 fn skip<S: Source>(
     cons: &mut Constructed<'_, S>,
     kept: Kept,
@@ -53,7 +53,7 @@ fn skip<S: Source>(
     Ok(Some(()))
 }
 
-/// What a reader answers.
+/// Makes the call of a reader, and returns its answer.
 pub fn ask<S: Source>(
     cons: &mut Constructed<'_, S>,
     alloc: Global,
@@ -84,7 +84,7 @@ pub enum Text {
     CharactersOfContent,
 }
 
-/// How many bits are taken, or none where they are passed over.
+/// Takes a bit string and returns the number of its bits, or skips it and returns `None`.
 fn bits<S: Source>(
     cons: &mut Constructed<'_, S>,
     alloc: Global,
@@ -112,7 +112,7 @@ fn bits<S: Source>(
     }
 }
 
-/// How many octets are taken.
+/// Takes an octet string, if there is one, and returns the number of its octets.
 fn octets<S: Source>(
     cons: &mut Constructed<'_, S>,
     alloc: Global,
@@ -136,7 +136,7 @@ fn octets<S: Source>(
     }
 }
 
-/// How many octets the characters have that are taken.
+/// Takes a character string, if there is one, and returns the number of its octets.
 fn characters<S: Source>(
     cons: &mut Constructed<'_, S>,
     alloc: Global,
@@ -160,7 +160,7 @@ fn characters<S: Source>(
     }
 }
 
-/// What a reader of a string answers.
+/// Makes the call of a reader of a string, and returns its answer.
 pub fn ask_text<S: Source>(
     cons: &mut Constructed<'_, S>,
     alloc: Global,

@@ -1,4 +1,4 @@
-//! What is tried: rules, octets, calls, what they answer, and how many octets they leave.
+//! What is tried: a mode, octets, calls, what they return, and how many octets they leave.
 use super::answer::Answer;
 use super::call::Call;
 use super::kept::{Kept, Text};
@@ -8,12 +8,12 @@ use super::takes::Take;
 use super::typed::Typed;
 use bcder::Mode;
 
-/// Calls that answer the same of the same octets.
+/// Calls that return the same for the same octets.
 pub type Line = (Mode, &'static [u8], &'static [Call], Answer, usize);
 
 // ---- takes
 
-/// Those that take an INTEGER.
+/// Calls that take an INTEGER.
 const INTEGERS: &[Call] = &[
     Call::Take(Take::Value),
     Call::Take(Take::OptValue),
@@ -25,7 +25,7 @@ const INTEGERS: &[Call] = &[
     Call::Take(Take::OptPrimitiveIf),
 ];
 
-/// Those that take a primitive value of any tag.
+/// Calls that take a primitive value with any tag.
 const OF_OCTETS: &[Call] = &[
     Call::Take(Take::Value),
     Call::Take(Take::OptValue),
@@ -33,7 +33,7 @@ const OF_OCTETS: &[Call] = &[
     Call::Take(Take::OptPrimitive),
 ];
 
-/// Those that take a SEQUENCE.
+/// Calls that take a SEQUENCE.
 const SEQUENCES: &[Call] = &[
     Call::Take(Take::Value),
     Call::Take(Take::OptValue),
@@ -45,7 +45,7 @@ const SEQUENCES: &[Call] = &[
     Call::Take(Take::OptSequence),
 ];
 
-/// Those that take a SET.
+/// Calls that take a SET.
 const SETS: &[Call] = &[
     Call::Take(Take::Value),
     Call::Take(Take::OptValue),
@@ -55,7 +55,7 @@ const SETS: &[Call] = &[
     Call::Take(Take::OptSet),
 ];
 
-/// Those that look for a tag, and take nothing where it is not there.
+/// Calls that look for a tag, and take nothing if it isn't there.
 const OPTIONAL_BY_TAG: &[Call] = &[
     Call::Take(Take::OptValueIf),
     Call::Take(Take::OptPrimitiveIf),
@@ -64,7 +64,7 @@ const OPTIONAL_BY_TAG: &[Call] = &[
     Call::Take(Take::OptSet),
 ];
 
-/// Those that look for a tag which has to be there.
+/// Calls that look for a tag, which has to be there.
 const NEEDED_BY_TAG: &[Call] = &[
     Call::Take(Take::ValueIf),
     Call::Take(Take::PrimitiveIf),
@@ -73,14 +73,14 @@ const NEEDED_BY_TAG: &[Call] = &[
     Call::Take(Take::Set),
 ];
 
-/// The others that take nothing at the end.
+/// The other calls that take nothing at the end.
 const OPTIONAL: &[Call] = &[
     Call::Take(Take::OptValue),
     Call::Take(Take::OptPrimitive),
     Call::Take(Take::OptConstructed),
 ];
 
-/// The others that refuse the end.
+/// The other calls that refuse the end.
 const NEEDED: &[Call] = &[
     Call::Take(Take::Value),
     Call::Take(Take::Primitive),
@@ -221,7 +221,7 @@ const TYPED_OPTIONAL: &[Call] = &[
     Call::Typed(Typed::OptU64),
 ];
 
-/// Those that don't tell whether a value was there.
+/// Calls that don't say whether a value was there.
 const TYPED_UNTOLD: &[Call] = &[Call::Typed(Typed::OptNull), Call::Typed(Typed::SkipOptU8If)];
 
 const TYPED_NEEDED: &[Call] = &[
@@ -234,7 +234,7 @@ const TYPED_NEEDED: &[Call] = &[
     Call::Typed(Typed::SkipU8If),
 ];
 
-/// Booleans, nulls and integers. Of integers it is told whether they are 5.
+/// Booleans, nulls and integers. For integers the answer says whether they are 5.
 pub const TYPED: [Line; 18] = [
     (
         Mode::Der,
@@ -321,7 +321,7 @@ const ONE_OPTIONAL: &[Call] = &[
 
 const SEVERAL: &[Call] = &[Call::Pass(Pass::SkipAll), Call::Pass(Pass::WhileSome)];
 
-/// Values that are passed over.
+/// Values that are skipped.
 pub const PASSES: [Line; 13] = [
     (
         Mode::Der,
@@ -559,7 +559,7 @@ const PASS_ALL: &[Call] = &[
     Call::Read(Reader::SkipIdentifier),
 ];
 
-/// Octets of a primitive value. Of numbers it is told whether they are 5.
+/// Octets of a primitive value. For numbers the answer says whether they are 5.
 pub const OCTETS: [Line; 12] = [
     (
         Mode::Der,

@@ -25,7 +25,7 @@ pub enum Reader {
     SkipIdentifier,
 }
 
-/// How many bits the type of a number has.
+/// The number of bits that the type of a number has.
 #[derive(Clone, Copy, Debug, PartialEq, Eq)]
 pub enum Width {
     W8,
@@ -35,7 +35,7 @@ pub enum Width {
     W128,
 }
 
-/// Whether the octets are the signed number 5, by the octets' own readers.
+/// Returns whether the octets are the signed number 5, by the readers of `Primitive`.
 fn is_signed<S: Source>(
     octets: &mut Primitive<'_, S>,
     width: Width,
@@ -51,7 +51,7 @@ fn is_signed<S: Source>(
     }
 }
 
-/// The same of the unsigned number.
+/// Returns whether the octets are the unsigned number 5, by the readers of `Primitive`.
 fn is_unsigned<S: Source>(
     octets: &mut Primitive<'_, S>,
     width: Width,
@@ -67,7 +67,7 @@ fn is_unsigned<S: Source>(
     }
 }
 
-/// The same of the signed number, by the readers of `Integer`.
+/// Returns whether the octets are the signed number 5, by the readers of `Integer`.
 fn is_signed_from<S: Source>(
     octets: &mut Primitive<'_, S>,
     width: Width,
@@ -83,7 +83,7 @@ fn is_signed_from<S: Source>(
     }
 }
 
-/// The same of the unsigned number, by the readers of `Unsigned`.
+/// Returns whether the octets are the unsigned number 5, by the readers of `Unsigned`.
 fn is_unsigned_from<S: Source>(
     octets: &mut Primitive<'_, S>,
     width: Width,
@@ -99,7 +99,7 @@ fn is_unsigned_from<S: Source>(
     }
 }
 
-/// How many octets are taken, lent or kept.
+/// Returns how many octets are taken, borrowed or kept.
 fn len_of<S: Source>(
     octets: &mut Primitive<'_, S>,
     alloc: Global,
@@ -116,7 +116,7 @@ fn len_of<S: Source>(
     }
 }
 
-/// Lends the octets, and takes them then.
+/// Borrows the octets, then takes them.
 fn lend<S: Source>(octets: &mut Primitive<'_, S>) -> Result<usize, DecodeError<S::Error>>
     ensures { MovedOctets S.stream octets }
 {
@@ -125,7 +125,7 @@ fn lend<S: Source>(octets: &mut Primitive<'_, S>) -> Result<usize, DecodeError<S
     Ok(len)
 }
 
-/// Passes over the octets.
+/// Skips the octets.
 fn pass<S: Source>(
     octets: &mut Primitive<'_, S>,
     reader: Reader,
@@ -139,7 +139,7 @@ fn pass<S: Source>(
     }
 }
 
-/// What a reader answers.
+/// Makes the call of a reader, and returns its answer.
 fn read<S: Source>(
     octets: &mut Primitive<'_, S>,
     alloc: Global,
@@ -162,7 +162,7 @@ fn read<S: Source>(
     }
 }
 
-/// What a reader answers of the next value, which has to be primitive.
+/// Takes the next value, which has to be primitive, and returns the answer of the reader.
 pub fn ask<S: Source>(
     cons: &mut Constructed<'_, S>,
     alloc: Global,
@@ -186,7 +186,7 @@ pub enum Either {
     AsConstructed,
 }
 
-/// Passes over content.
+/// Skips content.
 fn pass_content<S: Source>(
     content: &mut Content<'_, S>,
     alloc: Global,
@@ -202,7 +202,7 @@ fn pass_content<S: Source>(
     }
 }
 
-/// What a reader of content answers.
+/// Makes the call of a reader of content, and returns its answer.
 fn read_content<S: Source>(
     content: &mut Content<'_, S>,
     alloc: Global,
@@ -222,7 +222,7 @@ fn read_content<S: Source>(
     }
 }
 
-/// What a reader of content answers of the next value.
+/// Takes the next value, and returns the answer of the reader of content.
 pub fn ask_content<S: Source>(
     cons: &mut Constructed<'_, S>,
     alloc: Global,

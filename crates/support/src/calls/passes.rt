@@ -1,11 +1,11 @@
-//! The calls that pass over values, or capture them.
+//! The calls that skip values, or capture them.
 ghost use Rattle.bcder.specs.calls.Views.{Moved};
 
 use super::answer::{Answer, passed};
 use bcder::decode::{Constructed, DecodeError, Source, walk};
 use std::alloc::Global;
 
-/// A call that passes over values.
+/// A call that skips values.
 #[derive(Clone, Copy, Debug, PartialEq, Eq)]
 pub enum Pass {
     Walk,
@@ -16,7 +16,7 @@ pub enum Pass {
     WhileSome,
 }
 
-/// Skips the next value by a closure that refuses nothing.
+/// Skips the next value with a closure that refuses nothing.
 fn skip_opt<S: Source>(
     cons: &mut Constructed<'_, S>,
     alloc: Global,
@@ -26,7 +26,7 @@ fn skip_opt<S: Source>(
     cons.skip_opt(alloc, &mut |_tag, _constructed, _depth| Ok(()))
 }
 
-/// The same of a value that has to be there.
+/// Skips the next value, which has to be there, with a closure that refuses nothing.
 fn skip<S: Source>(
     cons: &mut Constructed<'_, S>,
     alloc: Global,
@@ -37,7 +37,7 @@ fn skip<S: Source>(
     Ok(Some(()))
 }
 
-/// Passes over several values.
+/// Skips several values.
 fn pass_all<S: Source>(
     cons: &mut Constructed<'_, S>,
     alloc: Global,
@@ -52,7 +52,7 @@ fn pass_all<S: Source>(
     Ok(Some(()))
 }
 
-/// What a call answers that passes over values.
+/// Makes a call that skips values, and returns its answer.
 pub fn ask<S: Source>(
     cons: &mut Constructed<'_, S>,
     alloc: Global,
@@ -78,7 +78,7 @@ pub enum Capture {
     Sequence,
 }
 
-/// Passes over a SEQUENCE.
+/// Skips a SEQUENCE.
 fn pass_sequence<S: Source>(
     cons: &mut Constructed<'_, S>,
     alloc: Global,
@@ -88,7 +88,7 @@ fn pass_sequence<S: Source>(
     cons.take_sequence(|inner| inner.skip_all(alloc))
 }
 
-/// How many octets are captured.
+/// Makes a call that captures values, and returns the number of octets that were captured.
 pub fn ask_captured<S: Source>(
     cons: &mut Constructed<'_, S>,
     alloc: Global,

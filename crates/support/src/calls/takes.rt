@@ -26,7 +26,7 @@ pub enum Take {
     OptSet,
 }
 
-/// The number that content is, or that it begins with.
+/// Returns the number that the content is, or that it begins with.
 fn number_of<S: Source>(content: &mut Content<'_, S>) -> Result<u8, DecodeError<S::Error>>
     ensures { MovedContent S.stream content }
 {
@@ -99,7 +99,7 @@ fn take_opt_values<S: Source>(
     }
 }
 
-/// What a call answers.
+/// Makes the call, and returns its answer.
 pub fn ask<S: Source>(
     cons: &mut Constructed<'_, S>,
     take: Take,

@@ -26,7 +26,7 @@ pub enum Typed {
 /// The number that is asked for.
 const FIVE: u8 = 5;
 
-/// Whether a number is taken that is the one.
+/// Takes a value, and returns the boolean, or whether the number is 5.
 fn take<S: Source>(
     cons: &mut Constructed<'_, S>,
     typed: Typed,
@@ -42,7 +42,7 @@ fn take<S: Source>(
     }
 }
 
-/// The same where there may be none.
+/// Takes a value if it is there, and returns the boolean, or whether the number is 5.
 fn take_opt<S: Source>(
     cons: &mut Constructed<'_, S>,
     typed: Typed,
@@ -58,7 +58,7 @@ fn take_opt<S: Source>(
     }
 }
 
-/// Passes over a value of which nothing is to be told.
+/// Skips a value, of which there is nothing to report. An optional one may be absent.
 fn skip<S: Source>(cons: &mut Constructed<'_, S>, typed: Typed) -> Result<(), DecodeError<S::Error>>
     ensures { Moved S.stream cons }
 {
@@ -70,7 +70,7 @@ fn skip<S: Source>(cons: &mut Constructed<'_, S>, typed: Typed) -> Result<(), De
     }
 }
 
-/// What a call answers. Of a number it tells whether it is 5.
+/// Makes the call, and returns its answer. For a number it says whether it is 5.
 pub fn ask<S: Source>(
     cons: &mut Constructed<'_, S>,
     typed: Typed,
