@@ -47,8 +47,8 @@ where
 impl<'a, S: Source + Drop> Constructed<'a, S> {
     /// Decodes all values of a source, in a mode.
     ///
-    /// It is [`decode`](Self::decode), and the values that the closure takes have to reach up to
-    /// the end of the source.
+    /// It is [`decode`](Self::decode), except that the closure has to take all values: octets behind
+    /// those that it takes are refused.
     ///
     /// # Errors
     ///
@@ -84,9 +84,17 @@ impl<'a, S: Source + Drop> Constructed<'a, S> {
 impl<'a, S: Source> Primitive<'a, S> {
     /// Decodes all contents octets as values in a mode, and takes them.
     ///
-    /// An OCTET STRING often holds an encoding, as that of a certificate's extension does. The
-    /// closure is handed the octets as values up to their end, over the same source: positions go
-    /// on, and nothing is copied. The mode of the octets themselves stays as it is.
+    /// An OCTET STRING often holds an encoding, as that of a certificate's extension does (RFC 5280,
+    /// section 4.1). The closure is handed the octets as values up to their end, over the same
+    /// source: positions count on, and nothing is copied. The mode of the octets themselves stays as
+    /// it is.
+    ///
+    /// ```text
+    /// cons.take_primitive_if(
+    ///     Tag::OCTET_STRING,
+    ///     |octets| octets.decode_all(Mode::Der, |cons| Basic::take_from(cons)),
+    /// )
+    /// ```
     ///
     /// # Errors
     ///
