@@ -12,7 +12,8 @@ use Rattle.bcder.specs.declared.decode.content.State.TheVariants.{Open}
 use Rattle.bcder.specs.calls.Content.{Reading, Octets, UnboundedValues, Moves, Falls, Resembles}
 use Rattle.bcder.specs.calls.Calls.{RunsOver}
 use Rattle.bcder.specs.calls.Decoding.{HandsAll, RanOn, Decodes, RefusesDecode}
-use Rattle.bcder.specs.calls.DecodingAll.{AnswersToEnd, RefusesToEnd, IsWithin, HandsWithin, DecodesWithin, RefusesWithin, RefusesRest, octets_left, source_failed, DecodesWhole, RefusesWhole, by_decoding, by_rest}
+use Rattle.bcder.specs.calls.DecodingAll.{AnswersToEnd, RefusesToEnd, IsWithin, HandsWithin, DecodesWithin, RefusesWithin}
+use Rattle.bcder.specs.calls.DecodingAll.{RefusesRest, octets_left, source_failed, DecodesWhole, RefusesWhole, by_decoding, by_rest}
 use Rattle.bcder.specs.calls.Views.{lent}
 use Rattle.bcder.specs.laws.Limits.{first_kept, rest_kept}
 use Rattle.bcder.proofs.Entering.{no_fewer}
@@ -28,7 +29,8 @@ pub moves_unlimited : (i j : Reading) → Moves i j → i.owed ≡ None → j.ow
 unfolding Moves
 moves_unlimited i j m e = falls_none (length m.passed) j.owed (let f : Falls i.owed (length m.passed) j.owed = m.owed in rw e at f)
 
-pub still_unlimited : (s s' : Stream) (m : Mode) (i j : Reading) (o o' : Option ℕ) → o ≡ None → RunsOver (limited o s) o UnboundedValues m i j (limited o' s') o' → o' ≡ None
+pub still_unlimited : (s s' : Stream) (m : Mode) (i j : Reading) (o o' : Option ℕ) → o ≡ None
+    → RunsOver (limited o s) o UnboundedValues m i j (limited o' s') o' → o' ≡ None
 still_unlimited s s' m i j o o' n r = sym r.left_owed ∙ moves_unlimited i j r.moves (r.owed ∙ n)
 
 -- what a closure left of content over a source without a limit is over what is left of the source
@@ -89,7 +91,8 @@ module _ {S : Type 0} (stream : S → Stream) (a b : MutBor S) where
 -- ---- nothing left behind the values
 
 -- why a source that was asked whether it is at its end refused that
-pub rest_refused : {X : Type 0} (limit : Option ℕ) (s s' : Stream) (e : DecodeError X) → MatchCause (cause_of e) (Grew s.faults s'.faults) ((s'.faults ≡ s.faults) × (IsExhausted limit s.rest → ⊥) × IsRefusal e) ⊥ → (IsRefusal e → position_of e ≡ Some s.position) → RefusesRest limit s e s'
+pub rest_refused : {X : Type 0} (limit : Option ℕ) (s s' : Stream) (e : DecodeError X) → MatchCause (cause_of e) (Grew s.faults s'.faults)
+    ((s'.faults ≡ s.faults) × (IsExhausted limit s.rest → ⊥) × IsRefusal e) ⊥ → (IsRefusal e → position_of e ≡ Some s.position) → RefusesRest limit s e s'
 rest_refused limit s s' (Source x) g p = source_failed refl g
 rest_refused limit s s' (Content error pos) g p = octets_left g.1 g.2 (p g.2) g.0
 rest_refused limit s s' NoMemory g p = absurd g
@@ -102,7 +105,8 @@ none_exhausted : (o : Option ℕ) (xs : List ℕ) → o ≡ None → IsExhausted
 none_exhausted None xs e h = h
 none_exhausted (Some n) xs e h = absurd (let x : Some n ≡ None = e in cc)
 
-module _ {C T X : Type 0} (view : C → Reading) (post : MutBor C → Result T (DecodeError X) → MutBor C → Type 0) (s s' t : Stream) (m : Mode) (o o' : Option ℕ) (n : o ≡ None) (e : s ≡ t) (x : T) (h : RanOn cause_of view post (limited o s) o m (Ok x) (limited o' s') o') where
+module _ {C T X : Type 0} (view : C → Reading) (post : MutBor C → Result T (DecodeError X) → MutBor C → Type 0) (s s' t : Stream) (m : Mode) (o o' : Option ℕ)
+    (n : o ≡ None) (e : s ≡ t) (x : T) (h : RanOn cause_of view post (limited o s) o m (Ok x) (limited o' s') o') where
   decodes : Decodes view post t m x s'
   decodes = subst (λ y. Decodes view post y m x s') e (decoded cause_of view post s s' m o o' n (Ok x) h)
 
@@ -115,9 +119,16 @@ module _ {C T X : Type 0} (view : C → Reading) (post : MutBor C → Result T (
   pub not_decoded_whole : (later : Stream) (w : DecodeError X) → RefusesRest o' s' w later → RefusesWhole view post t m w
   not_decoded_whole later w r = by_rest x s' later decodes (subst (λ y. RefusesRest y s' w later) without_limit r)
 
-module _ {C T X : Type 0} (view : C → Reading) (post : MutBor C → Result T (DecodeError X) → MutBor C → Type 0) (s s' t : Stream) (m : Mode) (o o' : Option ℕ) (n : o ≡ None) (e : s ≡ t) where
+module _ {C T X : Type 0} (view : C → Reading) (post : MutBor C → Result T (DecodeError X) → MutBor C → Type 0) (s s' t : Stream) (m : Mode) (o o' : Option ℕ)
+    (n : o ≡ None) (e : s ≡ t) where
   pub not_decoded_at_all : (w : DecodeError X) → RanOn cause_of view post (limited o s) o m (Err w) (limited o' s') o' → RefusesWhole view post t m w
   not_decoded_at_all w h = by_decoding s' (subst (λ y. RefusesDecode cause_of view post y m w s') e (not_decoded cause_of view post s s' m o o' n (Err w) h))
+
+-- the same refusal of a source that is known by another name
+pub refuses_same : {C T X : Type 0} (view : C → Reading) (post : MutBor C → Result T (DecodeError X) → MutBor C → Type 0) (s t : Stream) (m n : Mode) → s ≡ t
+    → m ≡ n → (r : Result T (DecodeError X)) → IfErr r (λ e. RefusesWhole view post s m e) → IfErr r (λ e. RefusesWhole view post t n e)
+refuses_same view post s t m n e f r h = subst (λ x. IfErr r (λ e. RefusesWhole view post x n e)) e
+    (subst (λ x. IfErr r (λ e. RefusesWhole view post s x e)) f h)
 
 -- ---- content that was asked for more
 
@@ -162,7 +173,8 @@ asked_exhausted o p s t e r z =
 -- ---- values within contents octets
 
 -- values that moved within contents octets moved these
-pub moves_within : (c d i k : Reading) (m : Mode) → HandsWithin c m i k d → c.kind ≡ Octets → d.kind ≡ Octets → d.mode ≡ c.mode → d.name ≡ c.name → d.marked ≡ c.marked → c.state ≡ Open → d.state ≡ Open → Moves c d
+pub moves_within : (c d i k : Reading) (m : Mode) → HandsWithin c m i k d → c.kind ≡ Octets → d.kind ≡ Octets → d.mode ≡ c.mode → d.name ≡ c.name
+    → d.marked ≡ c.marked → c.state ≡ Open → d.state ≡ Open → Moves c d
 unfolding Moves
 moves_within c d i k m h ck dk md n g cs ds =
     moves_octets c d h.moves.passed (indefinite_advances c d i k h.over.stream h.over.owed (sym h.stream) (sym h.owed) (dk ∙ sym ck) md n h.moves) g ck cs ds
@@ -170,7 +182,8 @@ moves_within c d i k m h ck dk md n g cs ds =
 pub values_within : (c i h : Reading) (m : Mode) → i ≡ h → IsWithin c m h → IsWithin c m i
 values_within c i h m e w = subst (λ x. IsWithin c m x) (sym e) w
 
-module _ {C T X : Type 0} (view : C → Reading) (post : MutBor C → Result T (DecodeError X) → MutBor C → Type 0) (c d i k : Reading) (m : Mode) (h : HandsWithin c m i k d) where
+module _ {C T X : Type 0} (view : C → Reading) (post : MutBor C → Result T (DecodeError X) → MutBor C → Type 0) (c d i k : Reading) (m : Mode)
+    (h : HandsWithin c m i k d) where
   pub decoded_within : (r : Result T (DecodeError X)) → IfOk r (λ x. AnswersToEnd view post i x k) → IfOk r (λ x. DecodesWithin view post c m x d)
   decoded_within (Ok x) a = record { handed = i; left = k; hands = h; answers = a }
   decoded_within (Err e) a = tt

@@ -1,9 +1,11 @@
 //! Values that are kept as their encodings.
-ghost use Rattle.std.specs.Prelude.{◌≡◌, [], IfOk, OnErr};
+ghost use Rattle.std.specs.Prelude.{◌≡◌, [], IfOk, IfErr, OnErr};
 ghost use Rattle.bcder.specs.calls.Captured.{AreWhole, kept_stream};
 ghost use Rattle.bcder.specs.calls.Captured.{CallableOnKept, LawfulOnKept, DecodesPart};
 ghost use Rattle.bcder.specs.calls.Captured.{RefusesPart};
 ghost use Rattle.bcder.specs.calls.Decoding.{CallableOnAll, LawfulOnAll, DecodesAll, RefusesAll};
+ghost use Rattle.bcder.specs.calls.DecodingAll.{DecodesWhole, RefusesWhole};
+ghost use Rattle.bcder.specs.calls.Views.{of_constructed};
 ghost use Rattle.bcder.specs.calls.Gathered.{none_kept, from_start, GathersValues};
 
 mod builder;
@@ -156,6 +158,30 @@ impl Captured {
     {
         let mode = self.mode;
         Constructed::decode(self, mode, op)
+    }
+
+    /// Decodes all values, in the mode that they are kept in. The closure has to take all of them,
+    /// as for [`Mode::decode_all`].
+    ///
+    /// # Errors
+    ///
+    /// Returns the errors of [`Constructed::decode_all`].
+    pub fn decode_all<F, T: Drop>(self, op: F) -> Result<T, DecodeError<Infallible>>
+    where
+        F: FnOnce(&mut Constructed<'_, BytesSource>) -> Result<T, DecodeError<Infallible>>,
+        requires callable { CallableOnAll ⟦<BytesSource as Source>⟧.stream
+            (kept_stream self) self.mode (F.pre op) }
+        requires lawful { LawfulOnAll ⟦<BytesSource as Source>⟧.stream
+            (kept_stream self) self.mode (F.post op) }
+        ensures ok { IfOk result (λ x.
+            DecodesWhole (of_constructed ⟦<BytesSource as Source>⟧.stream) (F.post op)
+            (kept_stream self) self.mode x) }
+        ensures refused { IfErr result (λ e.
+            RefusesWhole (of_constructed ⟦<BytesSource as Source>⟧.stream) (F.post op)
+            (kept_stream self) self.mode e) }
+    {
+        let mode = self.mode;
+        Constructed::decode_all(self, mode, op)
     }
 
     /// Decodes the first values, and keeps the others.

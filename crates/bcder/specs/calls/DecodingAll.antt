@@ -1,5 +1,5 @@
 -- What is said about calls that decode all of a source, or all contents octets of a value.
-use Rattle.std.specs.Prelude.{◌≡◌, ◌≢◌, ℕ, List, [], Option, Some, None, Result, Ok}
+use Rattle.std.specs.Prelude.{◌≡◌, ◌≢◌, ℕ, [], Option, Some, None, Result, Ok}
 use Rattle.std.specs.Borrow.{MutBor}
 use Rattle.bcder.specs.declared.mode.Mode.{Mode}
 use Rattle.bcder.specs.declared.decode.content.State.TheVariants.{Open, Failed}
@@ -16,12 +16,14 @@ use Rattle.bcder.specs.calls.Views.{of_constructed, of_primitive}
 -- why e was returned after a closure took values and left s, up to a limit: octets are left, and e has their position;
 -- or the source failed, and is s' then
 pub data RefusesRest {X : Type 0} (limit : Option ℕ) (s : Stream) (e : DecodeError X) (s' : Stream) : Type 0 where
-  octets_left : (IsExhausted limit s.rest → ⊥) → IsRefusal e → position_of e ≡ Some s.position → s'.faults ≡ s.faults → RefusesRest limit s e s'
+  octets_left : (IsExhausted limit s.rest → ⊥) → IsRefusal e → position_of e ≡ Some s.position → s'.faults ≡ s.faults
+      → RefusesRest limit s e s'
   source_failed : cause_of e ≡ of_source → Grew s.faults s'.faults → RefusesRest limit s e s'
 
 -- ---- all of a source
 
-module _ {C T X : Type 0} (view : C → Reading) (post : MutBor C → Result T (DecodeError X) → MutBor C → Type 0) (s : Stream) (m : Mode) where
+module _ {C T X : Type 0} (view : C → Reading) (post : MutBor C → Result T (DecodeError X) → MutBor C → Type 0) (s : Stream)
+    (m : Mode) where
   -- x was decoded from the source s in a mode, and nothing is left of it
   pub record DecodesWhole (x : T) : Type 0 where
     pub left : Stream
@@ -48,7 +50,8 @@ module _ {C T X : Type 0} (view : C → Reading) (post : MutBor C → Result T (
   -- why e was returned: the closure refused, left failed content, or left octets; or the source failed when asked for more
   pub data RefusesToEnd (e : DecodeError X) (k : Reading) : Type 0 where
     by_closure : RefusesOn cause_of view post i e k → RefusesToEnd e k
-    by_rest : (x : T) (left : Reading) → Answered {R = Result T (DecodeError X)} view post i (Ok x) left → left.state ≢ Failed → Resembles left k → RefusesRest left.owed left.stream e k.stream → RefusesToEnd e k
+    by_rest : (x : T) (left : Reading) → Answered {R = Result T (DecodeError X)} view post i (Ok x) left → left.state ≢ Failed
+        → Resembles left k → RefusesRest left.owed left.stream e k.stream → RefusesToEnd e k
 
 -- ---- all contents octets of a primitive value
 
@@ -63,7 +66,8 @@ pub record HandsWithin (c : Reading) (m : Mode) (i k d : Reading) : Type 0 where
   pub stream : d.stream ≡ k.stream
   pub owed : d.owed ≡ k.owed
 
-module _ {C T X : Type 0} (view : C → Reading) (post : MutBor C → Result T (DecodeError X) → MutBor C → Type 0) (c : Reading) (m : Mode) where
+module _ {C T X : Type 0} (view : C → Reading) (post : MutBor C → Result T (DecodeError X) → MutBor C → Type 0) (c : Reading)
+    (m : Mode) where
   -- x was decoded from the contents octets c, as values in a mode up to their end, and d is left of them
   pub record DecodesWithin (x : T) (d : Reading) : Type 0 where
     pub handed : Reading
@@ -83,5 +87,6 @@ module _ {S : Type 0} (stream : S → Stream) where
   abbrev pub CallableWithin : MutBor (Primitive S) → Mode → (MutBor (Constructed S) → Type 0) → Type 0
   CallableWithin c m pre = MayBeCalledOn (of_constructed stream) (IsWithin (of_primitive stream c.now) m) pre
 
-  abbrev pub LawfulWithin : {R : Type 0} → MutBor (Primitive S) → Mode → (MutBor (Constructed S) → R → MutBor (Constructed S) → Type 0) → Type 0
+  abbrev pub LawfulWithin : {R : Type 0} → MutBor (Primitive S) → Mode → (MutBor (Constructed S) → R → MutBor (Constructed S) → Type 0)
+      → Type 0
   LawfulWithin c m post = IsLawfulOn (of_constructed stream) (IsWithin (of_primitive stream c.now) m) post

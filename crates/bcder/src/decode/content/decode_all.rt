@@ -84,9 +84,16 @@ impl<'a, S: Source + Drop> Constructed<'a, S> {
 impl<'a, S: Source> Primitive<'a, S> {
     /// Decodes all contents octets as values in a mode, and takes them.
     ///
-    /// An OCTET STRING often holds an encoding, for example in an extension of a certificate. The
-    /// closure gets the octets as values up to their end, over the same source: positions go on,
-    /// and nothing is copied. The mode of the octets themselves stays as it is.
+    /// An OCTET STRING often holds an encoding, for example in an extension of a certificate (RFC
+    /// 5280, section 4.1). The closure gets the octets as values up to their end, over the same
+    /// source: positions go on, and nothing is copied. The mode of the octets themselves stays as it is.
+    ///
+    /// ```text
+    /// cons.take_primitive_if(
+    ///     Tag::OCTET_STRING,
+    ///     |octets| octets.decode_all(Mode::Der, |cons| Basic::take_from(cons)),
+    /// )
+    /// ```
     ///
     /// # Errors
     ///

@@ -1,5 +1,4 @@
 use Rattle.std.proofs.Common.{refl, rules}
-use Rattle.bcder.specs.calls.DecodingAll.{HandsWithin}
 use Rattle.bcder.specs.calls.Views.{of_constructed, of_primitive}
 use Rattle.bcder.specs.laws.Moved.{moved_carries}
 use Rattle.bcder.proofs.Decoding.{moves_within, values_within, decoded_within, refused_within}
