@@ -37,8 +37,10 @@ table = record {
   within = (omega arith, (omega arith, (omega arith, tt)));
   ordered = (
     record { marks = []; header = 0x04 ∷ 0x00 ∷ []; are_marks = tt; is_header = header 0 (omega arith); is = refl },
-    (record { marks = []; header = 0x04 ∷ 0x00 ∷ []; are_marks = tt; is_header = header 0 (omega arith); is = refl },
-    (record { marks = []; header = 0x04 ∷ 0x01 ∷ []; are_marks = tt; is_header = header 1 (omega arith); is = refl }, tt)),
+    (
+      record { marks = []; header = 0x04 ∷ 0x00 ∷ []; are_marks = tt; is_header = header 0 (omega arith); is = refl },
+      (record { marks = []; header = 0x04 ∷ 0x01 ∷ []; are_marks = tt; is_header = header 1 (omega arith); is = refl }, tt),
+    ),
   );
   segmented = record {
     values = primitive octet_string_tag [] ∷ₜ (primitive octet_string_tag [] ∷ₜ (primitive octet_string_tag (0x61 ∷ []) ∷ₜ no_trees));

@@ -86,7 +86,8 @@ impl<'a, S: Source> Primitive<'a, S> {
     ///
     /// An OCTET STRING often holds an encoding, for example in an extension of a certificate (RFC
     /// 5280, section 4.1). The closure gets the octets as values up to their end, over the same
-    /// source: positions go on, and nothing is copied. The mode of the octets themselves stays as it is.
+    /// source: positions go on, and nothing is copied. The mode of the octets themselves stays as
+    /// it is.
     ///
     /// ```text
     /// cons.take_primitive_if(

@@ -13,9 +13,11 @@ pub returns-in-Some-clause-goes : goal.returns-in-Some-clause-goes
 returns-in-Some-clause-goes g c = goes_on (λ cs. tt) _ _ _ (returns-in-Some-clause-steps g c)
 
 pub invariant_of-self-in-None : goal.invariant_of-self-in-None
-invariant_of-self-in-None g c =
-    (c.self.invariant.0, accepts_next g.L.CharSet.step g.met.L.CharSet.lawful c.self.inside.octets.octets c.next_char.new.octets.octets c.next_char.result
-    c.next_char.ensures c.self.invariant.1)
+invariant_of-self-in-None g c = (
+  c.self.invariant.0,
+  accepts_next g.L.CharSet.step g.met.L.CharSet.lawful c.self.inside.octets.octets c.next_char.new.octets.octets c.next_char.result
+      c.next_char.ensures c.self.invariant.1,
+)
 
 pub returns-after-next_char-clause-steps : goal.returns-after-next_char-clause-steps
 returns-after-next_char-clause-steps g c =
