@@ -10,7 +10,7 @@ use bcder::encode::Values;
 use bcder::{Captured, Mode, Oid, Unsigned};
 use std::alloc::Global;
 use std::process::Abort;
-use user::{Time, decode_entries, take_octet, take_reason};
+use user::{Time, decode_entries, lent_entries, take_octet, take_reason};
 use writers::{Basic, Entry, gather_entries};
 
 /// The revoked certificates of a list made with openssl, the first for the compromise of its key.
@@ -59,6 +59,23 @@ fn entries_are_read(rt: HostRuntime) {
     holds(&rt, second.extensions.is_none());
     let extensions = first.extensions.expect(&rt, "extensions");
     is_reason(&rt, rt.alloc(), extensions, 1);
+}
+
+#[test]
+fn entries_are_lent(rt: HostRuntime) {
+    let octets = done(&rt, hex::decode(rt.alloc(), ENTRIES));
+    let mut entries = done(&rt, lent_entries(rt.alloc(), &octets));
+    holds(&rt, entries.len() == 2);
+    let second = entries.pop().expect(&rt, "two entries");
+    let first = entries.pop().expect(&rt, "two entries");
+    holds(
+        &rt,
+        first.serial == FIRST.0 && first.date == FIRST.1.as_bytes(),
+    );
+    holds(
+        &rt,
+        second.serial == SECOND.0 && second.date == SECOND.1.as_bytes(),
+    );
 }
 
 /// Creates an entry to be written.

@@ -112,13 +112,29 @@ fn extensions_by_their_identifiers(rt: HostRuntime) -> Result<(), Fail> {
     Ok(())
 }
 
-/// Tries basic constraints that hold an INTEGER in place of a SEQUENCE.
+/// Tries basic constraints that hold an INTEGER in place of a SEQUENCE, and some with an octet behind
+/// them. The position counts all octets.
 #[test]
-fn other_basic_constraints_are_refused(rt: HostRuntime) {
-    let octets: &[u8] = &[
+fn other_basic_constraints_are_refused(rt: HostRuntime) -> Result<(), Fail> {
+    let other: &[u8] = &[
         0x30, 0x0C, 0x30, 0x0A, 0x06, 0x03, 0x55, 0x1D, 0x13, 0x04, 0x03, 0x02, 0x01, 0x03,
     ];
-    holds(&rt, decode_extensions(rt.alloc(), octets).is_err());
+    let longer: &[u8] = &[
+        0x30, 0x0C, 0x30, 0x0A, 0x06, 0x03, 0x55, 0x1D, 0x13, 0x04, 0x03, 0x30, 0x00, 0x05,
+    ];
+    for (octets, wanted) in [
+        (other, "expected tag SEQUENCE (at position 11)"),
+        (longer, "trailing data (at position 13)"),
+    ] {
+        match decode_extensions(rt.alloc(), octets) {
+            Ok(_) => holds(&rt, false),
+            Err(error) => {
+                let shown = format!(in rt.alloc(); "{error}")?;
+                holds(&rt, shown.as_str() == wanted);
+            }
+        }
+    }
+    Ok(())
 }
 
 /// Takes an integer, one that isn't negative, and an object identifier, inside a SEQUENCE.

@@ -37,3 +37,5 @@ mod skips;
 mod sources;
 #[cfg(test)]
 mod tag_names;
+#[cfg(test)]
+mod wholes;

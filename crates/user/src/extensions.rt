@@ -2,7 +2,7 @@
 ghost use Rattle.bcder.specs.calls.Views.{Moved};
 
 use crate::{skip_octets, take_len_of};
-use bcder::decode::{Constructed, ContentError, DecodeError, SliceSource, Source};
+use bcder::decode::{Constructed, DecodeError, SliceSource, Source};
 use bcder::{ConstOid, Mode, Oid, Tag};
 use std::alloc::Global;
 
@@ -45,20 +45,8 @@ impl Basic {
     {
         cons.take_primitive_if(
             Tag::OCTET_STRING,
-            |value| value.with_slice_all(|octets| decode_basic(octets)),
+            |octets| octets.decode_all(Mode::Der, |cons| Basic::take_from(cons)),
         )
-    }
-}
-
-/// Decodes basic constraints from the octets that an extension holds.
-fn decode_basic(octets: &[u8]) -> Result<Basic, ContentError> {
-    match Constructed::decode(
-        SliceSource::new(octets),
-        Mode::Der,
-        |cons| Basic::take_from(cons),
-    ) {
-        Ok(basic) => Ok(basic),
-        Err(_) => Err(ContentError::from_static("no basic constraints")),
     }
 }
 

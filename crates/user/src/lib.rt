@@ -21,6 +21,7 @@ mod crl;
 mod extensions;
 mod filter;
 pub mod latin_1;
+mod lent;
 mod lists;
 mod names;
 mod revoked;
@@ -34,6 +35,7 @@ pub use certificate::{Certificate, Time, Validity, decode_certificate, decode_tw
 pub use crl::Crl;
 pub use extensions::{Basic, Extensions, decode_extensions};
 pub use filter::{Filter, decode_filter};
+pub use lent::{LentEntry, lent_entries};
 pub use names::{Attribute, Name, Text};
 pub use revoked::{Entry, decode_entries, take_entries, take_reason};
 pub use signed::{Signed, decode_signed};

@@ -3,7 +3,7 @@
 //! This is a whole reader, from octets to the two times. The guide, docs/GUIDE.md, begins with it.
 ghost use Rattle.bcder.specs.calls.Views.{Moved};
 
-use bcder::decode::{Constructed, ContentError, DecodeError, IntoSource, Source};
+use bcder::decode::{Constructed, ContentError, DecodeError, Source};
 use bcder::{Mode, Tag};
 use bytes::Bytes;
 use std::alloc::Global;
@@ -116,14 +116,6 @@ impl Validity {
         alloc: Global,
         octets: &[u8],
     ) -> Result<Validity, DecodeError<Infallible>> {
-        let mut source = octets.into_source();
-        let validity = Constructed::decode_lent(&mut source, Mode::Der, |cons| {
-            Validity::take_from(alloc, cons)
-        })?;
-        if source.request(1)? > 0 {
-            let error = ContentError::from_static("octets behind the certificate");
-            return Err(source.content_err(error));
-        }
-        Ok(validity)
+        Mode::Der.decode_all(octets, |cons| Validity::take_from(alloc, cons))
     }
 }

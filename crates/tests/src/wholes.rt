@@ -1,0 +1,216 @@
+//! Decoding to the end of a source, and of contents octets, and octets that are lent, with values from
+//! outside.
+ghost use Rattle.bcder.specs.calls.Views.{Moved};
+
+use crate::asserts::{done, holds, same, shows};
+use crate::over::{failing_sip, shared, sip};
+use bcder::decode::{
+    CaptureSource, Constructed, DecodeError, LendingSource, LimitedSource, SliceSource, Source,
+};
+use bcder::{Mode, Tag};
+use std::alloc::Global;
+use std::process::Abort;
+use support::decoding::take_empty;
+
+/// One empty value, or none, which is all of the source.
+#[tactic(auto, using(bcder::specs::laws::Moved::untouched_is_moved))]
+fn all_empty<S: Source + Drop>(source: S) -> Result<bool, DecodeError<S::Error>> {
+    Mode::Der.decode_all(source, |cons| take_empty(cons))
+}
+
+/// NULL, or nothing, is all that there is.
+fn check_alone<S: Source + Drop>(rt: &impl Abort, source: S, wanted: bool) {
+    same(rt, done(rt, all_empty(source)), wanted);
+}
+
+#[test]
+fn all_is_decoded(rt: HostRuntime) {
+    for (octets, wanted) in [(&[0x05, 0x00][..], true), (&[][..], false)] {
+        check_alone(&rt, SliceSource::new(octets), wanted);
+        check_alone(&rt, shared(&rt, rt.alloc(), octets), wanted);
+        check_alone(&rt, sip(&rt, rt.alloc(), octets), wanted);
+    }
+}
+
+/// The octets behind NULL are refused, at the first of them.
+fn check_behind<S: Source + Drop>(rt: &impl Abort, alloc: Global, source: S) {
+    match all_empty(source) {
+        Ok(_) => holds(rt, false),
+        Err(error) => shows(rt, alloc, &error, "trailing data (at position 2)"),
+    }
+}
+
+/// NULL, and behind it an empty SEQUENCE, one octet, and octets that are no header.
+const BEHIND: [&[u8]; 3] = [
+    &[0x05, 0x00, 0x30, 0x00],
+    &[0x05, 0x00, 0x00],
+    &[0x05, 0x00, 0xFF, 0xFF, 0xFF, 0xFF],
+];
+
+#[test]
+fn octets_behind_are_refused(rt: HostRuntime) {
+    for octets in BEHIND {
+        check_behind(&rt, rt.alloc(), SliceSource::new(octets));
+        check_behind(&rt, rt.alloc(), shared(&rt, rt.alloc(), octets));
+        check_behind(&rt, rt.alloc(), sip(&rt, rt.alloc(), octets));
+    }
+}
+
+#[test]
+fn the_end_is_asked_for(rt: HostRuntime) {
+    let mut failed = 0;
+    for number in 1..9 {
+        match all_empty(failing_sip(&rt, rt.alloc(), &[0x05, 0x00], number)) {
+            Ok(found) => holds(&rt, found),
+            Err(error) => {
+                holds(&rt, error.is_source());
+                failed = number;
+            }
+        }
+    }
+    // the header is asked for at least once, and the end once more
+    holds(&rt, failed >= 2);
+}
+
+#[tactic(auto, using(bcder::specs::laws::Moved::untouched_is_moved))]
+#[test]
+fn all_captured_values(rt: HostRuntime) {
+    let two: &[u8] = &[0x05, 0x00, 0x30, 0x00];
+    for (octets, wanted) in [(&two[..2], true), (two, false)] {
+        let captured = Mode::Der.decode(octets, |cons| cons.capture_all(rt.alloc()));
+        let found = done(&rt, captured).decode_all(|cons| take_empty(cons));
+        same(&rt, found.is_ok(), wanted);
+    }
+}
+
+/// A BOOLEAN in a SEQUENCE, which the octets of an OCTET STRING in a SEQUENCE are, in a mode.
+#[tactic(auto, using(bcder::specs::laws::Moved::untouched_is_moved))]
+fn take_inside<S: Source>(
+    inner: Mode,
+    cons: &mut Constructed<'_, S>,
+) -> Result<bool, DecodeError<S::Error>>
+    ensures { Moved S.stream cons }
+{
+    cons.take_sequence(|cons| take_octets(inner, cons))
+}
+
+#[tactic(auto, using(bcder::specs::laws::Moved::untouched_is_moved))]
+fn take_octets<S: Source>(
+    inner: Mode,
+    cons: &mut Constructed<'_, S>,
+) -> Result<bool, DecodeError<S::Error>>
+    ensures { Moved S.stream cons }
+{
+    cons.take_primitive_if(
+        Tag::OCTET_STRING,
+        |octets| octets.decode_all(inner, |cons| cons.take_sequence(|cons| cons.take_bool())),
+    )
+}
+
+/// The same, which is all of a source.
+#[tactic(auto, using(bcder::specs::laws::Moved::untouched_is_moved))]
+fn decode_inside<S: Source + Drop>(
+    source: S,
+    modes: (Mode, Mode),
+) -> Result<bool, DecodeError<S::Error>> {
+    let (outer, inner) = modes;
+    outer.decode_all(source, |cons| take_inside(inner, cons))
+}
+
+/// What stands inside is shown as this text, and nothing else.
+fn check_inside<S: Source + Drop>(
+    rt: &impl Abort,
+    alloc: Global,
+    source: S,
+    modes: (Mode, Mode),
+    wanted: &str,
+) {
+    match decode_inside(source, modes) {
+        Ok(found) => shows(rt, alloc, &found, wanted),
+        Err(error) => shows(rt, alloc, &error, wanted),
+    }
+}
+
+/// FF is true in each mode; 2A in BER alone, whatever the mode around it; and an octet that is left
+/// behind the SEQUENCE inside.
+const TRUE: &[u8] = &[0x30, 0x07, 0x04, 0x05, 0x30, 0x03, 0x01, 0x01, 0xFF];
+
+const OTHER: &[u8] = &[0x30, 0x07, 0x04, 0x05, 0x30, 0x03, 0x01, 0x01, 0x2A];
+
+const LEFT: &[u8] = &[0x30, 0x08, 0x04, 0x06, 0x30, 0x03, 0x01, 0x01, 0xFF, 0x00];
+
+const INSIDE: [(&[u8], (Mode, Mode), &str); 5] = [
+    (TRUE, (Mode::Der, Mode::Der), "true"),
+    (OTHER, (Mode::Der, Mode::Ber), "true"),
+    (OTHER, (Mode::Der, Mode::Der), "no boolean (at position 8)"),
+    (OTHER, (Mode::Ber, Mode::Der), "no boolean (at position 8)"),
+    (
+        LEFT,
+        (Mode::Der, Mode::Der),
+        "trailing data (at position 9)",
+    ),
+];
+
+#[test]
+fn values_inside_octets(rt: HostRuntime) {
+    for (octets, modes, wanted) in INSIDE {
+        check_inside(&rt, rt.alloc(), SliceSource::new(octets), modes, wanted);
+        check_inside(
+            &rt,
+            rt.alloc(),
+            shared(&rt, rt.alloc(), octets),
+            modes,
+            wanted,
+        );
+        check_inside(&rt, rt.alloc(), sip(&rt, rt.alloc(), octets), modes, wanted);
+    }
+}
+
+/// The SEQUENCE inside is longer than the OCTET STRING.
+#[test]
+fn values_inside_end_with_the_octets(rt: HostRuntime) {
+    let octets = &[
+        0x30, 0x09, 0x04, 0x05, 0x30, 0x05, 0x01, 0x01, 0xFF, 0x05, 0x00,
+    ];
+    let found = decode_inside(SliceSource::new(octets), (Mode::Der, Mode::Der));
+    holds(
+        &rt,
+        found.is_err_and(|error| error.content_error().is_some()),
+    );
+}
+
+/// The octets of an OCTET STRING, lent.
+#[tactic(auto, using(bcder::specs::laws::Moved::untouched_is_moved))]
+fn take_lent<S: LendingSource>(
+    cons: &mut Constructed<'_, S>,
+) -> Result<S::Lent, DecodeError<S::Error>>
+    ensures { Moved S.stream cons }
+{
+    cons.take_primitive_if(Tag::OCTET_STRING, |octets| octets.take_lent())
+}
+
+#[tactic(auto, using(bcder::specs::laws::Moved::untouched_is_moved))]
+#[test]
+fn octets_are_lent(rt: HostRuntime) {
+    let octets: &[u8] = &[0x04, 0x03, 0x61, 0x62, 0x63];
+    let lent = Mode::Der.decode_all(octets, |cons| take_lent(cons));
+    same(&rt, done(&rt, lent), b"abc".as_slice());
+    // one octet fewer comes than is owed
+    let cut = Mode::Der.decode_all(&octets[..4], |cons| take_lent(cons));
+    holds(&rt, cut.is_err());
+}
+
+#[test]
+fn sources_lend(rt: HostRuntime) {
+    let octets: &[u8] = &[1, 2, 3, 4, 5];
+    let mut source = SliceSource::new(octets);
+    same(&rt, source.skip(1).ok(), Some(1));
+    same(&rt, source.lent(1, 3), &octets[2..4]);
+    let mut limited = LimitedSource::new(&mut source);
+    limited.set_limit(Some(3));
+    same(&rt, limited.lent(0, 3), &octets[1..4]);
+    let mut capturing = CaptureSource::new(&mut limited);
+    same(&rt, Source::skip(&mut capturing, 2).ok(), Some(2));
+    same(&rt, capturing.lent(0, 1), &octets[3..4]);
+    same(&rt, capturing.lent(0, 0), &octets[..0]);
+}
