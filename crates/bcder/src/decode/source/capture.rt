@@ -205,10 +205,14 @@ impl<'a, S: Source> Source for CaptureSource<'a, S> {
     }
 }
 
-/// The octets that the borrowed source lends, but for those that were passed over.
-impl<'a, 'b, S: LendingSource<'b>> LendingSource<'b> for CaptureSource<'a, S> {
-    fn lent_slice(&self) -> &'b [u8] {
-        let all = self.source.lent_slice();
-        all.get(self.pos..).unwrap_or(&[])
+/// Lends what the borrowed source lends, behind the octets that were passed over.
+impl<'a, S: LendingSource> LendingSource for CaptureSource<'a, S> {
+    type Lent = S::Lent;
+
+    fn lent(&self, start: usize, end: usize) -> S::Lent {
+        if end == 0 {
+            return self.source.lent(0, 0);
+        }
+        self.source.lent(self.pos + start, self.pos + end)
     }
 }

@@ -262,13 +262,11 @@ impl<S: Source> Source for LimitedSource<S> {
     }
 }
 
-/// The octets that the wrapped source lends, up to the limit.
-impl<'a, S: LendingSource<'a>> LendingSource<'a> for LimitedSource<S> {
-    fn lent_slice(&self) -> &'a [u8] {
-        let all = self.source.lent_slice();
-        match self.limit {
-            Some(limit) => all.get(..limit).unwrap_or(all),
-            None => all,
-        }
+/// Lends what the wrapped source lends, up to the limit.
+impl<S: LendingSource> LendingSource for LimitedSource<S> {
+    type Lent = S::Lent;
+
+    fn lent(&self, start: usize, end: usize) -> S::Lent {
+        self.source.lent(start, end)
     }
 }

@@ -96,9 +96,12 @@ impl<'a> Source for SliceSource<'a> {
     }
 }
 
-/// The octets of the slice that are left.
-impl<'a> LendingSource<'a> for SliceSource<'a> {
-    fn lent_slice(&self) -> &'a [u8] {
-        &self.octets[self.passed..]
+/// Lends the octets of the slice.
+impl<'a> LendingSource for SliceSource<'a> {
+    type Lent = &'a [u8];
+
+    fn lent(&self, start: usize, end: usize) -> &'a [u8] {
+        let left = &self.octets[self.passed..];
+        &left[start..end]
     }
 }
