@@ -5,7 +5,7 @@
 ghost use Rattle.bcder.specs.calls.Views.{Moved};
 
 use crate::asserts::{done, holds};
-use bcder::decode::{Constructed, DecodeError, Source};
+use bcder::decode::{Constructed, DecodeError, SliceSource, Source};
 use bcder::encode::Values;
 use bcder::{Captured, Mode, Oid, Unsigned};
 use std::alloc::Global;
@@ -64,7 +64,7 @@ fn entries_are_read(rt: HostRuntime) {
 #[test]
 fn entries_are_lent(rt: HostRuntime) {
     let octets = done(&rt, hex::decode(rt.alloc(), ENTRIES));
-    let mut entries = done(&rt, lent_entries(rt.alloc(), &octets));
+    let mut entries = done(&rt, lent_entries(rt.alloc(), SliceSource::new(&octets)));
     holds(&rt, entries.len() == 2);
     let second = entries.pop().expect(&rt, "two entries");
     let first = entries.pop().expect(&rt, "two entries");

@@ -4,7 +4,6 @@ ghost use Rattle.bcder.specs.calls.Views.{Moved};
 use bcder::decode::{Constructed, DecodeError, LendingSource};
 use bcder::{Mode, Tag};
 use std::alloc::Global;
-use std::convert::Infallible;
 
 /// A certificate that was revoked, by octets that its source lends.
 #[derive(Clone, Copy, Debug)]
@@ -39,12 +38,12 @@ fn take_entry<S: LendingSource>(
     Ok(LentEntry { serial, date })
 }
 
-/// The entries of a list in DER.
-pub fn lent_entries(
+/// The entries of a list in DER, which is all of a source.
+pub fn lent_entries<S: LendingSource + Drop>(
     alloc: Global,
-    octets: &[u8],
-) -> Result<Vec<LentEntry<&[u8]>>, DecodeError<Infallible>> {
-    Mode::Der.decode_all(octets, |cons| take_lent_entries(alloc, cons))
+    source: S,
+) -> Result<Vec<LentEntry<S::Lent>>, DecodeError<S::Error>> {
+    Mode::Der.decode_all(source, |cons| take_lent_entries(alloc, cons))
 }
 
 /// The entries of a list: a SEQUENCE OF.
