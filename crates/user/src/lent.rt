@@ -1,11 +1,11 @@
-//! Entries of a revocation list (RFC 5280, section 5.1) by octets that are lent: nothing is copied.
+//! Reads entries of a revocation list (RFC 5280, section 5.1) that keep lent octets: nothing is copied.
 ghost use Rattle.bcder.specs.calls.Views.{Moved};
 
 use bcder::decode::{Constructed, DecodeError, LendingSource};
 use bcder::{Mode, Tag};
 use std::alloc::Global;
 
-/// A certificate that was revoked, by octets that its source lends.
+/// An entry for a revoked certificate. It keeps octets that its source lends.
 #[derive(Clone, Copy, Debug)]
 pub struct LentEntry<O> {
     /// The octets of its serial number.
@@ -15,7 +15,7 @@ pub struct LentEntry<O> {
     pub date: O,
 }
 
-/// The next entry, a SEQUENCE, if there is another. Its extensions are passed over.
+/// Takes the next entry, a SEQUENCE, if there is one. Skips its extensions.
 fn take_opt_entry<S: LendingSource>(
     alloc: Global,
     cons: &mut Constructed<'_, S>,
@@ -25,7 +25,7 @@ fn take_opt_entry<S: LendingSource>(
     cons.take_opt_sequence(|cons| take_entry(alloc, cons))
 }
 
-/// What is inside that SEQUENCE.
+/// Takes what is inside that SEQUENCE.
 fn take_entry<S: LendingSource>(
     alloc: Global,
     cons: &mut Constructed<'_, S>,
@@ -38,7 +38,7 @@ fn take_entry<S: LendingSource>(
     Ok(LentEntry { serial, date })
 }
 
-/// The entries of a list in DER, which is all of a source.
+/// Decodes a list in DER, which has to be all of a source.
 pub fn lent_entries<S: LendingSource + Drop>(
     alloc: Global,
     source: S,
@@ -46,7 +46,7 @@ pub fn lent_entries<S: LendingSource + Drop>(
     Mode::Der.decode_all(source, |cons| take_lent_entries(alloc, cons))
 }
 
-/// The entries of a list: a SEQUENCE OF.
+/// Takes the entries of a list, a SEQUENCE OF.
 fn take_lent_entries<S: LendingSource>(
     alloc: Global,
     cons: &mut Constructed<'_, S>,
