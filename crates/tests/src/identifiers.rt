@@ -41,7 +41,8 @@ fn with_a_spare_octet(rt: HostRuntime) {
     }
 }
 
-/// An identifier that is read.
+/// Reads an identifier.
+#[tactic(auto, using(bcder::specs::laws::Moved::untouched_is_moved))]
 fn read(rt: &impl Abort, alloc: Global, octets: &[u8]) -> Oid {
     done(
         rt,

@@ -2,9 +2,11 @@
 //! they break, and files in each mode that were cut.
 #![tactic(auto, using(bcder::specs::laws::Moved::untouched_is_moved))]
 
+ghost use Rattle.bcder.specs.calls.Views.{Moved};
+
 use crate::asserts::{holds, same, shows};
 use crate::over::{shared, sip};
-use bcder::decode::{DecodeError, SliceSource, Source, Violation, walk};
+use bcder::decode::{Constructed, DecodeError, SliceSource, Source, Violation, walk};
 use bcder::{Mode, Tag};
 use std::alloc::Global;
 use std::process::Abort;
@@ -29,6 +31,13 @@ fn skipped<S: Source>(
     }
 }
 
+/// Walks all values.
+fn walk_all<S: Source>(cons: &mut Constructed<'_, S>) -> Result<(), DecodeError<S::Error>>
+    ensures { Moved S.stream cons }
+{
+    cons.while_some(|cons| walk(cons))
+}
+
 fn walked<S: Source>(
     rt: &impl Abort,
     alloc: Global,
@@ -37,7 +46,7 @@ fn walked<S: Source>(
     said: &str,
     at: &str,
 ) {
-    match mode.decode_lent(source, |cons| cons.while_some(|cons| walk(cons))) {
+    match mode.decode_lent(source, |cons| walk_all(cons)) {
         Err(DecodeError::Content { error, pos }) => {
             shows(rt, alloc, &error, said);
             shows(rt, alloc, &pos, at);
