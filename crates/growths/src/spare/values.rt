@@ -203,12 +203,13 @@ fn gives<S: Source>(source: &mut S, wanted: &[u8]) -> bool {
     matches!(source.take_opt_u8(), Ok(None))
 }
 
-/// Skips the octets within a limit, and returns whether no others are left there.
+/// Skips the octets within a limit, and returns whether only the one behind it is left.
 fn passes_limit() -> bool {
     let mut source = LimitedSource::new(SliceSource::new(b"abcd"));
     source.set_limit(Some(3));
     let skipped = source.skip_all().is_ok() && source.exhausted().is_ok();
-    skipped && source.unwrap().len() == 1
+    source.set_limit(None);
+    skipped && matches!(source.request(2), Ok(1))
 }
 
 /// Reads tags.
