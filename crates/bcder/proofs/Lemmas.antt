@@ -53,3 +53,37 @@ pub use Rattle.bcder.proofs.Joining.{written_start as written_none, written_next
 
 -- for the octets of an identifier there may be no memory
 pub use Rattle.bcder.proofs.Spelling.{no_memory_for as may_lack_memory_for}
+-- ---- readers of types
+
+-- open content has not failed
+pub use Rattle.bcder.proofs.Moving.{open_not_failed as open_has_not_failed}
+-- content that is done is at its end
+pub use Rattle.bcder.proofs.WalkSteps.{done_here as done_is_at_its_end}
+-- faults that grew, after as many and before as many
+pub use Rattle.bcder.proofs.Entering.{no_fewer as as_many_are_no_fewer}
+pub use Rattle.bcder.proofs.WalkSteps.{grew_between as grew_in_between}
+-- a value with a tag begins with its header; behind that of a primitive one is no constructed one; content then shows that it is there
+pub use Rattle.bcder.proofs.Valued.{tagged_header as header_of_tagged, primitive_in_front}
+pub use Rattle.bcder.proofs.Typed.{header_not_absent as header_is_there}
+-- one value at most comes next, and content holds one list of values at most; octets are none
+pub use Rattle.bcder.proofs.WalkSteps.{value_once}
+pub use Rattle.bcder.proofs.Valued.{one_values, no_values_of_octets}
+-- the values behind one
+pub use Rattle.bcder.proofs.WalkSteps.{values_after}
+-- a take whose closure reads content takes a value as what it means, or finds none
+pub use Rattle.bcder.proofs.Valued.{next_tree, no_tree}
+-- a take whose closure reads contents octets does
+pub use Rattle.bcder.proofs.Typed.{next_as, octets_form, or_false}
+-- contents octets that are all there, and too few
+pub use Rattle.bcder.proofs.Strings.{all_held, too_few}
+-- in CER and DER an octet string has one value, and its octets are those of the value
+pub use Rattle.bcder.proofs.OneString.{one_string, means_flat}
+-- numbers, booleans and octet strings that are written are read back
+pub use Rattle.bcder.proofs.Contents.{unsigned_read, signed_read, natural_read, integer_read, truth_read}
+pub use Rattle.bcder.proofs.WrittenStrings.{string_written}
+-- a loop over the sizes of parts: a front of them is added up
+pub use Rattle.bcder.proofs.Joining.{SumSoFar, so_far_start, so_far_next, so_far_refused, so_far_done, sum_refused}
+-- the parts of a list behind one of them, and behind the last
+pub use Rattle.bcder.proofs.Joining.{EachOf_at, EachOf_end}
+-- what may lack memory for less may for more
+pub use Rattle.bcder.proofs.Writing.{lacks_more}

@@ -20,6 +20,8 @@ pub(crate) enum Reason {
 
 impl Reason {
     /// Returns the text of the error.
+    #[cold]
+    #[inline(never)]
     pub(crate) fn text(self) -> &'static str
         ensures { result.now ≡ reason_text self }
     {

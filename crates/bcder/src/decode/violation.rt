@@ -52,6 +52,8 @@ pub enum Violation {
 
 impl Violation {
     /// Returns the text of the error.
+    #[cold]
+    #[inline(never)]
     pub fn text(self) -> &'static str
         ensures { result.now ≡ violation_text self }
     {

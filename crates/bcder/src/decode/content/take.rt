@@ -88,7 +88,10 @@ impl<'a, S: Source> Constructed<'a, S> {
     }
 
     /// Returns the error for a stop, at the current position.
-    #[cold]
+    ///
+    /// It is inlined, without the texts. So neither the content nor an error needs an address in a
+    /// loop over values that stop nothing.
+    #[inline(always)]
     pub(crate) fn stop_error(&self, stop: Stop<S::Error>) -> DecodeError<S::Error>
         ensures { cause_of result ≡ stop_cause stop }
     {
