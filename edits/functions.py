@@ -109,7 +109,7 @@ def impl_name(head):
         # The impl's own parameters are no part of the name.
         depth += (head[0] == "<") - (head[0] == ">")
         if depth == 1 and head[0] in "<,":
-            own.add(head[1])
+            own.add(head[2] if head[1] == "const" else head[1])
         head = head[2:] if head[:2] == ["-", ">"] else head[1:]
     head = head[: head.index("where")] if "where" in head else head
     at = head.index("for") if "for" in head else -1

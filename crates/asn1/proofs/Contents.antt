@@ -1,0 +1,77 @@
+-- Primitive values, read as what their contents octets mean.
+use Rattle.std.proofs.Common.{◌≡◌, ℕ, List, Option, Some, None, refl, sym, subst, inl, inr}
+use Rattle.std.specs.Prelude.{◌⊎◌, Result, Ok, Err}
+use Rattle.bcder.specs.declared.decode.error.DecodeError.{DecodeError}
+use Rattle.bcder.specs.x690.Identifier.{Tag}
+use Rattle.bcder.specs.x690.Tree.{Tree, primitive, constructed}
+use Rattle.bcder.specs.calls.Cause.{cause_of, of_memory}
+use Rattle.bcder.specs.calls.Content.{Reading}
+use Rattle.bcder.specs.calls.Typed.{HasPrimitive, HasBroken, TakesAs, RefusesAs, TakesNextAs}
+use Rattle.bcder.specs.calls.Typed as typed
+use Rattle.bcder.specs.calls.Readers.{MeanNothing}
+use Rattle.bcder.specs.calls.Walking.{HasValue}
+use Rattle.bcder.proofs.Lemmas.{IsWithinOwed, value_once, header_is_there, header_of_tagged}
+use Rattle.asn1.specs.Types.{IsLeaf, Only, HasTagged, TakesTyped, RefusesTyped, TakesNextTyped}
+use Rattle.asn1.specs.Types as types
+use Rattle.asn1.proofs.Typed.{none_of_one, typed_header}
+
+same_contents : (t u : Tag) (v w : List ℕ) → ◌≡◌ {A = Tree} (primitive t v) (primitive u w) → v ≡ w
+same_contents t u v w e = cc
+
+module _ {T X : Type 0} (tag : Tag) (Means : List ℕ → T → Type 0) (Refuses : List ℕ → DecodeError X → Type 0)
+    (nothing : (v : List ℕ) (e : DecodeError X) → Refuses v e → MeanNothing Means v e ⊎ (cause_of e ≡ of_memory)) (c d : Reading) (w : IsWithinOwed c) where
+  leaf_taken : (x : T) → TakesAs tag Means Refuses c x d → TakesTyped (Only tag) (IsLeaf Means) c x d
+  leaf_taken x h = record { tree = primitive tag h.contents; octets = h.octets; has = (h.has, refl); means = h.means; stays = h.stays }
+
+  broken_leaf : HasBroken tag c → (t : Tree) (v rest : List ℕ) (x : T) → HasTagged (Only tag) c t v rest → IsLeaf Means t x → ⊥
+  broken_leaf b (primitive t z) v rest x h k = b.value z v rest (subst (λ u. HasValue c (primitive u z) v rest) h.1 h.0)
+  broken_leaf b (constructed t ts) v rest x h k = k
+
+  nothing_leaf : (z v rest : List ℕ) → HasPrimitive tag c z v rest → ((x : T) → Means z x → ⊥) → (t : Tree) (u behind : List ℕ) (x : T)
+      → HasTagged (Only tag) c t u behind → IsLeaf Means t x → ⊥
+  nothing_leaf z v rest p n (primitive t y) u behind x h k =
+      let e = value_once c (primitive tag z) (primitive t y) v u rest behind p h.0 in
+      n x (subst (λ s. Means s x) (sym (same_contents tag t z y e.tree)) k)
+  nothing_leaf z v rest p n (constructed t ts) u behind x h k = k
+
+  refused_contents : (z v rest : List ℕ) (e : DecodeError X) → HasPrimitive tag c z v rest → MeanNothing Means z e ⊎ (cause_of e ≡ of_memory)
+      → RefusesTyped (Only tag) (IsLeaf Means) c e d
+  refused_contents z v rest e p (inl n) =
+      let h = header_of_tagged c w tag (primitive tag z) v rest (p, refl) in
+      types.RefusesTyped.broken
+      (record { usable = p.usable; value = nothing_leaf z v rest p n.0; absent = λ x f. header_is_there tag c h.0 x p.usable h.1 (f tag refl) }) n.1
+  refused_contents z v rest e p (inr m) =
+      (let h = header_of_tagged c w tag (primitive tag z) v rest (p, refl) in types.RefusesTyped.memory m (typed_header tag c h.0 h.1))
+
+  leaf_refused : (e : DecodeError X) → RefusesAs tag Means Refuses c e d → RefusesTyped (Only tag) (IsLeaf Means) c e d
+  leaf_refused e (typed.RefusesAs.failed s a) = types.RefusesTyped.failed s a
+  leaf_refused e (typed.RefusesAs.source s g) = types.RefusesTyped.source s g
+  leaf_refused e (typed.RefusesAs.broken b a) =
+      types.RefusesTyped.broken (record { usable = b.usable; value = broken_leaf b; absent = λ rest f. b.absent rest (f tag refl) }) a
+  leaf_refused e (typed.RefusesAs.refused z v rest p n) = refused_contents z v rest e p (nothing z e n)
+
+  pub next_leaf : (r : Result (Option T) (DecodeError X)) → TakesNextAs tag Means Refuses c r d → TakesNextTyped (Only tag) (IsLeaf Means) c r d
+  next_leaf (Ok (Some x)) n = record {
+    value = leaf_taken x n.value;
+    none = tt;
+    no_fault = n.no_fault;
+    refused = tt;
+    failed = tt;
+    mode = n.mode;
+    marked = n.marked;
+  }
+  next_leaf (Ok None) n = record {
+    value = tt;
+    none = none_of_one tag c d n.none;
+    no_fault = n.no_fault;
+    refused = tt;
+    failed = tt;
+    mode = n.mode;
+    marked = n.marked;
+  }
+  next_leaf (Err e) n = record { value = tt; none = tt; no_fault = tt; refused = leaf_refused e n.refused; failed = n.failed; mode = n.mode; marked = n.marked }
+
+-- where octets are refused only as they mean nothing
+pub or_nothing : {T X : Type 0} (Means : List ℕ → T → Type 0) (v : List ℕ) (e : DecodeError X) → MeanNothing Means v e
+    → MeanNothing Means v e ⊎ (cause_of e ≡ of_memory)
+or_nothing Means v e n = inl n

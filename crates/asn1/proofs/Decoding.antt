@@ -1,0 +1,169 @@
+-- All values of a source, where they are one.
+use Rattle.std.proofs.Common.{◌≡◌, ◌≢◌, [], ◌++◌, refl, sym, ◌∙◌, ap, append-nil, subst, inl, inr}
+use Rattle.std.specs.Prelude.{Result, Ok, Err, IfOk, IfErr}
+use Rattle.std.specs.Borrow.{MutBor}
+use Rattle.bcder.specs.declared.mode.Mode.{Mode}
+use Rattle.bcder.specs.declared.decode.content.State.{State}
+use Rattle.bcder.specs.declared.decode.content.State.TheVariants.{Open, Ended, Failed}
+use Rattle.bcder.specs.declared.decode.error.DecodeError.{DecodeError}
+use Rattle.bcder.specs.x690.Identifier.{Tag}
+use Rattle.bcder.specs.x690.Tree.{Tree, no_trees, ◌∷ₜ◌}
+use Rattle.bcder.specs.x690.Encoding.{IsEncoding, AreEncodings}
+use Rattle.bcder.specs.laws.Lists.{AreEncodings-one}
+use Rattle.bcder.specs.calls.Cause.{cause_of}
+use Rattle.bcder.specs.calls.Stream.{Stream}
+use Rattle.bcder.specs.calls.Content.{Reading, Octets, IndefiniteValues, UnboundedValues, Moves, of_unbounded}
+use Rattle.bcder.specs.calls.Calls.{Answered}
+use Rattle.bcder.specs.calls.Walking.{HasValues, ClosesBefore}
+use Rattle.bcder.specs.calls.Valued.{HoldsValues}
+use Rattle.bcder.specs.calls.Decoding.{IsAllOf, HandsAll, Decodes, RefusesDecode, RefusesOn}
+use Rattle.bcder.specs.calls.Decoding as decoding
+use Rattle.bcder.specs.calls.DecodingAll.{DecodesWhole, RefusesWhole, RefusesRest}
+use Rattle.bcder.specs.calls.DecodingAll as all
+use Rattle.bcder.proofs.Lemmas.{open_has_not_ended, open_has_not_failed, as_many_are_no_fewer, grew_in_between}
+use Rattle.asn1.specs.Types.{IsMember, TakesFields, HoldsNoFields, RefusesFields, ReadsFields}
+use Rattle.asn1.specs.Types as types
+use Rattle.asn1.specs.Decoded.{IsValueOf, RefusesAll}
+use Rattle.asn1.specs.Decoded as decoded
+use Rattle.asn1.proofs.Enclosed.{none_at_end}
+use Rattle.asn1.proofs.Reading.{member_tagged}
+
+unbounded_not_octets : UnboundedValues ≢ Octets
+unbounded_not_octets e = cc
+
+unbounded_not_indefinite : UnboundedValues ≢ IndefiniteValues
+unbounded_not_indefinite e = cc
+
+is_open : (s : State) → s ≢ Failed → s ≢ Ended → s ≡ Open
+is_open Open f n = refl
+is_open Ended f n = absurd (n refl)
+is_open Failed f n = absurd (f refl)
+
+module _ {T : Type 0} (mode : Mode) (Tags : Tag → Type 0) (Means : Tree → T → Type 0) (s : Stream) (i : Reading) (o : IsAllOf s mode i) where
+  octets_are : i.stream.rest ≡ s.rest
+  octets_are = ap (λ (z : Stream). z.rest) o.stream
+
+  -- one value up to the end is all octets
+  one_value : (t : Tree) → HoldsValues i (t ∷ₜ no_trees) → IsEncoding mode t s.rest
+  one_value t (inr h) = absurd (open_has_not_ended i.state o.state h.0)
+  one_value t (inl h) =
+      let v : HasValues i = h.values in
+      let c : v.after ≡ [] = subst (λ k. ClosesBefore k i.mode i.owed v.all v.after) o.kind v.closes in
+      let e : s.rest ≡ v.all = sym octets_are ∙ v.rest ∙ ap (λ z. v.all ++ z) c ∙ append-nil v.all in
+      let k : AreEncodings mode (t ∷ₜ no_trees) v.all =
+      subst (λ z. AreEncodings z (t ∷ₜ no_trees) v.all) o.mode (subst (λ z. AreEncodings i.mode z v.all) h.are v.encode) in
+      subst (IsEncoding mode t) (sym (e ∙ k.4 ∙ ap (λ z. k.0 ++ z) k.3 ∙ append-nil k.0)) k.2
+
+  -- and the other way round
+  value_held : (t : Tree) → IsEncoding mode t s.rest → HoldsValues i (t ∷ₜ no_trees)
+  value_held t e = inl (record {
+    usable = o.state;
+    values = record {
+      trees = t ∷ₜ no_trees;
+      all = s.rest;
+      after = [];
+      encode = subst (λ z. AreEncodings z (t ∷ₜ no_trees) s.rest) (sym o.mode) (AreEncodings-one mode t s.rest e);
+      rest = octets_are ∙ sym (append-nil s.rest);
+      closes = subst (λ k. ClosesBefore k i.mode i.owed s.rest []) (sym o.kind) refl;
+    };
+    are = refl;
+  })
+
+  module _ (j : Reading) (m : Moves i j) (f : j.state ≢ Failed) where
+    left_open : j.state ≡ Open
+    unfolding Moves
+    left_open = is_open j.state f (λ e. elim (m.ends e) [ inl h ↦ open_has_not_ended i.state o.state h | inr h ↦ unbounded_not_indefinite (sym o.kind ∙ h) ])
+
+    left_unbounded : j.kind ≡ UnboundedValues
+    unfolding Moves
+    left_unbounded = m.kind ∙ o.kind
+
+    none_held : j.stream.rest ≡ [] → HoldsValues j no_trees
+    none_held e = none_at_end j [] (λ k. unbounded_not_octets (sym left_unbounded ∙ k)) (inr (left_open, of_unbounded left_unbounded e))
+
+    value_of : (x : T) → TakesFields (IsMember Tags Means) i x j → j.stream.rest ≡ [] → IsValueOf mode Tags Means s.rest x
+    value_of x t e =
+        let b = t.before no_trees (none_held e) in
+        record { tree = b.2.tree; encodes = one_value b.2.tree (member_tagged Tags Means i b.0 no_trees x b.1 b.2); tagged = b.2.tagged; means = b.2.means }
+
+    -- octets that are left show that they are not one value
+    not_one : (x : T) → TakesFields (IsMember Tags Means) i x j → (j.stream.rest ≡ [] → ⊥) → (y : T) → IsValueOf mode Tags Means s.rest y → ⊥
+    not_one x t n y v =
+        nothing
+        (t.behind (v.tree ∷ₜ no_trees) no_trees y (value_held v.tree v.encodes) (record { tree = v.tree; are = refl; tagged = v.tagged; means = v.means }))
+      where
+        nothing : HoldsValues j no_trees → ⊥
+        nothing (inr h) = open_has_not_ended j.state left_open h.0
+        nothing (inl h) = n (h.values.rest ∙ empty)
+          where
+            none : h.values.all ≡ []
+            none = (let k : AreEncodings j.mode no_trees h.values.all = subst (λ z. AreEncodings j.mode z h.values.all) h.are h.values.encode in k)
+
+            empty : (h.values.all ++ h.values.after) ≡ []
+            empty = ap (λ z. z ++ h.values.after) none ∙ subst (λ k. ClosesBefore k j.mode j.owed h.values.all h.values.after) left_unbounded h.values.closes
+
+  no_value : HoldsNoFields (IsMember Tags Means) i → (y : T) → IsValueOf mode Tags Means s.rest y → ⊥
+  no_value n y v = n (v.tree ∷ₜ no_trees) no_trees y (value_held v.tree v.encodes) (record { tree = v.tree; are = refl; tagged = v.tagged; means = v.means })
+
+  failed_not_one : (j : Reading) → j.state ≡ Failed → (x : T) → TakesFields (IsMember Tags Means) i x j → (y : T) → IsValueOf mode Tags Means s.rest y → ⊥
+  failed_not_one j f x t y v =
+      elim (t.behind (v.tree ∷ₜ no_trees) no_trees y (value_held v.tree v.encodes) (record { tree = v.tree; are = refl; tagged = v.tagged; means = v.means })) [
+        | inl h ↦ open_has_not_failed j.state h.usable f
+        | inr h ↦ (let z : ◌≡◌ {A = State} Ended Failed = sym h.0 ∙ f in cc)
+      ]
+
+-- ---- what a closure that takes one value decodes
+
+module _ {C T X : Type 0} (view : C → Reading) (post : MutBor C → Result T (DecodeError X) → MutBor C → Type 0) (mode : Mode) (Tags : Tag → Type 0)
+    (Means : Mode → Tree → T → Type 0)
+    (reads : (p : MutBor C) (r : Result T (DecodeError X)) (q : MutBor C) → post p r q
+    → ReadsFields (IsMember Tags (Means (view p.now).mode)) (view p.now) r (view q.now))
+    (s : Stream) where
+  answered_fields : (i j : Reading) (r : Result T (DecodeError X)) → Answered {R = Result T (DecodeError X)} view post i r j → i.mode ≡ mode
+      → ReadsFields (IsMember Tags (Means mode)) i r j
+  answered_fields i j r a e =
+      subst (λ z. ReadsFields (IsMember Tags (Means z)) i r j) e
+      (subst (λ z. ReadsFields (IsMember Tags (Means z.mode)) z r j) a.handed_is
+      (subst (λ z. ReadsFields (IsMember Tags (Means (view a.handed.now).mode)) (view a.handed.now) r z) a.left_is (reads a.handed r a.left a.called)))
+
+  pub decoded_value : (x : T) → DecodesWhole view post s mode x → IsValueOf mode Tags (Means mode) s.rest x
+  decoded_value x d =
+      let h = d.decodes.hands in
+      let r = answered_fields d.decodes.handed d.decodes.left (Ok x) d.decodes.answered h.over.mode in
+      value_of mode Tags (Means mode) s d.decodes.handed h.over d.decodes.left h.moves d.decodes.usable x r.value
+      (ap (λ (z : Stream). z.rest) h.leaves ∙ d.none_left)
+
+  module _ (e : DecodeError X) where
+    fields_refused : (i j : Reading) (later : Stream) → HandsAll s mode i j later → RefusesFields (IsMember Tags (Means mode)) i e j
+        → RefusesAll mode Tags (Means mode) s e
+    fields_refused i j later h (types.RefusesFields.source c g) =
+        decoded.RefusesAll.source later c
+        (grew_in_between _ _ _ _ (as_many_are_no_fewer _ _ (ap (λ (z : Stream). z.faults) h.over.stream)) g (ap (λ (z : Stream). z.faults) h.leaves))
+    fields_refused i j later h (types.RefusesFields.memory c) = decoded.RefusesAll.memory c
+    fields_refused i j later h (types.RefusesFields.broken n a) = decoded.RefusesAll.broken (no_value mode Tags (Means mode) s i h.over n) a
+
+    closure_refused : (i j : Reading) (later : Stream) → HandsAll s mode i j later → RefusesOn cause_of view post i e j → RefusesAll mode Tags (Means mode) s e
+    closure_refused i j later h (decoding.RefusesOn.by_closure a) = fields_refused i j later h (answered_fields i j (Err e) a h.over.mode).refused
+    closure_refused i j later h (decoding.RefusesOn.left_failed x a f c) =
+        decoded.RefusesAll.broken (failed_not_one mode Tags (Means mode) s i h.over j f x (answered_fields i j (Ok x) a h.over.mode).value) c
+
+    pub decoding_refused : RefusesWhole view post s mode e → RefusesAll mode Tags (Means mode) s e
+    decoding_refused (all.RefusesWhole.by_decoding later d) = closure_refused d.handed d.left later d.hands d.refuses
+    decoding_refused (all.RefusesWhole.by_rest x left later d (all.RefusesRest.octets_left n a p f)) =
+        let r = answered_fields d.handed d.left (Ok x) d.answered d.hands.over.mode in
+        let same = sym (ap (λ (z : Stream). z.rest) d.hands.leaves) in
+        decoded.RefusesAll.broken
+        (not_one mode Tags (Means mode) s d.handed d.hands.over d.left d.hands.moves d.usable x r.value (λ z. n (same ∙ z))) a
+    decoding_refused (all.RefusesWhole.by_rest x left later d (all.RefusesRest.source_failed c g)) =
+        let r = answered_fields d.handed d.left (Ok x) d.answered d.hands.over.mode in
+        let faults = λ (z : Stream). z.faults in
+        let same = sym (ap faults d.hands.leaves) ∙ r.no_fault ∙ ap faults d.hands.over.stream in
+        decoded.RefusesAll.source later c (grew_in_between _ _ _ _ (as_many_are_no_fewer _ _ same) g refl)
+
+  pub decoded_all : (r : Result T (DecodeError X)) → IfOk r (λ x. DecodesWhole view post s mode x) → IfOk r (λ x. IsValueOf mode Tags (Means mode) s.rest x)
+  decoded_all (Ok x) h = decoded_value x h
+  decoded_all (Err e) h = tt
+
+  pub refused_all : (r : Result T (DecodeError X)) → IfErr r (λ e. RefusesWhole view post s mode e) → IfErr r (λ e. RefusesAll mode Tags (Means mode) s e)
+  refused_all (Ok x) h = tt
+  refused_all (Err e) h = decoding_refused e h

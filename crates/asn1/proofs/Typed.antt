@@ -1,0 +1,49 @@
+-- Takes of bcder, as readers of a type with one tag.
+use Rattle.std.proofs.Common.{ℕ, List, Option, Some, None, refl, sym, subst}
+use Rattle.std.specs.Prelude.{Result, Ok, Err}
+use Rattle.bcder.specs.declared.decode.error.DecodeError.{DecodeError}
+use Rattle.bcder.specs.x690.Identifier.{Tag}
+use Rattle.bcder.specs.x690.Tree.{Tree}
+use Rattle.bcder.specs.calls.Content.{Reading, tagged, HasHeader}
+use Rattle.bcder.specs.calls.Takes.{HasNone}
+use Rattle.bcder.specs.calls.Valued.{TakesTree, HasNoTree, WantsMemoryFor, RefusesTree, TakesNextTree}
+use Rattle.bcder.specs.calls.Valued as valued
+use Rattle.bcder.proofs.Lemmas.{IsWithinOwed, header_of_tagged}
+use Rattle.asn1.specs.Types.{Only, HasNoneOf, TakesTyped, HasNoTyped, HasTypedHeader, RefusesTyped, TakesNextTyped}
+use Rattle.asn1.specs.Types as types
+
+pub none_of_one : (tag : Tag) (c d : Reading) → HasNone (tagged tag) c d → HasNoneOf (Only tag) c d
+none_of_one tag c d n u e = subst (λ t. HasNone (tagged t) c d) (sym e) n
+
+pub typed_header : (tag : Tag) (c : Reading) (after : List ℕ) → HasHeader (tagged tag) c after → HasTypedHeader (Only tag) c
+typed_header tag c after h = record { tag = tag; is_one = refl; after = after; header = h }
+
+module _ {T : Type 0} (tag : Tag) (Means : Tree → T → Type 0) (c d : Reading) (w : IsWithinOwed c) where
+  taken : (x : T) → TakesTree tag Means c x d → TakesTyped (Only tag) Means c x d
+  taken x h = record { tree = h.tree; octets = h.octets; has = h.has; means = h.means; stays = h.stays }
+
+  pub none_there : HasNoTree tag Means c → HasNoTyped (Only tag) Means c
+  none_there n = record { usable = n.usable; value = n.value; absent = λ rest f. n.absent rest (f tag refl) }
+
+  needed : WantsMemoryFor tag Means c → HasTypedHeader (Only tag) c
+  needed (valued.WantsMemoryFor.of_value t v rest x h m) = (let y = header_of_tagged c w tag t v rest h in typed_header tag c y.0 y.1)
+  needed (valued.WantsMemoryFor.of_header o after h f) = typed_header tag c after h
+
+  refused : {X : Type 0} (e : DecodeError X) → RefusesTree tag Means c e d → RefusesTyped (Only tag) Means c e d
+  refused e (valued.RefusesTree.failed s a) = types.RefusesTyped.failed s a
+  refused e (valued.RefusesTree.source s g) = types.RefusesTyped.source s g
+  refused e (valued.RefusesTree.memory s n) = types.RefusesTyped.memory s (needed n)
+  refused e (valued.RefusesTree.broken n a) = types.RefusesTyped.broken (none_there n) a
+
+  pub next_typed : {X : Type 0} (r : Result (Option T) (DecodeError X)) → TakesNextTree tag Means c r d → TakesNextTyped (Only tag) Means c r d
+  next_typed (Ok (Some x)) n = record { value = taken x n.value; none = tt; no_fault = n.no_fault; refused = tt; failed = tt; mode = n.mode; marked = n.marked }
+  next_typed (Ok None) n = record {
+    value = tt;
+    none = none_of_one tag c d n.none;
+    no_fault = n.no_fault;
+    refused = tt;
+    failed = tt;
+    mode = n.mode;
+    marked = n.marked;
+  }
+  next_typed (Err e) n = record { value = tt; none = tt; no_fault = tt; refused = refused e n.refused; failed = n.failed; mode = n.mode; marked = n.marked }

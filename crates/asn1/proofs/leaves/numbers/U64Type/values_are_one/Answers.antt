@@ -1,0 +1,6 @@
+use Rattle.bcder.specs.calls.Readers.{IsUnsigned}
+use Rattle.asn1.proofs.Ones.{leaf_once, unsigned_once}
+use Rattle.asn1.proofs.leaves.numbers.U64Type.values_are_one.Goals as goal
+
+pub returns-clause-once : goal.returns-clause-once
+returns-clause-once c = λ k mode ne. leaf_once mode (IsUnsigned 64) (λ z. z) (unsigned_once 64)

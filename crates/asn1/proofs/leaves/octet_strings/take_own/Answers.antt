@@ -1,0 +1,13 @@
+use Rattle.bcder.specs.x690.OctetString.{octet_string_tag}
+use Rattle.bcder.specs.calls.StringOctets.{MeansString}
+use Rattle.bcder.specs.calls.Views.{of_constructed}
+use Rattle.bcder.proofs.Lemmas.{constructed_is_within_owed}
+use Rattle.asn1.proofs.Typed.{next_typed}
+use Rattle.asn1.proofs.leaves.octet_strings.take_own.Goals as goal
+
+pub returns-clause-took : goal.returns-clause-took
+returns-clause-took g c =
+    let i = of_constructed g.S.Source.stream c.args.cons.now in
+    let j = of_constructed g.S.Source.stream c.take_opt_from.new.cons in
+    let w = constructed_is_within_owed g.S.Source.stream g.met.S.Source.sound c.args.cons.now in
+    next_typed octet_string_tag (MeansString i.mode) i j w c.take_opt_from.result c.take_opt_from.ensures.took

@@ -1,0 +1,9 @@
+use Rattle.std.proofs.Common.{drop}
+use Rattle.bcder.specs.calls.Joined.{EachOf}
+use Rattle.bcder.proofs.Lemmas.{SumSoFar}
+use Rattle.asn1.proofs.written.lists.items_len.Given as goal
+
+abbrev pub invariant-loop-item : goal.invariant-loop-item
+invariant-loop-item g l =
+    SumSoFar (EachOf (λ v. g.T.Encode.writes g.T.Type.TAG v l.mode) l.items) (EachOf (λ v. g.T.Encode.writes g.T.Type.TAG v l.mode) (drop l.item-index l.items))
+    l.sum

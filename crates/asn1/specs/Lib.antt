@@ -1,0 +1,13 @@
+pub mod Types
+pub mod Decoded
+pub mod Tags
+pub mod Keys
+pub mod Choices
+pub mod Writing
+pub mod Canonical
+pub mod Markers
+pub mod Defaults
+pub mod Told
+pub mod Tuples
+pub mod ChoicesWritten
+pub mod DefaultsWritten

@@ -1,0 +1,68 @@
+//! A user's own type, defined by another (X.680, 16.1).
+ghost use Rattle.std.specs.Prelude.{◌≡◌};
+
+use crate::{Decode, Type};
+use bcder::Tag;
+use bcder::decode::{Constructed, DecodeError, Source};
+use std::alloc::Global;
+
+/// A struct or enum that is defined by a type of ASN.1, as by `Validity ::= SEQUENCE { .. }`
+/// (X.680, 16.1).
+///
+/// It then is a [`Type`] of its own, with the tags and the values of that type.
+pub trait Definition: Drop + Sized {
+    /// The type behind the `::=`.
+    type As: Type;
+
+    /// The value as one of that type.
+    ghost parts: { Self → Self.As };
+
+    /// Makes the value.
+    fn from_parts(value: Self::As) -> Self
+        ensures { parts result ≡ value };
+}
+
+impl<D: Definition> Type for D {
+    ghost TAG = { D.As.TAG };
+
+    #[inline(always)]
+    fn tag() -> Tag {
+        <D::As>::tag()
+    }
+
+    ghost tags = { D.As.tags };
+
+    ghost Key = { D.As.Key };
+
+    ghost key = { λ x. D.As.key (D.parts x) };
+
+    ghost means = { λ mode t x. D.As.means mode t (D.parts x) };
+
+    ghost keeps_all = { D.As.keeps_all };
+
+    fn values_are_one() {
+        <D::As>::values_are_one();
+    }
+
+    ghost tagged = { D.As.tagged };
+
+    ghost value_tags = { D.As.value_tags };
+}
+
+impl<S: Source, D: Definition> Decode<S> for D
+where
+    D::As: Decode<S>,
+{
+    #[inline(always)]
+    fn take_opt_if(
+        alloc: Global,
+        cons: &mut Constructed<'_, S>,
+        tag: Tag,
+    ) -> Result<Option<D>, DecodeError<S::Error>> {
+        match <D::As>::take_opt_if(alloc, cons, tag) {
+            Ok(Some(parts)) => Ok(Some(D::from_parts(parts))),
+            Ok(None) => Ok(None),
+            Err(error) => Err(error),
+        }
+    }
+}

@@ -1,0 +1,11 @@
+//! Types of one value that holds no others.
+
+mod bit_strings;
+mod characters;
+mod identifiers;
+mod integers;
+mod numbers;
+mod octet_strings;
+mod plain;
+
+pub use characters::TaggedCharSet;

@@ -1,0 +1,50 @@
+//! Types of ASN.1 (X.680) that read and write themselves, in BER, CER and DER (X.690).
+//!
+//! A struct or enum of one's own names the type that defines it ([`Definition`]). Its reader is
+//! exact, because those of its parts are, and so is its writer. [`decode`] reads all octets of a
+//! source as one value, and [`encode`] returns the octets of a value.
+#![tactic(auto, using(bcder::specs::laws::Moved::untouched_is_moved))]
+
+mod additions;
+mod boxed;
+mod choice;
+mod default;
+mod definition;
+mod definition_written;
+mod fields;
+mod implicit;
+pub mod laws;
+mod leaf;
+mod leaf_written;
+mod leaves;
+mod lent;
+mod list;
+mod sequence;
+mod tagged;
+#[cfg(test)]
+mod tests;
+mod tuples;
+mod types;
+mod whole;
+mod whole_written;
+mod writers;
+mod written;
+
+pub use additions::ExtensionAdditions;
+pub use choice::{Choice2, Choice3, Choice4};
+pub use default::{DefaultValue, OrDefault};
+pub use definition::Definition;
+pub use definition_written::EncodeDefinition;
+pub use fields::{DecodeFields, Fields};
+pub use implicit::{FixedTag, Implicit};
+pub use leaf::{FromContents, Leaf};
+pub use leaf_written::ToContents;
+pub use leaves::TaggedCharSet;
+pub use lent::OctetStringRef;
+pub use list::SequenceOf;
+pub use sequence::Sequence;
+pub use tagged::{Application, Context, Explicit, Private, TagMarker};
+pub use types::{Decode, Type};
+pub use whole::decode;
+pub use whole_written::encode;
+pub use writers::{ByRef, Encode, EncodeFields};

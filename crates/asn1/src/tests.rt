@@ -1,0 +1,14 @@
+//! Tests.
+mod additions;
+mod boxed;
+mod choices;
+mod defaults;
+mod explicit;
+mod implicit;
+mod leaf;
+mod leaves;
+mod lists;
+mod records;
+mod rewritten;
+mod tuples;
+mod written;

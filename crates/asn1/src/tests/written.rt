@@ -1,0 +1,189 @@
+//! Types that are written: the expected octets are worked by hand from X.690.
+ghost use Rattle.std.specs.Prelude.{refl};
+ghost use Rattle.asn1.specs.declared.choice.Choice2.TheVariants.{One, Two};
+
+use crate::{
+    ByRef, Choice2, Context, Definition, Encode, EncodeDefinition, EncodeFields, Explicit,
+    Sequence, SequenceOf, encode,
+};
+use bcder::encode::{EncodeError, WriteError};
+use bcder::{Mode, Tag};
+use std::io;
+
+/// Whether a value is encoded as these octets.
+fn is_encoded<T: Encode>(rt: &HostRuntime, value: &T, mode: Mode, expected: &[u8]) -> bool {
+    match encode(rt.alloc(), mode, value) {
+        Ok(encoded) => encoded.as_slice() == expected,
+        Err(_) => false,
+    }
+}
+
+/// `Validity ::= SEQUENCE { from INTEGER, until INTEGER OPTIONAL }`.
+#[derive(Debug, Drop)]
+struct Validity {
+    from: u32,
+    until: Option<u32>,
+}
+
+impl Definition for Validity {
+    type As = Sequence<(u32, Option<u32>)>;
+
+    ghost parts = { λ x. (x.from, x.until) };
+
+    fn from_parts(value: Sequence<(u32, Option<u32>)>) -> Validity {
+        let Sequence((from, until)) = value;
+        Validity { from, until }
+    }
+}
+
+impl EncodeDefinition for Validity {
+    fn len_parts(&self, tag: Tag, mode: Mode) -> Result<usize, EncodeError> {
+        Sequence((ByRef(&self.from), ByRef(&self.until))).encoded_len_as(tag, mode)
+    }
+
+    fn write_parts<W: io::Write>(
+        &self,
+        tag: Tag,
+        mode: Mode,
+        target: &mut W,
+    ) -> Result<(), WriteError> {
+        Sequence((ByRef(&self.from), ByRef(&self.until))).write_encoded_as(tag, mode, target)
+    }
+
+    ghost made = { λ value. (record { from = value.0; until = value.1 }, refl) };
+}
+
+/// `Answer ::= CHOICE { yes BOOLEAN, many INTEGER }`.
+#[derive(Debug, Drop)]
+enum Answer {
+    Yes(bool),
+    Many(u32),
+}
+
+ghost use Rattle.asn1.specs.declared.tests.written.Answer.TheVariants.{Yes, Many};
+
+impl Definition for Answer {
+    type As = Choice2<bool, u32>;
+
+    ghost parts = { elim [ Yes b ↦ One b | Many n ↦ Two n ] };
+
+    fn from_parts(value: Choice2<bool, u32>) -> Answer {
+        match value {
+            Choice2::One(yes) => Answer::Yes(yes),
+            Choice2::Two(many) => Answer::Many(many),
+        }
+    }
+}
+
+impl EncodeDefinition for Answer {
+    fn len_parts(&self, _tag: Tag, mode: Mode) -> Result<usize, EncodeError> {
+        match self {
+            Answer::Yes(yes) => yes.len_fields(mode),
+            Answer::Many(many) => many.len_fields(mode),
+        }
+    }
+
+    fn write_parts<W: io::Write>(
+        &self,
+        _tag: Tag,
+        mode: Mode,
+        target: &mut W,
+    ) -> Result<(), WriteError> {
+        match self {
+            Answer::Yes(yes) => yes.write_fields(mode, target),
+            Answer::Many(many) => many.write_fields(mode, target),
+        }
+    }
+
+    ghost made = { elim [ One b ↦ (Yes b, refl) | Two n ↦ (Many n, refl) ] };
+}
+
+/// `Wrapped ::= [0] EXPLICIT INTEGER`.
+#[derive(Debug, Drop)]
+struct Wrapped {
+    number: u32,
+}
+
+impl Definition for Wrapped {
+    type As = Explicit<Context<0>, u32>;
+
+    ghost parts = { λ x. x.number };
+
+    fn from_parts(value: Explicit<Context<0>, u32>) -> Wrapped {
+        Wrapped {
+            number: value.value,
+        }
+    }
+}
+
+impl EncodeDefinition for Wrapped {
+    fn len_parts(&self, tag: Tag, mode: Mode) -> Result<usize, EncodeError> {
+        Sequence(ByRef(&self.number)).encoded_len_as(tag, mode)
+    }
+
+    fn write_parts<W: io::Write>(
+        &self,
+        tag: Tag,
+        mode: Mode,
+        target: &mut W,
+    ) -> Result<(), WriteError> {
+        Sequence(ByRef(&self.number)).write_encoded_as(tag, mode, target)
+    }
+
+    ghost made = { λ value. (record { number = value }, refl) };
+}
+
+#[test]
+fn a_sequence_is_written(rt: HostRuntime) {
+    let whole = Validity {
+        from: 5,
+        until: Some(0x80),
+    };
+    let octets: [u8; 9] = [0x30, 0x07, 0x02, 0x01, 0x05, 0x02, 0x02, 0x00, 0x80];
+    assert!(rt; is_encoded(&rt, &whole, Mode::Der, octets.as_slice()));
+    let short = Validity {
+        from: 5,
+        until: None,
+    };
+    let octets: [u8; 5] = [0x30, 0x03, 0x02, 0x01, 0x05];
+    assert!(rt; is_encoded(&rt, &short, Mode::Der, octets.as_slice()));
+    let octets: [u8; 7] = [0x30, 0x80, 0x02, 0x01, 0x05, 0x00, 0x00];
+    assert!(rt; is_encoded(&rt, &short, Mode::Cer, octets.as_slice()));
+}
+
+#[test]
+fn a_choice_is_written(rt: HostRuntime) {
+    let octets: [u8; 3] = [0x01, 0x01, 0xFF];
+    assert!(rt; is_encoded(&rt, &Answer::Yes(true), Mode::Der, octets.as_slice()));
+    let octets: [u8; 3] = [0x02, 0x01, 0x07];
+    assert!(rt; is_encoded(&rt, &Answer::Many(7), Mode::Der, octets.as_slice()));
+    let one: Choice2<bool, u32> = Choice2::One(false);
+    let octets: [u8; 3] = [0x01, 0x01, 0x00];
+    assert!(rt; is_encoded(&rt, &one, Mode::Der, octets.as_slice()));
+}
+
+#[test]
+fn an_explicit_tag_is_written(rt: HostRuntime) {
+    let octets: [u8; 5] = [0xA0, 0x03, 0x02, 0x01, 0x05];
+    assert!(rt; is_encoded(&rt, &Wrapped { number: 5 }, Mode::Der, octets.as_slice()));
+    let tagged: Explicit<Context<0>, u32> = Explicit::new(5);
+    assert!(rt; is_encoded(&rt, &tagged, Mode::Der, octets.as_slice()));
+}
+
+#[test]
+fn a_list_is_written(rt: HostRuntime) {
+    let mut items = Vec::new(rt.alloc());
+    assert!(rt; items.push(1i8).is_ok());
+    assert!(rt; items.push(-1i8).is_ok());
+    let list: SequenceOf<i8> = Sequence(items);
+    let octets: [u8; 8] = [0x30, 0x06, 0x02, 0x01, 0x01, 0x02, 0x01, 0xFF];
+    assert!(rt; is_encoded(&rt, &list, Mode::Der, octets.as_slice()));
+}
+
+#[test]
+fn a_value_with_the_tag_of_the_end_is_refused(rt: HostRuntime) {
+    let mut target = Vec::new(rt.alloc());
+    let refused = 5u32.write_encoded_as(Tag::END_OF_VALUE, Mode::Der, &mut target);
+    assert!(rt; refused.is_err());
+    assert_eq!(rt; target.len(), 0);
+}

@@ -1,0 +1,460 @@
+//! Three to twelve fields of a SEQUENCE, one behind the other (X.690, 8.9).
+ghost use Rattle.bcder.specs.calls.Views.{Moved};
+ghost use Rattle.asn1.specs.Types.{TookFields};
+ghost use Rattle.asn1.specs.Tuples.{SeenAs, first_of_3, first_of_4, first_of_5, first_of_6};
+ghost use Rattle.asn1.specs.Tuples.{first_of_7, first_of_8, first_of_9, first_of_10, first_of_11};
+ghost use Rattle.asn1.specs.Tuples.{first_of_12};
+
+use crate::{DecodeFields, Fields};
+use bcder::decode::{Constructed, DecodeError, Source};
+use std::alloc::Global;
+
+/// Three fields.
+impl<A: Fields, B: Fields, C: Fields> Fields for (A, B, C) {
+    ghost Keys = { ⟦<(A, (B, C)) as Fields>⟧.Keys };
+
+    ghost keys = { λ x. ⟦<(A, (B, C)) as Fields>⟧.keys (first_of_3 x) };
+
+    ghost takes = { SeenAs first_of_3 ⟦<(A, (B, C)) as Fields>⟧.takes };
+
+    ghost keep_all = { ⟦<(A, (B, C)) as Fields>⟧.keep_all };
+
+    fn fields_are_one() {
+        <(A, (B, C))>::fields_are_one();
+    }
+}
+
+impl<S: Source, A: DecodeFields<S>, B: DecodeFields<S>, C: DecodeFields<S>> DecodeFields<S>
+    for (A, B, C) {
+    #[inline(always)]
+    fn take_fields(
+        alloc: Global,
+        cons: &mut Constructed<'_, S>,
+    ) -> Result<(A, B, C), DecodeError<S::Error>> {
+        match <(A, (B, C))>::take_fields(alloc, cons) {
+            Ok(fields) => {
+                let (a, (b, c)) = fields;
+                Ok((a, b, c))
+            }
+            Err(error) => Err(error),
+        }
+    }
+}
+
+/// Four fields.
+impl<A: Fields, B: Fields, C: Fields, D: Fields> Fields for (A, B, C, D) {
+    ghost Keys = { ⟦<(A, (B, C, D)) as Fields>⟧.Keys };
+
+    ghost keys = { λ x. ⟦<(A, (B, C, D)) as Fields>⟧.keys (first_of_4 x) };
+
+    ghost takes = { SeenAs first_of_4 ⟦<(A, (B, C, D)) as Fields>⟧.takes };
+
+    ghost keep_all = { ⟦<(A, (B, C, D)) as Fields>⟧.keep_all };
+
+    fn fields_are_one() {
+        <(A, (B, C, D))>::fields_are_one();
+    }
+}
+
+impl<
+    S: Source,
+    A: DecodeFields<S>,
+    B: DecodeFields<S>,
+    C: DecodeFields<S>,
+    D: DecodeFields<S>,
+> DecodeFields<S> for (A, B, C, D) {
+    #[inline(always)]
+    fn take_fields(
+        alloc: Global,
+        cons: &mut Constructed<'_, S>,
+    ) -> Result<(A, B, C, D), DecodeError<S::Error>> {
+        match <(A, (B, C, D))>::take_fields(alloc, cons) {
+            Ok(fields) => {
+                let (a, (b, c, d)) = fields;
+                Ok((a, b, c, d))
+            }
+            Err(error) => Err(error),
+        }
+    }
+}
+
+/// Five fields.
+impl<A: Fields, B: Fields, C: Fields, D: Fields, E: Fields> Fields for (A, B, C, D, E) {
+    ghost Keys = { ⟦<(A, (B, C, D, E)) as Fields>⟧.Keys };
+
+    ghost keys = { λ x. ⟦<(A, (B, C, D, E)) as Fields>⟧.keys (first_of_5 x) };
+
+    ghost takes = { SeenAs first_of_5 ⟦<(A, (B, C, D, E)) as Fields>⟧.takes };
+
+    ghost keep_all = { ⟦<(A, (B, C, D, E)) as Fields>⟧.keep_all };
+
+    fn fields_are_one() {
+        <(A, (B, C, D, E))>::fields_are_one();
+    }
+}
+
+impl<
+    S: Source,
+    A: DecodeFields<S>,
+    B: DecodeFields<S>,
+    C: DecodeFields<S>,
+    D: DecodeFields<S>,
+    E: DecodeFields<S>,
+> DecodeFields<S> for (A, B, C, D, E) {
+    #[inline(always)]
+    fn take_fields(
+        alloc: Global,
+        cons: &mut Constructed<'_, S>,
+    ) -> Result<(A, B, C, D, E), DecodeError<S::Error>> {
+        match <(A, (B, C, D, E))>::take_fields(alloc, cons) {
+            Ok(fields) => {
+                let (a, (b, c, d, e)) = fields;
+                Ok((a, b, c, d, e))
+            }
+            Err(error) => Err(error),
+        }
+    }
+}
+
+/// Six fields.
+impl<A: Fields, B: Fields, C: Fields, D: Fields, E: Fields, F: Fields> Fields
+    for (A, B, C, D, E, F) {
+    ghost Keys = { ⟦<(A, (B, C, D, E, F)) as Fields>⟧.Keys };
+
+    ghost keys = { λ x. ⟦<(A, (B, C, D, E, F)) as Fields>⟧.keys (first_of_6 x) };
+
+    ghost takes = { SeenAs first_of_6 ⟦<(A, (B, C, D, E, F)) as Fields>⟧.takes };
+
+    ghost keep_all = { ⟦<(A, (B, C, D, E, F)) as Fields>⟧.keep_all };
+
+    fn fields_are_one() {
+        <(A, (B, C, D, E, F))>::fields_are_one();
+    }
+}
+
+impl<
+    S: Source,
+    A: DecodeFields<S>,
+    B: DecodeFields<S>,
+    C: DecodeFields<S>,
+    D: DecodeFields<S>,
+    E: DecodeFields<S>,
+    F: DecodeFields<S>,
+> DecodeFields<S> for (A, B, C, D, E, F) {
+    #[inline(always)]
+    fn take_fields(
+        alloc: Global,
+        cons: &mut Constructed<'_, S>,
+    ) -> Result<(A, B, C, D, E, F), DecodeError<S::Error>> {
+        match <(A, (B, C, D, E, F))>::take_fields(alloc, cons) {
+            Ok(fields) => {
+                let (a, (b, c, d, e, f)) = fields;
+                Ok((a, b, c, d, e, f))
+            }
+            Err(error) => Err(error),
+        }
+    }
+}
+
+/// Seven fields.
+impl<A: Fields, B: Fields, C: Fields, D: Fields, E: Fields, F: Fields, G: Fields> Fields
+    for (A, B, C, D, E, F, G) {
+    ghost Keys = { ⟦<(A, (B, C, D, E, F, G)) as Fields>⟧.Keys };
+
+    ghost keys = { λ x. ⟦<(A, (B, C, D, E, F, G)) as Fields>⟧.keys (first_of_7 x) };
+
+    ghost takes = { SeenAs first_of_7 ⟦<(A, (B, C, D, E, F, G)) as Fields>⟧.takes };
+
+    ghost keep_all = { ⟦<(A, (B, C, D, E, F, G)) as Fields>⟧.keep_all };
+
+    fn fields_are_one() {
+        <(A, (B, C, D, E, F, G))>::fields_are_one();
+    }
+}
+
+impl<
+    S: Source,
+    A: DecodeFields<S>,
+    B: DecodeFields<S>,
+    C: DecodeFields<S>,
+    D: DecodeFields<S>,
+    E: DecodeFields<S>,
+    F: DecodeFields<S>,
+    G: DecodeFields<S>,
+> DecodeFields<S> for (A, B, C, D, E, F, G) {
+    #[inline(always)]
+    fn take_fields(
+        alloc: Global,
+        cons: &mut Constructed<'_, S>,
+    ) -> Result<(A, B, C, D, E, F, G), DecodeError<S::Error>> {
+        match <(A, (B, C, D, E, F, G))>::take_fields(alloc, cons) {
+            Ok(fields) => {
+                let (a, (b, c, d, e, f, g)) = fields;
+                Ok((a, b, c, d, e, f, g))
+            }
+            Err(error) => Err(error),
+        }
+    }
+}
+
+/// Eight fields.
+impl<A: Fields, B: Fields, C: Fields, D: Fields, E: Fields, F: Fields, G: Fields, H: Fields> Fields
+    for (A, B, C, D, E, F, G, H) {
+    ghost Keys = { ⟦<(A, (B, C, D, E, F, G, H)) as Fields>⟧.Keys };
+
+    ghost keys = { λ x. ⟦<(A, (B, C, D, E, F, G, H)) as Fields>⟧.keys (first_of_8 x) };
+
+    ghost takes = { SeenAs first_of_8 ⟦<(A, (B, C, D, E, F, G, H)) as Fields>⟧.takes };
+
+    ghost keep_all = { ⟦<(A, (B, C, D, E, F, G, H)) as Fields>⟧.keep_all };
+
+    fn fields_are_one() {
+        <(A, (B, C, D, E, F, G, H))>::fields_are_one();
+    }
+}
+
+impl<
+    S: Source,
+    A: DecodeFields<S>,
+    B: DecodeFields<S>,
+    C: DecodeFields<S>,
+    D: DecodeFields<S>,
+    E: DecodeFields<S>,
+    F: DecodeFields<S>,
+    G: DecodeFields<S>,
+    H: DecodeFields<S>,
+> DecodeFields<S> for (A, B, C, D, E, F, G, H) {
+    #[inline(always)]
+    fn take_fields(
+        alloc: Global,
+        cons: &mut Constructed<'_, S>,
+    ) -> Result<(A, B, C, D, E, F, G, H), DecodeError<S::Error>> {
+        match <(A, (B, C, D, E, F, G, H))>::take_fields(alloc, cons) {
+            Ok(fields) => {
+                let (a, (b, c, d, e, f, g, h)) = fields;
+                Ok((a, b, c, d, e, f, g, h))
+            }
+            Err(error) => Err(error),
+        }
+    }
+}
+
+/// Nine fields.
+impl<
+    A: Fields,
+    B: Fields,
+    C: Fields,
+    D: Fields,
+    E: Fields,
+    F: Fields,
+    G: Fields,
+    H: Fields,
+    I: Fields,
+> Fields for (A, B, C, D, E, F, G, H, I) {
+    ghost Keys = { ⟦<(A, (B, C, D, E, F, G, H, I)) as Fields>⟧.Keys };
+
+    ghost keys = { λ x. ⟦<(A, (B, C, D, E, F, G, H, I)) as Fields>⟧.keys (first_of_9 x) };
+
+    ghost takes = { SeenAs first_of_9 ⟦<(A, (B, C, D, E, F, G, H, I)) as Fields>⟧.takes };
+
+    ghost keep_all = { ⟦<(A, (B, C, D, E, F, G, H, I)) as Fields>⟧.keep_all };
+
+    fn fields_are_one() {
+        <(A, (B, C, D, E, F, G, H, I))>::fields_are_one();
+    }
+}
+
+impl<
+    S: Source,
+    A: DecodeFields<S>,
+    B: DecodeFields<S>,
+    C: DecodeFields<S>,
+    D: DecodeFields<S>,
+    E: DecodeFields<S>,
+    F: DecodeFields<S>,
+    G: DecodeFields<S>,
+    H: DecodeFields<S>,
+    I: DecodeFields<S>,
+> DecodeFields<S> for (A, B, C, D, E, F, G, H, I) {
+    #[inline(always)]
+    fn take_fields(
+        alloc: Global,
+        cons: &mut Constructed<'_, S>,
+    ) -> Result<(A, B, C, D, E, F, G, H, I), DecodeError<S::Error>> {
+        match <(A, (B, C, D, E, F, G, H, I))>::take_fields(alloc, cons) {
+            Ok(fields) => {
+                let (a, (b, c, d, e, f, g, h, i)) = fields;
+                Ok((a, b, c, d, e, f, g, h, i))
+            }
+            Err(error) => Err(error),
+        }
+    }
+}
+
+/// Ten fields.
+impl<
+    A: Fields,
+    B: Fields,
+    C: Fields,
+    D: Fields,
+    E: Fields,
+    F: Fields,
+    G: Fields,
+    H: Fields,
+    I: Fields,
+    J: Fields,
+> Fields for (A, B, C, D, E, F, G, H, I, J) {
+    ghost Keys = { ⟦<(A, (B, C, D, E, F, G, H, I, J)) as Fields>⟧.Keys };
+
+    ghost keys = { λ x. ⟦<(A, (B, C, D, E, F, G, H, I, J)) as Fields>⟧.keys (first_of_10 x) };
+
+    ghost takes = { SeenAs first_of_10 ⟦<(A, (B, C, D, E, F, G, H, I, J)) as Fields>⟧.takes };
+
+    ghost keep_all = { ⟦<(A, (B, C, D, E, F, G, H, I, J)) as Fields>⟧.keep_all };
+
+    fn fields_are_one() {
+        <(A, (B, C, D, E, F, G, H, I, J))>::fields_are_one();
+    }
+}
+
+impl<
+    S: Source,
+    A: DecodeFields<S>,
+    B: DecodeFields<S>,
+    C: DecodeFields<S>,
+    D: DecodeFields<S>,
+    E: DecodeFields<S>,
+    F: DecodeFields<S>,
+    G: DecodeFields<S>,
+    H: DecodeFields<S>,
+    I: DecodeFields<S>,
+    J: DecodeFields<S>,
+> DecodeFields<S> for (A, B, C, D, E, F, G, H, I, J) {
+    #[inline(always)]
+    fn take_fields(
+        alloc: Global,
+        cons: &mut Constructed<'_, S>,
+    ) -> Result<(A, B, C, D, E, F, G, H, I, J), DecodeError<S::Error>> {
+        match <(A, (B, C, D, E, F, G, H, I, J))>::take_fields(alloc, cons) {
+            Ok(fields) => {
+                let (a, (b, c, d, e, f, g, h, i, j)) = fields;
+                Ok((a, b, c, d, e, f, g, h, i, j))
+            }
+            Err(error) => Err(error),
+        }
+    }
+}
+
+/// Eleven fields.
+impl<
+    A: Fields,
+    B: Fields,
+    C: Fields,
+    D: Fields,
+    E: Fields,
+    F: Fields,
+    G: Fields,
+    H: Fields,
+    I: Fields,
+    J: Fields,
+    K: Fields,
+> Fields for (A, B, C, D, E, F, G, H, I, J, K) {
+    ghost Keys = { ⟦<(A, (B, C, D, E, F, G, H, I, J, K)) as Fields>⟧.Keys };
+
+    ghost keys = { λ x. ⟦<(A, (B, C, D, E, F, G, H, I, J, K)) as Fields>⟧.keys (first_of_11 x) };
+
+    ghost takes = { SeenAs first_of_11 ⟦<(A, (B, C, D, E, F, G, H, I, J, K)) as Fields>⟧.takes };
+
+    ghost keep_all = { ⟦<(A, (B, C, D, E, F, G, H, I, J, K)) as Fields>⟧.keep_all };
+
+    fn fields_are_one() {
+        <(A, (B, C, D, E, F, G, H, I, J, K))>::fields_are_one();
+    }
+}
+
+impl<
+    S: Source,
+    A: DecodeFields<S>,
+    B: DecodeFields<S>,
+    C: DecodeFields<S>,
+    D: DecodeFields<S>,
+    E: DecodeFields<S>,
+    F: DecodeFields<S>,
+    G: DecodeFields<S>,
+    H: DecodeFields<S>,
+    I: DecodeFields<S>,
+    J: DecodeFields<S>,
+    K: DecodeFields<S>,
+> DecodeFields<S> for (A, B, C, D, E, F, G, H, I, J, K) {
+    #[inline(always)]
+    fn take_fields(
+        alloc: Global,
+        cons: &mut Constructed<'_, S>,
+    ) -> Result<(A, B, C, D, E, F, G, H, I, J, K), DecodeError<S::Error>> {
+        match <(A, (B, C, D, E, F, G, H, I, J, K))>::take_fields(alloc, cons) {
+            Ok(fields) => {
+                let (a, (b, c, d, e, f, g, h, i, j, k)) = fields;
+                Ok((a, b, c, d, e, f, g, h, i, j, k))
+            }
+            Err(error) => Err(error),
+        }
+    }
+}
+
+/// Twelve fields.
+impl<
+    A: Fields,
+    B: Fields,
+    C: Fields,
+    D: Fields,
+    E: Fields,
+    F: Fields,
+    G: Fields,
+    H: Fields,
+    I: Fields,
+    J: Fields,
+    K: Fields,
+    L: Fields,
+> Fields for (A, B, C, D, E, F, G, H, I, J, K, L) {
+    ghost Keys = { ⟦<(A, (B, C, D, E, F, G, H, I, J, K, L)) as Fields>⟧.Keys };
+
+    ghost keys = { λ x. ⟦<(A, (B, C, D, E, F, G, H, I, J, K, L)) as Fields>⟧.keys (first_of_12 x) };
+
+    ghost takes = { SeenAs first_of_12 ⟦<(A, (B, C, D, E, F, G, H, I, J, K, L)) as Fields>⟧.takes };
+
+    ghost keep_all = { ⟦<(A, (B, C, D, E, F, G, H, I, J, K, L)) as Fields>⟧.keep_all };
+
+    fn fields_are_one() {
+        <(A, (B, C, D, E, F, G, H, I, J, K, L))>::fields_are_one();
+    }
+}
+
+impl<
+    S: Source,
+    A: DecodeFields<S>,
+    B: DecodeFields<S>,
+    C: DecodeFields<S>,
+    D: DecodeFields<S>,
+    E: DecodeFields<S>,
+    F: DecodeFields<S>,
+    G: DecodeFields<S>,
+    H: DecodeFields<S>,
+    I: DecodeFields<S>,
+    J: DecodeFields<S>,
+    K: DecodeFields<S>,
+    L: DecodeFields<S>,
+> DecodeFields<S> for (A, B, C, D, E, F, G, H, I, J, K, L) {
+    #[inline(always)]
+    fn take_fields(
+        alloc: Global,
+        cons: &mut Constructed<'_, S>,
+    ) -> Result<(A, B, C, D, E, F, G, H, I, J, K, L), DecodeError<S::Error>> {
+        match <(A, (B, C, D, E, F, G, H, I, J, K, L))>::take_fields(alloc, cons) {
+            Ok(fields) => {
+                let (a, (b, c, d, e, f, g, h, i, j, k, l)) = fields;
+                Ok((a, b, c, d, e, f, g, h, i, j, k, l))
+            }
+            Err(error) => Err(error),
+        }
+    }
+}

@@ -1,0 +1,66 @@
+//! Constraints.
+ghost use Rattle.std.specs.Prelude.{false, refl};
+
+use asn1::{ByRef, DefaultValue, Definition, Encode, EncodeDefinition, OrDefault, Sequence};
+use bcder::encode::{EncodeError, WriteError};
+use bcder::{Mode, NoMemory, Tag};
+use std::alloc::Global;
+use std::io;
+
+/// Whether a subject is an authority, and how many may follow it (RFC 5280, section 4.2.1.9).
+///
+///     BasicConstraints ::= SEQUENCE {
+///         cA                 BOOLEAN DEFAULT FALSE,
+///         pathLenConstraint  INTEGER (0..MAX) OPTIONAL }
+#[derive(Debug, Drop)]
+pub struct BasicConstraints {
+    /// Whether it is an authority.
+    pub ca: OrDefault<bool, NoCa>,
+
+    /// How many certificates of authorities may follow.
+    pub path_len: Option<u32>,
+}
+
+impl Definition for BasicConstraints {
+    type As = Sequence<(OrDefault<bool, NoCa>, Option<u32>)>;
+
+    ghost parts = { λ x. (x.ca, x.path_len) };
+
+    fn from_parts(value: Sequence<(OrDefault<bool, NoCa>, Option<u32>)>) -> BasicConstraints {
+        let Sequence((ca, path_len)) = value;
+        BasicConstraints { ca, path_len }
+    }
+}
+
+impl EncodeDefinition for BasicConstraints {
+    fn len_parts(&self, tag: Tag, mode: Mode) -> Result<usize, EncodeError> {
+        Sequence((ByRef(&self.ca), ByRef(&self.path_len))).encoded_len_as(tag, mode)
+    }
+
+    fn write_parts<W: io::Write>(
+        &self,
+        tag: Tag,
+        mode: Mode,
+        target: &mut W,
+    ) -> Result<(), WriteError> {
+        Sequence((ByRef(&self.ca), ByRef(&self.path_len))).write_encoded_as(tag, mode, target)
+    }
+
+    ghost made = { λ v. (record { ca = v.0; path_len = v.1 }, refl) };
+}
+
+/// `FALSE`: no authority, if nothing is said.
+#[derive(Clone, Copy, Debug, PartialEq, Eq)]
+pub struct NoCa;
+
+impl DefaultValue<bool> for NoCa {
+    ghost default = { false };
+
+    fn is_default(value: &bool) -> bool {
+        !*value
+    }
+
+    fn make(_alloc: Global) -> Result<bool, NoMemory> {
+        Ok(false)
+    }
+}
