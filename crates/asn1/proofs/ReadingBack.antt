@@ -44,8 +44,10 @@ module _ {T K : Type 0} (tag : Tag) (key : T → K) (x : T) where
 
   pub leaf_read_back : (M : ContentsMeaning → Type 0) (Reads : List ℕ → T → Type 0) → IsReadBack M Reads x
       → IsReadAs (Only tag) (IsLeaf Reads) key x (ValueMeans tag (primitive_meaning tag) M)
-  leaf_read_back M Reads k = leaf_back M Reads (λ w m. (subst (λ z. Reads z x) (sym (k.only w m)) k.read,
-      λ y r. ap key (k.no_other y (subst (λ z. Reads z y) (k.only w m) r))))
+  leaf_read_back M Reads k = leaf_back M Reads (λ w m. (
+    subst (λ z. Reads z x) (sym (k.only w m)) k.read,
+    λ y r. ap key (k.no_other y (subst (λ z. Reads z y) (k.only w m) r)),
+  ))
 
   inside_at : (Takes : Trees → T → Trees → Type 0) (mode : Mode) (y e : Encoded) (b : Bool)
       → Ok e ≡ (if b then Ok (constructed_encoded mode tag y) else Err (enclosed_refusal mode)) → AreTaken Takes key (key x) y.values no_trees

@@ -10,8 +10,8 @@ ghost use Rattle.asn1.specs.Types.{BeginWithout};
 ghost use Rattle.asn1.specs.Writing.{WritesOptional, optional_lawful};
 
 mod additions;
-mod boxed;
 mod bit_strings;
+mod boxed;
 mod choice;
 mod default;
 mod identifiers;
