@@ -1,13 +1,14 @@
 -- What a capture of the next value, or of all values, holds.
-use Rattle.std.proofs.Common.{◌≡◌, ◌≢◌, ℕ, ◌<◌, ◌||◌, Bool, true, false, List, [], ◌∷◌, ◌++◌, length, Option, Some, None, refl, sym, ap, ◌∙◌, subst, append_assoc, append-nil, length-append, arith, inl, inr}
-use Rattle.std.specs.Prelude.{Result, Ok, Err, IsOkAnd, IsErrAnd, IsOk, IfOk, IfErr}
+use Rattle.std.proofs.Common.{◌≡◌, ◌≢◌, ℕ, ◌<◌, ◌≤◌, ◌||◌, Bool, true, false, List, [], ◌∷◌, ◌++◌, length, Option, Some, None, refl, sym, ap, ◌∙◌, subst, append_assoc, append-nil, length-append, arith, inl, inr}
+use Rattle.std.specs.Prelude.{Result, Ok, Err, IsOkAnd, IsErrAnd, IsOk, IfOk, IfErr, IsSomeAnd, IsTrue, is_none}
 use Rattle.std.specs.Borrow.{MutBor}
 use Rattle.std.proofs.lemmas.List.{append_cancel_right}
 use Rattle.bcder.specs.declared.mode.Mode.{Mode}
 use Rattle.bcder.specs.declared.decode.content.Kind.TheVariants as kind
 use Rattle.bcder.specs.declared.decode.content.State.TheVariants.{Open, Ended, Failed}
 use Rattle.bcder.specs.declared.decode.error.DecodeError.{DecodeError}
-use Rattle.bcder.specs.calls.Cause.{cause_of}
+use Rattle.bcder.specs.declared.decode.error.ContentError.{ContentError}
+use Rattle.bcder.specs.calls.Cause.{Cause, cause_of}
 use Rattle.bcder.specs.x690.Tree.{Tree}
 use Rattle.bcder.specs.x690.Encoding.{IsEncoding, AreEncodings}
 use Rattle.bcder.specs.x690.Preorder.{Heading}
@@ -15,16 +16,20 @@ use Rattle.bcder.specs.x690.Grammar.{IsOnly}
 use Rattle.bcder.specs.calls.Stream.{Grew}
 use Rattle.bcder.specs.calls.Captured.{Kept, AreWhole}
 use Rattle.bcder.specs.calls.Capturing.{IsCaptureOf, Captures, RefusesCapture, RefusesLeft, by_content, by_source, by_memory}
-use Rattle.bcder.specs.calls.CapturingValues.{RefusesWhere, failed, source, nothing, memory, WantsMemory, CapturesBy, PassesBy, LeadDeep, BeginsDeep, HasValueOrDeep, of_value, of_depth, HasDeepBehind, HasValuesOrDeep, MetDeep, CapturesValue, HasNoValue, CapturesValues, HasOthers, PassesToEnd}
-use Rattle.bcder.specs.calls.Content.{Reading, ContentForm, octets, values, Octets, IndefiniteValues, label, Closes, Moves, Whole, Falls, HasMarker, EndsAt, NotAtEnd, IsAtEnd, of_octets, of_definite, of_indefinite, of_unbounded, IsDone, IsUsedUp}
+use Rattle.bcder.specs.calls.CapturingValues.{RefusesWhere, failed, source, nothing, memory, WantsMemory, CapturesBy, PassesBy, LeadDeep, BeginsDeep, HasValueOrDeep, of_value, of_depth, HasValuesOrDeep, MetDeep, CapturesValue, HasNoValue, HasNoNext, CapturesNext, AnswersCapture, CapturesValues, HasOthers, PassesToEnd}
+use Rattle.bcder.specs.calls.Content.{Reading, ContentForm, octets, values, Octets, IndefiniteValues, label, Closes, Moves, Whole, Falls, HasMarker, EndsBefore, EndsAt, NotAtEnd, IsAtEnd, of_octets, of_definite, of_indefinite, of_unbounded, IsDone, IsUsedUp, any, RefusesHeader}
 use Rattle.bcder.specs.calls.Calls.{Answered}
 use Rattle.bcder.specs.calls.Decoding.{by_closure, left_failed}
 use Rattle.bcder.specs.calls.Walking.{HasValue, PassesValue, ClosesBefore, HasValues, Walks}
 use Rattle.bcder.specs.calls.Walking as walking
 use Rattle.bcder.specs.calls.Skipping.{RefusesOne, GoesDeep}
 use Rattle.bcder.specs.calls.Skipping as skipping
+use Rattle.bcder.specs.calls.Takes.{HasNone}
+use Rattle.bcder.specs.steps.Entering.{GoesOn}
 use Rattle.bcder.proofs.Moving.{open_not_ended, open_not_failed}
-use Rattle.bcder.proofs.Entering.{Within}
+use Rattle.bcder.proofs.Entering.{Within, looked_failed}
+use Rattle.bcder.proofs.ContentSteps.{next_refused}
+use Rattle.bcder.proofs.Stopping.{walk_stopped}
 use Rattle.bcder.proofs.WalkSteps.{value_not_at_end, value_once, moves_faults, grew_from, walks_refused, done_here}
 
 -- ---- the same of content that resembles
@@ -156,6 +161,128 @@ exactly_one c d (Err e) h g m t w after v = absurd (refuted h.refused)
     refuted (source k x) = g x
     refuted (nothing n o) = n.none t w after v
     refuted (memory k x) = m k
+
+-- ---- the next value, if there is one
+
+-- the same content, failed
+abbrev pub as_failed : Reading → Reading
+as_failed c = record { stream = c.stream; owed = c.owed; kind = c.kind; state = Failed; mode = c.mode; marked = c.marked; name = c.name }
+
+-- content c that goes on, and i as it was looked at
+module _ (c i : Reading) (g : GoesOn c i) where
+  value_looked : (t : Tree) (w after : List ℕ) → HasValue c t w after → HasValue i t w after
+  value_looked t w after v = record { usable = g.same.state ∙ v.usable; encodes = rw g.same.mode v.encodes; rest = g.same.rest ∙ v.rest }
+
+  value_first : (t : Tree) (w after : List ℕ) → HasValue i t w after → HasValue c t w after
+  value_first t w after v = record { usable = g.usable; encodes = subst (λ m. IsEncoding m t w) g.same.mode v.encodes; rest = sym g.same.rest ∙ v.rest }
+
+  none_first : HasNoValue i → HasNoNext c
+  none_first n = record { usable = g.usable; some = g.some; none = record { none = λ t w after v. n.none t w after (value_looked t w after v) } }
+
+  some_first : HasValueOrDeep i → HasValueOrDeep c
+  some_first (of_value t w after v) = of_value t w after (value_first t w after v)
+  some_first (of_depth b) = of_depth (record { usable = g.usable; some = g.some; leads = subst (λ m. LeadDeep m c.stream.rest) g.same.mode (subst (LeadDeep i.mode) g.same.rest b.leads) })
+
+  captured_first : (k : Kept) (d : Reading) → CapturesValue i k d → CapturesValue c k d
+  captured_first k d h = record {
+    tree = h.tree;
+    has = value_first h.tree k.octets d.stream.rest h.has;
+    only = only_at i.mode c.mode h.tree k.octets k.octets i.stream.rest c.stream.rest g.same.mode refl g.same.rest h.only;
+    mode = h.mode ∙ g.same.mode;
+    start = h.start ∙ g.position;
+    stays = h.stays;
+  }
+
+  module _ {X : Type 0} (f : i.stream.faults ≡ c.stream.faults) (d : Reading) where
+    pub next_captured : (k : Kept) → CapturesBy {X = X} CapturesValue HasNoValue HasValueOrDeep i (Ok k) d → CapturesNext {X = X} c (Ok (Some k)) d
+    next_captured k h = record {
+      captured = captured_first k d h.captured;
+      end = tt;
+      done = tt;
+      no_fault = h.no_fault ∙ f;
+      refused = tt;
+      failed = tt;
+      mode = h.mode ∙ g.same.mode;
+      marked = h.marked ∙ g.same.marked;
+    }
+
+    -- a value was refused, and then content failed
+    module _ (e : DecodeError X) (h : CapturesBy {X = X} CapturesValue HasNoValue HasValueOrDeep i (Err e) d) where
+      pub next_failed : CapturesNext {X = X} c (Err e) (as_failed d)
+      next_failed = record {
+        captured = tt;
+        end = tt;
+        done = tt;
+        no_fault = tt;
+        refused = where_of _ _ _ _ none_first some_first c i d (as_failed d) e g.same.state f refl h.refused;
+        failed = refl;
+        mode = h.mode ∙ g.same.mode;
+        marked = h.marked ∙ g.same.marked;
+      }
+
+      pub failed_moves : Moves d (as_failed d)
+      failed_moves = looked_failed d d (record { rest = refl; kept = refl; owed = refl; kind = refl; state = refl; mode = refl; marked = refl; name = refl }) (let z : d.stream.faults ≤ d.stream.faults = omega arith in z) (as_failed d) (h.as_before.state ∙ g.same.state ∙ g.usable) refl refl refl refl refl refl refl
+
+pub next_ended : {X : Type 0} (c d : Reading) → HasNone any c d → d.mode ≡ c.mode → CapturesNext {X = X} c (Ok None) d
+next_ended c d n m = record {
+  captured = tt;
+  end = n.missing.0;
+  done = n.missing.1;
+  no_fault = n.no_fault;
+  refused = tt;
+  failed = tt;
+  mode = m;
+  marked = n.marked;
+}
+
+-- no header comes next
+pub next_stopped : {S X : Type 0} (why : S → Cause ContentError) (s : S) (e : DecodeError X) (c d : Reading) → Within c → cause_of e ≡ why s → RefusesHeader why any c s d → d.state ≡ Failed → d.mode ≡ c.mode → d.marked ≡ c.marked → CapturesNext {X = X} c (Err e) d
+next_stopped why s e c d w k h f m a = record {
+  captured = tt;
+  end = tt;
+  done = tt;
+  no_fault = tt;
+  refused = walked (walk_stopped why cause_of s e k c d (next_refused why c d s w h));
+  failed = f;
+  mode = m;
+  marked = a;
+}
+  where
+    walked : walking.RefusesWalk cause_of c e d → RefusesWhere (HasNoNext c) (HasValueOrDeep c) c e d
+    walked (walking.RefusesWalk.failed x o) = failed x o
+    walked (walking.RefusesWalk.source x y) = source x y
+    walked (walking.RefusesWalk.nothing x n y o) = nothing (record { usable = x; some = y; none = record { none = λ t v after z. n.none t v after z.encodes z.rest } }) o
+
+-- a value that comes next is captured, unless the source failed or memory was wanted, and the end is found
+module _ {X : Type 0} (c d : Reading) (w : Within c) where
+  pub exactly_next : (r : Result (Option Kept) (DecodeError X)) → CapturesNext c r d → (Grew c.stream.faults d.stream.faults → ⊥) → AnswersCapture c r
+  exactly_next r h g = record { found = found r h; ended = ended r h }
+    where
+      found : (r : Result (Option Kept) (DecodeError X)) → CapturesNext c r d → (t : Tree) (v after : List ℕ) → HasValue c t v after → (WantsMemory r → ⊥) → IsOkAnd r (λ o. IsSomeAnd o (λ k. k.octets ≡ v))
+      found (Ok (Some k)) h t v after z m = (let s = value_once c h.captured.tree t k.octets v d.stream.rest after h.captured.has z in s.front)
+      found (Ok None) h t v after z m = absurd ((value_not_at_end c w t v after z).none d.stream.rest h.end)
+      found (Err e) h t v after z m = absurd (refuted h.refused)
+        where
+          refuted : RefusesWhere (HasNoNext c) (HasValueOrDeep c) c e d → ⊥
+          refuted (failed x o) = open_not_failed c.state z.usable x
+          refuted (source x y) = g y
+          refuted (nothing n o) = n.none.none t v after z
+          refuted (memory x n) = m x
+
+      ended : (r : Result (Option Kept) (DecodeError X)) → CapturesNext c r d → (after : List ℕ) → EndsBefore c after → IsOkAnd r (λ o. IsTrue (is_none o))
+      ended (Ok None) h after z = refl
+      ended (Ok (Some k)) h after z = absurd ((value_not_at_end c w h.captured.tree k.octets d.stream.rest h.captured.has).none after z)
+      ended (Err e) h after z = absurd (refuted h.refused)
+        where
+          met : HasValueOrDeep c → ⊥
+          met (of_value t v x y) = (value_not_at_end c w t v x y).none after z
+          met (of_depth b) = b.some.none after z
+
+          refuted : RefusesWhere (HasNoNext c) (HasValueOrDeep c) c e d → ⊥
+          refuted (failed x o) = elim z [ inl y ↦ (let q : Failed ≡ Ended = sym x ∙ y in cc) | inr y ↦ open_not_failed c.state y.0 x ]
+          refuted (source x y) = g y
+          refuted (nothing n o) = n.some.none after z
+          refuted (memory x n) = met n
 
 -- ---- all values
 

@@ -1,18 +1,24 @@
 -- A value that is passed in one step.
-use Rattle.std.proofs.Common.{◌≡◌, ℕ, true, false, List, take, Option, Some, None, sym, ◌∙◌, subst, inl, inr}
+use Rattle.std.proofs.Common.{◌≡◌, ◌≢◌, ℕ, true, false, List, [], take, Option, Some, None, refl, sym, ◌∙◌, subst, inl, inr}
 use Rattle.std.specs.Prelude.{Result, Ok, Err}
 use Rattle.bcder.specs.declared.decode.error.ContentError.{ContentError}
 use Rattle.bcder.specs.calls.Cause.{Cause}
 use Rattle.bcder.specs.calls.Stream.{Grew}
 use Rattle.bcder.specs.declared.decode.content.State.TheVariants.{Open}
-use Rattle.bcder.specs.x690.Encoding.{IsEncoding}
+use Rattle.bcder.specs.declared.mode.Mode.{Mode}
+use Rattle.bcder.specs.x690.Encoding.{Header, IsEncoding}
 use Rattle.bcder.specs.x690.Tree.{Tree}
 use Rattle.bcder.specs.x690.Grammar.{IsOnly}
-use Rattle.bcder.specs.calls.Content.{Reading, Advances, Moves, Resembles, HasMarker, IsAtEnd, of_octets, of_definite, of_indefinite, of_unbounded, EndsBefore, NotAtEnd}
+use Rattle.bcder.specs.calls.Content.{Reading, Octets, Advances, Moves, Resembles, HasMarker, IsAtEnd, of_octets, of_definite, of_indefinite, of_unbounded, EndsBefore, NotAtEnd}
 use Rattle.bcder.specs.calls.Walking.{NoValue, PassesValue, PassedBy}
 use Rattle.bcder.specs.calls.Walking as walking
+use Rattle.bcder.specs.steps.Reading.{read_identifier, read_header}
+use Rattle.bcder.specs.steps.Entering.{GoesOn}
 use Rattle.bcder.specs.laws.Complete.{only_at_front}
-use Rattle.bcder.proofs.Moving.{moves_value}
+use Rattle.bcder.specs.laws.Sound.{none_is}
+use Rattle.bcder.proofs.Moving.{moves_value, open_not_ended}
+use Rattle.bcder.proofs.Headers.{header_no_end, no_marker_unread}
+use Rattle.bcder.proofs.Entering.{Within, used_rest}
 
 -- octets at the front of open content were passed that are the encoding of a value
 module _ (c d : Reading) (n : ℕ) (t : Tree) (k : IsEncoding c.mode t (take n c.stream.rest)) (a : Advances c d (take n c.stream.rest)) (s : c.state ≡ Open) (e : d.state ≡ Open) where
@@ -78,3 +84,32 @@ module _ {E : Type 0} (why : E → Cause ContentError) (c d e : Reading) (s : Re
   -- a call that went on from there went on from the content itself
   pub looked_next : {T : Type 0} (r : Result (Option T) E) → PassedBy (walking.RefusesWalk why) d r e → PassedBy (walking.RefusesWalk why) c r e
   looked_next r = looked_by c d e s f (walking.RefusesWalk why) looked_refused r
+
+-- ---- content that begins with a header
+
+empty_unread : (m : Mode) → read_header m [] ≡ None
+unfolding read_header read_identifier
+empty_unread m = refl
+
+no_empty_header : (m : Mode) (h : Header) (x : List ℕ) → read_header m [] ≡ Some (h, x) → ⊥
+no_empty_header m h x e = none_is _ (sym (empty_unread m) ∙ e)
+
+header_goes_on : (c : Reading) → Within c → c.state ≡ Open → c.kind ≢ Octets → (h : Header) (x : List ℕ) → read_header c.mode c.stream.rest ≡ Some (h, x) → NotAtEnd c
+header_goes_on c w o k h x r = record { none = λ after e. elim e [ inl y ↦ open_not_ended c.state o y | inr y ↦ at_end after y.1 ] }
+  where
+    some : c.stream.rest ≡ [] → ⊥
+    some e = no_empty_header c.mode h x (subst (λ z. read_header c.mode z ≡ Some (h, x)) e r)
+
+    at_end : (after : List ℕ) → IsAtEnd c after → ⊥
+    at_end after (of_octets q e) = k q
+    at_end after (of_definite q e) = some (used_rest c w e)
+    at_end after (of_indefinite q m) = no_marker_unread c.mode c.stream.rest after (header_no_end c.mode c.stream.rest h x r) m
+    at_end after (of_unbounded q e) = some e
+
+pub looked_goes_on : (c d : Reading) → Resembles c d → d.stream.position ≡ c.stream.position → Within c → c.state ≡ Open → c.kind ≢ Octets → (h : Header) (x : List ℕ) → read_header c.mode d.stream.rest ≡ Some (h, x) → GoesOn c d
+looked_goes_on c d s p w o k h x r = record {
+  usable = o;
+  some = header_goes_on c w o k h x (subst (λ z. read_header c.mode z ≡ Some (h, x)) s.rest r);
+  same = s;
+  position = p;
+}

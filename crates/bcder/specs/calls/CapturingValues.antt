@@ -1,5 +1,5 @@
 -- When the next value is captured, and when all values up to the end of content are.
-use Rattle.std.specs.Prelude.{◌≡◌, ◌≢◌, ◌⊎◌, ℕ, ◌≤◌, true, List, [], ◌∷◌, ◌++◌, Result, IsOkAnd, IsErrAnd, IfOk, IfErr, OnOk, OnErr, IsOk}
+use Rattle.std.specs.Prelude.{◌≡◌, ◌≢◌, ◌⊎◌, ℕ, ◌≤◌, true, List, [], ◌∷◌, ◌++◌, Option, Result, IsOkAnd, IsErrAnd, IfOk, IfErr, IfSome, IfNone, IsSomeAnd, OnOk, OnErr, IsOk, IsTrue, is_none}
 use Rattle.std.specs.Borrow.{MutBor}
 use denote.Triple.Both.{Both}
 use Rattle.bcder.specs.declared.decode.content.Constructed.{Constructed}
@@ -13,7 +13,7 @@ use Rattle.bcder.specs.x690.Preorder.{Heading, preorder}
 use Rattle.bcder.specs.x690.Grammar.{IsOnly}
 use Rattle.bcder.specs.calls.Stream.{Stream, Grew}
 use Rattle.bcder.specs.calls.Captured.{Kept, AreWhole}
-use Rattle.bcder.specs.calls.Content.{Reading, Octets, Closes, IsDone, NotAtEnd}
+use Rattle.bcder.specs.calls.Content.{Reading, Octets, Closes, EndsBefore, EndsAt, IsDone, NotAtEnd}
 use Rattle.bcder.specs.calls.Skipping.{HeadersFrom, GoesDeep}
 use Rattle.bcder.specs.calls.Walking.{HasValue, PassesValue, ClosesBefore, HasValues, Walks}
 use Rattle.bcder.specs.calls.Views.{before, after}
@@ -89,6 +89,35 @@ pub record CapturesValue (c : Reading) (k : Kept) (d : Reading) : Type 0 where
   pub start : k.start ≡ c.stream.position
   pub stays : d.state ≡ Open
 
+-- ---- the next value, if there is one
+
+-- open content is not at its end, and no value comes next
+pub record HasNoNext (c : Reading) : Type 0 where
+  pub usable : c.state ≡ Open
+  pub some : NotAtEnd c
+  pub none : HasNoValue c
+
+-- the next value was captured, or content was at its end, or a value was refused
+pub record CapturesNext {X : Type 0} (c : Reading) (r : Result (Option Kept) (DecodeError X)) (d : Reading) : Type 0 where
+  -- Some: the octets are the one value that comes next
+  pub captured : IfOk r (λ o. IfSome o (λ k. CapturesValue c k d))
+  -- None: content was at its end, whose marker, if any, was taken
+  pub end : IfOk r (λ o. IfNone o (EndsAt c d))
+  pub done : IfOk r (λ o. IfNone o (IsDone d))
+  -- on Ok, the source met no fault
+  pub no_fault : OnOk r (d.stream.faults ≡ c.stream.faults)
+  -- an error says why, and content has failed; memory runs out only if a value comes next, or what does leads to a deep one
+  pub refused : IfErr r (λ e. RefusesWhere (HasNoNext c) (HasValueOrDeep c) c e d)
+  pub failed : OnErr r (d.state ≡ Failed)
+  -- the mode and the mark stay
+  pub mode : d.mode ≡ c.mode
+  pub marked : d.marked ≡ c.marked
+
+-- what is returned if a value comes next, unless memory ran out, and what at the end
+pub record AnswersCapture {X : Type 0} (c : Reading) (r : Result (Option Kept) (DecodeError X)) : Type 0 where
+  pub found : (t : Tree) (w after : List ℕ) → HasValue c t w after → (WantsMemory r → ⊥) → IsOkAnd r (λ o. IsSomeAnd o (λ k. k.octets ≡ w))
+  pub ended : (after : List ℕ) → EndsBefore c after → IsOkAnd r (λ o. IsTrue (is_none o))
+
 -- ---- all values
 
 -- the rest of open content, up to its end, is not encodings of values
@@ -156,6 +185,15 @@ module _ {S : Type 0} (stream : S → Stream) (c : Both (MutBor (Constructed S))
     -- or if the content has ended
     abbrev pub CapturesExactlyAll : Type 0
     CapturesExactlyAll = (Grew (before stream c).stream.faults (after stream c).stream.faults → ⊥) → (WantsMemory r → ⊥) → (HasValues (before stream c) → (before stream c).state ≡ Open → IsOk r) × ((before stream c).state ≡ Ended → IsOk r)
+
+  module _ {X : Type 0} (r : Result (Option Kept) (DecodeError X)) where
+    -- the next value was captured, or content was at its end, or why it was neither
+    abbrev pub CapturedNext : Type 0
+    CapturedNext = CapturesNext (before stream c) r (after stream c)
+
+    -- unless the source failed or memory ran out, Some is returned exactly if a value comes next, and None exactly at the end
+    abbrev pub ExactlyNextCaptured : Type 0
+    ExactlyNextCaptured = (Grew (before stream c).stream.faults (after stream c).stream.faults → ⊥) → AnswersCapture (before stream c) r
 
   abbrev pub PassedOne : {T X : Type 0} → Result T (DecodeError X) → Type 0
   PassedOne r = PassesBy PassesValue HasNoValue BeginsDeep (before stream c) r (after stream c)

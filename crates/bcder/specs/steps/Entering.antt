@@ -2,12 +2,12 @@
 use Rattle.std.specs.Prelude.{◌≡◌, ◌⊎◌, ℕ, true, Option, Result, IfOk, IfErr, IfSome, IfNone, OnOk, OnErr}
 use Rattle.bcder.specs.declared.decode.error.ContentError.{ContentError}
 use Rattle.bcder.specs.declared.decode.header.Header.{Header as CodeHeader}
-use Rattle.bcder.specs.declared.decode.content.State.TheVariants.{Failed}
+use Rattle.bcder.specs.declared.decode.content.State.TheVariants.{Open, Failed}
 use Rattle.bcder.specs.calls.Calls.{HasForm}
 use Rattle.bcder.specs.calls.Cause.{Cause, IsOfContent}
 use Rattle.bcder.specs.x690.Identifier.{Tag}
 use Rattle.bcder.specs.steps.Peek.{header_of, octets_header}
-use Rattle.bcder.specs.calls.Content.{Reading, Asked, tagged, IsAsked, Enters, RefusesHeader}
+use Rattle.bcder.specs.calls.Content.{Reading, Asked, tagged, IsAsked, Enters, RefusesHeader, Resembles, NotAtEnd}
 use Rattle.bcder.specs.calls.Takes.{HasNone}
 
 module _ {E : Type 0} (c d : Reading) where
@@ -36,3 +36,10 @@ pub record EntersOctets {E : Type 0} (why : E → Cause ContentError) (t : Tag) 
   pub failed : OnErr r (d.state ≡ Failed)
   pub mode : d.mode ≡ c.mode
   pub marked : d.marked ≡ c.marked
+
+-- open content is not at its end, and was only looked at
+pub record GoesOn (c d : Reading) : Type 0 where
+  pub usable : c.state ≡ Open
+  pub some : NotAtEnd c
+  pub same : Resembles c d
+  pub position : d.stream.position ≡ c.stream.position

@@ -1,11 +1,12 @@
 //! Capturing the next value, or all values.
 ghost use Rattle.bcder.specs.calls.CapturingValues.{CapturedOne, ExactlyOne, CapturedAll};
 ghost use Rattle.bcder.specs.calls.CapturingValues.{CapturesExactlyAll};
+ghost use Rattle.bcder.specs.calls.CapturingValues.{CapturedNext, ExactlyNextCaptured};
 ghost use Rattle.bcder.specs.calls.CapturingValues.{PassedOne, PassedToEnd};
 ghost use Rattle.bcder.specs.calls.Sources.{capturing};
 ghost use Rattle.bcder.specs.calls.Views.{Moved, limited_stream};
 
-use super::Constructed;
+use super::{Constructed, State};
 use crate::captured::Captured;
 use crate::decode::error::DecodeError;
 use crate::decode::source::Source;
@@ -61,6 +62,50 @@ impl<'a, S: Source> Constructed<'a, S> {
                 }
             },
         )
+    }
+
+    /// Captures the next value, or returns `None` at the end of the content, whose marker it takes.
+    ///
+    /// Unless the source fails or memory runs out, a value is captured exactly if its encoding
+    /// comes next, in the content's mode (X.690, 8.1.1). That encoding is what is captured, as by
+    /// [`capture_one`](Self::capture_one). End-of-contents octets aren't captured (8.1.5).
+    ///
+    /// These are the values of a list, of whatever type, each captured on its own:
+    ///
+    /// ```text
+    /// let values = cons.collect_some(alloc, |cons| cons.capture_opt_one(alloc))?;
+    /// ```
+    ///
+    /// # Errors
+    ///
+    /// Returns an error if
+    ///
+    /// - neither the encoding of a value nor the end comes next;
+    /// - an earlier value was refused;
+    /// - the source fails;
+    /// - memory runs out for the octets of a value, or for a value that is open at a depth of four
+    ///   or more.
+    ///
+    /// The content has then failed, and every later take refuses.
+    pub fn capture_opt_one(
+        &mut self,
+        alloc: Global,
+    ) -> Result<Option<Captured>, DecodeError<S::Error>>
+        ensures moves { Moved S.stream self }
+        ensures captured { CapturedNext S.stream self result }
+        ensures exact { ExactlyNextCaptured S.stream self result }
+    {
+        match self.find_next() {
+            Ok(Some(())) => match self.capture_one(alloc) {
+                Ok(captured) => Ok(Some(captured)),
+                Err(error) => {
+                    self.state = State::Failed;
+                    Err(error)
+                }
+            },
+            Ok(None) => Ok(None),
+            Err(stop) => Err(self.stop_error(stop)),
+        }
     }
 
     /// Captures all values up to the end of the content. There may be none.

@@ -6,9 +6,10 @@ ghost use Rattle.bcder.specs.calls.Changed.{SameFaults, MoreFaults, SameRest, Sa
 ghost use Rattle.bcder.specs.calls.Cause.{cause_of, IsRefusal};
 ghost use Rattle.bcder.specs.steps.StopCause.{stop_cause};
 ghost use Rattle.bcder.specs.calls.Cause.{NamesTag};
-ghost use Rattle.bcder.specs.calls.Content.{Moves, Enters, TakesMarker, NoFront, NamesViolation};
+ghost use Rattle.bcder.specs.calls.Content.{any, Moves, Enters, TakesMarker, NoFront};
+ghost use Rattle.bcder.specs.calls.Content.{NamesViolation};
 ghost use Rattle.bcder.specs.steps.Entering.{EntersNext, EntersOctets, FindsNone, RefusesNext};
-ghost use Rattle.bcder.specs.steps.Entering.{MeetsNoFault};
+ghost use Rattle.bcder.specs.steps.Entering.{GoesOn, MeetsNoFault};
 ghost use Rattle.bcder.specs.steps.Peek.{header_of, octets_header, asked};
 ghost use Rattle.bcder.specs.steps.Peek.{Fronts, FrontsEnd};
 ghost use Rattle.bcder.specs.declared.mode.Mode.{Mode as ModeValue};
@@ -227,6 +228,59 @@ impl<'a, S: Source> Constructed<'a, S> {
                     Wanted::Tagged(_) => return Ok(None),
                     Wanted::Any => {}
                 }
+                if let Kind::Unbounded = self.kind {
+                    return Ok(None);
+                }
+                self.state = State::Failed;
+                Err(Stop::Violated(Violation::TruncatedContents))
+            }
+            Ok(Peeked::Refused(violation)) => {
+                self.state = State::Failed;
+                Err(Stop::Violated(violation))
+            }
+            Err(error) => {
+                self.state = State::Failed;
+                Err(Stop::Source(error))
+            }
+        }
+    }
+
+    /// Looks for the next value, and takes none of it.
+    ///
+    /// Returns `Some` if the header of a value comes next. Returns `None` at the end of the
+    /// content, whose marker it takes.
+    #[tactic(auto, using(crate::specs::laws::Moved::untouched_is_moved), unfolding(crate::specs::calls::Views::views))]
+    #[inline(never)]
+    pub(super) fn find_next(&mut self) -> Result<Option<()>, Stop<S::Error>>
+        ensures moves { Moves (before S.stream self) (after S.stream self) }
+        ensures found { IfOk result (λ o. IfSome o (λ _.
+            GoesOn (before S.stream self) (after S.stream self))) }
+        ensures none { FindsNone (before S.stream self) (after S.stream self) any result }
+        ensures refused { RefusesNext (before S.stream self) (after S.stream self)
+            stop_cause any result }
+        ensures no_fault { MeetsNoFault (before S.stream self) (after S.stream self) result }
+        ensures failed { OnErr result (self.new.state ≡ State.Failed) }
+        ensures mode { self.new.mode ≡ self.old.mode }
+        ensures marked { self.new.marked ≡ self.old.marked }
+    {
+        match self.state {
+            State::Failed => return Err(Stop::Refused(Reason::Earlier)),
+            State::Ended => return Ok(None),
+            State::Open => {}
+        }
+        if let Kind::Definite = self.kind {
+            if let Some(0) = self.source.limit() {
+                return Ok(None);
+            }
+        }
+        match peek(self.source, self.mode, &Wanted::Any) {
+            Ok(Peeked::Front { .. }) => Ok(Some(())),
+            Ok(Peeked::Other) => Ok(Some(())),
+            Ok(Peeked::End { size }) => match self.take_end(size) {
+                Ok(()) => Ok(None),
+                Err(stop) => Err(stop),
+            },
+            Ok(Peeked::Nothing) => {
                 if let Kind::Unbounded = self.kind {
                     return Ok(None);
                 }

@@ -73,34 +73,6 @@ pub(crate) fn from_constructed<S: Source>(
 
 #[tactic(auto, using(crate::specs::laws::Moved::untouched_is_moved))]
 impl OctetString {
-    /// Takes the next value as a string, if it has this tag. Each form has its own closure, so that
-    /// a string in one piece is made where it is returned.
-    #[inline(always)]
-    pub(crate) fn take_opt_if<S: Source>(
-        alloc: Global,
-        cons: &mut Constructed<'_, S>,
-        tag: Tag,
-    ) -> Result<Option<Self>, DecodeError<S::Error>>
-        ensures moves { Moved S.stream cons }
-        ensures took { TookNextTree S.stream cons tag MeansString result }
-    {
-        match cons.next_header(Wanted::Tagged(tag)) {
-            Ok(Some(header)) => {
-                if header.form.is_constructed() {
-                    cons.take_constructed_body(header, |values| from_constructed(alloc, values))
-                } else {
-                    match cons.take_primitive_body(header, |octets| take_piece(alloc, octets)) {
-                        Ok(Some(octets)) => Ok(Some(OctetString::new(octets))),
-                        Ok(None) => Ok(None),
-                        Err(error) => Err(error),
-                    }
-                }
-            }
-            Ok(None) => Ok(None),
-            Err(stop) => Err(cons.stop_error(stop)),
-        }
-    }
-
     /// Takes the next value, which has to be an OCTET STRING.
     ///
     /// # Errors
@@ -152,6 +124,50 @@ impl OctetString {
         ensures took { TookNextTree S.stream cons octet_string_tag MeansString result }
     {
         OctetString::take_opt_if(alloc, cons, Tag::OCTET_STRING)
+    }
+
+    /// Takes the next value as a string if it has this tag. Returns `None` at the end and at a value
+    /// of another tag, which stays.
+    ///
+    /// This reads a string with an implicit tag, which stands in place of the tag of OCTET STRING
+    /// (X.690, 8.14.4):
+    ///
+    /// ```text
+    /// let key = OctetString::take_opt_if(alloc, cons, Tag::CTX_0)?;
+    /// ```
+    ///
+    /// The value is otherwise read as by [`take_opt_from`](Self::take_opt_from). Whatever its tag,
+    /// segments have the tag of OCTET STRING (8.7.3.2).
+    ///
+    /// # Errors
+    ///
+    /// Returns the errors of `take_opt_from`, of a value with this tag. The content has then failed.
+    #[inline(always)]
+    pub fn take_opt_if<S: Source>(
+        alloc: Global,
+        cons: &mut Constructed<'_, S>,
+        tag: Tag,
+    ) -> Result<Option<Self>, DecodeError<S::Error>>
+        ensures moves { Moved S.stream cons }
+        ensures took { TookNextTree S.stream cons tag MeansString result }
+    {
+        match cons.next_header(Wanted::Tagged(tag)) {
+            // Each form has its own closure, so that a string in one piece is made where it is
+            // returned.
+            Ok(Some(header)) => {
+                if header.form.is_constructed() {
+                    cons.take_constructed_body(header, |values| from_constructed(alloc, values))
+                } else {
+                    match cons.take_primitive_body(header, |octets| take_piece(alloc, octets)) {
+                        Ok(Some(octets)) => Ok(Some(OctetString::new(octets))),
+                        Ok(None) => Ok(None),
+                        Err(error) => Err(error),
+                    }
+                }
+            }
+            Ok(None) => Ok(None),
+            Err(stop) => Err(cons.stop_error(stop)),
+        }
     }
 
     /// Takes all content of a value as an octet string, whatever the tag of the value.
