@@ -1,5 +1,5 @@
 -- What a call that looks ahead for a primitive value says of the content before it looked.
-use Rattle.std.proofs.Common.{◌≡◌, ◌⊎◌, ℕ, Bool, true, false, List, length, Option, Some, None, Ok, Err, ap, sym, ◌∙◌, subst, inl, inr}
+use Rattle.std.proofs.Common.{◌≡◌, ◌⊎◌, ℕ, Bool, true, false, List, Option, Some, None, Ok, Err, ap, sym, ◌∙◌, subst, inl, inr}
 use Rattle.std.specs.Prelude.{Result, IsErrAnd}
 use Rattle.std.specs.Borrow.{MutBor}
 use Rattle.bcder.specs.declared.length.Length.{Length}
@@ -11,34 +11,19 @@ use Rattle.bcder.specs.declared.decode.error.DecodeError.{DecodeError}
 use Rattle.bcder.specs.declared.decode.error.ContentError.{ContentError}
 use Rattle.bcder.specs.calls.Calls.{HasForm}
 use Rattle.bcder.specs.calls.Cause.{Cause, cause_of, IsOfContent}
-use Rattle.bcder.specs.x690.Encoding.{IsHeader}
 use Rattle.bcder.specs.x690.Identifier.{Tag}
 use Rattle.bcder.specs.steps.Peek.{is_constructed, len_of, header_of, octets_header}
 use Rattle.bcder.specs.calls.Stream.{Grew}
-use Rattle.bcder.specs.calls.Content.{Reading, Asked, tagged, Enters, HasHeader, HasMarker, HasOther, Falls, Resembles, IsElsewhere, none_left, other, marker, IsAbsent, IsLeft, RefusesHeader, failed, source, nothing}
+use Rattle.bcder.specs.calls.Content.{Reading, Asked, tagged, Enters, HasMarker, HasOther, Resembles, IsElsewhere, none_left, other, marker, IsAbsent, IsLeft, RefusesHeader, failed, source, nothing}
 use Rattle.bcder.specs.steps.Entering.{EntersOctets}
 use Rattle.bcder.specs.calls.Takes.{HasNone, TakesNext, by_form}
 use Rattle.bcder.proofs.Entering.{looked_enters, header_entered, no_fewer}
 use Rattle.bcder.proofs.Stopping.{header_stopped}
 use Rattle.bcder.proofs.Taking.{next_refused}
-use Rattle.bcder.proofs.Naming.{named_alike}
+use Rattle.bcder.proofs.Naming.{looked_alike, header_alike, named_alike}
 
 alike : (c d : Reading) → Resembles c d → Resembles d c
 alike c d s = record { rest = sym s.rest; kept = sym s.kept; owed = sym s.owed; kind = sym s.kind; state = sym s.state; mode = sym s.mode; marked = sym s.marked; name = sym s.name }
-
-header_alike : (c d : Reading) (s : Resembles c d) (asked : Asked) (after : List ℕ) → HasHeader asked c after → HasHeader asked d after
-header_alike c d s asked after x = record {
-  tag = x.tag;
-  form = x.form;
-  len = x.len;
-  octets = x.octets;
-  is_header = subst (λ m. IsHeader m x.tag x.form x.len x.octets) (sym s.mode) x.is_header;
-  is_asked = x.is_asked;
-  rest = s.rest ∙ x.rest;
-  owed = x.owed;
-  falls = subst (λ o. Falls o (length x.octets) x.owed) (sym s.owed) x.falls;
-  fits = x.fits;
-}
 
 elsewhere_alike : (c d : Reading) (s : Resembles c d) (t : Tag) (after : List ℕ) → IsElsewhere t c after → IsElsewhere t d after
 elsewhere_alike c d s t after (none_left e f) = none_left (s.rest ∙ e) f
@@ -68,13 +53,13 @@ module _ (c d e : Reading) (s : Resembles c d) (f : d.stream.faults ≡ c.stream
   refused_ahead why x (source k g) = source k (subst (λ z. Grew z e.stream.faults) f g)
   refused_ahead why x (nothing n o) = nothing (record {
     usable = sym s.state ∙ n.usable;
-    header = λ after h. n.header after (header_alike c d s (tagged t) after h);
+    header = λ after h. n.header after (header_alike d c (looked_alike d c (alike c d s)) (tagged t) after h);
     absent = λ after a. n.absent after (absent_alike c d s t after a);
-  }) (named_alike c d s (why x) o)
+  }) (named_alike c d (looked_alike c d s) (why x) o)
 
   form_ahead : HasForm true (tagged t) d → HasForm true (tagged t) c
   unfolding header_alike
-  form_ahead x = record { usable = sym s.state ∙ x.usable; after = x.after; front = header_alike d c (alike c d s) (tagged t) x.after x.front; is = x.is }
+  form_ahead x = record { usable = sym s.state ∙ x.usable; after = x.after; front = header_alike c d (looked_alike c d s) (tagged t) x.after x.front; is = x.is }
 
   pub ahead : {E : Type 0} (why : E → Cause ContentError) (r : Result (Option ℕ) E) → EntersOctets why t d r e → EntersOctets why t c r e
   ahead why (Ok (Some n)) p = record { entered = looked_enters c d s (no_fewer _ _ f) f _ e p.entered; none = tt; refused = tt; failed = tt; mode = p.mode ∙ s.mode; marked = p.marked ∙ s.marked }

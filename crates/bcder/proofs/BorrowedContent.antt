@@ -1,5 +1,5 @@
 -- Content behind another borrow of its source: what was done to it was done to the content itself.
-use Rattle.std.proofs.Common.{◌≡◌, ℕ, Bool, List, Option, Some, None, refl, ◌∙◌, subst, inl, inr}
+use Rattle.std.proofs.Common.{◌≡◌, ℕ, Bool, List, Option, Some, None, refl, ◌∙◌, subst}
 use Rattle.std.specs.Borrow.{GName}
 use Rattle.std.specs.Prelude.{Result, Ok, Err}
 use Rattle.bcder.specs.declared.mode.Mode.{Mode}
@@ -8,11 +8,12 @@ use Rattle.bcder.specs.declared.decode.error.ContentError.{ContentError}
 use Rattle.bcder.specs.calls.Cause.{Cause}
 use Rattle.bcder.specs.x690.Preorder.{Heading}
 use Rattle.bcder.specs.calls.Stream.{Stream}
-use Rattle.bcder.specs.calls.Content.{Reading, ContentForm, Moves, Whole, IsAtEnd, of_octets, of_definite, of_indefinite, of_unbounded, EndsBefore, NotAtEnd}
+use Rattle.bcder.specs.calls.Content.{Reading, ContentForm, Moves, Whole, EndsBefore, NotAtEnd}
 use Rattle.bcder.specs.calls.Walking.{NoValue, PassesValue, PassedBy}
 use Rattle.bcder.specs.calls.Walking as walking
 use Rattle.bcder.specs.calls.Skipping.{WereCalls, RefusesOne}
 use Rattle.bcder.specs.calls.Skipping as skipping
+use Rattle.bcder.proofs.Naming.{Alike, ends_alike, front_named}
 
 -- the same content, behind a borrow of this name
 abbrev pub named : GName → Reading → Reading
@@ -40,25 +41,17 @@ module _ (n : GName) where
     whole = λ x o. whole_named _ c d a.passed (a.whole x o);
   }
 
-  at_end_named : (c : Reading) (after : List ℕ) → IsAtEnd c after → IsAtEnd (named n c) after
-  at_end_named c after (of_octets k o) = of_octets k o
-  at_end_named c after (of_definite k o) = of_definite k o
-  at_end_named c after (of_indefinite k m) = of_indefinite k m
-  at_end_named c after (of_unbounded k e) = of_unbounded k e
+  alike_named : (c : Reading) → Alike (named n c) c
+  alike_named c = record { rest = refl; owed = refl; kind = refl; state = refl; mode = refl }
 
-  at_end_unnamed : (c : Reading) (after : List ℕ) → IsAtEnd (named n c) after → IsAtEnd c after
-  at_end_unnamed c after (of_octets k o) = of_octets k o
-  at_end_unnamed c after (of_definite k o) = of_definite k o
-  at_end_unnamed c after (of_indefinite k m) = of_indefinite k m
-  at_end_unnamed c after (of_unbounded k e) = of_unbounded k e
+  alike_unnamed : (c : Reading) → Alike c (named n c)
+  alike_unnamed c = record { rest = refl; owed = refl; kind = refl; state = refl; mode = refl }
 
   ends_named : (c : Reading) (after : List ℕ) → EndsBefore c after → EndsBefore (named n c) after
-  ends_named c after (inl e) = inl e
-  ends_named c after (inr e) = inr (e.0, at_end_named c after e.1)
+  ends_named c after e = ends_alike (named n c) c (alike_named c) after e
 
   ends_unnamed : (c : Reading) (after : List ℕ) → EndsBefore (named n c) after → EndsBefore c after
-  ends_unnamed c after (inl e) = inl e
-  ends_unnamed c after (inr e) = inr (e.0, at_end_unnamed c after e.1)
+  ends_unnamed c after e = ends_alike c (named n c) (alike_unnamed c) after e
 
   open_named : (c : Reading) → NotAtEnd c → NotAtEnd (named n c)
   open_named c o = record { none = λ after e. o.none after (ends_unnamed c after e) }
@@ -79,7 +72,7 @@ module _ (n : GName) where
     refused_named : (x : E) → walking.RefusesWalk why c x d → walking.RefusesWalk why (named n c) x (named n d)
     refused_named x (walking.RefusesWalk.failed h o) = walking.RefusesWalk.failed h o
     refused_named x (walking.RefusesWalk.source h g) = walking.RefusesWalk.source h g
-    refused_named x (walking.RefusesWalk.nothing h v q o) = walking.RefusesWalk.nothing h (nothing_named c v) (open_named c q) o
+    refused_named x (walking.RefusesWalk.nothing h v q o) = walking.RefusesWalk.nothing h (nothing_named c v) (open_named c q) (front_named (named n c) c (alike_named c) (why x) o)
 
     -- whatever is refused of the content behind the other borrow too
     passed_named : {T : Type 0} (Refuses : Reading → E → Reading → Type 0) → ((x : E) → Refuses c x d → Refuses (named n c) x (named n d)) → (r : Result (Option T) E) → PassedBy Refuses c r d → PassedBy Refuses (named n c) r (named n d)

@@ -17,7 +17,7 @@ use Rattle.bcder.specs.calls.Stream.{Grew}
 use Rattle.bcder.specs.calls.Captured.{Kept, AreWhole}
 use Rattle.bcder.specs.calls.Capturing.{IsCaptureOf, Captures, RefusesCapture, RefusesLeft, by_content, by_source, by_memory}
 use Rattle.bcder.specs.calls.CapturingValues.{RefusesWhere, failed, source, nothing, memory, WantsMemory, CapturesBy, PassesBy, LeadDeep, BeginsDeep, HasValueOrDeep, of_value, of_depth, HasValuesOrDeep, MetDeep, CapturesValue, HasNoValue, HasNoNext, CapturesNext, AnswersCapture, CapturesValues, HasOthers, PassesToEnd}
-use Rattle.bcder.specs.calls.Content.{Reading, ContentForm, octets, values, Octets, IndefiniteValues, label, Closes, Moves, Whole, Falls, HasMarker, EndsBefore, EndsAt, NotAtEnd, IsAtEnd, of_octets, of_definite, of_indefinite, of_unbounded, IsDone, IsUsedUp, any, RefusesHeader}
+use Rattle.bcder.specs.calls.Content.{Reading, ContentForm, octets, values, Octets, IndefiniteValues, label, Closes, Moves, Whole, Falls, HasMarker, EndsBefore, EndsAt, NotAtEnd, IsDone, IsUsedUp, any, RefusesHeader}
 use Rattle.bcder.specs.calls.Calls.{Answered}
 use Rattle.bcder.specs.calls.Decoding.{by_closure, left_failed}
 use Rattle.bcder.specs.calls.Walking.{HasValue, PassesValue, ClosesBefore, HasValues, Walks}
@@ -30,9 +30,16 @@ use Rattle.bcder.proofs.Moving.{open_not_ended, open_not_failed}
 use Rattle.bcder.proofs.Entering.{Within, looked_failed}
 use Rattle.bcder.proofs.ContentSteps.{next_refused}
 use Rattle.bcder.proofs.Stopping.{walk_stopped}
+use Rattle.bcder.proofs.Naming.{Alike, ends_alike, front_named}
 use Rattle.bcder.proofs.WalkSteps.{value_not_at_end, value_once, moves_faults, grew_from, walks_refused, done_here}
 
 -- ---- the same of content that resembles
+
+capture_alike : (c i : Reading) → IsCaptureOf c i → Alike c i
+capture_alike c i h = record { rest = h.rest; owed = h.owed; kind = h.kind; state = h.state; mode = h.mode }
+
+around_alike : (c i : Reading) → IsCaptureOf c i → Alike i c
+around_alike c i h = record { rest = sym h.rest; owed = sym h.owed; kind = sym h.kind; state = sym h.state; mode = sym h.mode }
 
 -- content that a closure is handed, and that around it
 module _ (c i : Reading) (h : IsCaptureOf c i) where
@@ -66,11 +73,11 @@ module _ (c i : Reading) (h : IsCaptureOf c i) where
   others_of n = record { usable = sym h.state ∙ n.usable; none = λ v. n.none (values_of v) }
 
 -- what is refused of the content inside is refused of that around it
-where_of : {X : Type 0} (P Q D E : Type 0) → (P → Q) → (D → E) → (c i j d : Reading) (e : DecodeError X) → i.state ≡ c.state → i.stream.faults ≡ c.stream.faults → d.stream.faults ≡ j.stream.faults → RefusesWhere P D i e j → RefusesWhere Q E c e d
-where_of P Q D E f g c i j d e s a b (failed x o) = failed (sym s ∙ x) o
-where_of P Q D E f g c i j d e s a b (source k y) = source k (rw (← a, b) y)
-where_of P Q D E f g c i j d e s a b (nothing n o) = nothing (f n) o
-where_of P Q D E f g c i j d e s a b (memory m n) = memory m (g n)
+where_of : {X : Type 0} (P Q D E : Type 0) → (P → Q) → (D → E) → (c i j d : Reading) (e : DecodeError X) → IsCaptureOf c i → d.stream.faults ≡ j.stream.faults → RefusesWhere P D i e j → RefusesWhere Q E c e d
+where_of P Q D E f g c i j d e h b (failed x o) = failed (sym h.state ∙ x) o
+where_of P Q D E f g c i j d e h b (source k y) = source k (rw (← h.faults, b) y)
+where_of P Q D E f g c i j d e h b (nothing n o) = nothing (f n) (front_named c i (capture_alike c i h) (cause_of e) o)
+where_of P Q D E f g c i j d e h b (memory m n) = memory m (g n)
 
 pub end_has_none : (c d : Reading) → Within c → EndsAt c d → HasNoValue c
 end_has_none c d w e = record { none = λ t v after h. (value_not_at_end c w t v after h).none d.stream.rest e }
@@ -95,7 +102,7 @@ module _ {C X : Type 0} (view : C → Reading) (post : MutBor C → Result (Unit
   left_mark i j e n (by_memory a u k s f) = (did i j (Ok tt) a).marked
 
   refused_left : (c i j d : Reading) (e : DecodeError X) → IsCaptureOf c i → Moves i j → RefusesLeft view post i e j d.stream.faults → RefusesWhere (HasNone c) (HasSome c) c e d
-  refused_left c i j d e h v (by_content (by_closure a) f) = where_of _ _ _ _ (around c i h) (deep_around c i h) c i j d e h.state h.faults f (did i j (Err e) a).refused
+  refused_left c i j d e h v (by_content (by_closure a) f) = where_of _ _ _ _ (around c i h) (deep_around c i h) c i j d e h f (did i j (Err e) a).refused
   refused_left c i j d e h v (by_content (left_failed x a s o) f) = absurd (usable i j (did i j (Ok x) a).passed s)
   refused_left c i j d e h v (by_source a u k g) = source k (subst (λ z. Grew z d.stream.faults) ((did i j (Ok tt) a).no_fault ∙ h.faults) g)
   refused_left c i j d e h v (by_memory a u k s f) = memory k (some_around c i j h v (did i j (Ok tt) a).passed s)
@@ -405,19 +412,13 @@ one_refused c d e (skipping.RefusesOne.by_walk (walking.RefusesWalk.source s f))
 one_refused c d e (skipping.RefusesOne.by_walk (walking.RefusesWalk.nothing s n f a)) = nothing (record { none = λ t w after v. n.none t w after v.encodes v.rest }) a
 one_refused c d e (skipping.RefusesOne.by_depth g m) = memory m (begins_deep c d g)
 
-at_end_of : (c i : Reading) → IsCaptureOf c i → (after : List ℕ) → IsAtEnd c after → IsAtEnd i after
-at_end_of c i h after (of_octets k e) = of_octets (h.kind ∙ k) (h.owed ∙ e)
-at_end_of c i h after (of_definite k e) = of_definite (h.kind ∙ k) (h.owed ∙ e)
-at_end_of c i h after (of_indefinite k m) = of_indefinite (h.kind ∙ k) (rw (h.mode, h.rest) m)
-at_end_of c i h after (of_unbounded k e) = of_unbounded (h.kind ∙ k) (h.rest ∙ e)
-
 leads_of : (c i : Reading) → IsCaptureOf c i → LeadDeep i.mode i.stream.rest → LeadDeep c.mode c.stream.rest
 leads_of c i h x = subst (λ m. LeadDeep m c.stream.rest) h.mode (subst (LeadDeep i.mode) h.rest x)
 
 pub one_deep : (c i : Reading) → IsCaptureOf c i → BeginsDeep i → HasValueOrDeep c
 one_deep c i h b = of_depth (record {
   usable = sym h.state ∙ b.usable;
-  some = record { none = λ after e. b.some.none after (elim e [ inl x ↦ inl (h.state ∙ x) | inr x ↦ inr (h.state ∙ x.0, at_end_of c i h after x.1) ]) };
+  some = record { none = λ after e. b.some.none after (ends_alike i c (around_alike c i h) after e) };
   leads = leads_of c i h b.leads;
 })
 

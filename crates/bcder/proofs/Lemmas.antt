@@ -25,6 +25,8 @@ pub use Rattle.bcder.proofs.WalkSteps.{walks_refl as walks_nothing, walks_value 
 pub use Rattle.bcder.proofs.WalkSteps.{values_before as values_with_one_more, values_before_trees as trees_with_one_more}
 -- at the end no values remain
 pub use Rattle.bcder.proofs.WalkSteps.{none_left as no_values_at_the_end, none_left_trees as no_trees_at_the_end}
+-- and where no first one is, before the end, none are
+pub use Rattle.bcder.proofs.WalkSteps.{no_values as no_values_without_a_first}
 -- ---- typed takes of one's own
 
 -- a take whose closure reads what contents octets mean takes a value as that
@@ -65,6 +67,8 @@ pub use Rattle.bcder.proofs.WalkSteps.{grew_between as grew_in_between}
 -- a value with a tag begins with its header; behind that of a primitive one is no constructed one; content then shows that it is there
 pub use Rattle.bcder.proofs.Valued.{tagged_header as header_of_tagged, primitive_in_front}
 pub use Rattle.bcder.proofs.Typed.{header_not_absent as header_is_there}
+-- behind that header a refusal may have any text
+pub use Rattle.bcder.proofs.Naming.{behind_header as refused_behind_header}
 -- one value at most comes next, and content holds one list of values at most; octets are none
 pub use Rattle.bcder.proofs.WalkSteps.{value_once}
 pub use Rattle.bcder.proofs.Valued.{one_values, no_values_of_octets}

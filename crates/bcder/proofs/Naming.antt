@@ -8,14 +8,35 @@ use Rattle.bcder.specs.declared.decode.violation.Violation.{Violation}
 use Rattle.bcder.specs.x690.Encoding.{Header, IsHeader}
 use Rattle.bcder.specs.calls.Cause.{Cause, IsOfContent}
 use Rattle.bcder.specs.calls.Violations.{ViolatesFront}
-use Rattle.bcder.specs.calls.Content.{Reading, HasMarker, Falls, FitsOwed, Resembles, HasLongValue, Violates, NamesViolation, in_front, truncated_contents, value_too_long, stray_end}
+use Rattle.bcder.specs.calls.Content.{Reading, Asked, any, HasHeader, HasMarker, IsAtEnd, of_octets, of_definite, of_indefinite, of_unbounded, EndsBefore, NothingThere, Falls, FitsOwed, Resembles, HasLongValue, Violates, NamesViolation, NamesFront, in_front, truncated_contents, value_too_long, stray_end}
 use Rattle.bcder.specs.laws.Stands.{Headed}
 
 pub of_violation : (c : Reading) (why : Cause ContentError) → NamesViolation why c → IsOfContent why
 of_violation c why n = subst IsOfContent (sym n.named) tt
 
--- what content violates that was only looked at
-module _ (c d : Reading) (s : Resembles c d) where
+-- a header that was refused is what comes next; and where an asked one comes next, any text will do
+pub names_front : (asked : Asked) (c : Reading) (why : Cause ContentError) → NamesViolation why c → NamesFront asked why c
+names_front asked c why n = record { refused = of_violation c why n; named = λ _. n }
+
+pub behind_header : (asked : Asked) (c : Reading) (why : Cause ContentError) → IsOfContent why → (after : List ℕ) → HasHeader asked c after → NamesFront asked why c
+behind_header asked c why o after h = record { refused = o; named = λ n. absurd (n.header after h) }
+
+-- so it will at the end
+pub names_end : (c : Reading) (why : Cause ContentError) → IsOfContent why → (after : List ℕ) → EndsBefore c after → NamesFront any why c
+names_end c why o after e = record { refused = o; named = λ n. absurd (n.absent after e) }
+
+-- content d has the same octets to come as c, the same end, state and mode
+pub record Alike (c d : Reading) : Type 0 where
+  pub rest : d.stream.rest ≡ c.stream.rest
+  pub owed : d.owed ≡ c.owed
+  pub kind : d.kind ≡ c.kind
+  pub state : d.state ≡ c.state
+  pub mode : d.mode ≡ c.mode
+
+pub looked_alike : (c d : Reading) → Resembles c d → Alike c d
+looked_alike c d s = record { rest = s.rest; owed = s.owed; kind = s.kind; state = s.state; mode = s.mode }
+
+module _ (c d : Reading) (s : Alike c d) where
   pub front_alike : (r : Violation) → ViolatesFront d.mode d.stream.rest r → ViolatesFront c.mode c.stream.rest r
   front_alike r f = subst (λ m. ViolatesFront m c.stream.rest r) s.mode (subst (λ z. ViolatesFront d.mode z r) s.rest f)
 
@@ -38,6 +59,39 @@ module _ (c d : Reading) (s : Resembles c d) where
 
   pub named_alike : (why : Cause ContentError) → NamesViolation why d → NamesViolation why c
   named_alike why n = record { violation = n.violation; violates = violates_alike n.violation n.violates; named = n.named }
+
+  unfoldable pub header_alike : (asked : Asked) (after : List ℕ) → HasHeader asked d after → HasHeader asked c after
+  header_alike asked after x = record {
+    tag = x.tag;
+    form = x.form;
+    len = x.len;
+    octets = x.octets;
+    is_header = subst (λ m. IsHeader m x.tag x.form x.len x.octets) s.mode x.is_header;
+    is_asked = x.is_asked;
+    rest = sym s.rest ∙ x.rest;
+    owed = x.owed;
+    falls = subst (λ o. Falls o (length x.octets) x.owed) s.owed x.falls;
+    fits = x.fits;
+  }
+
+  marked_alike : (after : List ℕ) → HasMarker d.mode d.stream.rest after → HasMarker c.mode c.stream.rest after
+  marked_alike after m = subst (λ x. HasMarker x c.stream.rest after) s.mode (subst (λ z. HasMarker d.mode z after) s.rest m)
+
+  at_end_alike : (after : List ℕ) → IsAtEnd d after → IsAtEnd c after
+  at_end_alike after (of_octets k o) = of_octets (sym s.kind ∙ k) (sym s.owed ∙ o)
+  at_end_alike after (of_definite k o) = of_definite (sym s.kind ∙ k) (sym s.owed ∙ o)
+  at_end_alike after (of_indefinite k m) = of_indefinite (sym s.kind ∙ k) (marked_alike after m)
+  at_end_alike after (of_unbounded k e) = of_unbounded (sym s.kind ∙ k) (sym s.rest ∙ e)
+
+  pub ends_alike : (after : List ℕ) → EndsBefore d after → EndsBefore c after
+  ends_alike after (inl e) = inl (sym s.state ∙ e)
+  ends_alike after (inr e) = inr (sym s.state ∙ e.0, at_end_alike after e.1)
+
+  nothing_alike : NothingThere any c → NothingThere any d
+  nothing_alike n = record { usable = s.state ∙ n.usable; header = λ after h. n.header after (header_alike any after h); absent = λ after e. n.absent after (ends_alike after e) }
+
+  pub front_named : (why : Cause ContentError) → NamesFront any why d → NamesFront any why c
+  front_named why f = record { refused = f.refused; named = λ n. named_alike why (f.named (nothing_alike n)) }
 
 -- a length that is more than what is owed behind the header
 pub long_value : (c d : Reading) (h : Header) (x : List ℕ) (p : Headed c.mode h c.stream.rest x) → Falls c.owed (length p.octets) d.owed → (FitsOwed h.len d.owed → ⊥) → HasLongValue c

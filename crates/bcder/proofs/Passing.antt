@@ -9,7 +9,7 @@ use Rattle.bcder.specs.declared.mode.Mode.{Mode}
 use Rattle.bcder.specs.x690.Encoding.{Header, IsEncoding}
 use Rattle.bcder.specs.x690.Tree.{Tree}
 use Rattle.bcder.specs.x690.Grammar.{IsOnly}
-use Rattle.bcder.specs.calls.Content.{Reading, Octets, Advances, Moves, Resembles, HasMarker, IsAtEnd, of_octets, of_definite, of_indefinite, of_unbounded, EndsBefore, NotAtEnd}
+use Rattle.bcder.specs.calls.Content.{Reading, Octets, Advances, Moves, Resembles, IsAtEnd, of_octets, of_definite, of_indefinite, of_unbounded, EndsBefore, NotAtEnd}
 use Rattle.bcder.specs.calls.Walking.{NoValue, PassesValue, PassedBy}
 use Rattle.bcder.specs.calls.Walking as walking
 use Rattle.bcder.specs.steps.Reading.{read_identifier, read_header}
@@ -19,6 +19,7 @@ use Rattle.bcder.specs.laws.Sound.{none_is}
 use Rattle.bcder.proofs.Moving.{moves_value, open_not_ended}
 use Rattle.bcder.proofs.Headers.{header_no_end, no_marker_unread}
 use Rattle.bcder.proofs.Entering.{Within, used_rest}
+use Rattle.bcder.proofs.Naming.{looked_alike, ends_alike, front_named}
 
 -- octets at the front of open content were passed that are the encoding of a value
 module _ (c d : Reading) (n : ℕ) (t : Tree) (k : IsEncoding c.mode t (take n c.stream.rest)) (a : Advances c d (take n c.stream.rest)) (s : c.state ≡ Open) (e : d.state ≡ Open) where
@@ -49,18 +50,8 @@ looked_passes c d e s p = record {
 resembles_sym : (c d : Reading) → Resembles c d → Resembles d c
 resembles_sym c d s = record { rest = sym s.rest; kept = sym s.kept; owed = sym s.owed; kind = sym s.kind; state = sym s.state; mode = sym s.mode; marked = sym s.marked; name = sym s.name }
 
-looked_marked : (c d : Reading) (after : List ℕ) → Resembles c d → HasMarker d.mode d.stream.rest after → HasMarker c.mode c.stream.rest after
-looked_marked c d after s m = subst (λ x. HasMarker x c.stream.rest after) s.mode (subst (λ z. HasMarker d.mode z after) s.rest m)
-
-looked_at_end : (c d : Reading) (after : List ℕ) → Resembles c d → IsAtEnd d after → IsAtEnd c after
-looked_at_end c d after s (of_octets k o) = of_octets (sym s.kind ∙ k) (sym s.owed ∙ o)
-looked_at_end c d after s (of_definite k o) = of_definite (sym s.kind ∙ k) (sym s.owed ∙ o)
-looked_at_end c d after s (of_indefinite k m) = of_indefinite (sym s.kind ∙ k) (looked_marked c d after s m)
-looked_at_end c d after s (of_unbounded k e) = of_unbounded (sym s.kind ∙ k) (sym s.rest ∙ e)
-
 pub looked_ends : (c d : Reading) (after : List ℕ) → Resembles c d → EndsBefore d after → EndsBefore c after
-looked_ends c d after s (inl e) = inl (sym s.state ∙ e)
-looked_ends c d after s (inr e) = inr (sym s.state ∙ e.0, looked_at_end c d after s e.1)
+looked_ends c d after s e = ends_alike c d (looked_alike c d s) after e
 
 looked_nothing : (c d : Reading) → Resembles c d → NoValue d → NoValue c
 looked_nothing c d s n = record { none = λ t w after k r. n.none t w after (subst (λ m. IsEncoding m t w) (sym s.mode) k) (s.rest ∙ r) }
@@ -79,7 +70,7 @@ module _ {E : Type 0} (why : E → Cause ContentError) (c d e : Reading) (s : Re
   pub looked_refused : (x : E) → walking.RefusesWalk why d x e → walking.RefusesWalk why c x e
   looked_refused x (walking.RefusesWalk.failed h o) = walking.RefusesWalk.failed (sym s.state ∙ h) o
   looked_refused x (walking.RefusesWalk.source h g) = walking.RefusesWalk.source h (subst (λ z. Grew z e.stream.faults) f g)
-  looked_refused x (walking.RefusesWalk.nothing h n q o) = walking.RefusesWalk.nothing (sym s.state ∙ h) (looked_nothing c d s n) (looked_open c d s q) o
+  looked_refused x (walking.RefusesWalk.nothing h n q o) = walking.RefusesWalk.nothing (sym s.state ∙ h) (looked_nothing c d s n) (looked_open c d s q) (front_named c d (looked_alike c d s) (why x) o)
 
   -- a call that went on from there went on from the content itself
   pub looked_next : {T : Type 0} (r : Result (Option T) E) → PassedBy (walking.RefusesWalk why) d r e → PassedBy (walking.RefusesWalk why) c r e

@@ -35,6 +35,7 @@ use Rattle.bcder.proofs.Entering.{Within, header_not_at_end, header_entered}
 use Rattle.bcder.proofs.Inner.{layers_eq}
 use Rattle.bcder.proofs.Moving.{moves_value, moves_failed, advances_trans, open_not_ended, open_not_failed}
 use Rattle.bcder.proofs.LimitStack.{cut_falls, past_falls, finished}
+use Rattle.bcder.proofs.Naming.{behind_header}
 use Rattle.bcder.proofs.Passing.{looked_ends, looked_open, looked_refused, looked_by}
 use Rattle.bcder.proofs.WalkCalls.{answers_next}
 use Rattle.bcder.proofs.WalkSteps.{value_not_at_end, value_once, walks_refused}
@@ -158,7 +159,7 @@ module _ (c d e : Reading) (k : Header) (s t : Stream) (o p : Option ℕ) (withi
       (hc : IsOfContent (interrupt_cause h) → IsOfContent (why y)) (hs : interrupt_cause h ≡ of_source → why y ≡ of_source) (hm : interrupt_cause h ≡ of_memory → why y ≡ of_memory) (hx : (z : ContentError) → h ≡ interrupt.Closure z → why y ≡ of_content z) where
     refused_by : Breaks step c.mode k s o f h g t p → RefusesSkip why step c f y g e
     refused_by (by_source calls called b j z) = skipping.RefusesSkip.by_content (heading k 0 ∷ calls) called (broken_calls calls b) (walking.RefusesWalk.source (hs j) (subst (λ n. Grew n e.stream.faults) (ap (λ q. q.faults) (sym ds) ∙ nf) (subst (λ n. Grew s.faults n) (ap (λ q. q.faults) (sym es)) z)))
-    refused_by (by_content calls called b n j) = skipping.RefusesSkip.by_content (heading k 0 ∷ calls) called (broken_calls calls b) (walking.RefusesWalk.nothing x.usable (nothing_there n) not_at_end (hc j))
+    refused_by (by_content calls called b n j) = skipping.RefusesSkip.by_content (heading k 0 ∷ calls) called (broken_calls calls b) (walking.RefusesWalk.nothing x.usable (nothing_there n) not_at_end (behind_header any c (why y) (hc j) d.stream.rest (header_entered c k d any refl x)))
     refused_by (by_closure calls before last q z is called r b j) = skipping.RefusesSkip.by_closure before last q z called r (same_calls c e (heading k 0 ∷ calls) (before ++ last ∷ []) is (broken_calls calls b)) (hx z j)
     refused_by (by_memory calls before last is called a l b j) = skipping.RefusesSkip.by_memory before last (subst (λ z. Called step f z g) is called) (same_calls c e (heading k 0 ∷ calls) (before ++ last ∷ []) is (broken_calls calls b)) a l (hm j)
 

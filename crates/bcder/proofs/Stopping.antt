@@ -11,10 +11,13 @@ module _ {E F : Type 0} (stopped : E → Cause ContentError) (why : F → Cause 
   own : IsOfContent (stopped s) → IsOfContent (why e)
   own o = subst IsOfContent (sym same) o
 
+  named : content.NamesViolation (stopped s) c → content.NamesViolation (why e) c
+  named o = record { violation = o.violation; violates = o.violates; named = same ∙ o.named }
+
   pub header_stopped : (asked : Asked) → content.RefusesHeader stopped asked c s d → content.RefusesHeader why asked c e d
   header_stopped asked (content.RefusesHeader.failed x o) = content.RefusesHeader.failed x (own o)
   header_stopped asked (content.RefusesHeader.source k x) = content.RefusesHeader.source (same ∙ k) x
-  header_stopped asked (content.RefusesHeader.nothing x o) = content.RefusesHeader.nothing x (record { violation = o.violation; violates = o.violates; named = same ∙ o.named })
+  header_stopped asked (content.RefusesHeader.nothing x o) = content.RefusesHeader.nothing x (named o)
 
   pub end_stopped : calls.RefusesEnd stopped c s d → calls.RefusesEnd why c e d
   end_stopped (calls.RefusesEnd.left_failed x o) = calls.RefusesEnd.left_failed x (own o)
@@ -24,4 +27,4 @@ module _ {E F : Type 0} (stopped : E → Cause ContentError) (why : F → Cause 
   pub walk_stopped : walking.RefusesWalk stopped c s d → walking.RefusesWalk why c e d
   walk_stopped (walking.RefusesWalk.failed x o) = walking.RefusesWalk.failed x (own o)
   walk_stopped (walking.RefusesWalk.source k x) = walking.RefusesWalk.source (same ∙ k) x
-  walk_stopped (walking.RefusesWalk.nothing s n f o) = walking.RefusesWalk.nothing s n f (own o)
+  walk_stopped (walking.RefusesWalk.nothing s n f o) = walking.RefusesWalk.nothing s n f (record { refused = own o.refused; named = λ q. named (o.named q) })

@@ -14,7 +14,7 @@ use Rattle.bcder.specs.x690.Encoding.{AreEncodings}
 use Rattle.bcder.specs.calls.Cause.{cause_of, of_memory, IsRefusal}
 use Rattle.bcder.specs.calls.Stream.{limit_or}
 use Rattle.bcder.specs.calls.Captured.{Kept}
-use Rattle.bcder.specs.calls.Content.{Reading, Octets, Closes, HasHeader, IsDone, IsUsedUp, tagged}
+use Rattle.bcder.specs.calls.Content.{Reading, Octets, Closes, HasHeader, IsDone, IsUsedUp, NamesFront, tagged}
 use Rattle.bcder.specs.calls.Walking.{HasValues, IsShort}
 use Rattle.bcder.specs.calls.Readers.{HasAll, Reads, RefusesReading, FindNoMemory}
 use Rattle.bcder.specs.calls.Readers as readers
@@ -239,7 +239,7 @@ no_others tag Means c o n (constructed t ts) x held means = of_held held.1
 not_captured : {X : Type 0} (tag : Tag) (c d : Reading) (e : DecodeError X) → c.kind ≢ Octets → c.mode ≢ Der → IsAsBefore c d → RefusesWhere (HasOthers c) (HasValuesOrDeep c) c e d → RefusesToRead tag (MeansString c.mode) c e d
 not_captured tag c d e o m b (capturing.RefusesWhere.failed s a) = valued.RefusesToRead.failed s a
 not_captured tag c d e o m b (capturing.RefusesWhere.source s g) = valued.RefusesToRead.source s g
-not_captured tag c d e o m b (capturing.RefusesWhere.nothing n a) = valued.RefusesToRead.nothing (no_others tag _ c o n) a
+not_captured tag c d e o m b (capturing.RefusesWhere.nothing n a) = valued.RefusesToRead.nothing (no_others tag _ c o n) a.refused
 not_captured tag c d e o m b (capturing.RefusesWhere.memory s h) = valued.RefusesToRead.memory s (valued.NeedsMemory.of_values m o h b.rest b.state)
 
 -- what is answered of values

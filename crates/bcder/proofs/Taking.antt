@@ -21,7 +21,6 @@ use Rattle.bcder.specs.calls.Takes.{HasNone, HasRefusedForm, by_header, by_form,
 use Rattle.bcder.specs.laws.Complete.{header_size}
 use Rattle.bcder.proofs.Moving.{moves_value, moves_failed, advances_trans, open_not_ended}
 use Rattle.bcder.proofs.Entering.{advances_to, header_entered}
-use Rattle.bcder.proofs.Naming.{of_violation}
 
 or_left : (a b : Bool) → a ≡ true → (a || b) ≡ true
 or_left true b e = refl
@@ -107,7 +106,7 @@ module _ (c c1 c2 : Reading) (h : Header) (asked : Asked) (t : IsAsked asked h.t
 pub value_refused : {C T E : Type 0} (why : E → Cause ContentError) (view : C → Reading) (post : Tag → MutBor C → Result T E → MutBor C → Type 0) (asked : Asked) (c : Reading) (e : E) (d : Reading) → RefusesHeader why asked c e d → RefusesValue why view post asked c e d
 value_refused why view post asked c e d (content.RefusesHeader.failed s o) = calls.RefusesValue.failed s o
 value_refused why view post asked c e d (content.RefusesHeader.source k g) = calls.RefusesValue.source k g
-value_refused why view post asked c e d (content.RefusesHeader.nothing n o) = calls.RefusesValue.nothing n (of_violation c (why e) o)
+value_refused why view post asked c e d (content.RefusesHeader.nothing n o) = calls.RefusesValue.nothing n o
 
 -- the form of what is handed is not that at top level
 not_unbounded : (f : Bool) (len : Length) (k : ContentForm) → IsFormOf f len k → k ≢ UnboundedValues

@@ -33,7 +33,7 @@ use Rattle.bcder.proofs.SameBorrow.{within_constructed}
 use Rattle.bcder.proofs.Headers.{Shape, is_primitive, is_definite, is_indefinite, front_of_header, no_header_empty, header_no_marker, no_other_front}
 use Rattle.bcder.proofs.Entering.{Within, no_fewer}
 use Rattle.bcder.proofs.WalkSteps.{owed_after, shape_in, short_front, grew_between}
-use Rattle.bcder.proofs.Naming.{of_violation}
+use Rattle.bcder.proofs.Naming.{names_front, behind_header}
 
 -- a header of the tag, as one of any
 abbrev any_of : (tag : Tag) (c : Reading) (after : List ℕ) → HasHeader (tagged tag) c after → HasHeader any c after
@@ -170,7 +170,7 @@ module _ {C T X : Type 0} (view : C → Reading) (post : Tag → MutBor C → Re
 
     refused_octets : f.handed.kind ≡ Octets → RefusesReading (MeansIn c.mode) (RefusesIn c.mode) f.handed e f.left → RefusesAs tag (MeansIn c.mode) (RefusesIn c.mode) c e d
     refused_octets k (readers.RefusesReading.missing (readers.RefusesTooFew.source s g)) = typed.RefusesAs.source s (grew_between _ _ _ _ (no_fewer _ _ f.faults_handed) g f.faults_left)
-    refused_octets k (readers.RefusesReading.missing (readers.RefusesTooFew.few s o n)) = typed.RefusesAs.broken (is_broken (few_octets k s)) o
+    refused_octets k (readers.RefusesReading.missing (readers.RefusesTooFew.few s o n)) = typed.RefusesAs.broken (is_broken (few_octets k s)) (behind_header (tagged tag) c (cause_of e) o f.after f.front)
     refused_octets k (readers.RefusesReading.refused a r n) = typed.RefusesAs.refused f.handed.stream.rest _ _ (handed_value tag c f.handed w f.after f.front f.hands k f.usable a _ (handed_before tag c f.handed w f.after f.front f.hands k a)) r
 
     refused_end : (l : Reading) → l.kind ≡ Octets → l.state ≡ Open → l.owed ≡ Some 0 → l.stream.faults ≡ f.handed.stream.faults → RefusesEnd cause_of l e f.left → RefusesAs tag (MeansIn c.mode) (RefusesIn c.mode) c e d
@@ -192,8 +192,8 @@ module _ {C T X : Type 0} (view : C → Reading) (post : Tag → MutBor C → Re
   refused_as : (c d : Reading) → Within c → (e : DecodeError X) → RefusesTake view post (Some true) (tagged tag) c e d → RefusesAs tag (MeansIn c.mode) (RefusesIn c.mode) c e d
   refused_as c d w e (by_header (content.RefusesHeader.failed s a) m) = typed.RefusesAs.failed s a
   refused_as c d w e (by_header (content.RefusesHeader.source s g) m) = typed.RefusesAs.source s g
-  refused_as c d w e (by_header (content.RefusesHeader.nothing n a) m) = typed.RefusesAs.broken (record { usable = n.usable; value = λ contents u rest h. (let x = primitive_header tag c w contents u rest h in n.header x.0 x.1); absent = n.absent }) (of_violation c (cause_of e) a)
-  refused_as c d w e (by_form f a m) = typed.RefusesAs.broken (record { usable = f.usable; value = no_other_form tag c f; absent = λ rest. header_not_absent tag c f.after rest f.usable f.front }) a
+  refused_as c d w e (by_header (content.RefusesHeader.nothing n a) m) = typed.RefusesAs.broken (record { usable = n.usable; value = λ contents u rest h. (let x = primitive_header tag c w contents u rest h in n.header x.0 x.1); absent = n.absent }) (names_front (tagged tag) c (cause_of e) a)
+  refused_as c d w e (by_form f a m) = typed.RefusesAs.broken (record { usable = f.usable; value = no_other_form tag c f; absent = λ rest. header_not_absent tag c f.after rest f.usable f.front }) (behind_header (tagged tag) c (cause_of e) a f.after f.front)
   refused_as c d w e (by_content f) = refused_content c d w e f f.refuses
 
   -- no mode was changed

@@ -30,7 +30,7 @@ use Rattle.bcder.proofs.Moving.{open_not_ended, open_not_failed}
 use Rattle.bcder.proofs.Entering.{Within, no_fewer}
 use Rattle.bcder.proofs.WalkSteps.{owed_after, done_here, grew_between}
 use Rattle.bcder.proofs.Typed.{header_not_absent, or_false, handed_value, handed_before}
-use Rattle.bcder.proofs.Naming.{of_violation}
+use Rattle.bcder.proofs.Naming.{names_front, behind_header}
 
 -- ---- content is that of one value at most
 
@@ -189,7 +189,7 @@ none_in_der ts s = s
 refused_header : {T X : Type 0} (tag : Tag) (Means : Tree → T → Type 0) (c d : Reading) → Within c → (e : DecodeError X) → RefusesHeader cause_of (tagged tag) c e d → RefusesTree tag Means c e d
 refused_header tag Means c d w e (content.RefusesHeader.failed s a) = valued.RefusesTree.failed s a
 refused_header tag Means c d w e (content.RefusesHeader.source s g) = valued.RefusesTree.source s g
-refused_header tag Means c d w e (content.RefusesHeader.nothing n a) = valued.RefusesTree.broken (record { usable = n.usable; value = λ t v rest x h k. (let y = tagged_header c w tag t v rest h in n.header y.0 y.1); absent = n.absent }) (of_violation c (cause_of e) a)
+refused_header tag Means c d w e (content.RefusesHeader.nothing n a) = valued.RefusesTree.broken (record { usable = n.usable; value = λ t v rest x h k. (let y = tagged_header c w tag t v rest h in n.header y.0 y.1); absent = n.absent }) (names_front (tagged tag) c (cause_of e) a)
 
 -- what the calls say where none was
 module _ {T X : Type 0} (tag : Tag) (Means : Tree → T → Type 0) (c d : Reading) where
@@ -267,7 +267,7 @@ module _ {C T X : Type 0} (view : C → Reading) (post : Tag → MutBor C → Re
     refused_read (valued.RefusesToRead.failed s a) = absurd (open_not_failed f.handed.state f.hands.state s)
     refused_read (valued.RefusesToRead.source s g) = valued.RefusesTree.source s (grew_between _ _ _ _ (no_fewer _ _ f.faults_handed) g f.faults_left)
     refused_read (valued.RefusesToRead.memory s n) = valued.RefusesTree.memory s (needed n)
-    refused_read (valued.RefusesToRead.nothing n a) = valued.RefusesTree.broken (record { usable = f.usable; value = λ t v rest x h m. n t x (held_there t v rest h) m; absent = λ rest. header_not_absent tag c f.after rest f.usable f.front }) a
+    refused_read (valued.RefusesToRead.nothing n a) = valued.RefusesTree.broken (record { usable = f.usable; value = λ t v rest x h m. n t x (held_there t v rest h) m; absent = λ rest. header_not_absent tag c f.after rest f.usable f.front }) (behind_header (tagged tag) c (cause_of e) a f.after f.front)
 
     refused_end : (l : Reading) → IsDone l → l.stream.faults ≡ f.handed.stream.faults → RefusesEnd cause_of l e f.left → RefusesTree tag (Means c.mode) c e d
     refused_end l o n (left_failed x a) = absurd (not_done l x o)

@@ -19,6 +19,7 @@ use Rattle.bcder.specs.calls.Walking as walking
 use Rattle.bcder.specs.laws.Complete.{only_at_front}
 use Rattle.bcder.proofs.Moving.{open_not_failed}
 use Rattle.bcder.proofs.Entering.{Within, header_not_at_end, no_fewer}
+use Rattle.bcder.proofs.Naming.{names_front, behind_header}
 use Rattle.bcder.proofs.WalkSteps.{no_value_of_nothing, end_of_nothing, refused_inside, refused_end as refused_left, value_not_at_end, value_once}
 
 abbrev pub WalksContent : {C T E : Type 0} → (E → Cause ContentError) → (C → Reading) → (Tag → MutBor C → Result T E → MutBor C → Type 0) → Type 0
@@ -39,10 +40,10 @@ module _ {C T E : Type 0} (why : E → Cause ContentError) (view : C → Reading
   walk_refused : (c d : Reading) (e : E) → Within c → RefusesValue why view post any c e d → walking.RefusesWalk why c e d
   walk_refused c d e w (calls.RefusesValue.failed s a) = walking.RefusesWalk.failed s a
   walk_refused c d e w (calls.RefusesValue.source k s) = walking.RefusesWalk.source k s
-  walk_refused c d e w (calls.RefusesValue.nothing n a) = walking.RefusesWalk.nothing n.usable (no_value_of_nothing c w n) (end_of_nothing c n) a
+  walk_refused c d e w (calls.RefusesValue.nothing n a) = walking.RefusesWalk.nothing n.usable (no_value_of_nothing c w n) (end_of_nothing c n) (names_front any c (why e) a)
   walk_refused c d e w (calls.RefusesValue.content f) = elim (front_refused c d e f f.refuses) [
     | inl s ↦ walking.RefusesWalk.source s.0 s.1
-    | inr n ↦ walking.RefusesWalk.nothing f.usable n.0 (header_not_at_end c f.after w f.usable f.front) n.1
+    | inr n ↦ walking.RefusesWalk.nothing f.usable n.0 (header_not_at_end c f.after w f.usable f.front) (behind_header any c (why e) n.1 f.after f.front)
   ]
 
   pub refuses_walk : {U : Type 0} (c d : Reading) (r : Result U E) → Within c → IfErr r (λ e. RefusesValue why view post any c e d) → IfErr r (λ e. walking.RefusesWalk why c e d)

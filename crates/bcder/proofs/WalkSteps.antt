@@ -13,7 +13,7 @@ use Rattle.bcder.specs.x690.Encoding.{IsEncoding, AreEncodings}
 use Rattle.bcder.specs.calls.Stream.{Grew}
 use Rattle.bcder.specs.declared.decode.error.ContentError.{ContentError}
 use Rattle.bcder.specs.calls.Cause.{Cause, of_source, IsOfContent}
-use Rattle.bcder.specs.calls.Content.{Reading, ContentForm, octets, values, Octets, DefiniteValues, IndefiniteValues, any, HasHeader, HasMarker, Moves, MovesBy, Falls, FitsOwed, IsDone, IsUsedUp, IsAtEnd, of_octets, of_definite, of_indefinite, of_unbounded, EndsBefore, EndsAt, NotAtEnd, NothingThere}
+use Rattle.bcder.specs.calls.Content.{Reading, ContentForm, octets, values, Octets, DefiniteValues, IndefiniteValues, any, HasHeader, HasMarker, Moves, MovesBy, Falls, FitsOwed, IsDone, IsUsedUp, IsAtEnd, of_octets, of_definite, of_indefinite, of_unbounded, EndsBefore, EndsAt, NotAtEnd, NothingThere, NamesFront}
 use Rattle.bcder.specs.calls.Calls.{Hands, IsFormOf, ContentOf, RefusesEnd, left_failed, source_failed, left_open}
 use Rattle.bcder.specs.calls.Walking.{HasValue, NoValue, PassesValue, ClosesBefore, HasValues, IsShort, AllBy, Walks}
 use Rattle.bcder.specs.calls.Walking as walking
@@ -23,6 +23,7 @@ use Rattle.bcder.specs.laws.Moved.{moved_keeps_kind, untouched_is_moved, moved_t
 use Rattle.bcder.proofs.Moving.{open_not_ended, open_not_failed}
 use Rattle.bcder.proofs.Headers.{header_of, Shape, shape, is_primitive, is_definite, is_indefinite}
 use Rattle.bcder.proofs.Entering.{Within, header_not_at_end}
+use Rattle.bcder.proofs.Naming.{looked_alike, header_alike, front_named}
 
 -- ---- an encoding in front
 
@@ -68,7 +69,7 @@ ends_before c (values kind.Definite) all after q s h e r = (after, inr (s, of_de
 ends_before c (values kind.Indefinite) all after q s h e r = (h.0, inr (s, of_indefinite q (subst (λ z. HasMarker c.mode z h.0) (sym (r ∙ ap (λ x. x ++ after) e)) h.1)))
 ends_before c (values kind.Unbounded) all after q s h e r = (after, inr (s, of_unbounded q (r ∙ ap (λ x. x ++ after) e ∙ h)))
 
-no_values : (c : Reading) → c.state ≡ Open → NoValue c → NotAtEnd c → HasValues c → ⊥
+pub no_values : (c : Reading) → c.state ≡ Open → NoValue c → NotAtEnd c → HasValues c → ⊥
 no_values c s n e h = elim (first_of c.mode h.trees h.all h.encode) [
   | inl z ↦ (let b = ends_before c c.kind h.all h.after refl s h.closes z h.rest in e.none b.0 b.1)
   | inr f ↦ n.none f.tree f.front (f.others ++ h.after) f.first (h.rest ∙ ap (λ x. x ++ h.after) f.is ∙ append_assoc f.front f.others h.after)
@@ -145,7 +146,7 @@ module _ (j k : Reading) (w : Within j) (one : PassesValue j k) (m : MovesBy j k
 -- ---- a loop over the values
 
 pub walks_refl : (c : Reading) → Walks c c
-walks_refl c = record { moves = untouched_is_moved c; mode = refl; marked = refl; ended = λ f. f; failed = λ f. f; remain = λ h. h; were = λ h. h }
+walks_refl c = record { moves = untouched_is_moved c; mode = refl; marked = refl; ended = λ f. f; failed = λ f. f; remain = λ h. h; were = λ h. h; front = λ n. record { rest = refl; kept = refl; owed = refl; kind = refl; state = refl; mode = refl; marked = refl; name = refl } }
 
 pub walks_value : (i j k : Reading) → Within j → Walks i j → Moves j k → k.mode ≡ j.mode → k.marked ≡ j.marked → PassesValue j k → Walks i k
 unfolding Moves
@@ -157,6 +158,7 @@ walks_value i j k n w m o g one = record {
   failed = λ f. absurd (open_not_failed k.state one.stays f);
   remain = λ h. values_after j k n one m o (w.remain h);
   were = λ h. w.were (values_before j k n one m o h);
+  front = λ q. (let h = header_there j n one.tree one.value k.stream.rest one.has.encodes one.has.rest in absurd (q.header h.0 (header_alike i j (looked_alike i j (w.front q)) any h.0 h.1)));
 }
 
 pub moves_faults : (c d : Reading) → Moves c d → c.stream.faults ≤ d.stream.faults
@@ -173,7 +175,7 @@ grew_from a b c h g = record { no_smaller = (let x : b ≤ c = g.no_smaller in o
 pub walks_refused : {E : Type 0} (why : E → Cause ContentError) (e : E) (i j k : Reading) → i.kind ≢ Octets → Walks i j → walking.RefusesWalk why j e k → walking.RefusesValues why i e k
 walks_refused why e i j k o w (walking.RefusesWalk.failed f a) = walking.RefusesValues.failed (w.failed f) a
 walks_refused why e i j k o w (walking.RefusesWalk.source s f) = walking.RefusesValues.source s (grew_from _ _ _ (moves_faults i j w.moves) f)
-walks_refused why e i j k o w (walking.RefusesWalk.nothing s n f a) = walking.RefusesValues.broken o (λ h. no_values j s n f (w.remain h)) a
+walks_refused why e i j k o w (walking.RefusesWalk.nothing s n f a) = walking.RefusesValues.broken o (λ h. no_values j s n f (w.remain h)) (record { refused = a.refused; named = λ q. (let r = front_named i j (looked_alike i j (w.front q)) (why e) a in r.named q) })
 
 -- and answers the error that it met
 pub all_refused : {T E : Type 0} (Refuses : Reading → E → Reading → Type 0) (c d : Reading) (r : Result T E) (e : E) → IsErrAnd r (λ x. x ≡ e) → Refuses c e d → d.state ≡ Failed → d.mode ≡ c.mode → d.marked ≡ c.marked → AllBy Refuses c r d
@@ -279,7 +281,7 @@ module _ {E : Type 0} (why : E → Cause ContentError) (e : E) (c d i j : Readin
   pub refused_inside : walking.RefusesValues why i e j → ((why e ≡ of_source) × Grew c.stream.faults d.stream.faults) ⊎ (NoValue c × IsOfContent (why e))
   refused_inside (walking.RefusesValues.failed x a) = absurd (open_not_failed i.state g.state x)
   refused_inside (walking.RefusesValues.source k x) = inl (k, grew_between _ _ _ _ b x s)
-  refused_inside (walking.RefusesValues.broken k n a) = inr (broken_front c i after f g k n, a)
+  refused_inside (walking.RefusesValues.broken k n a) = inr (broken_front c i after f g k n, a.refused)
   refused_inside (walking.RefusesValues.short k n a) = inr (short_front c i after f g k n, a)
 
   pub refused_end : (l : Reading) → IsDone l → Moves i l → RefusesEnd why l e j → (why e ≡ of_source) × Grew c.stream.faults d.stream.faults

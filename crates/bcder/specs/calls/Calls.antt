@@ -12,7 +12,7 @@ use Rattle.bcder.specs.declared.decode.error.ContentError.{ContentError}
 use Rattle.bcder.specs.calls.Cause.{Cause, of_source, IsOfContent}
 use Rattle.bcder.specs.x690.Encoding.{IsHeader, IsEncoding, Header}
 use Rattle.bcder.specs.calls.Stream.{Stream, Grew}
-use Rattle.bcder.specs.calls.Content.{Reading, ContentForm, Octets, DefiniteValues, IndefiniteValues, UnboundedValues, label, Moves, Advances, Asked, HasHeader, IsDone, EndsAt, NotAtEnd, NothingThere}
+use Rattle.bcder.specs.calls.Content.{Reading, ContentForm, Octets, DefiniteValues, IndefiniteValues, UnboundedValues, label, Moves, Advances, Asked, HasHeader, IsDone, EndsAt, NotAtEnd, NothingThere, NamesViolation}
 
 -- ---- what a closure gets
 
@@ -155,7 +155,7 @@ pub record RefusesFront {C T E : Type 0} (why : E → Cause ContentError) (view 
 pub data RefusesValue {C T E : Type 0} (why : E → Cause ContentError) (view : C → Reading) (post : Tag → MutBor C → Result T E → MutBor C → Type 0) (asked : Asked) (c : Reading) (e : E) (d : Reading) : Type 0 where
   failed : c.state ≡ Failed → IsOfContent (why e) → RefusesValue why view post asked c e d
   source : why e ≡ of_source → Grew c.stream.faults d.stream.faults → RefusesValue why view post asked c e d
-  nothing : NothingThere asked c → IsOfContent (why e) → RefusesValue why view post asked c e d
+  nothing : NothingThere asked c → NamesViolation (why e) c → RefusesValue why view post asked c e d
   content : RefusesFront why view post asked c e d → RefusesValue why view post asked c e d
 
 -- an asked header comes next, and has the form f

@@ -13,7 +13,7 @@ use Rattle.bcder.specs.x690.Preorder.{Heading, preorder}
 use Rattle.bcder.specs.x690.Grammar.{IsOnly}
 use Rattle.bcder.specs.calls.Stream.{Stream, Grew}
 use Rattle.bcder.specs.calls.Captured.{Kept, AreWhole}
-use Rattle.bcder.specs.calls.Content.{Reading, Octets, Closes, EndsBefore, EndsAt, IsDone, NotAtEnd}
+use Rattle.bcder.specs.calls.Content.{Reading, Octets, Closes, EndsBefore, EndsAt, IsDone, NotAtEnd, any, NamesFront}
 use Rattle.bcder.specs.calls.Skipping.{HeadersFrom, GoesDeep}
 use Rattle.bcder.specs.calls.Walking.{HasValue, PassesValue, ClosesBefore, HasValues, Walks}
 use Rattle.bcder.specs.calls.Views.{before, after}
@@ -31,7 +31,7 @@ pub record IsAsBefore (c d : Reading) : Type 0 where
 pub data RefusesWhere {X : Type 0} (HasNone HasSome : Type 0) (c : Reading) (e : DecodeError X) (d : Reading) : Type 0 where
   failed : c.state ≡ Failed → IsRefusal e → RefusesWhere HasNone HasSome c e d
   source : cause_of e ≡ of_source → Grew c.stream.faults d.stream.faults → RefusesWhere HasNone HasSome c e d
-  nothing : HasNone → IsRefusal e → RefusesWhere HasNone HasSome c e d
+  nothing : HasNone → NamesFront any (cause_of e) c → RefusesWhere HasNone HasSome c e d
   memory : cause_of e ≡ of_memory → HasSome → RefusesWhere HasNone HasSome c e d
 
 -- memory ran out

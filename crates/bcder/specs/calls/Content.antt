@@ -280,6 +280,11 @@ pub record NamesViolation (why : Cause ContentError) (c : Reading) : Type 0 wher
   pub violates : Violates c violation
   pub named : why ≡ of_content (Static (violation_text violation))
 
+-- the cause is content; and if no asked value comes next, nor a reason to return none, its text names what the octets violate
+pub record NamesFront (asked : Asked) (why : Cause ContentError) (c : Reading) : Type 0 where
+  pub refused : IsOfContent why
+  pub named : NothingThere asked c → NamesViolation why c
+
 -- why no header was passed, with error e; `why` gives its cause
 pub data RefusesHeader {E : Type 0} (why : E → Cause ContentError) (asked : Asked) (c : Reading) (e : E) (d : Reading) : Type 0 where
   failed : c.state ≡ Failed → IsOfContent (why e) → RefusesHeader why asked c e d

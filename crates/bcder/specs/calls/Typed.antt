@@ -9,7 +9,7 @@ use Rattle.bcder.specs.calls.Cause.{cause_of, of_source, IsRefusal, NamesTag}
 use Rattle.bcder.specs.x690.Identifier.{Tag}
 use Rattle.bcder.specs.x690.Tree.{primitive}
 use Rattle.bcder.specs.calls.Stream.{Stream, Grew}
-use Rattle.bcder.specs.calls.Content.{Reading, tagged, IsAbsent}
+use Rattle.bcder.specs.calls.Content.{Reading, tagged, IsAbsent, NamesFront}
 use Rattle.bcder.specs.calls.Walking.{HasValue}
 use Rattle.bcder.specs.calls.Takes.{HasNone}
 use Rattle.bcder.specs.calls.Readers.{MeanNothing}
@@ -39,7 +39,7 @@ module _ {T X : Type 0} (tag : Tag) (Means : List ℕ → T → Type 0) (Refuses
   pub data RefusesAs (c : Reading) (e : DecodeError X) (d : Reading) : Type 0 where
     failed : c.state ≡ Failed → IsRefusal e → RefusesAs c e d
     source : cause_of e ≡ of_source → Grew c.stream.faults d.stream.faults → RefusesAs c e d
-    broken : HasBroken tag c → IsRefusal e → RefusesAs c e d
+    broken : HasBroken tag c → NamesFront (tagged tag) (cause_of e) c → RefusesAs c e d
     refused : (contents w rest : List ℕ) → HasPrimitive tag c contents w rest → Refuses contents e → RefusesAs c e d
 
   -- the effect of a call that returns the value, or that there is none

@@ -12,7 +12,7 @@ use Rattle.bcder.specs.calls.Cause.{cause_of, of_source, of_memory, IsRefusal, N
 use Rattle.bcder.specs.x690.Identifier.{Tag}
 use Rattle.bcder.specs.x690.Tree.{Tree, primitive, constructed, Trees, no_trees}
 use Rattle.bcder.specs.calls.Stream.{Stream, Grew}
-use Rattle.bcder.specs.calls.Content.{Reading, Octets, tagged, IsAbsent, IsDone, HasHeader}
+use Rattle.bcder.specs.calls.Content.{Reading, Octets, tagged, IsAbsent, IsDone, HasHeader, NamesFront}
 use Rattle.bcder.specs.calls.Walking.{HasValue, HasValues}
 use Rattle.bcder.specs.calls.Takes.{HasNone}
 use Rattle.bcder.specs.calls.CapturingValues.{HasValuesOrDeep}
@@ -117,7 +117,7 @@ module _ {T : Type 0} (tag : Tag) (Means : Tree → T → Type 0) where
       failed : c.state ≡ Failed → IsRefusal e → RefusesTree c e d
       source : cause_of e ≡ of_source → Grew c.stream.faults d.stream.faults → RefusesTree c e d
       memory : cause_of e ≡ of_memory → WantsMemoryFor c → RefusesTree c e d
-      broken : HasNoTree c → IsRefusal e → RefusesTree c e d
+      broken : HasNoTree c → NamesFront (tagged tag) (cause_of e) c → RefusesTree c e d
 
     -- the effect of a call that returns the value, or that there is none with the tag
     pub record TakesNextTree (c : Reading) (r : Result (Option T) (DecodeError X)) (d : Reading) : Type 0 where

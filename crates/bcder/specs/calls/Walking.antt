@@ -14,7 +14,7 @@ use Rattle.bcder.specs.calls.Cause.{Cause, cause_of, of_source, IsOfContent}
 use Rattle.bcder.specs.declared.decode.error.DecodeError.{DecodeError}
 use Rattle.bcder.specs.declared.decode.content.Constructed.{Constructed}
 use Rattle.bcder.specs.calls.Views.{of_constructed}
-use Rattle.bcder.specs.calls.Content.{Reading, ContentForm, octets, values, Octets, Moves, HasMarker, EndsBefore, EndsAt, NotAtEnd, IsDone}
+use Rattle.bcder.specs.calls.Content.{Reading, ContentForm, octets, values, Octets, Moves, HasMarker, EndsBefore, EndsAt, NotAtEnd, IsDone, any, NothingThere, Resembles, NamesFront}
 
 -- ---- one value
 
@@ -40,7 +40,7 @@ pub record PassesValue (c d : Reading) : Type 0 where
 pub data RefusesWalk {E : Type 0} (why : E → Cause ContentError) (c : Reading) (e : E) (d : Reading) : Type 0 where
   failed : c.state ≡ Failed → IsOfContent (why e) → RefusesWalk why c e d
   source : why e ≡ of_source → Grew c.stream.faults d.stream.faults → RefusesWalk why c e d
-  nothing : c.state ≡ Open → NoValue c → NotAtEnd c → IsOfContent (why e) → RefusesWalk why c e d
+  nothing : c.state ≡ Open → NoValue c → NotAtEnd c → NamesFront any (why e) c → RefusesWalk why c e d
 
 -- what is returned if a value comes next, and what at the end
 pub record AnswersNext {T E : Type 0} (c : Reading) (r : Result (Option T) E) (d : Reading) : Type 0 where
@@ -94,7 +94,7 @@ pub data RefusesOctets {E : Type 0} (why : E → Cause ContentError) (c : Readin
 pub data RefusesValues {E : Type 0} (why : E → Cause ContentError) (c : Reading) (e : E) (d : Reading) : Type 0 where
   failed : c.state ≡ Failed → IsOfContent (why e) → RefusesValues why c e d
   source : why e ≡ of_source → Grew c.stream.faults d.stream.faults → RefusesValues why c e d
-  broken : c.kind ≢ Octets → (HasValues c → ⊥) → IsOfContent (why e) → RefusesValues why c e d
+  broken : c.kind ≢ Octets → (HasValues c → ⊥) → NamesFront any (why e) c → RefusesValues why c e d
   short : c.kind ≡ Octets → IsShort c → IsOfContent (why e) → RefusesValues why c e d
 
 -- content was passed to its end, or refused
@@ -120,6 +120,8 @@ pub record Walks (c d : Reading) : Type 0 where
   pub failed : d.state ≡ Failed → c.state ≡ Failed
   pub remain : HasValues c → HasValues d
   pub were : HasValues d → HasValues c
+  -- where no value comes next, none was passed
+  pub front : NothingThere any c → Resembles c d
 
 -- ---- of a parameter, from entry to exit
 
