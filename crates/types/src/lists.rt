@@ -1,5 +1,5 @@
 //! SEQUENCE OF. Expected values are worked by hand from X.690, 8.10.
-use crate::{Context, Decode, Implicit, Sequence, SequenceOf};
+use asn1::{Context, Decode, Implicit, Sequence, SequenceOf};
 use bcder::Mode;
 
 /// Whether these octets are a SEQUENCE OF INTEGER of these numbers.

@@ -1,5 +1,5 @@
 //! Explicit tags. Expected values are worked by hand from X.690, 8.14.
-use crate::{Application, Choice2, Context, Decode, Explicit, Implicit, Private, Sequence};
+use asn1::{Application, Choice2, Context, Decode, Explicit, Implicit, Private, Sequence};
 use bcder::Mode;
 
 /// Whether these octets are `[0] EXPLICIT INTEGER` of this number.

@@ -2,7 +2,7 @@
 ghost use Rattle.std.specs.Prelude.{refl};
 ghost use Rattle.asn1.specs.declared.choice.Choice2.TheVariants.{One, Two};
 
-use crate::{
+use asn1::{
     ByRef, Choice2, Context, Definition, Encode, EncodeDefinition, EncodeFields, Explicit,
     Sequence, SequenceOf, encode,
 };
@@ -60,7 +60,7 @@ enum Answer {
     Many(u32),
 }
 
-ghost use Rattle.asn1.specs.declared.tests.written.Answer.TheVariants.{Yes, Many};
+ghost use Rattle.types.specs.declared.written.Answer.TheVariants.{Yes, Many};
 
 impl Definition for Answer {
     type As = Choice2<bool, u32>;

@@ -1,5 +1,5 @@
 //! Structs that are defined by a SEQUENCE, and octets that are lent.
-use crate::{Decode, Definition, OctetStringRef, Sequence, decode};
+use asn1::{Decode, Definition, OctetStringRef, Sequence, decode};
 use bcder::Mode;
 use bcder::decode::DecodeError;
 use std::convert::Infallible;

@@ -1,5 +1,5 @@
 //! Fields with a default. Expected values are worked by hand from X.690, 11.5.
-use crate::{Decode, DefaultValue, OrDefault, Sequence};
+use asn1::{Decode, DefaultValue, OrDefault, Sequence};
 use bcder::{Mode, NoMemory};
 use std::alloc::Global;
 

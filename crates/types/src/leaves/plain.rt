@@ -1,6 +1,6 @@
 //! BOOLEAN, NULL, INTEGER of any size and OBJECT IDENTIFIER.
 use super::read;
-use crate::{Decode, Type};
+use asn1::{Decode, Type};
 use bcder::{Integer, Mode, Oid, Tag, Unsigned};
 use bytes::Bytes;
 use std::alloc::Global;

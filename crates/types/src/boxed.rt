@@ -1,5 +1,5 @@
 //! Fields in memory of their own. Expected values are worked by hand from X.690, 8.3 and 8.9.
-use crate::{Sequence, decode, encode};
+use asn1::{Sequence, decode, encode};
 use bcder::Mode;
 use bcder::decode::DecodeError;
 use std::convert::Infallible;

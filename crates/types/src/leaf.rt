@@ -7,7 +7,7 @@ ghost use Rattle.bcder.specs.calls.Meaning.{PieceMeans};
 ghost use Rattle.bcder.specs.declared.encode.error.EncodeError.TheVariants.{LongCerPrimitive};
 ghost use Rattle.bcder.specs.laws.Meanings.{PieceMeans_lawful};
 
-use crate::{FromContents, Leaf, ToContents, decode, encode};
+use asn1::{FromContents, Leaf, ToContents, decode, encode};
 use bcder::decode::DecodeError;
 use bcder::encode::{EncodeError, PrimitiveContent, WriteError};
 use bcder::{Mode, Tag};

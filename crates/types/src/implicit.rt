@@ -1,6 +1,6 @@
 //! Implicit tags. Expected values are worked by hand from X.690, 8.14.
 
-use crate::{Application, Context, Decode, Definition, Explicit, Implicit, Sequence};
+use asn1::{Application, Context, Decode, Definition, Explicit, Implicit, Sequence};
 use bcder::Mode;
 
 /// Whether these octets are `[0] IMPLICIT INTEGER` of this number.

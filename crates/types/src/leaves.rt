@@ -3,7 +3,7 @@ mod numbers;
 mod plain;
 mod strings;
 
-use crate::{Decode, Type, decode};
+use asn1::{Decode, Type, decode};
 use bcder::Mode;
 use bcder::decode::SliceSource;
 use std::alloc::Global;

@@ -1,6 +1,6 @@
 //! Octet strings, bit strings and restricted character strings.
 use super::read;
-use crate::OctetStringRef;
+use asn1::OctetStringRef;
 use bcder::string::{Ia5String, NumericString, PrintableString, Utf8String};
 use bcder::{BitString, Mode, OctetString};
 use std::alloc::Global;

@@ -1,5 +1,5 @@
 //! Extension additions. Expected values are worked by hand from X.690, 8.9.
-use crate::{Definition, ExtensionAdditions, Sequence, decode, encode};
+use asn1::{Definition, ExtensionAdditions, Sequence, decode, encode};
 use bcder::Mode;
 use bcder::decode::DecodeError;
 use std::convert::Infallible;

@@ -1,5 +1,5 @@
 //! CHOICE. Expected values are worked by hand from X.690, 8.13.
-use crate::{Choice2, Choice3, Choice4, Context, Decode, Implicit, Sequence, decode};
+use asn1::{Choice2, Choice3, Choice4, Context, Decode, Implicit, Sequence, decode};
 use bcder::Mode;
 use bcder::decode::DecodeError;
 use std::convert::Infallible;

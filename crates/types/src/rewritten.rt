@@ -1,6 +1,6 @@
 //! Types that are read in BER and written in each mode. Expected octets are worked by hand from
 //! X.690.
-use crate::{
+use asn1::{
     Choice3, Choice4, Context, Decode, DefaultValue, Encode, Explicit, Implicit, OctetStringRef,
     OrDefault, Sequence, decode, encode,
 };

@@ -1,5 +1,5 @@
 //! Fields in a row. Expected values are worked by hand from X.690, 8.9.
-use crate::{Context, Decode, Implicit, Sequence};
+use asn1::{Context, Decode, Implicit, Sequence};
 use bcder::Mode;
 
 /// The number that stands in a field.
