@@ -1,101 +1,40 @@
 //! CHOICE. Expected values are worked by hand from X.690, 8.13.
-use asn1::{Choice2, Choice3, Choice4, Context, Decode, Implicit, Sequence, decode};
+use crate::rows::{Read, Written, reads, rewrites, takes};
+use asn1::{Choice2, Choice3, Choice4, Context, Implicit, Sequence};
 use bcder::Mode;
-use bcder::decode::DecodeError;
-use std::convert::Infallible;
 
 /// `CHOICE { INTEGER, [0] IMPLICIT INTEGER }`.
 type Either = Choice2<u32, Implicit<Context<0>, u32>>;
 
-/// Whether this is the number.
-fn is_number(value: &Either, number: u32) -> bool {
-    match value {
-        Choice2::One(one) => *one == number,
-        Choice2::Two(_) => false,
-    }
-}
-
-/// Whether this is the tagged number.
-fn is_tagged(value: &Either, number: u32) -> bool {
-    match value {
-        Choice2::One(_) => false,
-        Choice2::Two(two) => two.value == number,
-    }
-}
-
-/// Whether no value of the choice comes first.
-fn is_none(rt: HostRuntime, octets: &[u8]) -> bool {
-    let alloc = rt.alloc();
-    match Mode::Ber.decode(octets, |cons| Either::take_opt_from(alloc, cons)) {
-        Ok(None) => true,
-        _ => false,
-    }
-}
-
-/// Whether these octets are refused.
-fn is_refused(rt: HostRuntime, octets: &[u8]) -> bool {
-    let alloc = rt.alloc();
-    Mode::Ber
-        .decode(octets, |cons| Either::take_opt_from(alloc, cons))
-        .is_err()
-}
+const EITHER: [Read; 5] = [
+    (Mode::Der, &[0x02, 0x01, 0x05], "One(5)"),
+    (Mode::Der, &[0x80, 0x01, 0x09], "Two(Implicit { value: 9 })"),
+    // of another type, no number, and cut
+    (Mode::Ber, &[0x01, 0x01, 0xFF], "none"),
+    (Mode::Ber, &[0x02, 0x00], "refused"),
+    (Mode::Ber, &[0x80, 0x01], "refused"),
+];
 
 #[test]
 fn the_tag_tells_the_type(rt: HostRuntime) {
-    let alloc = rt.alloc();
-    let first: [u8; 3] = [0x02, 0x01, 0x05];
-    let second: [u8; 3] = [0x80, 0x01, 0x09];
-    match Mode::Der.decode(first.as_slice(), |cons| Either::take_opt_from(alloc, cons)) {
-        Ok(Some(value)) => assert!(rt; is_number(&value, 5)),
-        _ => panic!(rt; "refused"),
-    }
-    match Mode::Der.decode(second.as_slice(), |cons| Either::take_opt_from(alloc, cons)) {
-        Ok(Some(value)) => assert!(rt; is_tagged(&value, 9)),
-        _ => panic!(rt; "refused"),
-    }
+    takes::<Either>(&rt, rt.alloc(), &EITHER);
 }
 
-#[test]
-fn other_values_are_refused(rt: HostRuntime) {
-    let of_another_type: [u8; 3] = [0x01, 0x01, 0xFF];
-    let no_number: [u8; 2] = [0x02, 0x00];
-    let cut: [u8; 2] = [0x80, 0x01];
-    assert!(rt; is_none(rt, of_another_type.as_slice()));
-    assert!(rt; is_refused(rt, no_number.as_slice()));
-    assert!(rt; is_refused(rt, cut.as_slice()));
-}
+const LIST: [Read; 1] = [(
+    Mode::Der,
+    &[0x30, 0x06, 0x80, 0x01, 0x09, 0x02, 0x01, 0x05],
+    "Sequence([Two(Implicit { value: 9 }), One(5)])",
+)];
+
+const OPTION: [Read; 2] = [
+    (Mode::Der, &[0x30, 0x03, 0x01, 0x01, 0xFF], "refused"),
+    (Mode::Der, &[0x30, 0x00], "Sequence(None)"),
+];
 
 #[test]
 fn choices_stand_in_lists_and_are_left_out(rt: HostRuntime) {
-    let alloc = rt.alloc();
-    let two: [u8; 8] = [0x30, 0x06, 0x80, 0x01, 0x09, 0x02, 0x01, 0x05];
-    match Mode::Der.decode(
-        two.as_slice(),
-        |cons| <Sequence<Vec<Either>>>::take_opt_from(alloc, cons),
-    ) {
-        Ok(Some(Sequence(list))) => {
-            assert!(rt; list.len() == 2 && is_tagged(&list[0], 9));
-            assert!(rt; list.len() == 2 && is_number(&list[1], 5));
-        }
-        _ => panic!(rt; "refused"),
-    }
-    let none: [u8; 5] = [0x30, 0x03, 0x01, 0x01, 0xFF];
-    assert!(rt;
-        Mode::Der
-            .decode(
-                none.as_slice(),
-                |cons| <Sequence<Option<Either>>>::take_opt_from(alloc, cons),
-            )
-            .is_err()
-    );
-    let empty: [u8; 2] = [0x30, 0x00];
-    match Mode::Der.decode(
-        empty.as_slice(),
-        |cons| <Sequence<Option<Either>>>::take_opt_from(alloc, cons),
-    ) {
-        Ok(Some(Sequence(value))) => assert!(rt; value.is_none()),
-        _ => panic!(rt; "refused"),
-    }
+    takes::<Sequence<Vec<Either>>>(&rt, rt.alloc(), &LIST);
+    takes::<Sequence<Option<Either>>>(&rt, rt.alloc(), &OPTION);
 }
 
 /// `[0]`, `[1]`, `[2]` or `[3]`, each with a number.
@@ -106,37 +45,57 @@ type One4 = Choice4<
     Implicit<Context<3>, u32>,
 >;
 
-/// Which of the four these octets are, and its number.
-fn which(rt: HostRuntime, octets: &[u8]) -> Option<(u32, u32)> {
-    let alloc = rt.alloc();
-    match Mode::Der.decode(octets, |cons| One4::take_opt_from(alloc, cons)) {
-        Ok(Some(Choice4::One(one))) => Some((1, one.value)),
-        Ok(Some(Choice4::Two(two))) => Some((2, two.value)),
-        Ok(Some(Choice4::Three(three))) => Some((3, three.value)),
-        Ok(Some(Choice4::Four(four))) => Some((4, four.value)),
-        _ => None,
-    }
-}
-
-#[test]
-fn one_of_four_is_read(rt: HostRuntime) {
-    assert!(rt; which(rt, [0x80, 0x01, 0x05].as_slice()) == Some((1, 5)));
-    assert!(rt; which(rt, [0x81, 0x01, 0x06].as_slice()) == Some((2, 6)));
-    assert!(rt; which(rt, [0x82, 0x01, 0x07].as_slice()) == Some((3, 7)));
-    assert!(rt; which(rt, [0x83, 0x01, 0x08].as_slice()) == Some((4, 8)));
-    assert!(rt; which(rt, [0x84, 0x01, 0x09].as_slice()).is_none());
-}
+const ONE_OF_FOUR: [Read; 5] = [
+    (Mode::Der, &[0x80, 0x01, 0x05], "One(Implicit { value: 5 })"),
+    (Mode::Der, &[0x81, 0x01, 0x06], "Two(Implicit { value: 6 })"),
+    (
+        Mode::Der,
+        &[0x82, 0x01, 0x07],
+        "Three(Implicit { value: 7 })",
+    ),
+    (
+        Mode::Der,
+        &[0x83, 0x01, 0x08],
+        "Four(Implicit { value: 8 })",
+    ),
+    (Mode::Der, &[0x84, 0x01, 0x09], "none"),
+];
 
 /// An untagged number, or `[0]` or `[1]` with one.
 type One3 = Choice3<u32, Implicit<Context<0>, u32>, Implicit<Context<1>, u32>>;
 
+const ONE_OF_THREE: [Read; 1] = [(
+    Mode::Der,
+    &[0x81, 0x01, 0x06],
+    "Three(Implicit { value: 6 })",
+)];
+
 #[test]
-fn one_of_three_is_read(rt: HostRuntime) {
-    let alloc = rt.alloc();
-    let octets: [u8; 3] = [0x81, 0x01, 0x06];
-    let read: Result<One3, DecodeError<Infallible>> = decode(alloc, Mode::Der, octets.as_slice());
-    match read {
-        Ok(Choice3::Three(three)) => assert!(rt; three.value == 6),
-        _ => panic!(rt; "refused"),
-    }
+fn one_of_more_is_read(rt: HostRuntime) {
+    takes::<One4>(&rt, rt.alloc(), &ONE_OF_FOUR);
+    reads::<One3>(&rt, rt.alloc(), &ONE_OF_THREE);
+}
+
+const WRITTEN: [Written; 9] = [
+    (&[0x01, 0x01, 0xFF], Mode::Ber, &[0x01, 0x01, 0xFF]),
+    (&[0x01, 0x01, 0xFF], Mode::Der, &[0x01, 0x01, 0xFF]),
+    (&[0x01, 0x01, 0xFF], Mode::Cer, &[0x01, 0x01, 0xFF]),
+    (&[0x02, 0x01, 0x07], Mode::Ber, &[0x02, 0x01, 0x07]),
+    (&[0x02, 0x01, 0x07], Mode::Der, &[0x02, 0x01, 0x07]),
+    (&[0x02, 0x01, 0x07], Mode::Cer, &[0x02, 0x01, 0x07]),
+    (&[0x05, 0x00], Mode::Ber, &[0x05, 0x00]),
+    (&[0x05, 0x00], Mode::Der, &[0x05, 0x00]),
+    (&[0x05, 0x00], Mode::Cer, &[0x05, 0x00]),
+];
+
+const TAGGED: [Written; 3] = [
+    (&[0x80, 0x01, 0x09], Mode::Ber, &[0x80, 0x01, 0x09]),
+    (&[0x80, 0x01, 0x09], Mode::Der, &[0x80, 0x01, 0x09]),
+    (&[0x80, 0x01, 0x09], Mode::Cer, &[0x80, 0x01, 0x09]),
+];
+
+#[test]
+fn the_value_of_a_choice_is_written(rt: HostRuntime) {
+    rewrites::<Choice3<bool, u32, ()>>(&rt, rt.alloc(), &WRITTEN);
+    rewrites::<Choice4<bool, u32, (), Implicit<Context<0>, u32>>>(&rt, rt.alloc(), &TAGGED);
 }

@@ -1,53 +1,22 @@
 //! Implicit tags. Expected values are worked by hand from X.690, 8.14.
-
-use asn1::{Application, Context, Decode, Definition, Explicit, Implicit, Sequence};
+use crate::rows::{Read, Written, rewrites, takes};
+use asn1::{Application, Context, Definition, Explicit, Implicit, Sequence};
 use bcder::Mode;
 
-/// Whether these octets are `[0] IMPLICIT INTEGER` of this number.
-fn is_number(rt: HostRuntime, octets: &[u8], number: u32) -> bool {
-    let alloc = rt.alloc();
-    match Mode::Der.decode(
-        octets,
-        |cons| <Implicit<Context<0>, u32>>::take_opt_from(alloc, cons),
-    ) {
-        Ok(Some(implicit)) => implicit.value == number,
-        _ => false,
-    }
-}
+/// `[0] IMPLICIT INTEGER`.
+type Number = Implicit<Context<0>, u32>;
 
-/// Whether these octets are refused.
-fn is_refused(rt: HostRuntime, octets: &[u8]) -> bool {
-    let alloc = rt.alloc();
-    Mode::Ber
-        .decode(
-            octets,
-            |cons| <Implicit<Context<0>, u32>>::take_opt_from(alloc, cons),
-        )
-        .is_err()
-}
-
-/// Whether no value with the tag comes first.
-fn is_none(rt: HostRuntime, octets: &[u8]) -> bool {
-    let alloc = rt.alloc();
-    match Mode::Ber.decode(
-        octets,
-        |cons| <Implicit<Context<0>, u32>>::take_opt_from(alloc, cons),
-    ) {
-        Ok(None) => true,
-        _ => false,
-    }
-}
+const NUMBER: [Read; 4] = [
+    (Mode::Der, &[0x80, 0x01, 0x05], "Implicit { value: 5 }"),
+    // with its own tag, explicit, and no number
+    (Mode::Ber, &[0x02, 0x01, 0x05], "none"),
+    (Mode::Ber, &[0xA0, 0x03, 0x02, 0x01, 0x05], "refused"),
+    (Mode::Ber, &[0x80, 0x00], "refused"),
+];
 
 #[test]
 fn the_tag_replaces_the_types_own(rt: HostRuntime) {
-    let number: [u8; 3] = [0x80, 0x01, 0x05];
-    let with_its_own: [u8; 3] = [0x02, 0x01, 0x05];
-    let explicit: [u8; 5] = [0xA0, 0x03, 0x02, 0x01, 0x05];
-    let no_number: [u8; 2] = [0x80, 0x00];
-    assert!(rt; is_number(rt, number.as_slice(), 5));
-    assert!(rt; is_none(rt, with_its_own.as_slice()));
-    assert!(rt; is_refused(rt, explicit.as_slice()));
-    assert!(rt; is_refused(rt, no_number.as_slice()));
+    takes::<Number>(&rt, rt.alloc(), &NUMBER);
 }
 
 /// `Version ::= [APPLICATION 2] IMPLICIT INTEGER`.
@@ -64,44 +33,74 @@ impl Definition for Version {
     }
 }
 
+const OWN: [Read; 1] = [(Mode::Der, &[0x42, 0x01, 0x05], "Version(5)")];
+
+const AGAIN: [Read; 1] = [(
+    Mode::Der,
+    &[0x81, 0x01, 0x05],
+    "Implicit { value: Version(5) }",
+)];
+
 #[test]
 fn a_defined_type_is_tagged_again(rt: HostRuntime) {
-    let alloc = rt.alloc();
-    let own: [u8; 3] = [0x42, 0x01, 0x05];
-    let again: [u8; 3] = [0x81, 0x01, 0x05];
-    match Mode::Der.decode(own.as_slice(), |cons| Version::take_opt_from(alloc, cons)) {
-        Ok(Some(version)) => assert!(rt; version.0 == 5),
-        _ => panic!(rt; "refused"),
-    }
-    match Mode::Der.decode(
-        again.as_slice(),
-        |cons| <Implicit<Context<1>, Version>>::take_opt_from(alloc, cons),
-    ) {
-        Ok(Some(version)) => assert!(rt; version.value.0 == 5),
-        _ => panic!(rt; "refused"),
-    }
+    takes::<Version>(&rt, rt.alloc(), &OWN);
+    takes::<Implicit<Context<1>, Version>>(&rt, rt.alloc(), &AGAIN);
 }
+
+const LIST: [Read; 1] = [(
+    Mode::Der,
+    &[0xA0, 0x03, 0x02, 0x01, 0x05],
+    "Implicit { value: Sequence([5]) }",
+)];
+
+const EXPLICIT: [Read; 1] = [(
+    Mode::Der,
+    &[0xA1, 0x03, 0x02, 0x01, 0x06],
+    "Implicit { value: Explicit { value: 6 } }",
+)];
 
 #[test]
 fn constructed_types_are_tagged(rt: HostRuntime) {
-    let alloc = rt.alloc();
-    let list: [u8; 5] = [0xA0, 0x03, 0x02, 0x01, 0x05];
-    let explicit: [u8; 5] = [0xA1, 0x03, 0x02, 0x01, 0x06];
-    match Mode::Der.decode(
-        list.as_slice(),
-        |cons| <Implicit<Context<0>, Sequence<Vec<u32>>>>::take_opt_from(alloc, cons),
-    ) {
-        Ok(Some(implicit)) => {
-            let Sequence(numbers) = implicit.value;
-            assert!(rt; numbers.as_slice() == [5].as_slice());
-        }
-        _ => panic!(rt; "refused"),
-    }
-    match Mode::Der.decode(
-        explicit.as_slice(),
-        |cons| <Implicit<Context<1>, Explicit<Context<2>, u32>>>::take_opt_from(alloc, cons),
-    ) {
-        Ok(Some(implicit)) => assert!(rt; implicit.value.value == 6),
-        _ => panic!(rt; "refused"),
-    }
+    takes::<Implicit<Context<0>, Sequence<Vec<u32>>>>(&rt, rt.alloc(), &LIST);
+    takes::<Implicit<Context<1>, Explicit<Context<2>, u32>>>(&rt, rt.alloc(), &EXPLICIT);
+}
+
+const NUMBER_WRITTEN: [Written; 3] = [
+    (&[0x80, 0x01, 0x05], Mode::Ber, &[0x80, 0x01, 0x05]),
+    (&[0x80, 0x01, 0x05], Mode::Der, &[0x80, 0x01, 0x05]),
+    (&[0x80, 0x01, 0x05], Mode::Cer, &[0x80, 0x01, 0x05]),
+];
+
+/// `[2] IMPLICIT SEQUENCE { INTEGER, INTEGER }`.
+const FIELDS: &[u8] = &[0xA2, 0x06, 0x02, 0x01, 0x05, 0x02, 0x01, 0x06];
+
+const FIELDS_WRITTEN: [Written; 3] = [
+    (FIELDS, Mode::Ber, FIELDS),
+    (FIELDS, Mode::Der, FIELDS),
+    (
+        FIELDS,
+        Mode::Cer,
+        &[0xA2, 0x80, 0x02, 0x01, 0x05, 0x02, 0x01, 0x06, 0x00, 0x00],
+    ),
+];
+
+/// `[1] IMPLICIT [0] EXPLICIT INTEGER`.
+const TAGGED: &[u8] = &[0xA1, 0x03, 0x02, 0x01, 0x05];
+
+const TAGGED_WRITTEN: [Written; 3] = [
+    (TAGGED, Mode::Ber, TAGGED),
+    (TAGGED, Mode::Der, TAGGED),
+    (
+        TAGGED,
+        Mode::Cer,
+        &[0xA1, 0x80, 0x02, 0x01, 0x05, 0x00, 0x00],
+    ),
+];
+
+// X.690, 8.14.4
+#[test]
+fn the_implicit_tag_is_written(rt: HostRuntime) {
+    rewrites::<Number>(&rt, rt.alloc(), &NUMBER_WRITTEN);
+    rewrites::<Implicit<Context<2>, Sequence<(u32, u32)>>>(&rt, rt.alloc(), &FIELDS_WRITTEN);
+    rewrites::<Implicit<Context<1>, Explicit<Context<0>, u32>>>(&rt, rt.alloc(), &TAGGED_WRITTEN);
 }
