@@ -1,20 +1,27 @@
 //! INTEGER (X.690, 8.3): the least and the greatest number of each type, and the numbers next to
-//! these, which the type can't hold.
+//! these, which the type can't hold; and octets that no type takes.
 use crate::rows::{Read, reads};
 use bcder::Mode;
 
-const U8: [Read; 4] = [
+const U8: [Read; 7] = [
     (Mode::Der, &[0x02, 0x01, 0x00], "0"),
     (Mode::Der, &[0x02, 0x02, 0x00, 0xFF], "255"),
     (Mode::Der, &[0x02, 0x01, 0xFF], "refused"),
     (Mode::Der, &[0x02, 0x02, 0x01, 0x00], "refused"),
+    // constructed, of another type, and with an octet behind it
+    (Mode::Ber, &[0x22, 0x03, 0x02, 0x01, 0x05], "refused"),
+    (Mode::Ber, &[0x04, 0x01, 0x05], "refused"),
+    (Mode::Ber, &[0x02, 0x01, 0x05, 0x00], "refused"),
 ];
 
-const U16: [Read; 4] = [
+const U16: [Read; 6] = [
     (Mode::Der, &[0x02, 0x01, 0x00], "0"),
     (Mode::Der, &[0x02, 0x03, 0x00, 0xFF, 0xFF], "65535"),
     (Mode::Der, &[0x02, 0x01, 0xFF], "refused"),
     (Mode::Der, &[0x02, 0x03, 0x01, 0x00, 0x00], "refused"),
+    // more octets than needed, and cut
+    (Mode::Ber, &[0x02, 0x02, 0x00, 0x7F], "refused"),
+    (Mode::Ber, &[0x02, 0x02, 0x01], "refused"),
 ];
 
 const U32: [Read; 4] = [
@@ -79,11 +86,14 @@ const I8: [Read; 4] = [
     (Mode::Der, &[0x02, 0x02, 0x00, 0x80], "refused"),
 ];
 
-const I16: [Read; 4] = [
+const I16: [Read; 6] = [
     (Mode::Der, &[0x02, 0x02, 0x80, 0x00], "-32768"),
     (Mode::Der, &[0x02, 0x02, 0x7F, 0xFF], "32767"),
     (Mode::Der, &[0x02, 0x03, 0xFF, 0x7F, 0xFF], "refused"),
     (Mode::Der, &[0x02, 0x03, 0x00, 0x80, 0x00], "refused"),
+    // more octets than needed, and none
+    (Mode::Ber, &[0x02, 0x02, 0xFF, 0x80], "refused"),
+    (Mode::Ber, &[0x02, 0x00], "refused"),
 ];
 
 const I32: [Read; 4] = [
@@ -187,30 +197,4 @@ fn signed_numbers_are_read(rt: HostRuntime) {
     reads::<i32>(&rt, rt.alloc(), &I32);
     reads::<i64>(&rt, rt.alloc(), &I64);
     reads::<i128>(&rt, rt.alloc(), &I128);
-}
-
-/// More octets than needed: the first is 0.
-const PADDED: [Read; 1] = [(Mode::Ber, &[0x02, 0x02, 0x00, 0x7F], "refused")];
-
-/// More octets than needed: the first is filled with the sign. And none.
-const FILLED: [Read; 2] = [
-    (Mode::Ber, &[0x02, 0x02, 0xFF, 0x80], "refused"),
-    (Mode::Ber, &[0x02, 0x00], "refused"),
-];
-
-/// Constructed, of another type, and with an octet behind it.
-const OTHERS: [Read; 3] = [
-    (Mode::Ber, &[0x22, 0x03, 0x02, 0x01, 0x05], "refused"),
-    (Mode::Ber, &[0x04, 0x01, 0x05], "refused"),
-    (Mode::Ber, &[0x02, 0x01, 0x05, 0x00], "refused"),
-];
-
-const CUT: [Read; 1] = [(Mode::Ber, &[0x02, 0x02, 0x01], "refused")];
-
-#[test]
-fn other_values_are_refused(rt: HostRuntime) {
-    reads::<u16>(&rt, rt.alloc(), &PADDED);
-    reads::<i16>(&rt, rt.alloc(), &FILLED);
-    reads::<u8>(&rt, rt.alloc(), &OTHERS);
-    reads::<u16>(&rt, rt.alloc(), &CUT);
 }
