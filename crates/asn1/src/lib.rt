@@ -21,8 +21,6 @@ mod lent;
 mod list;
 mod sequence;
 mod tagged;
-#[cfg(test)]
-mod tests;
 mod tuples;
 mod types;
 mod whole;

@@ -7,11 +7,10 @@ ghost use Rattle.bcder.specs.calls.Meaning.{PieceMeans};
 ghost use Rattle.bcder.specs.declared.encode.error.EncodeError.TheVariants.{LongCerPrimitive};
 ghost use Rattle.bcder.specs.laws.Meanings.{PieceMeans_lawful};
 
-use crate::{FromContents, Leaf, ToContents, decode, encode};
-use bcder::decode::DecodeError;
+use crate::rows::{Read, reads, writes};
+use asn1::{FromContents, Leaf, ToContents};
 use bcder::encode::{EncodeError, PrimitiveContent, WriteError};
 use bcder::{Mode, Tag};
-use std::convert::Infallible;
 use std::io;
 
 /// An ENUMERATED of one octet.
@@ -74,33 +73,19 @@ impl ToContents for Level {
     }
 }
 
-#[test]
-fn one_octet_is_written(rt: HostRuntime) {
-    let octets: [u8; 3] = [0x0A, 0x01, 0x05];
-    match encode(rt.alloc(), Mode::Der, &Leaf(Level(5))) {
-        Ok(written) => assert!(rt; written.as_slice() == octets.as_slice()),
-        Err(_) => panic!(rt; "refused"),
-    }
-}
+const LEVEL: [Read; 2] = [
+    (Mode::Der, &[0x0A, 0x01, 0x05], "Leaf(Level(5))"),
+    (Mode::Der, &[0x0A, 0x02, 0x05, 0x06], "refused"),
+];
 
 #[test]
-fn one_octet_is_read(rt: HostRuntime) {
-    let alloc = rt.alloc();
-    let octets: [u8; 3] = [0x0A, 0x01, 0x05];
-    let read: Result<Leaf<Level>, DecodeError<Infallible>> = decode(
-        alloc,
+fn one_octet_is_read_and_written(rt: HostRuntime) {
+    reads::<Leaf<Level>>(&rt, rt.alloc(), &LEVEL);
+    writes(
+        &rt,
+        rt.alloc(),
+        &Leaf(Level(5)),
         Mode::Der,
-        octets.as_slice(),
+        &[0x0A, 0x01, 0x05],
     );
-    match read {
-        Ok(Leaf(level)) => assert_eq!(rt; level.0, 5),
-        Err(_) => panic!(rt; "refused"),
-    }
-    let two: [u8; 4] = [0x0A, 0x02, 0x05, 0x06];
-    let read: Result<Leaf<Level>, DecodeError<Infallible>> = decode(
-        alloc,
-        Mode::Der,
-        two.as_slice(),
-    );
-    assert!(rt; read.is_err());
 }

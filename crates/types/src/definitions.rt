@@ -1,22 +1,15 @@
-//! Types that are written: the expected octets are worked by hand from X.690.
+//! Structs and enums that are defined by a type. Expected values are worked by hand from X.690.
 ghost use Rattle.std.specs.Prelude.{refl};
 ghost use Rattle.asn1.specs.declared.choice.Choice2.TheVariants.{One, Two};
 
-use crate::{
+use crate::rows::{Read, reads, takes, writes};
+use asn1::{
     ByRef, Choice2, Context, Definition, Encode, EncodeDefinition, EncodeFields, Explicit,
-    Sequence, SequenceOf, encode,
+    OctetStringRef, Sequence,
 };
 use bcder::encode::{EncodeError, WriteError};
 use bcder::{Mode, Tag};
 use std::io;
-
-/// Whether a value is encoded as these octets.
-fn is_encoded<T: Encode>(rt: &HostRuntime, value: &T, mode: Mode, expected: &[u8]) -> bool {
-    match encode(rt.alloc(), mode, value) {
-        Ok(encoded) => encoded.as_slice() == expected,
-        Err(_) => false,
-    }
-}
 
 /// `Validity ::= SEQUENCE { from INTEGER, until INTEGER OPTIONAL }`.
 #[derive(Debug, Drop)]
@@ -60,7 +53,7 @@ enum Answer {
     Many(u32),
 }
 
-ghost use Rattle.asn1.specs.declared.tests.written.Answer.TheVariants.{Yes, Many};
+ghost use Rattle.types.specs.declared.definitions.Answer.TheVariants.{Yes, Many};
 
 impl Definition for Answer {
     type As = Choice2<bool, u32>;
@@ -133,51 +126,93 @@ impl EncodeDefinition for Wrapped {
     ghost made = { λ value. (record { number = value }, refl) };
 }
 
+/// A number and octets that are lent.
+#[derive(Debug, Drop)]
+struct Entry<'a> {
+    number: u32,
+    octets: OctetStringRef<&'a [u8]>,
+}
+
+impl<'a> Definition for Entry<'a> {
+    type As = Sequence<(u32, OctetStringRef<&'a [u8]>)>;
+
+    ghost parts = { λ x. (x.number, x.octets) };
+
+    fn from_parts(value: Sequence<(u32, OctetStringRef<&'a [u8]>)>) -> Entry<'a> {
+        let Sequence((number, octets)) = value;
+        Entry { number, octets }
+    }
+}
+
+const VALIDITY: [Read; 1] = [(
+    Mode::Der,
+    &[0x30, 0x06, 0x02, 0x01, 0x05, 0x02, 0x01, 0x07],
+    "Validity { from: 5, until: Some(7) }",
+)];
+
 #[test]
-fn a_sequence_is_written(rt: HostRuntime) {
+fn a_struct_is_read(rt: HostRuntime) {
+    takes::<Validity>(&rt, rt.alloc(), &VALIDITY);
+}
+
+const ENTRY: [Read; 1] = [(
+    Mode::Der,
+    &[0x30, 0x07, 0x02, 0x01, 0x05, 0x04, 0x02, 0x07, 0x08],
+    "Entry { number: 5, octets: OctetStringRef([7, 8]) }",
+)];
+
+#[test]
+fn octets_are_lent(rt: HostRuntime) {
+    reads::<Entry>(&rt, rt.alloc(), &ENTRY);
+}
+
+#[test]
+fn a_struct_is_written(rt: HostRuntime) {
     let whole = Validity {
         from: 5,
         until: Some(0x80),
     };
     let octets: [u8; 9] = [0x30, 0x07, 0x02, 0x01, 0x05, 0x02, 0x02, 0x00, 0x80];
-    assert!(rt; is_encoded(&rt, &whole, Mode::Der, octets.as_slice()));
+    writes(&rt, rt.alloc(), &whole, Mode::Der, &octets);
     let short = Validity {
         from: 5,
         until: None,
     };
-    let octets: [u8; 5] = [0x30, 0x03, 0x02, 0x01, 0x05];
-    assert!(rt; is_encoded(&rt, &short, Mode::Der, octets.as_slice()));
+    writes(
+        &rt,
+        rt.alloc(),
+        &short,
+        Mode::Der,
+        &[0x30, 0x03, 0x02, 0x01, 0x05],
+    );
     let octets: [u8; 7] = [0x30, 0x80, 0x02, 0x01, 0x05, 0x00, 0x00];
-    assert!(rt; is_encoded(&rt, &short, Mode::Cer, octets.as_slice()));
+    writes(&rt, rt.alloc(), &short, Mode::Cer, &octets);
 }
 
 #[test]
-fn a_choice_is_written(rt: HostRuntime) {
-    let octets: [u8; 3] = [0x01, 0x01, 0xFF];
-    assert!(rt; is_encoded(&rt, &Answer::Yes(true), Mode::Der, octets.as_slice()));
-    let octets: [u8; 3] = [0x02, 0x01, 0x07];
-    assert!(rt; is_encoded(&rt, &Answer::Many(7), Mode::Der, octets.as_slice()));
+fn an_enum_is_written(rt: HostRuntime) {
+    writes(
+        &rt,
+        rt.alloc(),
+        &Answer::Yes(true),
+        Mode::Der,
+        &[0x01, 0x01, 0xFF],
+    );
+    writes(
+        &rt,
+        rt.alloc(),
+        &Answer::Many(7),
+        Mode::Der,
+        &[0x02, 0x01, 0x07],
+    );
     let one: Choice2<bool, u32> = Choice2::One(false);
-    let octets: [u8; 3] = [0x01, 0x01, 0x00];
-    assert!(rt; is_encoded(&rt, &one, Mode::Der, octets.as_slice()));
+    writes(&rt, rt.alloc(), &one, Mode::Der, &[0x01, 0x01, 0x00]);
 }
 
 #[test]
-fn an_explicit_tag_is_written(rt: HostRuntime) {
+fn a_tagged_struct_is_written(rt: HostRuntime) {
     let octets: [u8; 5] = [0xA0, 0x03, 0x02, 0x01, 0x05];
-    assert!(rt; is_encoded(&rt, &Wrapped { number: 5 }, Mode::Der, octets.as_slice()));
-    let tagged: Explicit<Context<0>, u32> = Explicit::new(5);
-    assert!(rt; is_encoded(&rt, &tagged, Mode::Der, octets.as_slice()));
-}
-
-#[test]
-fn a_list_is_written(rt: HostRuntime) {
-    let mut items = Vec::new(rt.alloc());
-    assert!(rt; items.push(1i8).is_ok());
-    assert!(rt; items.push(-1i8).is_ok());
-    let list: SequenceOf<i8> = Sequence(items);
-    let octets: [u8; 8] = [0x30, 0x06, 0x02, 0x01, 0x01, 0x02, 0x01, 0xFF];
-    assert!(rt; is_encoded(&rt, &list, Mode::Der, octets.as_slice()));
+    writes(&rt, rt.alloc(), &Wrapped { number: 5 }, Mode::Der, &octets);
 }
 
 #[test]

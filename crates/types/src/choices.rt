@@ -1,0 +1,101 @@
+//! CHOICE. Expected values are worked by hand from X.690, 8.13.
+use crate::rows::{Read, Written, reads, rewrites, takes};
+use asn1::{Choice2, Choice3, Choice4, Context, Implicit, Sequence};
+use bcder::Mode;
+
+/// `CHOICE { INTEGER, [0] IMPLICIT INTEGER }`.
+type Either = Choice2<u32, Implicit<Context<0>, u32>>;
+
+const EITHER: [Read; 5] = [
+    (Mode::Der, &[0x02, 0x01, 0x05], "One(5)"),
+    (Mode::Der, &[0x80, 0x01, 0x09], "Two(Implicit { value: 9 })"),
+    // of another type, no number, and cut
+    (Mode::Ber, &[0x01, 0x01, 0xFF], "none"),
+    (Mode::Ber, &[0x02, 0x00], "refused"),
+    (Mode::Ber, &[0x80, 0x01], "refused"),
+];
+
+#[test]
+fn the_tag_tells_the_type(rt: HostRuntime) {
+    takes::<Either>(&rt, rt.alloc(), &EITHER);
+}
+
+const LIST: [Read; 1] = [(
+    Mode::Der,
+    &[0x30, 0x06, 0x80, 0x01, 0x09, 0x02, 0x01, 0x05],
+    "Sequence([Two(Implicit { value: 9 }), One(5)])",
+)];
+
+const OPTION: [Read; 2] = [
+    (Mode::Der, &[0x30, 0x03, 0x01, 0x01, 0xFF], "refused"),
+    (Mode::Der, &[0x30, 0x00], "Sequence(None)"),
+];
+
+#[test]
+fn choices_stand_in_lists_and_are_left_out(rt: HostRuntime) {
+    takes::<Sequence<Vec<Either>>>(&rt, rt.alloc(), &LIST);
+    takes::<Sequence<Option<Either>>>(&rt, rt.alloc(), &OPTION);
+}
+
+/// `[0]`, `[1]`, `[2]` or `[3]`, each with a number.
+type One4 = Choice4<
+    Implicit<Context<0>, u32>,
+    Implicit<Context<1>, u32>,
+    Implicit<Context<2>, u32>,
+    Implicit<Context<3>, u32>,
+>;
+
+const ONE_OF_FOUR: [Read; 5] = [
+    (Mode::Der, &[0x80, 0x01, 0x05], "One(Implicit { value: 5 })"),
+    (Mode::Der, &[0x81, 0x01, 0x06], "Two(Implicit { value: 6 })"),
+    (
+        Mode::Der,
+        &[0x82, 0x01, 0x07],
+        "Three(Implicit { value: 7 })",
+    ),
+    (
+        Mode::Der,
+        &[0x83, 0x01, 0x08],
+        "Four(Implicit { value: 8 })",
+    ),
+    (Mode::Der, &[0x84, 0x01, 0x09], "none"),
+];
+
+/// An untagged number, or `[0]` or `[1]` with one.
+type One3 = Choice3<u32, Implicit<Context<0>, u32>, Implicit<Context<1>, u32>>;
+
+const ONE_OF_THREE: [Read; 1] = [(
+    Mode::Der,
+    &[0x81, 0x01, 0x06],
+    "Three(Implicit { value: 6 })",
+)];
+
+#[test]
+fn one_of_more_is_read(rt: HostRuntime) {
+    takes::<One4>(&rt, rt.alloc(), &ONE_OF_FOUR);
+    reads::<One3>(&rt, rt.alloc(), &ONE_OF_THREE);
+}
+
+const WRITTEN: [Written; 9] = [
+    (&[0x01, 0x01, 0xFF], Mode::Ber, &[0x01, 0x01, 0xFF]),
+    (&[0x01, 0x01, 0xFF], Mode::Der, &[0x01, 0x01, 0xFF]),
+    (&[0x01, 0x01, 0xFF], Mode::Cer, &[0x01, 0x01, 0xFF]),
+    (&[0x02, 0x01, 0x07], Mode::Ber, &[0x02, 0x01, 0x07]),
+    (&[0x02, 0x01, 0x07], Mode::Der, &[0x02, 0x01, 0x07]),
+    (&[0x02, 0x01, 0x07], Mode::Cer, &[0x02, 0x01, 0x07]),
+    (&[0x05, 0x00], Mode::Ber, &[0x05, 0x00]),
+    (&[0x05, 0x00], Mode::Der, &[0x05, 0x00]),
+    (&[0x05, 0x00], Mode::Cer, &[0x05, 0x00]),
+];
+
+const TAGGED: [Written; 3] = [
+    (&[0x80, 0x01, 0x09], Mode::Ber, &[0x80, 0x01, 0x09]),
+    (&[0x80, 0x01, 0x09], Mode::Der, &[0x80, 0x01, 0x09]),
+    (&[0x80, 0x01, 0x09], Mode::Cer, &[0x80, 0x01, 0x09]),
+];
+
+#[test]
+fn the_value_of_a_choice_is_written(rt: HostRuntime) {
+    rewrites::<Choice3<bool, u32, ()>>(&rt, rt.alloc(), &WRITTEN);
+    rewrites::<Choice4<bool, u32, (), Implicit<Context<0>, u32>>>(&rt, rt.alloc(), &TAGGED);
+}

@@ -1,0 +1,36 @@
+//! Tests of the types of `asn1`, with values worked by hand from X.690.
+//!
+//! There is one module for each subject. What is read and written stands in rows of data, and the
+//! loops over them are in `rows`.
+#![tactic(auto, using(bcder::specs::laws::Moved::untouched_is_moved))]
+
+#[cfg(test)]
+mod additions;
+#[cfg(test)]
+mod boxed;
+#[cfg(test)]
+mod choices;
+#[cfg(test)]
+mod defaults;
+#[cfg(test)]
+mod definitions;
+#[cfg(test)]
+mod explicit;
+#[cfg(test)]
+mod implicit;
+#[cfg(test)]
+mod leaf;
+#[cfg(test)]
+mod lent;
+#[cfg(test)]
+mod lists;
+#[cfg(test)]
+mod numbers;
+#[cfg(test)]
+mod plain;
+#[cfg(test)]
+mod rows;
+#[cfg(test)]
+mod strings;
+#[cfg(test)]
+mod tuples;

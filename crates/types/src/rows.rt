@@ -1,0 +1,95 @@
+//! Rows of data, and the loops over them.
+use asn1::{Decode, Encode, decode, encode};
+use bcder::Mode;
+use bcder::decode::{DecodeError, SliceSource, Source};
+use std::alloc::Global;
+use std::fmt::Debug;
+use std::process::Abort;
+
+/// Octets in a mode, and what is read from them: how `Debug` shows the value, or `refused`, or
+/// `none` if no value of the type comes next.
+pub type Read<'a> = (Mode, &'a [u8], &'a str);
+
+/// Octets that are read in BER, and as which octets the value is written in a mode.
+pub type Written<'a> = (&'a [u8], Mode, &'a [u8]);
+
+/// Returns the result of a call that must not be refused.
+fn done<T, E: Debug>(rt: &impl Abort, outcome: Result<T, E>) -> T {
+    outcome.expect(rt, "refused")
+}
+
+/// Returns how what was read is shown, without the marks of types that are tagged.
+fn shown<T: Debug + Drop>(rt: &impl Abort, alloc: Global, value: Option<T>, other: &str) -> String {
+    match value {
+        Some(value) => {
+            let text = done(rt, format!(in alloc; "{value:?}"));
+            done(rt, text.replace(alloc, ", mark: PhantomData<_>", ""))
+        }
+        None => done(rt, format!(in alloc; "{other}")),
+    }
+}
+
+/// Asserts that what was read is shown as this text.
+fn is_shown(rt: &impl Abort, mode: Mode, octets: &[u8], found: &str, wanted: &str) {
+    assert_eq!(rt; found, wanted, "{octets:?} in {mode:?}");
+}
+
+/// Asserts that these octets are written.
+fn is_same(rt: &impl Abort, mode: Mode, found: &[u8], wanted: &[u8]) {
+    assert_eq!(rt; found, wanted, "in {mode:?}");
+}
+
+/// Reads the octets of each row as one value of a type.
+pub fn reads<'a, T: Decode<SliceSource<'a>> + Debug>(
+    rt: &impl Abort,
+    alloc: Global,
+    rows: &[Read<'a>],
+) {
+    for (mode, octets, wanted) in rows {
+        let value = decode::<T, &'a [u8]>(alloc, *mode, octets).ok();
+        let found = shown(rt, alloc, value, "refused");
+        is_shown(rt, *mode, octets, found.as_str(), wanted);
+    }
+}
+
+/// Takes the next value of a type, if it comes next.
+fn next<S: Source + Drop, T: Decode<S>>(
+    alloc: Global,
+    mode: Mode,
+    source: S,
+) -> Result<Option<T>, DecodeError<S::Error>> {
+    mode.decode(source, |cons| T::take_opt_from(alloc, cons))
+}
+
+/// Takes a value of a type from the front of the octets of each row.
+pub fn takes<'a, T: Decode<SliceSource<'a>> + Debug>(
+    rt: &impl Abort,
+    alloc: Global,
+    rows: &[Read<'a>],
+) {
+    for (mode, octets, wanted) in rows {
+        let found = match next::<SliceSource<'a>, T>(alloc, *mode, SliceSource::new(octets)) {
+            Ok(value) => shown(rt, alloc, value, "none"),
+            Err(_) => shown(rt, alloc, None::<T>, "refused"),
+        };
+        is_shown(rt, *mode, octets, found.as_str(), wanted);
+    }
+}
+
+/// Asserts that a value is written as these octets.
+pub fn writes<T: Encode>(rt: &impl Abort, alloc: Global, value: &T, mode: Mode, wanted: &[u8]) {
+    let found = done(rt, encode(alloc, mode, value));
+    is_same(rt, mode, found.as_slice(), wanted);
+}
+
+/// Reads the octets of each row in BER, and writes the value.
+pub fn rewrites<'a, T: Encode + Decode<SliceSource<'a>>>(
+    rt: &impl Abort,
+    alloc: Global,
+    rows: &[Written<'a>],
+) {
+    for (octets, mode, wanted) in rows {
+        let value = done(rt, decode::<T, &'a [u8]>(alloc, Mode::Ber, octets));
+        writes(rt, alloc, &value, *mode, wanted);
+    }
+}
