@@ -30,7 +30,7 @@ use Rattle.bcder.proofs.Moving.{open_not_ended, open_not_failed}
 use Rattle.bcder.proofs.Entering.{Within, looked_failed}
 use Rattle.bcder.proofs.ContentSteps.{next_refused}
 use Rattle.bcder.proofs.Stopping.{walk_stopped}
-use Rattle.bcder.proofs.Naming.{Alike, ends_alike, front_named}
+use Rattle.bcder.proofs.Naming.{Alike, looked_alike, ends_alike, front_named}
 use Rattle.bcder.proofs.WalkSteps.{value_not_at_end, value_once, moves_faults, grew_from, walks_refused, done_here}
 
 -- ---- the same of content that resembles
@@ -73,11 +73,11 @@ module _ (c i : Reading) (h : IsCaptureOf c i) where
   others_of n = record { usable = sym h.state ∙ n.usable; none = λ v. n.none (values_of v) }
 
 -- what is refused of the content inside is refused of that around it
-where_of : {X : Type 0} (P Q D E : Type 0) → (P → Q) → (D → E) → (c i j d : Reading) (e : DecodeError X) → IsCaptureOf c i → d.stream.faults ≡ j.stream.faults → RefusesWhere P D i e j → RefusesWhere Q E c e d
-where_of P Q D E f g c i j d e h b (failed x o) = failed (sym h.state ∙ x) o
-where_of P Q D E f g c i j d e h b (source k y) = source k (rw (← h.faults, b) y)
-where_of P Q D E f g c i j d e h b (nothing n o) = nothing (f n) (front_named c i (capture_alike c i h) (cause_of e) o)
-where_of P Q D E f g c i j d e h b (memory m n) = memory m (g n)
+where_of : {X : Type 0} (P Q D E : Type 0) → (P → Q) → (D → E) → (c i j d : Reading) (e : DecodeError X) → Alike c i → i.stream.faults ≡ c.stream.faults → d.stream.faults ≡ j.stream.faults → RefusesWhere P D i e j → RefusesWhere Q E c e d
+where_of P Q D E f g c i j d e s a b (failed x o) = failed (sym s.state ∙ x) o
+where_of P Q D E f g c i j d e s a b (source k y) = source k (rw (← a, b) y)
+where_of P Q D E f g c i j d e s a b (nothing n o) = nothing (f n) (front_named c i s (cause_of e) o)
+where_of P Q D E f g c i j d e s a b (memory m n) = memory m (g n)
 
 pub end_has_none : (c d : Reading) → Within c → EndsAt c d → HasNoValue c
 end_has_none c d w e = record { none = λ t v after h. (value_not_at_end c w t v after h).none d.stream.rest e }
@@ -102,7 +102,7 @@ module _ {C X : Type 0} (view : C → Reading) (post : MutBor C → Result (Unit
   left_mark i j e n (by_memory a u k s f) = (did i j (Ok tt) a).marked
 
   refused_left : (c i j d : Reading) (e : DecodeError X) → IsCaptureOf c i → Moves i j → RefusesLeft view post i e j d.stream.faults → RefusesWhere (HasNone c) (HasSome c) c e d
-  refused_left c i j d e h v (by_content (by_closure a) f) = where_of _ _ _ _ (around c i h) (deep_around c i h) c i j d e h f (did i j (Err e) a).refused
+  refused_left c i j d e h v (by_content (by_closure a) f) = where_of _ _ _ _ (around c i h) (deep_around c i h) c i j d e (capture_alike c i h) h.faults f (did i j (Err e) a).refused
   refused_left c i j d e h v (by_content (left_failed x a s o) f) = absurd (usable i j (did i j (Ok x) a).passed s)
   refused_left c i j d e h v (by_source a u k g) = source k (subst (λ z. Grew z d.stream.faults) ((did i j (Ok tt) a).no_fault ∙ h.faults) g)
   refused_left c i j d e h v (by_memory a u k s f) = memory k (some_around c i j h v (did i j (Ok tt) a).passed s)
@@ -221,7 +221,7 @@ module _ (c i : Reading) (g : GoesOn c i) where
         end = tt;
         done = tt;
         no_fault = tt;
-        refused = where_of _ _ _ _ none_first some_first c i d (as_failed d) e g.same.state f refl h.refused;
+        refused = where_of _ _ _ _ none_first some_first c i d (as_failed d) e (looked_alike c i g.same) f refl h.refused;
         failed = refl;
         mode = h.mode ∙ g.same.mode;
         marked = h.marked ∙ g.same.marked;

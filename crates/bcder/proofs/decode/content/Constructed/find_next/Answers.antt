@@ -7,7 +7,7 @@ use Rattle.bcder.specs.calls.Content.{Resembles, UnboundedValues, nothing, in_fr
 use Rattle.bcder.specs.calls.Views.{of_constructed}
 use Rattle.bcder.specs.laws.Moved.{moved_twice_is_moved}
 use Rattle.bcder.proofs.Entering.{looked_moves, looked_failed, looked_front, marker_missing, end_nothing, none_nothing, unread_nothing, no_fewer, grew_least, kind_of}
-use Rattle.bcder.proofs.Naming.{front_alike, named_alike}
+use Rattle.bcder.proofs.Naming.{looked_alike, front_alike, named_alike}
 use Rattle.bcder.proofs.Passing.{looked_goes_on}
 use Rattle.bcder.proofs.SameBorrow.{within_constructed, constructed_form, with_source, resembles_with_source}
 use Rattle.bcder.proofs.decode.content.Constructed.find_next.Given.{Over}
@@ -63,7 +63,7 @@ returns-in-Err-take_end-clause-refused g c =
     let s = looked g (goal.at.returns-in-Err-take_end-clause-refused g c).After-peek in
     let p = rw c.in-Ok-End.field-0-is at c.in-Ok-End.ensures.peeked in
     let h = c.in-Err-take_end.ensures.refused in
-    nothing (end_nothing _ _ s c.in-Open.is Any (within_constructed g.S.Source.stream g.met.S.Source.sound c.args.self.now) (constructed_form g.S.Source.stream c.args.self.now) (looked_front _ _ s (no_fewer _ _ c.in-Ok-End.ensures.no_fault) h.1) _ p.0.1 p.1) (named_alike _ _ s _ h.0)
+    nothing (end_nothing _ _ s c.in-Open.is Any (within_constructed g.S.Source.stream g.met.S.Source.sound c.args.self.now) (constructed_form g.S.Source.stream c.args.self.now) (looked_front _ _ s (no_fewer _ _ c.in-Ok-End.ensures.no_fault) h.1) _ p.0.1 p.1) (named_alike _ _ (looked_alike _ _ s) _ h.0)
 
 pub returns-in-Unbounded-clause-moves : goal.returns-in-Unbounded-clause-moves
 unfolding of_constructed
@@ -92,7 +92,7 @@ returns-in-Ok-Refused-clause-refused g c =
     let s = looked g (goal.at.returns-in-Ok-Refused-clause-refused g c).After-peek in
     let p = rw c.in-Ok-Refused.field-0-is at c.in-Ok-Refused.ensures.peeked in
     nothing (unread_nothing _ _ s c.in-Open.is Any (within_constructed g.S.Source.stream g.met.S.Source.sound c.args.self.now) (constructed_form g.S.Source.stream c.args.self.now) p.0 p.1)
-    (record { violation = c.in-Ok-Refused.violation; violates = in_front (front_alike _ _ s _ p.2); named = refl })
+    (record { violation = c.in-Ok-Refused.violation; violates = in_front (front_alike _ _ (looked_alike _ _ s) _ p.2); named = refl })
 
 pub returns-in-Err-clause-moves : goal.returns-in-Err-clause-moves
 unfolding of_constructed
