@@ -5,7 +5,7 @@ use Rattle.bcder.specs.declared.decode.error.DecodeError.{DecodeError}
 use Rattle.bcder.specs.x690.Identifier.{Tag}
 use Rattle.bcder.specs.x690.Tree.{Tree, primitive, constructed}
 use Rattle.bcder.specs.calls.Cause.{cause_of, of_memory}
-use Rattle.bcder.specs.calls.Content.{Reading}
+use Rattle.bcder.specs.calls.Content.{Reading, NamesFront}
 use Rattle.bcder.specs.calls.Typed.{HasPrimitive, HasBroken, TakesAs, RefusesAs, TakesNextAs}
 use Rattle.bcder.specs.calls.Typed as typed
 use Rattle.bcder.specs.calls.Readers.{MeanNothing}
@@ -47,7 +47,7 @@ module _ {T X : Type 0} (tag : Tag) (Means : List ℕ → T → Type 0) (Refuses
   leaf_refused e (typed.RefusesAs.failed s a) = types.RefusesTyped.failed s a
   leaf_refused e (typed.RefusesAs.source s g) = types.RefusesTyped.source s g
   leaf_refused e (typed.RefusesAs.broken b a) =
-      types.RefusesTyped.broken (record { usable = b.usable; value = broken_leaf b; absent = λ rest f. b.absent rest (f tag refl) }) a
+      types.RefusesTyped.broken (record { usable = b.usable; value = broken_leaf b; absent = λ rest f. b.absent rest (f tag refl) }) a.refused
   leaf_refused e (typed.RefusesAs.refused z v rest p n) = refused_contents z v rest e p (nothing z e n)
 
   pub next_leaf : (r : Result (Option T) (DecodeError X)) → TakesNextAs tag Means Refuses c r d → TakesNextTyped (Only tag) (IsLeaf Means) c r d

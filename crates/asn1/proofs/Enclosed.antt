@@ -15,7 +15,7 @@ use Rattle.bcder.specs.calls.Valued.{HoldsValues, HoldsTree, HasTagged, ReadsTre
 use Rattle.bcder.specs.calls.Valued as valued
 use Rattle.bcder.specs.laws.Moved.{untouched_is_moved}
 use Rattle.bcder.proofs.Lemmas.{IsWithinOwed, as_many_are_no_fewer, done_is_at_its_end, grew_in_between, no_values_at_the_end as none_left}
-use Rattle.bcder.proofs.Lemmas.{no_trees_at_the_end as none_left_trees, header_is_there, or_false, next_tree, no_tree, primitive_in_front}
+use Rattle.bcder.proofs.Lemmas.{no_trees_at_the_end as none_left_trees, header_is_there, refused_behind_header, or_false, next_tree, no_tree, primitive_in_front}
 use Rattle.asn1.specs.Types.{AreInside, Only, TakesFields, HoldsNoFields, RefusesFields, ReadsFields, RefusesTyped, TakesNextTyped}
 use Rattle.asn1.specs.Types as types
 use Rattle.asn1.proofs.Reading.{failed_holds_none, none_not_inside}
@@ -129,13 +129,13 @@ module _ {C T X : Type 0} (view : C → Reading) (post : Tag → MutBor C → Re
     none_to_the_end v l x f n (primitive w b) z h k = k
     none_to_the_end v l x f n (constructed w ts) z h k = n (f.behind ts no_trees z h.1 k)
 
-    end_refused : (v : Tag) (l : Reading) (x : T) → IsWithinOwed l → l.kind ≢ Octets → ReadsFields (Takes i.mode) {X = X} i (Ok x) l
+    end_refused : (v : Tag) (l : Reading) (x : T) → IsWithinOwed l → ReadsFields (Takes i.mode) {X = X} i (Ok x) l
         → RefusesEnd cause_of l e j → RefusesToRead v (Inside i.mode) i e j
-    end_refused v l x w k r (left_failed s a) =
+    end_refused v l x w r (left_failed s a) =
         valued.RefusesToRead.nothing
         (none_to_the_end v l x r.value (failed_holds_none l s _)) a
-    end_refused v l x w k r (source_failed s g) = valued.RefusesToRead.source s (grew_in_between _ _ _ _ (as_many_are_no_fewer _ _ r.no_fault) g refl)
-    end_refused v l x w k r (left_open n a) = valued.RefusesToRead.nothing (none_to_the_end v l x r.value (none_not_inside e a l w k n)) a
+    end_refused v l x w r (source_failed s g) = valued.RefusesToRead.source s (grew_in_between _ _ _ _ (as_many_are_no_fewer _ _ r.no_fault) g refl)
+    end_refused v l x w r (left_open n a) = valued.RefusesToRead.nothing (none_to_the_end v l x r.value (none_not_inside l w n)) a
 
     refused_marked : RefusesContent cause_of view post t i e j → j.marked ≡ false
     refused_marked (by_closure a) = (answered_fields i.mode t i j (Err e) a refl).marked ∙ u
@@ -154,7 +154,7 @@ module _ {C T X : Type 0} (view : C → Reading) (post : Tag → MutBor C → Re
           value = tt;
           done = tt;
           no_fault = tt;
-          refused = end_refused v l x (left_within t i l (Ok x) a) (left_form t i l (Ok x) a) r z;
+          refused = end_refused v l x (left_within t i l (Ok x) a) r z;
           mode = later_mode l j m (k ∙ r.marked ∙ u) ∙ r.mode;
           marked = k ∙ r.marked;
         })
@@ -225,7 +225,7 @@ module _ {C T X : Type 0} (view : C → Reading) (post : Tag → MutBor C → Re
     refused_form : (e : DecodeError X) → HasForm false (tagged tag) c → IsRefusal e → RefusesTree tag (Inside c.mode) c e d
     refused_form e f a =
         valued.RefusesTree.broken (record { usable = f.usable; value = not_primitive f; absent = λ rest. header_is_there tag c f.after rest f.usable f.front })
-        a
+        (refused_behind_header (tagged tag) c (cause_of e) a f.after f.front)
 
     next_whole : (r : Result (Option T) (DecodeError X)) → TakesNext same Whole None (tagged tag) c r d → TakesNextTyped (Only tag) (Inside c.mode) c r d
     next_whole r n = next_typed tag (Inside c.mode) c d w r (next_tree same Whole tag Inside (λ t p q z h. h) c d r w n)

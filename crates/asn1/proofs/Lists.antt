@@ -5,7 +5,7 @@ use Rattle.bcder.specs.declared.mode.Mode.{Mode}
 use Rattle.bcder.specs.declared.decode.error.DecodeError.{DecodeError}
 use Rattle.bcder.specs.x690.Identifier.{Tag}
 use Rattle.bcder.specs.x690.Tree.{Tree, Trees}
-use Rattle.bcder.specs.calls.Cause.{cause_of, of_memory, IsRefusal}
+use Rattle.bcder.specs.calls.Cause.{cause_of, of_memory}
 use Rattle.bcder.specs.calls.Content.{Reading, Moves}
 use Rattle.bcder.specs.calls.Valued.{HoldsValues}
 use Rattle.bcder.specs.laws.Moved.{untouched_is_moved, moved_twice_is_moved}
@@ -83,21 +83,21 @@ module _ {T : Type 0} (Tags : Tag → Type 0) (Means : Tree → T → Type 0) wh
       }
 
     -- it was refused
-    module _ {X : Type 0} (v : AreTags Tags) where
-      no_list_here : (f : DecodeError X) → IsRefusal f → (n : HasNoTyped Tags Means d) → (us vs : Trees) (ys : List T) → HoldsValues d us
+    module _ (v : AreTags Tags) where
+      no_list_here : (n : HasNoTyped Tags Means d) → (us vs : Trees) (ys : List T) → HoldsValues d us
           → AreList Tags Means us ys vs → ⊥
-      no_list_here f a n us vs [] k g = no_optional Tags Means d e w m o f a v n us us None k (g.0, refl)
-      no_list_here f a n us vs (y ∷ ys) k g = no_member Tags Means d e w m o n us g.0 y k g.1
+      no_list_here n us vs [] k g = no_optional Tags Means d e w m o v n us us None k (g.0, refl)
+      no_list_here n us vs (y ∷ ys) k g = no_member Tags Means d e w m o n us g.0 y k g.1
 
-      no_list : (f : DecodeError X) → IsRefusal f → HasNoTyped Tags Means d → HoldsNoFields (AreList Tags Means) c
-      no_list f a n ts vs xs k g = (let b = r.behind ts vs xs k g in no_list_here f a n b.0 vs b.1 b.2 b.3)
+      no_list : HasNoTyped Tags Means d → HoldsNoFields (AreList Tags Means) c
+      no_list n ts vs xs k g = (let b = r.behind ts vs xs k g in no_list_here n b.0 vs b.1 b.2 b.3)
 
-      list_refused : (f : DecodeError X) → RefusesTyped Tags Means d f e → RefusesFields (AreList Tags Means) c f e
+      list_refused : {X : Type 0} (f : DecodeError X) → RefusesTyped Tags Means d f e → RefusesFields (AreList Tags Means) c f e
       list_refused f (types.RefusesTyped.failed s a) =
           types.RefusesFields.broken (λ ts us y k g. (let b = r.behind ts us y k g in failed_holds_none d s b.0 b.2)) a
       list_refused f (types.RefusesTyped.source s g) = types.RefusesFields.source s (grew_in_between _ _ _ _ (as_many_are_no_fewer _ _ r.no_fault) g refl)
       list_refused f (types.RefusesTyped.memory s h) = types.RefusesFields.memory s
-      list_refused f (types.RefusesTyped.broken n a) = types.RefusesFields.broken (no_list f a n) a
+      list_refused f (types.RefusesTyped.broken n a) = types.RefusesFields.broken (no_list n) a
 
 -- ---- what the reader says, after so many
 

@@ -4,7 +4,7 @@ use Rattle.std.specs.Prelude.{Ok, Err}
 use Rattle.bcder.specs.declared.decode.error.DecodeError.{DecodeError}
 use Rattle.bcder.specs.x690.Tree.{Trees, no_trees}
 use Rattle.bcder.specs.calls.Cause.{cause_of}
-use Rattle.bcder.specs.calls.Content.{Reading, Octets, Moves, EndsBefore, IsDone}
+use Rattle.bcder.specs.calls.Content.{Reading, Octets, Moves, EndsBefore, IsDone, NamesFront}
 use Rattle.bcder.specs.calls.Skipping.{RefusesOne, by_walk, RefusesSkipAll, by_values}
 use Rattle.bcder.specs.calls.Skipping as skipping
 use Rattle.bcder.specs.calls.Valued.{HoldsValues}
@@ -12,10 +12,10 @@ use Rattle.bcder.specs.calls.Walking.{HasValues, PassesValue, PassedBy, AllBy}
 use Rattle.bcder.specs.calls.Walking as walking
 use Rattle.bcder.proofs.Lemmas.{open_has_not_ended, open_has_not_failed, IsWithinOwed, values_after, values_with_one_more}
 use Rattle.bcder.proofs.Lemmas.{no_values_at_the_end, no_trees_at_the_end, done_is_at_its_end}
-use Rattle.bcder.proofs.Lemmas.{as_many_are_no_fewer, grew_in_between}
+use Rattle.bcder.proofs.Lemmas.{no_values_without_a_first, as_many_are_no_fewer, grew_in_between}
 use Rattle.asn1.specs.Types.{AreAll, TakesFields, RefusesFields, ReadsFields}
 use Rattle.asn1.specs.Types as types
-use Rattle.asn1.proofs.Reading.{held_once, failed_holds_none, refused_holds_none}
+use Rattle.asn1.proofs.Reading.{held_once, failed_holds_none}
 
 -- ---- content at its end
 
@@ -53,10 +53,10 @@ module _ {T X : Type 0} (c d : Reading) (k : c.kind ≢ Octets) (e : DecodeError
   refused_one (skipping.RefusesOne.by_walk (walking.RefusesWalk.failed s a)) =
       types.RefusesFields.broken (λ ts us y h i. failed_holds_none c s ts h) a
   refused_one (skipping.RefusesOne.by_walk (walking.RefusesWalk.source f g)) = types.RefusesFields.source f g
-  refused_one (skipping.RefusesOne.by_walk (walking.RefusesWalk.nothing o n m a)) = types.RefusesFields.broken none_held a
+  refused_one (skipping.RefusesOne.by_walk (walking.RefusesWalk.nothing o n m a)) = types.RefusesFields.broken none_held a.refused
     where
       none_held : (ts us : Trees) (y : T) → HoldsValues c ts → AreAll ts y us → ⊥
-      none_held ts us y (inl h) i = refused_holds_none e a c d o k (walking.RefusesWalk.nothing o n m a) h.values
+      none_held ts us y (inl h) i = no_values_without_a_first c o n m h.values
       none_held ts us y (inr h) i = open_has_not_ended c.state o h.0
   refused_one (skipping.RefusesOne.by_depth g m) = types.RefusesFields.memory m
 
@@ -101,7 +101,7 @@ module _ {X A : Type 0} (c j d : Reading) (w : IsWithinOwed c) (k : j.kind ≢ O
   refused_behind {T} e (skipping.RefusesSkipAll.by_values (walking.RefusesValues.source f g)) =
       types.RefusesFields.source f (grew_in_between _ _ _ _ (as_many_are_no_fewer _ _ p.no_fault) g refl)
   refused_behind {T} e (skipping.RefusesSkipAll.by_values (walking.RefusesValues.broken o n a)) =
-      types.RefusesFields.broken (λ ts us y h i. n (behind_first ts h)) a
+      types.RefusesFields.broken (λ ts us y h i. n (behind_first ts h)) a.refused
   refused_behind {T} e (skipping.RefusesSkipAll.by_values (walking.RefusesValues.short o s a)) = absurd (k o)
   refused_behind {T} e (skipping.RefusesSkipAll.by_depth i v g f) = types.RefusesFields.memory f
 

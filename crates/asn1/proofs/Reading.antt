@@ -2,23 +2,22 @@
 use Rattle.std.proofs.Common.{◌≡◌, ◌≢◌, ℕ, ◌+◌, ◌-◌, ◌≤◌, Bool, true, false, List, [], ◌∷◌, ◌++◌, length, Option, Some, None, refl, ap, sym, ◌∙◌, arith}
 use Rattle.std.proofs.Common.{length-append, append_assoc, append-nil, subst, inl, inr}
 use Rattle.std.specs.Prelude.{Result, Ok, Err}
-use Rattle.bcder.specs.declared.decode.content.State.TheVariants.{Open, Failed}
+use Rattle.bcder.specs.declared.decode.content.State.TheVariants.{Failed}
 use Rattle.bcder.specs.declared.decode.error.DecodeError.{DecodeError}
 use Rattle.bcder.specs.x690.Identifier.{Tag, IsValueTag, identifier, end_of_contents}
 use Rattle.bcder.specs.x690.Tree.{Tree, primitive, constructed, Trees, no_trees, ◌∷ₜ◌}
 use Rattle.bcder.specs.x690.Encoding.{IsHeader, IsEncoding, AreEncodings, IsFramed}
-use Rattle.bcder.specs.calls.Cause.{cause_of, IsOfContent, IsRefusal}
+use Rattle.bcder.specs.calls.Cause.{IsRefusal}
 use Rattle.bcder.specs.calls.Content.{Reading, Octets, Moves, MovesBy, Whole, Falls, NotAtEnd, IsAtEnd, of_octets, of_definite, of_indefinite, of_unbounded}
 use Rattle.bcder.specs.calls.Content.{tagged, HasOther, HasMarker, IsAbsent, IsElsewhere, none_left, other}
 use Rattle.bcder.specs.calls.Takes.{HasNone}
-use Rattle.bcder.specs.calls.Walking as walking
 use Rattle.bcder.specs.calls.Walking.{NoValue, HasValue, HasValues, PassesValue, ClosesBefore}
 use Rattle.bcder.specs.calls.Valued.{HoldsValues, tag_of}
 use Rattle.bcder.specs.laws.Complete.{only_at_front}
 use Rattle.bcder.specs.laws.Lists.{AreEncodings-one}
 use Rattle.bcder.specs.laws.Moved.{whole_marked}
-use Rattle.bcder.proofs.Lemmas.{open_has_not_ended, open_has_not_failed, IsWithinOwed, values_after, values_with_one_more, trees_with_one_more, walks_nothing}
-use Rattle.bcder.proofs.Lemmas.{refused_on_the_way, header_is_there, one_values, no_values_of_octets, header_of_tagged}
+use Rattle.bcder.proofs.Lemmas.{open_has_not_ended, open_has_not_failed, IsWithinOwed, values_after, values_with_one_more, trees_with_one_more}
+use Rattle.bcder.proofs.Lemmas.{no_values_without_a_first, header_is_there, one_values, no_values_of_octets, header_of_tagged}
 use Rattle.asn1.specs.Types.{HasNoneOf, TakesTyped, HasNoTyped, RefusesTyped, TakesNextTyped, IsMember, BeginWithout, IsOptional, AreBoth, TakesFields}
 use Rattle.asn1.specs.Types.{HoldsNoFields, RefusesFields, ReadsFields}
 use Rattle.asn1.specs.Types as types
@@ -234,24 +233,13 @@ module _ (c : Reading) (w : IsWithinOwed c) (t : Tree) (v after : List ℕ) (h :
       let t = trees_with_one_more c next w next_passed next_moves next_mode a in
       no_cons next_passed.tree a.trees (sym t ∙ one_values c v k ∙ e)
 
--- content that a step refuses, as no value comes, holds no values
-pub refused_holds_none : {X : Type 0} (e : DecodeError X) → IsRefusal e → (c d : Reading) → c.state ≡ Open → c.kind ≢ Octets
-    → walking.RefusesWalk cause_of c e d → HasValues c → ⊥
-refused_holds_none {X} e a c d o k r h = elim (refused_on_the_way cause_of e c c d k (walks_nothing c) r) [
-  | walking.RefusesValues.failed f b ↦ open_has_not_failed c.state o f
-  | walking.RefusesValues.source f g ↦ subst IsOfContent f a
-  | walking.RefusesValues.broken q f b ↦ f h
-  | walking.RefusesValues.short q f b ↦ k q
-]
-
-pub none_not_inside : {X : Type 0} (e : DecodeError X) → IsRefusal e → (c : Reading) → IsWithinOwed c → c.kind ≢ Octets
-    → NotAtEnd c → HoldsValues c no_trees → ⊥
-none_not_inside {X} e a c w k n (inl h) =
+pub none_not_inside : (c : Reading) → IsWithinOwed c → NotAtEnd c → HoldsValues c no_trees → ⊥
+none_not_inside c w n (inl h) =
     let v : NoValue c = record {
       none = λ t x y q r. some_value c w t x y (record { usable = h.usable; encodes = q; rest = r }) h.values h.are;
     } in
-    refused_holds_none e a c c h.usable k (walking.RefusesWalk.nothing h.usable v n a) h.values
-none_not_inside {X} e a c w k n (inr h) = n.none [] (inl h.0)
+    no_values_without_a_first c h.usable v n h.values
+none_not_inside c w n (inr h) = n.none [] (inl h.0)
 
 -- ---- one value, and one that may be left out
 
@@ -343,25 +331,24 @@ module _ {T : Type 0} (Tags : Tag → Type 0) (Means : Tree → T → Type 0) (c
       let s = stands c g.tree us (member_tagged Tags Means c ts us y k g) in
       n.value g.tree s.front s.behind y (s.has, g.tagged) g.means
 
-  pub none_absent : {X : Type 0} (e : DecodeError X) → IsRefusal e → AreTags Tags → (n : HasNoTyped Tags Means c) → (ts : Trees) → HoldsValues c ts
-      → BeginWithout Tags ts → ⊥
-  none_absent e a v n no_trees (inr h) b = open_has_not_ended c.state n.usable h.0
-  none_absent e a v n no_trees (inl h) b =
+  pub none_absent : AreTags Tags → (n : HasNoTyped Tags Means c) → (ts : Trees) → HoldsValues c ts → BeginWithout Tags ts → ⊥
+  none_absent v n no_trees (inr h) b = open_has_not_ended c.state n.usable h.0
+  none_absent v n no_trees (inl h) b =
       let k : c.kind ≢ Octets = (λ q. no_values_of_octets c q h.values) in
-      none_not_inside e a c w k (record {
+      none_not_inside c w (record {
         none = λ x z. elim z [
           | inl y ↦ open_has_not_ended c.state n.usable y
           | inr y ↦ (let q = absent_at_end c w k x y.1 in n.absent q.0 (λ u p. inr (y.0, q.1 u (v.value_tags u p))))
         ];
       }) (inl h)
-  none_absent e a v n (t ∷ₜ us) h b =
+  none_absent v n (t ∷ₜ us) h b =
       let s = stands c t us h in
       n.absent c.stream.rest
       (λ u p. inr (n.usable, other (other_of_value u c w t s.front s.behind (λ q. b (subst Tags (sym q) p)) s.has.encodes s.has.rest) refl))
 
-  pub no_optional : {X : Type 0} (e : DecodeError X) → IsRefusal e → AreTags Tags → HasNoTyped Tags Means c → HoldsNoFields (IsOptional Tags Means) c
-  no_optional e a v n ts us (Some y) k g = no_member n ts us y k g
-  no_optional e a v n ts us None k g = none_absent e a v n ts k g.0
+  pub no_optional : AreTags Tags → HasNoTyped Tags Means c → HoldsNoFields (IsOptional Tags Means) c
+  no_optional v n ts us (Some y) k g = no_member n ts us y k g
+  no_optional v n ts us None k g = none_absent v n ts k g.0
 
   module _ {X : Type 0} where
     refused_member : (e : DecodeError X) → RefusesTyped Tags Means c e d → RefusesFields (IsMember Tags Means) c e d
@@ -374,7 +361,7 @@ module _ {T : Type 0} (Tags : Tag → Type 0) (Means : Tree → T → Type 0) (c
     refused_optional v e (types.RefusesTyped.failed s a) = types.RefusesFields.broken (λ ts us y k g. failed_holds_none c s ts k) a
     refused_optional v e (types.RefusesTyped.source s g) = types.RefusesFields.source s g
     refused_optional v e (types.RefusesTyped.memory s h) = types.RefusesFields.memory s
-    refused_optional v e (types.RefusesTyped.broken n a) = types.RefusesFields.broken (no_optional e a v n) a
+    refused_optional v e (types.RefusesTyped.broken n a) = types.RefusesFields.broken (no_optional v n) a
 
 -- ---- what the readers say
 

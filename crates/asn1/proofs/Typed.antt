@@ -4,7 +4,7 @@ use Rattle.std.specs.Prelude.{Result, Ok, Err}
 use Rattle.bcder.specs.declared.decode.error.DecodeError.{DecodeError}
 use Rattle.bcder.specs.x690.Identifier.{Tag}
 use Rattle.bcder.specs.x690.Tree.{Tree}
-use Rattle.bcder.specs.calls.Content.{Reading, tagged, HasHeader}
+use Rattle.bcder.specs.calls.Content.{Reading, tagged, HasHeader, NamesFront}
 use Rattle.bcder.specs.calls.Takes.{HasNone}
 use Rattle.bcder.specs.calls.Valued.{TakesTree, HasNoTree, WantsMemoryFor, RefusesTree, TakesNextTree}
 use Rattle.bcder.specs.calls.Valued as valued
@@ -33,7 +33,7 @@ module _ {T : Type 0} (tag : Tag) (Means : Tree → T → Type 0) (c d : Reading
   refused e (valued.RefusesTree.failed s a) = types.RefusesTyped.failed s a
   refused e (valued.RefusesTree.source s g) = types.RefusesTyped.source s g
   refused e (valued.RefusesTree.memory s n) = types.RefusesTyped.memory s (needed n)
-  refused e (valued.RefusesTree.broken n a) = types.RefusesTyped.broken (none_there n) a
+  refused e (valued.RefusesTree.broken n a) = types.RefusesTyped.broken (none_there n) a.refused
 
   pub next_typed : {X : Type 0} (r : Result (Option T) (DecodeError X)) → TakesNextTree tag Means c r d → TakesNextTyped (Only tag) Means c r d
   next_typed (Ok (Some x)) n = record { value = taken x n.value; none = tt; no_fault = n.no_fault; refused = tt; failed = tt; mode = n.mode; marked = n.marked }
