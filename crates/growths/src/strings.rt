@@ -18,6 +18,11 @@ const CUT: &[u8] = &[
     0x24, 0x0A, 0x04, 0x01, 0x61, 0x04, 0x01, 0x62, 0x04, 0x02, 0x63, 0x64,
 ];
 
+/// The same segments in a value with the tag `[0]`.
+const TAGGED: &[u8] = &[
+    0xA0, 0x0A, 0x04, 0x01, 0x61, 0x04, 0x01, 0x62, 0x04, 0x02, 0x63, 0x64,
+];
+
 /// Takes the string of a value, and returns whether it has these octets.
 fn take_opt<S: Source>(
     cons: &mut Constructed<'_, S>,
@@ -26,6 +31,19 @@ fn take_opt<S: Source>(
     ensures { Moved S.stream cons }
 {
     match OctetString::take_opt_from(alloc, cons)? {
+        Some(string) => Ok(string.eq_octets(OCTETS)),
+        None => Ok(false),
+    }
+}
+
+/// Takes the string of a value with the tag `[0]`, and returns whether it has these octets.
+fn take_tagged<S: Source>(
+    cons: &mut Constructed<'_, S>,
+    alloc: Global,
+) -> Result<bool, DecodeError<S::Error>>
+    ensures { Moved S.stream cons }
+{
+    match OctetString::take_opt_if(alloc, cons, Tag::CTX_0)? {
         Some(string) => Ok(string.eq_octets(OCTETS)),
         None => Ok(false),
     }
@@ -75,6 +93,18 @@ fn run_readers(rt: &HostRuntime) -> Result<(), Error> {
         &mut BytesSource::new(one),
         &mut BytesSource::new(other),
     )
+}
+
+/// Takes a string with the tag `[0]` over both sources.
+fn run_tagged(rt: &HostRuntime) -> Result<(), Error> {
+    let alloc = rt.alloc();
+    let name = "OctetString::take_opt_if, in segments";
+    let mut copied = SliceSource::new(TAGGED);
+    let end = read(Mode::Ber.decode_lent(&mut copied, |cons| take_tagged(cons, alloc)));
+    tell_over(rt, name, "copied", end)?;
+    let mut shared = BytesSource::new(Bytes::copy_from_slice(alloc, TAGGED)?);
+    let end = read(Mode::Ber.decode_lent(&mut shared, |cons| take_tagged(cons, alloc)));
+    tell_over(rt, name, "shared", end)
 }
 
 /// Returns the string of a value.
@@ -170,6 +200,7 @@ fn run_of(rt: &HostRuntime, how: &str, value: &[u8], parts: usize) -> Result<(),
 
 pub fn run(rt: &HostRuntime) -> Result<(), Error> {
     run_readers(rt)?;
+    run_tagged(rt)?;
     run_of(rt, "whole", WHOLE, 1)?;
     run_of(rt, "cut", CUT, 3)
 }

@@ -219,6 +219,20 @@ fn capture_again<S: Source>(
     }
 }
 
+/// Captures the only value, and returns whether it is these octets.
+fn capture_opt<S: Source>(
+    cons: &mut Constructed<'_, S>,
+    alloc: Global,
+    wanted: &[u8],
+) -> Result<bool, DecodeError<S::Error>>
+    ensures { Moved S.stream cons }
+{
+    match cons.capture_opt_one(alloc)? {
+        Some(captured) => Ok(captured.as_slice() == wanted),
+        None => Ok(false),
+    }
+}
+
 /// Returns a value of three octets with a tag of X.680, 8.4.
 fn short(alloc: Global, number: u8, octets: &[u8]) -> Result<Vec<u8>, Error> {
     let mut value = Vec::new(alloc);
@@ -350,6 +364,10 @@ fn captured_of<S: Source>(alloc: Global, source: &mut S, call: Kind, wanted: &[u
     }
 }
 
+fn captured_opt_of<S: Source>(alloc: Global, source: &mut S, wanted: &[u8]) -> End {
+    read(Mode::Der.decode_lent(source, |cons| capture_opt(cons, alloc, wanted)))
+}
+
 fn run_captures(rt: &HostRuntime) -> Result<(), Error> {
     let alloc = rt.alloc();
     let list = deep(alloc, LEVELS)?;
@@ -365,7 +383,16 @@ fn run_captures(rt: &HostRuntime) -> Result<(), Error> {
             captured_of(alloc, &mut shared, call, value),
         )?;
     }
-    Ok(())
+    let name = "Constructed::capture_opt_one";
+    let end = captured_opt_of(alloc, &mut SliceSource::new(value), value);
+    tell_over(rt, name, "copied", end)?;
+    let mut shared = BytesSource::new(Bytes::copy_from_slice(alloc, value)?);
+    tell_over(
+        rt,
+        name,
+        "shared",
+        captured_opt_of(alloc, &mut shared, value),
+    )
 }
 
 pub fn run(rt: &HostRuntime) -> Result<(), Error> {

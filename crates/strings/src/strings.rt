@@ -409,3 +409,75 @@ fn a_failing_source_is_told(rt: HostRuntime) {
         }
     }
 }
+
+/// Takes the string "a", and behind it "abc" with the tag `[0]`.
+fn take_another_tag<S: Source>(
+    rt: &impl Abort,
+    alloc: Global,
+    cons: &mut Constructed<'_, S>,
+) -> Result<(), DecodeError<S::Error>>
+    ensures { Moved S.stream cons }
+{
+    holds(
+        rt,
+        OctetString::take_opt_if(alloc, cons, Tag::CTX_0)?.is_none(),
+    );
+    holds(rt, OctetString::take_from(alloc, cons)?.eq_octets(b"a"));
+    let tagged = OctetString::take_opt_if(alloc, cons, Tag::CTX_0)?;
+    holds(rt, tagged.is_some_and(|string| string.eq_octets(b"abc")));
+    Ok(())
+}
+
+fn check_another_tag<S: Source>(
+    rt: &impl Abort,
+    alloc: Global,
+    mode: Mode,
+    source: &mut S,
+    taken: bool,
+) {
+    match mode.decode_lent(source, |cons| take_another_tag(rt, alloc, cons)) {
+        Ok(()) => holds(rt, taken),
+        Err(error) => holds(rt, !taken && error.content_error().is_some()),
+    }
+}
+
+/// Two strings, the second with the tag `[0]` in place of its own, and whether it is one in the mode
+/// (X.690, 8.7.3, 10.2).
+const ANOTHER_TAG: [(Mode, &[u8], bool); 4] = [
+    (
+        Mode::Ber,
+        &[
+            0x04, 0x01, 0x61, 0xA0, 0x07, 0x04, 0x01, 0x61, 0x04, 0x02, 0x62, 0x63,
+        ],
+        true,
+    ),
+    (
+        Mode::Der,
+        &[0x04, 0x01, 0x61, 0x80, 0x03, 0x61, 0x62, 0x63],
+        true,
+    ),
+    (
+        Mode::Der,
+        &[
+            0x04, 0x01, 0x61, 0xA0, 0x07, 0x04, 0x01, 0x61, 0x04, 0x02, 0x62, 0x63,
+        ],
+        false,
+    ),
+    (
+        Mode::Ber,
+        &[
+            0x04, 0x01, 0x61, 0xA0, 0x07, 0x80, 0x01, 0x61, 0x80, 0x02, 0x62, 0x63,
+        ],
+        false,
+    ),
+];
+
+#[test]
+fn strings_with_another_tag(rt: HostRuntime) {
+    let alloc = rt.alloc();
+    for (mode, octets, taken) in ANOTHER_TAG {
+        check_another_tag(&rt, alloc, mode, &mut SliceSource::new(octets), taken);
+        check_another_tag(&rt, alloc, mode, &mut shared(&rt, alloc, octets), taken);
+        check_another_tag(&rt, alloc, mode, &mut sip(&rt, alloc, octets), taken);
+    }
+}

@@ -3,8 +3,8 @@ use anyhow::Error;
 use bcder::decode::{DecodeError, SliceSource};
 use std::alloc::Global;
 use support::calls::{
-    Answer, CAPTURES, CONTENTS, Call, KEPT, Kept, Line, OCTETS, PASSES, Reader, STRINGS, TAKES,
-    TYPED, Text, ask,
+    Answer, CAPTURES, CONTENTS, Call, KEPT, Kept, Line, OCTETS, PASSES, Pass, Reader, STRINGS,
+    TAKES, TYPED, Text, ask,
 };
 
 /// How calls ended: as they should, out of memory, or otherwise.
@@ -56,6 +56,7 @@ impl Tally {
 fn keeps(call: Call) -> bool {
     match call {
         Call::Capture(_) => true,
+        Call::Pass(pass) => matches!(pass, Pass::CaptureOpt),
         Call::Read(reader) => matches!(
             reader,
             Reader::TakeAll | Reader::Integer | Reader::UnsignedInteger | Reader::Identifier

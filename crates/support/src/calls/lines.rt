@@ -311,12 +311,14 @@ const ONE: &[Call] = &[
     Call::Pass(Pass::SkipOne),
     Call::Pass(Pass::SkipOpt),
     Call::Pass(Pass::Skip),
+    Call::Pass(Pass::CaptureOpt),
 ];
 
 const ONE_OPTIONAL: &[Call] = &[
     Call::Pass(Pass::Walk),
     Call::Pass(Pass::SkipOne),
     Call::Pass(Pass::SkipOpt),
+    Call::Pass(Pass::CaptureOpt),
 ];
 
 const SEVERAL: &[Call] = &[Call::Pass(Pass::SkipAll), Call::Pass(Pass::WhileSome)];

@@ -12,6 +12,7 @@ pub enum Pass {
     SkipOne,
     SkipOpt,
     Skip,
+    CaptureOpt,
     SkipAll,
     WhileSome,
 }
@@ -35,6 +36,19 @@ fn skip<S: Source>(
 {
     cons.skip(alloc, &mut |_tag, _constructed, _depth| Ok(()))?;
     Ok(Some(()))
+}
+
+/// Captures the next value, if there is one, and drops what is captured.
+fn capture_opt<S: Source>(
+    cons: &mut Constructed<'_, S>,
+    alloc: Global,
+) -> Result<Option<()>, DecodeError<S::Error>>
+    ensures { Moved S.stream cons }
+{
+    match cons.capture_opt_one(alloc)? {
+        Some(_) => Ok(Some(())),
+        None => Ok(None),
+    }
 }
 
 /// Skips several values.
@@ -65,6 +79,7 @@ pub fn ask<S: Source>(
         Pass::SkipOne => cons.skip_one(alloc)?,
         Pass::SkipOpt => skip_opt(cons, alloc)?,
         Pass::Skip => skip(cons, alloc)?,
+        Pass::CaptureOpt => capture_opt(cons, alloc)?,
         _ => pass_all(cons, alloc, pass)?,
     };
     Ok(passed(found))
