@@ -14,7 +14,7 @@ use Rattle.bcder.specs.laws.Stands.{Headed}
 pub of_violation : (c : Reading) (why : Cause ContentError) → NamesViolation why c → IsOfContent why
 of_violation c why n = subst IsOfContent (sym n.named) tt
 
--- a header that was refused is what comes next; and where an asked one comes next, any text will do
+-- a header that was refused is what comes next; and if an asked one comes next, any text will do
 pub names_front : (asked : Asked) (c : Reading) (why : Cause ContentError) → NamesViolation why c → NamesFront asked why c
 names_front asked c why n = record { refused = of_violation c why n; named = λ _. n }
 

@@ -120,7 +120,7 @@ pub record Walks (c d : Reading) : Type 0 where
   pub failed : d.state ≡ Failed → c.state ≡ Failed
   pub remain : HasValues c → HasValues d
   pub were : HasValues d → HasValues c
-  -- where no value comes next, none was passed
+  -- if no value comes next, none was passed
   pub front : NothingThere any c → Resembles c d
 
 -- ---- of a parameter, from entry to exit
