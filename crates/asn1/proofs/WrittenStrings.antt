@@ -13,6 +13,7 @@ use Rattle.bcder.specs.calls.StringMeaning.{OctetsMean, is_cut, string_meaning}
 use Rattle.bcder.specs.calls.StringOctets.{StringOctets, whole, cut, octets_of, IsStringOf, MeansString}
 use Rattle.bcder.specs.calls.WrittenStrings.{IsWrittenString}
 use Rattle.bcder.proofs.Lemmas.{means_flat}
+use Rattle.asn1.specs.Lent.{IsPiece, IsLent, IsLentOfSet}
 use Rattle.asn1.specs.Types.{Only, IsLeaf}
 use Rattle.asn1.specs.Writing.{IsWritten, IsReadAs}
 use Rattle.asn1.proofs.ReadingBack.{leaf_back}
@@ -60,13 +61,26 @@ in_one_piece tag mode w m n (inr (v, (Ok u, k, q))) = inr (v, (Ok u, k, q ∙ at
     at : (u : List ℕ) → ◌≡◌ {A = ContentsMeaning} (Ok u) (Ok w) → string_meaning tag mode (Ok u) ≡ primitive_meaning tag (Ok u)
     at u s = let same : u ≡ w = cc in rw (same, n) refl
 
-pub piece_read_back : {L : Type 0} (items : L → List ℕ) (tag : Tag) (mode : Mode) (x : L) → is_cut mode (length (items x)) ≡ false
-    → IsReadAs (Only tag) (IsLeaf (λ w (y : L). items y ≡ w)) items x (OctetsMean tag (items x) mode)
-piece_read_back {L} items tag mode x n e m =
-    leaf_back tag items x (ExactlyOctets (items x)) (λ w y. items y ≡ w) read e (in_one_piece tag mode (items x) (Ok e) n m)
-  where
-    exactly : (w : List ℕ) → ◌≡◌ {A = ContentsMeaning} (Ok w) (Ok (items x)) → w ≡ items x
-    exactly w k = cc
+module _ {L : Type 0} (items : L → List ℕ) (tag : Tag) (mode : Mode) (x : L) (n : IsPiece mode (items x)) where
+  exactly : (w : List ℕ) → ◌≡◌ {A = ContentsMeaning} (Ok w) (Ok (items x)) → w ≡ items x
+  exactly w k = cc
 
-    read : (w : List ℕ) → ExactlyOctets (items x) (Ok w) → (items x ≡ w) × ((y : L) → items y ≡ w → items y ≡ items x)
-    read w k = let same = exactly w k.0 in (sym same, λ y h. h ∙ same)
+  lent : (w : List ℕ) → w ≡ items x → IsLent items mode w x
+  lent w e = (sym e, subst (IsPiece mode) (sym e) n)
+
+  -- what is written of octets in one piece is read back as them
+  pub piece_read_back : IsReadAs (Only tag) (IsLeaf (IsLent items mode)) items x (OctetsMean tag (items x) mode)
+  piece_read_back e m = leaf_back tag items x (ExactlyOctets (items x)) (IsLent items mode) read e (in_one_piece tag mode (items x) (Ok e) n m)
+    where
+      read : (w : List ℕ) → ExactlyOctets (items x) (Ok w) → IsLent items mode w x × ((y : L) → IsLent items mode w y → items y ≡ items x)
+      read w k = let same = exactly w k.0 in (lent w same, λ y h. h.0 ∙ same)
+
+  -- and so are those of a set
+  pub characters_read_back : (step : Step) → IsOfSet step (items x)
+      → IsReadAs (Only tag) (IsLeaf (IsLentOfSet items step mode)) items x (OctetsMean tag (items x) mode)
+  characters_read_back step s e m =
+      leaf_back tag items x (ExactlyOctets (items x)) (IsLentOfSet items step mode) read e (in_one_piece tag mode (items x) (Ok e) n m)
+    where
+      read : (w : List ℕ) → ExactlyOctets (items x) (Ok w)
+          → IsLentOfSet items step mode w x × ((y : L) → IsLentOfSet items step mode w y → items y ≡ items x)
+      read w k = let same = exactly w k.0 in ((lent w same, subst (IsOfSet step) (sym same) s), λ y h. h.0.0 ∙ same)

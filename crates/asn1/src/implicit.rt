@@ -7,8 +7,8 @@ ghost use Rattle.asn1.specs.Tags.{only_tagged};
 ghost use Rattle.asn1.specs.Markers.{IsFixed, only_fixed};
 
 use crate::{
-    Decode, Definition, Explicit, Fields, FromContents, Leaf, OctetStringRef, Sequence, TagMarker,
-    TaggedCharSet, Type,
+    Decode, Definition, Explicit, Fields, FromContents, Leaf, OctetStringRef, RestrictedStringRef,
+    Sequence, TagMarker, TaggedCharSet, Type,
 };
 use bcder::decode::{Constructed, DecodeError, Source};
 use bcder::string::RestrictedString;
@@ -98,6 +98,10 @@ impl<L: TaggedCharSet> FixedTag for RestrictedString<L> {
 }
 
 impl<L: AsSlice<u8> + Copy + Drop> FixedTag for OctetStringRef<L> {
+    ghost fixed = { only_fixed };
+}
+
+impl<C: TaggedCharSet, L: AsSlice<u8> + Copy + Drop> FixedTag for RestrictedStringRef<C, L> {
     ghost fixed = { only_fixed };
 }
 

@@ -1,13 +1,21 @@
 //! Octets that are lent.
 ghost use Rattle.bcder.specs.x690.OctetString.{octet_string_tag};
-ghost use Rattle.std.specs.Prelude.{ℕ, List, refl, ◌≡◌};
-ghost use Rattle.bcder.specs.calls.Views.{Moved};
+ghost use Rattle.std.specs.Prelude.{◌≡◌, ℕ, List, not, refl};
+ghost use Rattle.bcder.specs.calls.Readers.{ReadOctets};
+ghost use Rattle.bcder.specs.calls.StringMeaning.{is_cut};
+ghost use Rattle.bcder.specs.calls.Views.{octets_before, Moved, MovedOctets};
+ghost use Rattle.asn1.specs.Lent.{IsLent};
 ghost use Rattle.asn1.specs.Types.{IsLeaf, Only, TookNextTyped};
 ghost use Rattle.asn1.specs.Tags.{octet_string_tagged, only_tagged};
 
+mod characters;
+
 use crate::{Decode, Type};
-use bcder::Tag;
-use bcder::decode::{Constructed, DecodeError, LendingSource};
+use bcder::decode::{Constructed, ContentError, DecodeError, LendingSource, Primitive};
+use bcder::{Mode, Tag};
+pub use characters::{
+    Ia5StringRef, NumericStringRef, PrintableStringRef, RestrictedStringRef, Utf8StringRef,
+};
 use std::alloc::Global;
 use std::convert::AsSlice;
 use std::marker::Model;
@@ -41,13 +49,54 @@ impl<L: AsSlice<u8> + Copy + Drop> Type for OctetStringRef<L> {
 
     ghost key = { λ x. L.items x };
 
-    ghost means = { λ _ t x. IsLeaf (λ w (y : L). L.items y ≡ w) t x };
+    ghost means = { λ mode t x. IsLeaf (IsLent L.items mode) t x };
 
     fn values_are_one() {}
 
     ghost tagged = { refl };
 
     ghost value_tags = { only_tagged octet_string_tagged };
+}
+
+/// Returns whether a string of this many octets is in one piece in a mode: in CER it has 1000 at
+/// most (X.690, 9.2).
+#[inline(always)]
+fn is_piece(mode: Mode, len: usize) -> bool
+    ensures { result ≡ not (is_cut mode len) }
+{
+    match mode {
+        Mode::Ber => true,
+        Mode::Cer => len <= 1000,
+        Mode::Der => true,
+    }
+}
+
+/// Refuses octets that should have been cut. All of them have to come, and none is taken.
+#[cold]
+#[inline(never)]
+fn refuse_piece<S: LendingSource>(
+    octets: &mut Primitive<'_, S>,
+) -> Result<S::Lent, DecodeError<S::Error>>
+    ensures moves { MovedOctets S.stream octets }
+    ensures read { ReadOctets S.stream octets (λ _ _. ⊥) result }
+{
+    octets.with_slice_all(|_| Err(ContentError::from_static("a string that is to be cut")))
+}
+
+/// Takes all contents octets, lent, as those of a string in one piece.
+#[inline(always)]
+fn lend_piece<S: LendingSource>(
+    octets: &mut Primitive<'_, S>,
+) -> Result<S::Lent, DecodeError<S::Error>>
+    ensures moves { MovedOctets S.stream octets }
+    ensures read { ReadOctets S.stream octets
+        (IsLent S.Lent.items (octets_before S.stream octets).mode) result }
+{
+    if is_piece(octets.mode(), octets.remaining()) {
+        octets.take_lent()
+    } else {
+        refuse_piece(octets)
+    }
 }
 
 /// Takes the next value if it has this tag. It then has to be primitive, and its contents octets
@@ -59,9 +108,9 @@ fn take_lent_if<S: LendingSource>(
 ) -> Result<Option<S::Lent>, DecodeError<S::Error>>
     ensures moves { Moved S.stream cons }
     ensures took { TookNextTyped S.stream cons (Only tag)
-        (λ _. IsLeaf (λ w b. S.Lent.items b ≡ w)) result }
+        (λ mode. IsLeaf (IsLent S.Lent.items mode)) result }
 {
-    cons.take_opt_primitive_if(tag, |octets| octets.take_lent())
+    cons.take_opt_primitive_if(tag, |octets| lend_piece(octets))
 }
 
 impl<S: LendingSource> Decode<S> for OctetStringRef<S::Lent> {

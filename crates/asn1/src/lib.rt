@@ -38,7 +38,10 @@ pub use implicit::{FixedTag, Implicit};
 pub use leaf::{FromContents, Leaf};
 pub use leaf_written::ToContents;
 pub use leaves::TaggedCharSet;
-pub use lent::OctetStringRef;
+pub use lent::{
+    Ia5StringRef, NumericStringRef, OctetStringRef, PrintableStringRef, RestrictedStringRef,
+    Utf8StringRef,
+};
 pub use list::SequenceOf;
 pub use sequence::Sequence;
 pub use tagged::{Application, Context, Explicit, Private, TagMarker};

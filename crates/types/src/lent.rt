@@ -1,6 +1,9 @@
 //! Octets that are lent (X.690, 8.7, 9.2).
 use crate::rows::{Read, Written, reads, rewrites};
-use asn1::{OctetStringRef, encode};
+use asn1::{
+    Ia5StringRef, NumericStringRef, OctetStringRef, PrintableStringRef, Utf8StringRef, decode,
+    encode,
+};
 use bcder::Mode;
 
 const LENT: [Read; 3] = [
@@ -53,4 +56,93 @@ fn long_octets_are_written(rt: HostRuntime) {
         Ok(encoded) => assert_eq!(rt; encoded.as_slice().len(), 1005),
         Err(_) => panic!(rt; "refused"),
     }
+}
+
+/// The header of an OCTET STRING of 1001 octets in one piece, and of one of 1000.
+const HEADERS: [[u8; 4]; 2] = [[0x04, 0x82, 0x03, 0xE9], [0x04, 0x82, 0x03, 0xE8]];
+
+#[test]
+fn in_cer_long_octets_are_refused(rt: HostRuntime) {
+    let mut octets = [0u8; 1005];
+    for (mode, is_read) in [(Mode::Ber, true), (Mode::Cer, false), (Mode::Der, true)] {
+        octets[..4].copy_from_slice(&HEADERS[0]);
+        let long = decode::<OctetStringRef<&[u8]>, _>(rt.alloc(), mode, octets.as_slice());
+        assert_eq!(rt; long.is_ok(), is_read);
+        octets[..4].copy_from_slice(&HEADERS[1]);
+        let full = decode::<OctetStringRef<&[u8]>, _>(rt.alloc(), mode, &octets[..1004]);
+        assert!(rt; full.is_ok());
+    }
+}
+
+// "ä", "7 8", "A?", "a@"
+const UTF8: [Read; 4] = [
+    (
+        Mode::Der,
+        &[0x0C, 0x02, 0xC3, 0xA4],
+        "RestrictedStringRef { octets: [195, 164], set: PhantomData<_> }",
+    ),
+    // a character is cut; another tag; in segments
+    (Mode::Der, &[0x0C, 0x01, 0xC3], "refused"),
+    (Mode::Der, &[0x16, 0x01, 0x41], "refused"),
+    (Mode::Ber, &[0x2C, 0x03, 0x04, 0x01, 0x41], "refused"),
+];
+
+const NUMERIC: [Read; 2] = [
+    (
+        Mode::Der,
+        &[0x12, 0x03, 0x37, 0x20, 0x38],
+        "RestrictedStringRef { octets: [55, 32, 56], set: PhantomData<_> }",
+    ),
+    (Mode::Der, &[0x12, 0x01, 0x41], "refused"),
+];
+
+const PRINTABLE: [Read; 2] = [
+    (
+        Mode::Cer,
+        &[0x13, 0x02, 0x41, 0x3F],
+        "RestrictedStringRef { octets: [65, 63], set: PhantomData<_> }",
+    ),
+    (Mode::Cer, &[0x13, 0x02, 0x41, 0x40], "refused"),
+];
+
+const IA5: [Read; 2] = [
+    (
+        Mode::Ber,
+        &[0x16, 0x02, 0x61, 0x40],
+        "RestrictedStringRef { octets: [97, 64], set: PhantomData<_> }",
+    ),
+    (Mode::Ber, &[0x16, 0x01, 0x80], "refused"),
+];
+
+const TEXTS: [Written; 2] = [
+    (
+        &[0x0C, 0x02, 0xC3, 0xA4],
+        Mode::Cer,
+        &[0x0C, 0x02, 0xC3, 0xA4],
+    ),
+    (
+        &[0x0C, 0x02, 0xC3, 0xA4],
+        Mode::Der,
+        &[0x0C, 0x02, 0xC3, 0xA4],
+    ),
+];
+
+#[test]
+fn lent_characters_are_text(rt: HostRuntime) {
+    let octets: &[u8] = &[0x0C, 0x02, 0xC3, 0xA4];
+    match decode::<Utf8StringRef<&[u8]>, _>(rt.alloc(), Mode::Der, octets) {
+        Ok(string) => assert_eq!(rt; string.as_str(), "\u{e4}"),
+        Err(_) => panic!(rt; "refused"),
+    }
+    assert!(rt; Utf8StringRef::new(&octets[2..]).is_ok());
+    assert!(rt; Utf8StringRef::new(&octets[2..3]).is_err());
+}
+
+#[test]
+fn lent_characters_are_read_and_written(rt: HostRuntime) {
+    reads::<Utf8StringRef<&[u8]>>(&rt, rt.alloc(), &UTF8);
+    reads::<NumericStringRef<&[u8]>>(&rt, rt.alloc(), &NUMERIC);
+    reads::<PrintableStringRef<&[u8]>>(&rt, rt.alloc(), &PRINTABLE);
+    reads::<Ia5StringRef<&[u8]>>(&rt, rt.alloc(), &IA5);
+    rewrites::<Utf8StringRef<&[u8]>>(&rt, rt.alloc(), &TEXTS);
 }

@@ -1,13 +1,13 @@
 //! OCTET STRING and restricted character strings, written (X.690, 8.7, 8.23, 9.2, 10.2).
-ghost use Rattle.std.specs.Prelude.{◌≡◌, false, length};
-ghost use Rattle.bcder.specs.calls.StringMeaning.{OctetsMean, StringMeans, is_cut};
+ghost use Rattle.bcder.specs.calls.StringMeaning.{OctetsMean, StringMeans};
 ghost use Rattle.bcder.specs.calls.StringOctets.{octets_of};
 ghost use Rattle.bcder.specs.calls.WrittenStrings.{IsMadeUp};
 ghost use Rattle.bcder.specs.laws.StringMeanings.{OctetsMean_lawful, StringMeans_lawful};
 ghost use Rattle.bcder.specs.x690.CharSet.{IsOfSet};
+ghost use Rattle.asn1.specs.Lent.{IsPiece};
 
 use crate::writers::Encode;
-use crate::{OctetStringRef, TaggedCharSet};
+use crate::{OctetStringRef, RestrictedStringRef, TaggedCharSet};
 use bcder::encode::{EncodeError, Values, WriteError};
 use bcder::string::RestrictedString;
 use bcder::{Mode, OctetString, Tag};
@@ -71,7 +71,7 @@ impl<L: TaggedCharSet> Encode for RestrictedString<L> {
 impl<L: AsSlice<u8> + Copy + Drop> Encode for OctetStringRef<L> {
     ghost writes = { λ tag x mode. OctetsMean tag (L.items x) mode };
 
-    ghost is_clear = { λ x mode. is_cut mode (length (L.items x)) ≡ false };
+    ghost is_clear = { λ x mode. IsPiece mode (L.items x) };
 
     fn encoded_len_as(&self, tag: Tag, mode: Mode) -> Result<usize, EncodeError> {
         OctetString::encode_slice_as(self.0, tag).encoded_len(mode)
@@ -84,6 +84,32 @@ impl<L: AsSlice<u8> + Copy + Drop> Encode for OctetStringRef<L> {
         target: &mut W,
     ) -> Result<(), WriteError> {
         OctetString::encode_slice_as(self.0, tag).write_encoded(mode, target)
+    }
+
+    fn is_read_back(_tag: Tag, _mode: Mode) {
+        let _known = (_tag, _mode);
+    }
+
+    ghost lawful = { λ tag x mode. OctetsMean_lawful tag (L.items x) mode };
+}
+
+/// It is written like an [`OctetStringRef`] (X.690, 8.23.3).
+impl<C: TaggedCharSet, L: AsSlice<u8> + Copy + Drop> Encode for RestrictedStringRef<C, L> {
+    ghost writes = { λ tag x mode. OctetsMean tag (L.items x) mode };
+
+    ghost is_clear = { λ x mode. IsPiece mode (L.items x) × IsOfSet C.step (L.items x) };
+
+    fn encoded_len_as(&self, tag: Tag, mode: Mode) -> Result<usize, EncodeError> {
+        OctetString::encode_slice_as(self.octets(), tag).encoded_len(mode)
+    }
+
+    fn write_encoded_as<W: io::Write>(
+        &self,
+        tag: Tag,
+        mode: Mode,
+        target: &mut W,
+    ) -> Result<(), WriteError> {
+        OctetString::encode_slice_as(self.octets(), tag).write_encoded(mode, target)
     }
 
     fn is_read_back(_tag: Tag, _mode: Mode) {
