@@ -14,18 +14,12 @@ use Rattle.bcder.specs.calls.Takes.{TakesNext, RefusesTake, by_header, by_form, 
 use Rattle.bcder.specs.calls.Valued.{HoldsValues, HoldsTree, HasTagged, ReadsTree, RefusesToRead, ReadsContent, ReadsAny, RefusesTree, TakesNextTree}
 use Rattle.bcder.specs.calls.Valued as valued
 use Rattle.bcder.specs.laws.Moved.{untouched_is_moved}
-use Rattle.bcder.proofs.Lemmas.{IsWithinOwed, as_many_are_no_fewer, done_is_at_its_end, grew_in_between, no_values_at_the_end as none_left}
-use Rattle.bcder.proofs.Lemmas.{no_trees_at_the_end as none_left_trees, header_is_there, refused_behind_header, or_false, next_tree, no_tree, primitive_in_front}
+use Rattle.bcder.proofs.Lemmas.{IsWithinOwed, as_many_are_no_fewer, done_is_at_its_end, grew_in_between}
+use Rattle.bcder.proofs.Lemmas.{header_is_there, refused_behind_header, or_false, next_tree, no_tree, primitive_in_front}
 use Rattle.asn1.specs.Types.{AreInside, Only, TakesFields, HoldsNoFields, RefusesFields, ReadsFields, RefusesTyped, TakesNextTyped}
 use Rattle.asn1.specs.Types as types
-use Rattle.asn1.proofs.Reading.{failed_holds_none, none_not_inside}
+use Rattle.asn1.proofs.Reading.{failed_holds_none, none_held_at_end, none_not_inside}
 use Rattle.asn1.proofs.Typed.{next_typed, typed_header}
-
--- ---- no values up to the end, and the end
-
-pub none_at_end : (c : Reading) (after : List ℕ) → c.kind ≢ Octets → EndsBefore c after → HoldsValues c no_trees
-none_at_end c after k (inl e) = inr (e, refl)
-none_at_end c after k (inr e) = inl (record { usable = e.0; values = none_left c after k e.1; are = none_left_trees c after k e.1 })
 
 -- ---- a closure that reads fields, and what the take around it does with what it leaves
 
@@ -71,7 +65,7 @@ module _ {C T X : Type 0} (view : C → Reading) (post : Tag → MutBor C → Re
       → ReadsTree u (Inside i.mode) i x
   tree_read u i l x after r k e =
       let f : TakesFields (Takes i.mode) i x l = r.value in
-      let b = f.before no_trees (none_at_end l after k e) in
+      let b = f.before no_trees (none_held_at_end l after k e) in
       record { tree = constructed u b.0; holds = (refl, b.1); means = b.2 }
 
   module _ (i j : Reading) (t : Tag) (x : T) (u : i.marked ≡ false) (a : AnswersDone {R = Result T (DecodeError X)} view post t i (Ok x) j) where

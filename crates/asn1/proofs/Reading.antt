@@ -2,6 +2,7 @@
 use Rattle.std.proofs.Common.{◌≡◌, ◌≢◌, ℕ, ◌+◌, ◌-◌, ◌≤◌, Bool, true, false, List, [], ◌∷◌, ◌++◌, length, Option, Some, None, refl, ap, sym, ◌∙◌, arith}
 use Rattle.std.proofs.Common.{length-append, append_assoc, append-nil, subst, inl, inr}
 use Rattle.std.specs.Prelude.{Result, Ok, Err}
+use Rattle.bcder.specs.declared.mode.Mode.{Mode}
 use Rattle.bcder.specs.declared.decode.content.State.TheVariants.{Failed}
 use Rattle.bcder.specs.declared.decode.error.DecodeError.{DecodeError}
 use Rattle.bcder.specs.x690.Identifier.{Tag, IsValueTag, identifier, end_of_contents}
@@ -9,7 +10,7 @@ use Rattle.bcder.specs.x690.Tree.{Tree, primitive, constructed, Trees, no_trees,
 use Rattle.bcder.specs.x690.Encoding.{IsHeader, IsEncoding, AreEncodings, IsFramed}
 use Rattle.bcder.specs.calls.Cause.{IsRefusal}
 use Rattle.bcder.specs.calls.Content.{Reading, Octets, Moves, MovesBy, Whole, Falls, NotAtEnd, IsAtEnd, of_octets, of_definite, of_indefinite, of_unbounded}
-use Rattle.bcder.specs.calls.Content.{tagged, HasOther, HasMarker, IsAbsent, IsElsewhere, none_left, other}
+use Rattle.bcder.specs.calls.Content.{EndsBefore, any, tagged, HasOther, HasMarker, IsAbsent, IsElsewhere, none_left, other}
 use Rattle.bcder.specs.calls.Takes.{HasNone}
 use Rattle.bcder.specs.calls.Walking.{NoValue, HasValue, HasValues, PassesValue, ClosesBefore}
 use Rattle.bcder.specs.calls.Valued.{HoldsValues, tag_of}
@@ -17,8 +18,9 @@ use Rattle.bcder.specs.laws.Complete.{only_at_front}
 use Rattle.bcder.specs.laws.Lists.{AreEncodings-one}
 use Rattle.bcder.specs.laws.Moved.{whole_marked}
 use Rattle.bcder.proofs.Lemmas.{open_has_not_ended, open_has_not_failed, IsWithinOwed, values_after, values_with_one_more, trees_with_one_more}
+use Rattle.bcder.proofs.Lemmas.{no_values_at_the_end as none_left_values, no_trees_at_the_end as none_left_trees, done_is_at_its_end}
 use Rattle.bcder.proofs.Lemmas.{no_values_without_a_first, header_is_there, one_values, no_values_of_octets, header_of_tagged}
-use Rattle.asn1.specs.Types.{HasNoneOf, TakesTyped, HasNoTyped, RefusesTyped, TakesNextTyped, IsMember, BeginWithout, IsOptional, AreBoth, TakesFields}
+use Rattle.asn1.specs.Types.{HasNoneOf, elsewhere, at_end, TakesTyped, HasNoTyped, RefusesTyped, TakesNextTyped, IsMember, BeginWithout, IsOptional, AreBoth, TakesFields}
 use Rattle.asn1.specs.Types.{HoldsNoFields, RefusesFields, ReadsFields}
 use Rattle.asn1.specs.Types as types
 use Rattle.asn1.proofs.Members.{no_cons, cons_rest, cons_first}
@@ -125,6 +127,12 @@ module _ (Tags : Tag → Type 0) (c : Reading) (w : IsWithinOwed c) where
   begin_without rest a no_trees h = tt
   begin_without rest a (t ∷ₜ us) h = not_tagged rest a t us h
 
+-- no value with one of the tags comes first in c, and d is the values that it holds
+pub record LeavesAll (Tags : Tag → Type 0) (c d : Reading) : Type 0 where
+  pub begins : (ts : Trees) → HoldsValues c ts → BeginWithout Tags ts
+  pub leaves : (ts : Trees) → HoldsValues c ts → HoldsValues d ts
+  pub held : (us : Trees) → HoldsValues d us → HoldsValues c us
+
 module _ (tag : Tag) (c : Reading) (w : IsWithinOwed c) where
   -- and the other way round
   other_of_header : (t : Tag) (f : Bool) (len : _) (h v behind : List ℕ) → t ≢ tag → IsHeader c.mode t f len h → c.stream.rest ≡ v ++ behind → (body : List ℕ)
@@ -163,12 +171,35 @@ module _ (tag : Tag) (c : Reading) (w : IsWithinOwed c) where
     rest = r ∙ m.rest ∙ ap (λ z. z ++ x) m.is_end.is;
   }
 
-absent_at_end : (c : Reading) → IsWithinOwed c → (c.kind ≢ Octets) → (after : List ℕ) → IsAtEnd c after
+pub absent_at_end : (c : Reading) → IsWithinOwed c → (c.kind ≢ Octets) → (after : List ℕ) → IsAtEnd c after
     → (rest : List ℕ) × ((tag : Tag) → IsValueTag tag → IsElsewhere tag c rest)
 absent_at_end c w k after (of_octets q e) = absurd (k q)
 absent_at_end c w k after (of_definite q e) = ([], λ tag v. none_left (empty tag c w c.stream.rest (w.fits 0 e)) refl)
 absent_at_end c w k after (of_indefinite q m) = (c.stream.rest, λ tag v. other (marker_other tag c w v c.stream.rest after refl m) refl)
 absent_at_end c w k after (of_unbounded q e) = ([], λ tag v. none_left e refl)
+
+framed_tag : (mode : Mode) (t : Tag) (contents v : List ℕ) → IsFramed mode t contents v → IsValueTag t
+framed_tag mode t contents v (inl d) = d.is_header.is_value_tag
+framed_tag mode t contents v (inr d) = d.is_header.is_value_tag
+
+-- what has an encoding has a tag that a value can have
+pub encoded_tag : (mode : Mode) (t : Tree) (v : List ℕ) → IsEncoding mode t v → IsValueTag (tag_of t)
+encoded_tag mode (primitive t b) v k = k.1.is_header.is_value_tag
+encoded_tag mode (constructed t ts) v k = framed_tag mode t k.0 v k.2
+
+-- at its end no value comes next in content
+pub no_value_at_end : (c : Reading) → IsWithinOwed c → c.kind ≢ Octets → (after : List ℕ) → EndsBefore c after → (t : Tree) (v rest : List ℕ)
+    → HasValue c t v rest → ⊥
+no_value_at_end c w k after (inl e) t v rest h = open_has_not_ended c.state h.usable e
+no_value_at_end c w k after (inr e) t v rest h =
+    let a = absent_at_end c w k after e.1 in
+    let f = header_of_tagged c w (tag_of t) t v rest (h, refl) in
+    header_is_there (tag_of t) c f.0 a.0 h.usable f.1 (inr (e.0, a.1 (tag_of t) (encoded_tag c.mode t v h.encodes)))
+
+-- content at its end holds no values
+pub none_held_at_end : (c : Reading) (after : List ℕ) → c.kind ≢ Octets → EndsBefore c after → HoldsValues c no_trees
+none_held_at_end c after k (inl e) = inr (e, refl)
+none_held_at_end c after k (inr e) = inl (record { usable = e.0; values = none_left_values c after k e.1; are = none_left_trees c after k e.1 })
 
 -- ---- where no values are held, content is at its end
 
@@ -241,6 +272,40 @@ none_not_inside c w n (inl h) =
     no_values_without_a_first c h.usable v n h.values
 none_not_inside c w n (inr h) = n.none [] (inl h.0)
 
+-- ---- content at its end, whose marker may have been taken
+
+module _ (c d : Reading) (k : c.kind ≢ Octets) (n : HasNone any c d) where
+  pub ended_held : HoldsValues c no_trees
+  ended_held = none_held_at_end c d.stream.rest k n.missing.0
+
+  pub ended_left : d.kind ≡ c.kind → HoldsValues d no_trees
+  ended_left e = none_held_at_end d d.stream.rest (λ q. k (sym e ∙ q)) (done_is_at_its_end d d.kind refl n.missing.1)
+
+module _ (Tags : Tag → Type 0) (c d : Reading) (w : IsWithinOwed c) (m : Moves c d) (o : d.mode ≡ c.mode) (v : AreTags Tags) where
+  elsewhere_left : ((t : Tag) → Tags t → HasNone (tagged t) c d) → LeavesAll Tags c d
+  elsewhere_left n =
+      let a = none_alike v.own c d (v.value_tags v.own v.is_own) m o (n v.own v.is_own) in
+      record {
+        begins = begin_without Tags c w d.stream.rest (λ u p. (n u p).missing.0);
+        leaves = same_held c d a;
+        held = same_held d c (alike_back c d a);
+      }
+
+  end_left : c.kind ≢ Octets → HasNone any c d → LeavesAll Tags c d
+  unfolding Moves
+  end_left k n =
+      let h = ended_held c d k n in
+      let l = ended_left c d k n m.kind in
+      record {
+        begins = λ ts g. subst (BeginWithout Tags) (held_once c no_trees ts h g) tt;
+        leaves = λ ts g. subst (HoldsValues d) (held_once c no_trees ts h g) l;
+        held = λ us g. subst (HoldsValues c) (held_once d no_trees us l g) h;
+      }
+
+  pub none_leaves_all : HasNoneOf Tags c d → LeavesAll Tags c d
+  none_leaves_all (elsewhere n) = elsewhere_left n
+  none_leaves_all (at_end k n) = end_left k n
+
 -- ---- one value, and one that may be left out
 
 module _ {T : Type 0} (Tags : Tag → Type 0) (Means : Tree → T → Type 0) (c d : Reading) (w : IsWithinOwed c) (m : Moves c d) (o : d.mode ≡ c.mode) where
@@ -304,26 +369,24 @@ module _ {T : Type 0} (Tags : Tag → Type 0) (Means : Tree → T → Type 0) (c
 
   -- it is left out
   module _ (v : AreTags Tags) (n : HasNoneOf Tags c d) where
-    absent : (u : Tag) → Tags u → IsAbsent (tagged u) c d.stream.rest
-    absent u p = (n u p).missing.0
+    left : LeavesAll Tags c d
+    left = none_leaves_all Tags c d w m o v n
 
-    same_content : Alike c d
-    same_content = none_alike v.own c d (v.value_tags v.own v.is_own) m o (n v.own v.is_own)
+    not_begun : (t : Tree) (us : Trees) → HoldsValues c (t ∷ₜ us) → Tags (tag_of t) → ⊥
+    not_begun t us h = left.begins (t ∷ₜ us) h
 
     pub none_behind : (ts us : Trees) (y : Option T) → HoldsValues c ts → IsOptional Tags Means ts y us → HoldsValues d us
-    none_behind ts us (Some y) k g = absurd (not_tagged Tags c w d.stream.rest absent g.tree us (member_tagged Tags Means c ts us y k g) g.tagged)
-    none_behind ts us None k g = subst (HoldsValues d) (sym g.1) (same_held c d same_content ts k)
+    none_behind ts us (Some y) k g = absurd (not_begun g.tree us (member_tagged Tags Means c ts us y k g) g.tagged)
+    none_behind ts us None k g = subst (HoldsValues d) (sym g.1) (left.leaves ts k)
 
     pub none_before : (us : Trees) → HoldsValues d us → (ts : Trees) × HoldsValues c ts × IsOptional Tags Means ts None us
-    none_before us k =
-        let h : HoldsValues c us = same_held d c (alike_back c d same_content) us k in
-        (us, h, (begin_without Tags c w d.stream.rest absent us h, refl))
+    none_before us k = let h : HoldsValues c us = left.held us k in (us, h, (left.begins us h, refl))
 
     optional_none : TakesFields (IsOptional Tags Means) c None d
     optional_none = record { before = none_before; behind = none_behind }
 
     pub member_missing : HoldsNoFields (IsMember Tags Means) c
-    member_missing ts us y k g = not_tagged Tags c w d.stream.rest absent g.tree us (member_tagged Tags Means c ts us y k g) g.tagged
+    member_missing ts us y k g = not_begun g.tree us (member_tagged Tags Means c ts us y k g) g.tagged
 
   -- it was refused
   pub no_member : HasNoTyped Tags Means c → HoldsNoFields (IsMember Tags Means) c

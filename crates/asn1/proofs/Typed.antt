@@ -9,14 +9,14 @@ use Rattle.bcder.specs.calls.Takes.{HasNone}
 use Rattle.bcder.specs.calls.Valued.{TakesTree, HasNoTree, WantsMemoryFor, RefusesTree, TakesNextTree}
 use Rattle.bcder.specs.calls.Valued as valued
 use Rattle.bcder.proofs.Lemmas.{IsWithinOwed, header_of_tagged}
-use Rattle.asn1.specs.Types.{Only, HasNoneOf, TakesTyped, HasNoTyped, HasTypedHeader, RefusesTyped, TakesNextTyped}
+use Rattle.asn1.specs.Types.{Only, HasNoneOf, elsewhere, TakesTyped, HasNoTyped, AllocatesFor, of_header, RefusesTyped, TakesNextTyped}
 use Rattle.asn1.specs.Types as types
 
 pub none_of_one : (tag : Tag) (c d : Reading) → HasNone (tagged tag) c d → HasNoneOf (Only tag) c d
-none_of_one tag c d n u e = subst (λ t. HasNone (tagged t) c d) (sym e) n
+none_of_one tag c d n = elsewhere (λ u e. subst (λ t. HasNone (tagged t) c d) (sym e) n)
 
-pub typed_header : (tag : Tag) (c : Reading) (after : List ℕ) → HasHeader (tagged tag) c after → HasTypedHeader (Only tag) c
-typed_header tag c after h = record { tag = tag; is_one = refl; after = after; header = h }
+pub typed_header : (tag : Tag) (c : Reading) (after : List ℕ) → HasHeader (tagged tag) c after → AllocatesFor (Only tag) c
+typed_header tag c after h = of_header (record { tag = tag; is_one = refl; after = after; header = h })
 
 module _ {T : Type 0} (tag : Tag) (Means : Tree → T → Type 0) (c d : Reading) (w : IsWithinOwed c) where
   taken : (x : T) → TakesTree tag Means c x d → TakesTyped (Only tag) Means c x d
@@ -25,7 +25,7 @@ module _ {T : Type 0} (tag : Tag) (Means : Tree → T → Type 0) (c d : Reading
   pub none_there : HasNoTree tag Means c → HasNoTyped (Only tag) Means c
   none_there n = record { usable = n.usable; value = n.value; absent = λ rest f. n.absent rest (f tag refl) }
 
-  needed : WantsMemoryFor tag Means c → HasTypedHeader (Only tag) c
+  needed : WantsMemoryFor tag Means c → AllocatesFor (Only tag) c
   needed (valued.WantsMemoryFor.of_value t v rest x h m) = (let y = header_of_tagged c w tag t v rest h in typed_header tag c y.0 y.1)
   needed (valued.WantsMemoryFor.of_header o after h f) = typed_header tag c after h
 

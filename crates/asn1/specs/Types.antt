@@ -1,5 +1,5 @@
 -- What types of ASN.1 say of values, and what their readers return.
-use Rattle.std.specs.Prelude.{◌≡◌, ℕ, List, [], ◌∷◌, Option, Some, None, Result, IfOk, IfErr, IfSome, IfNone, OnOk, OnErr}
+use Rattle.std.specs.Prelude.{◌≡◌, ◌≢◌, ℕ, List, [], ◌∷◌, Option, Some, None, Result, IfOk, IfErr, IfSome, IfNone, OnOk, OnErr}
 use Rattle.std.specs.Borrow.{MutBor}
 use denote.Triple.Both.{Both}
 use Rattle.bcder.specs.declared.mode.Mode.{Mode}
@@ -7,10 +7,11 @@ use Rattle.bcder.specs.declared.decode.content.Constructed.{Constructed}
 use Rattle.bcder.specs.declared.decode.content.State.TheVariants.{Open, Failed}
 use Rattle.bcder.specs.declared.decode.error.DecodeError.{DecodeError}
 use Rattle.bcder.specs.calls.Cause.{cause_of, of_source, of_memory, IsRefusal}
-use Rattle.bcder.specs.x690.Identifier.{Tag}
+use Rattle.bcder.specs.x690.Identifier.{Tag, IsValueTag}
 use Rattle.bcder.specs.x690.Tree.{Tree, primitive, constructed, Trees, no_trees, ◌∷ₜ◌}
 use Rattle.bcder.specs.calls.Stream.{Stream, Grew}
-use Rattle.bcder.specs.calls.Content.{Reading, tagged, IsAbsent, HasHeader}
+use Rattle.bcder.specs.calls.CapturingValues.{BeginsDeep}
+use Rattle.bcder.specs.calls.Content.{Reading, Octets, any, tagged, IsAbsent, HasHeader}
 use Rattle.bcder.specs.calls.Takes.{HasNone}
 use Rattle.bcder.specs.calls.Walking.{HasValue}
 use Rattle.bcder.specs.calls.Valued.{tag_of, HoldsValues}
@@ -38,9 +39,11 @@ Only tag t = t ≡ tag
 abbrev pub HasTagged : (Tag → Type 0) → Reading → Tree → List ℕ → List ℕ → Type 0
 HasTagged Tags c t w rest = HasValue c t w rest × Tags (tag_of t)
 
--- no value with one of the tags comes next
-abbrev pub HasNoneOf : (Tag → Type 0) → Reading → Reading → Type 0
-HasNoneOf Tags c d = (t : Tag) → Tags t → HasNone (tagged t) c d
+-- no value with one of the tags comes next: content shows that of each of them and is as it was, or it is at its end,
+-- whose marker, if any, was taken
+pub data HasNoneOf (Tags : Tag → Type 0) (c d : Reading) : Type 0 where
+  elsewhere : ((t : Tag) → Tags t → HasNone (tagged t) c d) → HasNoneOf Tags c d
+  at_end : c.kind ≢ Octets → HasNone any c d → HasNoneOf Tags c d
 
 -- the header of a value with one of the tags comes next
 pub record HasTypedHeader (Tags : Tag → Type 0) (c : Reading) : Type 0 where
@@ -48,6 +51,11 @@ pub record HasTypedHeader (Tags : Tag → Type 0) (c : Reading) : Type 0 where
   pub is_one : Tags tag
   pub after : List ℕ
   pub header : HasHeader (tagged tag) c after
+
+-- what memory may run out for: a value with one of the tags, whose header comes next; or, if all tags are among them, a deep one
+pub data AllocatesFor (Tags : Tag → Type 0) (c : Reading) : Type 0 where
+  of_header : HasTypedHeader Tags c → AllocatesFor Tags c
+  of_depth : ((t : Tag) → IsValueTag t → Tags t) → BeginsDeep c → AllocatesFor Tags c
 
 module _ {T : Type 0} (Tags : Tag → Type 0) (Means : Tree → T → Type 0) where
   -- a value was taken as what it means
@@ -70,7 +78,7 @@ module _ {T : Type 0} (Tags : Tag → Type 0) (Means : Tree → T → Type 0) wh
     pub data RefusesTyped (c : Reading) (e : DecodeError X) (d : Reading) : Type 0 where
       failed : c.state ≡ Failed → IsRefusal e → RefusesTyped c e d
       source : cause_of e ≡ of_source → Grew c.stream.faults d.stream.faults → RefusesTyped c e d
-      memory : cause_of e ≡ of_memory → HasTypedHeader Tags c → RefusesTyped c e d
+      memory : cause_of e ≡ of_memory → AllocatesFor Tags c → RefusesTyped c e d
       broken : HasNoTyped c → IsRefusal e → RefusesTyped c e d
 
     -- the effect of a call that returns the value, or that there is none with the tags
