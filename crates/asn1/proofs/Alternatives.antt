@@ -17,10 +17,10 @@ use Rattle.bcder.proofs.Lemmas.{IsWithinOwed, as_many_are_no_fewer, grew_in_betw
 use Rattle.bcder.proofs.Lemmas.{open_has_not_ended, open_has_not_failed}
 use Rattle.asn1.specs.declared.choice.Choice2.{Choice2}
 use Rattle.asn1.specs.declared.choice.Choice2.TheVariants.{One, Two}
-use Rattle.asn1.specs.Types.{HasTagged, HasNoneOf, elsewhere, at_end, AllocatesFor, of_header, of_depth, TakesTyped, HasNoTyped, RefusesTyped, TakesNextTyped}
+use Rattle.asn1.specs.Types.{HasTagged, HasNoneOf, elsewhere, at_end, AllocatesFor, of_header, of_depth, MayHave, by_tags, by_end, TakesTyped, HasNoTyped, RefusesTyped, TakesNextTyped}
 use Rattle.asn1.specs.Types as types
 use Rattle.asn1.specs.Choices.{EitherTag, IsChoice}
-use Rattle.asn1.proofs.Reading.{Alike, alike_back, none_alike, other_of_value, AreTags, absent_at_end, no_value_at_end}
+use Rattle.asn1.proofs.Reading.{Alike, alike_back, none_alike, other_of_value, AreTags, absent_at_end, encoded_tag, no_value_at_end}
 
 -- ---- what stands in front of content stands in front of its like
 
@@ -58,18 +58,20 @@ module _ (c d : Reading) (a : Alike c d) where
   ends_there after (inr (s, of_definite q e)) = inr (a.state ∙ s, of_definite (a.kind ∙ q) (a.owed ∙ e))
   ends_there after (inr (s, of_unbounded q e)) = inr (a.state ∙ s, of_unbounded (a.kind ∙ q) (a.rest ∙ e))
   ends_there after (inr (s, of_indefinite q m)) =
-      inr
-      (a.state ∙ s,
-      of_indefinite (a.kind ∙ q)
-      (subst (λ z. HasMarker z d.stream.rest after) (sym a.mode) (subst (λ z. HasMarker c.mode z after) (sym a.rest) m)))
+      inr (
+        a.state ∙ s,
+        of_indefinite (a.kind ∙ q)
+            (subst (λ z. HasMarker z d.stream.rest after) (sym a.mode) (subst (λ z. HasMarker c.mode z after) (sym a.rest) m)),
+      )
 
   done_there : IsDone c → IsDone d
   done_there (inl e) = inl (a.state ∙ e)
   done_there (inr e) =
-      inr
-      (a.state ∙ e.0,
-      subst (λ z. IsUsedUp z d.owed d.stream.rest) (sym a.kind)
-      (subst (λ z. IsUsedUp c.kind z d.stream.rest) (sym a.owed) (subst (λ z. IsUsedUp c.kind c.owed z) (sym a.rest) e.1)))
+      inr (
+        a.state ∙ e.0,
+        subst (λ z. IsUsedUp z d.owed d.stream.rest) (sym a.kind)
+            (subst (λ z. IsUsedUp c.kind z d.stream.rest) (sym a.owed) (subst (λ z. IsUsedUp c.kind c.owed z) (sym a.rest) e.1)),
+      )
 
 deep_there : (c d : Reading) → Alike c d → BeginsDeep c → BeginsDeep d
 deep_there c d a h = record {
@@ -94,8 +96,14 @@ module _ {A B : Type 0} (P : Tag → Type 0) (M : Mode → Tree → A → Type 0
 
   no_value : HasNoTyped P (M c.mode) c → (t : Tree) (v rest : List ℕ) (x : Choice2 A B) → HasTagged (EitherTag P Q) c t v rest → Means t x → ⊥
   no_value n t v rest (One a) h k = n.value t v rest a (h.0, k.0) k.1
-  no_value n t v rest (Two b) h k =
-      n.absent c.stream.rest (λ u p. inr (n.usable, other (other_of_value u c w t v rest (λ q. k.0 (subst P (sym q) p)) h.0.encodes h.0.rest) refl))
+  no_value n t v rest (Two b) h k = elim n.absent [
+    | by_tags f ↦ f c.stream.rest (λ u p. inr (n.usable, other (other_of_value u c w t v rest (λ q. k.0 (subst P (sym q) p)) h.0.encodes h.0.rest) refl))
+    | by_end f e ↦ k.0 (f (tag_of t) (encoded_tag c.mode t v h.0.encodes))
+  ]
+
+  one_may : MayHave P c → MayHave (EitherTag P Q) c
+  one_may (by_tags f) = by_tags (λ rest g. f rest (λ t p. g t (inl p)))
+  one_may (by_end f e) = by_end (λ t g. inl (f t g)) e
 
   pub next_one : {X : Type 0} (a : A) → TakesNextTyped P (M c.mode) {X = X} c (Ok (Some a)) d
       → TakesNextTyped (EitherTag P Q) Means {X = X} c (Ok (Some (One a))) d
@@ -110,7 +118,7 @@ module _ {A B : Type 0} (P : Tag → Type 0) (M : Mode → Tree → A → Type 0
   one_refused f (types.RefusesTyped.source s g) = types.RefusesTyped.source s g
   one_refused f (types.RefusesTyped.memory s h) = types.RefusesTyped.memory s (one_allocates h)
   one_refused f (types.RefusesTyped.broken n z) =
-      types.RefusesTyped.broken (record { usable = n.usable; value = no_value n; absent = λ rest g. n.absent rest (λ t p. g t (inl p)) }) z
+      types.RefusesTyped.broken (record { usable = n.usable; value = no_value n; absent = one_may n.absent }) z
 
   pub fails_one : {X : Type 0} (f : DecodeError X) → TakesNextTyped P (M c.mode) c (Err f) d → TakesNextTyped (EitherTag P Q) Means c (Err f) d
   fails_one f n = record { value = tt; none = tt; no_fault = tt; refused = one_refused f n.refused; failed = n.failed; mode = n.mode; marked = n.marked }
@@ -176,6 +184,10 @@ module _ {A B : Type 0} (P : Tag → Type 0) (M : Mode → Tree → A → Type 0
       no_second h t u rest (One a) z k = not_first t u rest z.0 k.0
       no_second h t u rest (Two b) z k = h.value t u rest b (value_there c d same t u rest z.0, k.1.0) k.1.1
 
+      two_may : MayHave Q d → MayHave (EitherTag P Q) c
+      two_may (by_tags f) = by_tags (λ rest g. f rest (λ t p. absent_there c d same t rest (g t (inr p))))
+      two_may (by_end f h) = by_end (λ t g. inr (f t g)) (record { none = λ after g. h.none after (ends_there c d same after g) })
+
       two_allocates : AllocatesFor Q d → AllocatesFor (EitherTag P Q) c
       two_allocates (of_header h) =
           of_header (record { tag = h.tag; is_one = inr h.is_one; after = h.after; header = header_there d c back (tagged h.tag) h.after h.header })
@@ -190,7 +202,7 @@ module _ {A B : Type 0} (P : Tag → Type 0) (M : Mode → Tree → A → Type 0
           let none : HasNoTyped (EitherTag P Q) Means c = record {
             usable = sym same.state ∙ h.usable;
             value = no_second h;
-            absent = λ rest g. h.absent rest (λ t p. absent_there c d same t rest (g t (inr p)));
+            absent = two_may h.absent;
           } in
           types.RefusesTyped.broken none z
 
@@ -251,12 +263,13 @@ module _ {A B : Type 0} (P : Tag → Type 0) (M : Mode → Tree → A → Type 0
               let a = absent_at_end d x form d.stream.rest r.1 in
               header_is_there h.tag d h.after a.0 r.0 h.header (inr (r.0, a.1 h.tag (i.value_tags h.tag h.is_one)))
       fails_at_end i q f y (types.RefusesTyped.memory g (of_depth r h)) = absurd (h.some.none d.stream.rest ends)
-      fails_at_end i q f y (types.RefusesTyped.broken h r) = absurd (none_absent_there ends)
+      fails_at_end i q f y (types.RefusesTyped.broken h r) = absurd (not_there h.absent ends)
         where
-          none_absent_there : EndsBefore d d.stream.rest → ⊥
-          none_absent_there (inl g) = open_has_not_ended d.state h.usable g
-          none_absent_there (inr g) =
-              (let a = absent_at_end d x form d.stream.rest g.1 in h.absent a.0 (λ t p. inr (g.0, a.1 t (i.value_tags t p))))
+          not_there : MayHave Q d → EndsBefore d d.stream.rest → ⊥
+          not_there (by_end f e) g = e.none d.stream.rest g
+          not_there (by_tags f) (inl g) = open_has_not_ended d.state h.usable g
+          not_there (by_tags f) (inr g) =
+              (let a = absent_at_end d x form d.stream.rest g.1 in f a.0 (λ t p. inr (g.0, a.1 t (i.value_tags t p))))
 
     two_there : HasNoneOf P c d → (b : B) → TakesTyped Q (N c.mode) d b e → TakesTyped (EitherTag P Q) Means c (Two b) e
     two_there (elsewhere s) b h = two_taken s b h

@@ -11,7 +11,7 @@ use Rattle.bcder.specs.calls.Typed as typed
 use Rattle.bcder.specs.calls.Readers.{MeanNothing}
 use Rattle.bcder.specs.calls.Walking.{HasValue}
 use Rattle.bcder.proofs.Lemmas.{IsWithinOwed, value_once, header_is_there, header_of_tagged}
-use Rattle.asn1.specs.Types.{IsLeaf, Only, HasTagged, TakesTyped, RefusesTyped, TakesNextTyped}
+use Rattle.asn1.specs.Types.{IsLeaf, Only, HasTagged, by_tags, TakesTyped, RefusesTyped, TakesNextTyped}
 use Rattle.asn1.specs.Types as types
 use Rattle.asn1.proofs.Typed.{none_of_one, typed_header}
 
@@ -39,7 +39,7 @@ module _ {T X : Type 0} (tag : Tag) (Means : List ℕ → T → Type 0) (Refuses
   refused_contents z v rest e p (inl n) =
       let h = header_of_tagged c w tag (primitive tag z) v rest (p, refl) in
       types.RefusesTyped.broken
-      (record { usable = p.usable; value = nothing_leaf z v rest p n.0; absent = λ x f. header_is_there tag c h.0 x p.usable h.1 (f tag refl) }) n.1
+      (record { usable = p.usable; value = nothing_leaf z v rest p n.0; absent = by_tags (λ x f. header_is_there tag c h.0 x p.usable h.1 (f tag refl)) }) n.1
   refused_contents z v rest e p (inr m) =
       (let h = header_of_tagged c w tag (primitive tag z) v rest (p, refl) in types.RefusesTyped.memory m (typed_header tag c h.0 h.1))
 
@@ -47,7 +47,7 @@ module _ {T X : Type 0} (tag : Tag) (Means : List ℕ → T → Type 0) (Refuses
   leaf_refused e (typed.RefusesAs.failed s a) = types.RefusesTyped.failed s a
   leaf_refused e (typed.RefusesAs.source s g) = types.RefusesTyped.source s g
   leaf_refused e (typed.RefusesAs.broken b a) =
-      types.RefusesTyped.broken (record { usable = b.usable; value = broken_leaf b; absent = λ rest f. b.absent rest (f tag refl) }) a.refused
+      types.RefusesTyped.broken (record { usable = b.usable; value = broken_leaf b; absent = by_tags (λ rest f. b.absent rest (f tag refl)) }) a.refused
   leaf_refused e (typed.RefusesAs.refused z v rest p n) = refused_contents z v rest e p (nothing z e n)
 
   pub next_leaf : (r : Result (Option T) (DecodeError X)) → TakesNextAs tag Means Refuses c r d → TakesNextTyped (Only tag) (IsLeaf Means) c r d

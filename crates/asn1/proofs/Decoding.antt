@@ -25,8 +25,7 @@ use Rattle.asn1.specs.Types.{IsMember, TakesFields, HoldsNoFields, RefusesFields
 use Rattle.asn1.specs.Types as types
 use Rattle.asn1.specs.Decoded.{IsValueOf, RefusesAll}
 use Rattle.asn1.specs.Decoded as decoded
-use Rattle.asn1.proofs.Enclosed.{none_at_end}
-use Rattle.asn1.proofs.Reading.{member_tagged}
+use Rattle.asn1.proofs.Reading.{member_tagged, none_held_at_end}
 
 unbounded_not_octets : UnboundedValues ≢ Octets
 unbounded_not_octets e = cc
@@ -79,7 +78,7 @@ module _ {T : Type 0} (mode : Mode) (Tags : Tag → Type 0) (Means : Tree → T 
     left_unbounded = m.kind ∙ o.kind
 
     none_held : j.stream.rest ≡ [] → HoldsValues j no_trees
-    none_held e = none_at_end j [] (λ k. unbounded_not_octets (sym left_unbounded ∙ k)) (inr (left_open, of_unbounded left_unbounded e))
+    none_held e = none_held_at_end j [] (λ k. unbounded_not_octets (sym left_unbounded ∙ k)) (inr (left_open, of_unbounded left_unbounded e))
 
     value_of : (x : T) → TakesFields (IsMember Tags Means) i x j → j.stream.rest ≡ [] → IsValueOf mode Tags Means s.rest x
     value_of x t e =

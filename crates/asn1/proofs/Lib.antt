@@ -26,3 +26,4 @@ pub mod DefaultedBack
 pub mod Rows
 pub mod BitsBack
 pub mod PassedOver
+pub mod Kept

@@ -20,7 +20,7 @@ use Rattle.bcder.specs.laws.Moved.{whole_marked}
 use Rattle.bcder.proofs.Lemmas.{open_has_not_ended, open_has_not_failed, IsWithinOwed, values_after, values_with_one_more, trees_with_one_more}
 use Rattle.bcder.proofs.Lemmas.{no_values_at_the_end as none_left_values, no_trees_at_the_end as none_left_trees, done_is_at_its_end}
 use Rattle.bcder.proofs.Lemmas.{no_values_without_a_first, header_is_there, one_values, no_values_of_octets, header_of_tagged}
-use Rattle.asn1.specs.Types.{HasNoneOf, elsewhere, at_end, TakesTyped, HasNoTyped, RefusesTyped, TakesNextTyped, IsMember, BeginWithout, IsOptional, AreBoth, TakesFields}
+use Rattle.asn1.specs.Types.{HasNoneOf, elsewhere, at_end, by_tags, by_end, TakesTyped, HasNoTyped, RefusesTyped, TakesNextTyped, IsMember, BeginWithout, IsOptional, AreBoth, TakesFields}
 use Rattle.asn1.specs.Types.{HoldsNoFields, RefusesFields, ReadsFields}
 use Rattle.asn1.specs.Types as types
 use Rattle.asn1.proofs.Members.{no_cons, cons_rest, cons_first}
@@ -395,19 +395,27 @@ module _ {T : Type 0} (Tags : Tag → Type 0) (Means : Tree → T → Type 0) (c
       n.value g.tree s.front s.behind y (s.has, g.tagged) g.means
 
   pub none_absent : AreTags Tags → (n : HasNoTyped Tags Means c) → (ts : Trees) → HoldsValues c ts → BeginWithout Tags ts → ⊥
-  none_absent v n no_trees (inr h) b = open_has_not_ended c.state n.usable h.0
-  none_absent v n no_trees (inl h) b =
-      let k : c.kind ≢ Octets = (λ q. no_values_of_octets c q h.values) in
-      none_not_inside c w (record {
-        none = λ x z. elim z [
-          | inl y ↦ open_has_not_ended c.state n.usable y
-          | inr y ↦ (let q = absent_at_end c w k x y.1 in n.absent q.0 (λ u p. inr (y.0, q.1 u (v.value_tags u p))))
-        ];
-      }) (inl h)
-  none_absent v n (t ∷ₜ us) h b =
-      let s = stands c t us h in
-      n.absent c.stream.rest
-      (λ u p. inr (n.usable, other (other_of_value u c w t s.front s.behind (λ q. b (subst Tags (sym q) p)) s.has.encodes s.has.rest) refl))
+  none_absent v n ts h b = elim n.absent [ by_tags q ↦ none_by_tags q ts h b | by_end f e ↦ none_by_end f e ts h b ]
+    where
+      none_by_tags : ((rest : List ℕ) → ((t : Tag) → Tags t → IsAbsent (tagged t) c rest) → ⊥) → (ts : Trees) → HoldsValues c ts
+          → BeginWithout Tags ts → ⊥
+      none_by_tags q no_trees (inr h) b = open_has_not_ended c.state n.usable h.0
+      none_by_tags q no_trees (inl h) b =
+          let k : c.kind ≢ Octets = (λ q. no_values_of_octets c q h.values) in
+          none_not_inside c w (record {
+            none = λ x z. elim z [
+              | inl y ↦ open_has_not_ended c.state n.usable y
+              | inr y ↦ (let a = absent_at_end c w k x y.1 in q a.0 (λ u p. inr (y.0, a.1 u (v.value_tags u p))))
+            ];
+          }) (inl h)
+      none_by_tags q (t ∷ₜ us) h b =
+          let s = stands c t us h in
+          q c.stream.rest
+          (λ u p. inr (n.usable, other (other_of_value u c w t s.front s.behind (λ q. b (subst Tags (sym q) p)) s.has.encodes s.has.rest) refl))
+
+      none_by_end : ((t : Tag) → IsValueTag t → Tags t) → NotAtEnd c → (ts : Trees) → HoldsValues c ts → BeginWithout Tags ts → ⊥
+      none_by_end f e no_trees h b = none_not_inside c w e h
+      none_by_end f e (t ∷ₜ us) h b = let s = stands c t us h in b (f (tag_of t) (encoded_tag c.mode t s.front s.has.encodes))
 
   pub no_optional : AreTags Tags → HasNoTyped Tags Means c → HoldsNoFields (IsOptional Tags Means) c
   no_optional v n ts us (Some y) k g = no_member n ts us y k g

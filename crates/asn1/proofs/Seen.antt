@@ -5,26 +5,39 @@ use Rattle.bcder.specs.declared.decode.error.DecodeError.{DecodeError}
 use Rattle.bcder.specs.x690.Identifier.{Tag}
 use Rattle.bcder.specs.x690.Tree.{Tree}
 use Rattle.bcder.specs.calls.Content.{Reading}
+use Rattle.asn1.specs.Types.{HasNoneOf, elsewhere, at_end, AllocatesFor, of_header, of_depth, MayHave, by_tags, by_end}
 use Rattle.asn1.specs.Types.{HasNoTyped, RefusesTyped, TakesNextTyped}
 use Rattle.asn1.specs.Types as types
+
+module _ (Tags Others : Tag → Type 0) (to : (t : Tag) → Tags t → Others t) (back : (t : Tag) → Others t → Tags t) (c d : Reading) where
+  may_seen : MayHave Tags c → MayHave Others c
+  may_seen (by_tags f) = by_tags (λ rest g. f rest (λ t p. g t (to t p)))
+  may_seen (by_end f e) = by_end (λ t g. to t (f t g)) e
+
+  allocates_seen : AllocatesFor Tags c → AllocatesFor Others c
+  allocates_seen (of_header h) = of_header (record { tag = h.tag; is_one = to h.tag h.is_one; after = h.after; header = h.header })
+  allocates_seen (of_depth f h) = of_depth (λ t g. to t (f t g)) h
+
+  none_seen : HasNoneOf Tags c d → HasNoneOf Others c d
+  none_seen (elsewhere f) = elsewhere (λ t p. f t (back t p))
+  none_seen (at_end k n) = at_end k n
 
 module _ {A V X : Type 0} (Tags Others : Tag → Type 0) (to : (t : Tag) → Tags t → Others t) (back : (t : Tag) → Others t → Tags t) (Means : Tree → A → Type 0)
     (view : V → A) (c d : Reading) where
   refused_seen : (e : DecodeError X) → RefusesTyped Tags Means c e d → RefusesTyped Others (λ (t : Tree) (x : V). Means t (view x)) c e d
   refused_seen e (types.RefusesTyped.failed s a) = types.RefusesTyped.failed s a
   refused_seen e (types.RefusesTyped.source s g) = types.RefusesTyped.source s g
-  refused_seen e (types.RefusesTyped.memory s h) =
-      types.RefusesTyped.memory s (record { tag = h.tag; is_one = to h.tag h.is_one; after = h.after; header = h.header })
+  refused_seen e (types.RefusesTyped.memory s h) = types.RefusesTyped.memory s (allocates_seen Tags Others to back c d h)
   refused_seen e (types.RefusesTyped.broken n a) =
       let none : HasNoTyped Others (λ (t : Tree) (x : V). Means t (view x)) c = record {
         usable = n.usable;
         value = λ t w rest x h k. n.value t w rest (view x) (h.0, back _ h.1) k;
-        absent = λ rest f. n.absent rest (λ t p. f t (to t p));
+        absent = may_seen Tags Others to back c d n.absent;
       } in
       types.RefusesTyped.broken none a
 
   pub retagged_none : TakesNextTyped Tags Means {X = X} c (Ok None) d → TakesNextTyped Others (λ (t : Tree) (x : V). Means t (view x)) {X = X} c (Ok None) d
-  retagged_none r = record { value = tt; none = λ t p. r.none t (back t p); no_fault = r.no_fault; refused = tt; failed = tt; mode = r.mode; marked = r.marked }
+  retagged_none r = record { value = tt; none = none_seen Tags Others to back c d r.none; no_fault = r.no_fault; refused = tt; failed = tt; mode = r.mode; marked = r.marked }
 
   pub retagged_refuses : (e : DecodeError X) → TakesNextTyped Tags Means c (Err e) d
       → TakesNextTyped Others (λ (t : Tree) (x : V). Means t (view x)) c (Err e) d

@@ -9,7 +9,7 @@ use Rattle.bcder.specs.calls.Takes.{HasNone}
 use Rattle.bcder.specs.calls.Valued.{TakesTree, HasNoTree, WantsMemoryFor, RefusesTree, TakesNextTree}
 use Rattle.bcder.specs.calls.Valued as valued
 use Rattle.bcder.proofs.Lemmas.{IsWithinOwed, header_of_tagged}
-use Rattle.asn1.specs.Types.{Only, HasNoneOf, elsewhere, TakesTyped, HasNoTyped, AllocatesFor, of_header, RefusesTyped, TakesNextTyped}
+use Rattle.asn1.specs.Types.{Only, HasNoneOf, elsewhere, TakesTyped, HasNoTyped, AllocatesFor, of_header, by_tags, RefusesTyped, TakesNextTyped}
 use Rattle.asn1.specs.Types as types
 
 pub none_of_one : (tag : Tag) (c d : Reading) → HasNone (tagged tag) c d → HasNoneOf (Only tag) c d
@@ -23,7 +23,7 @@ module _ {T : Type 0} (tag : Tag) (Means : Tree → T → Type 0) (c d : Reading
   taken x h = record { tree = h.tree; octets = h.octets; has = h.has; means = h.means; stays = h.stays }
 
   pub none_there : HasNoTree tag Means c → HasNoTyped (Only tag) Means c
-  none_there n = record { usable = n.usable; value = n.value; absent = λ rest f. n.absent rest (f tag refl) }
+  none_there n = record { usable = n.usable; value = n.value; absent = by_tags (λ rest f. n.absent rest (f tag refl)) }
 
   needed : WantsMemoryFor tag Means c → AllocatesFor (Only tag) c
   needed (valued.WantsMemoryFor.of_value t v rest x h m) = (let y = header_of_tagged c w tag t v rest h in typed_header tag c y.0 y.1)

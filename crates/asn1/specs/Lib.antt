@@ -12,3 +12,4 @@ pub mod Tuples
 pub mod ChoicesWritten
 pub mod DefaultsWritten
 pub mod Lent
+pub mod Anything

@@ -11,7 +11,7 @@ use Rattle.bcder.specs.x690.Identifier.{Tag, IsValueTag}
 use Rattle.bcder.specs.x690.Tree.{Tree, primitive, constructed, Trees, no_trees, ◌∷ₜ◌}
 use Rattle.bcder.specs.calls.Stream.{Stream, Grew}
 use Rattle.bcder.specs.calls.CapturingValues.{BeginsDeep}
-use Rattle.bcder.specs.calls.Content.{Reading, Octets, any, tagged, IsAbsent, HasHeader}
+use Rattle.bcder.specs.calls.Content.{Reading, Octets, any, tagged, IsAbsent, NotAtEnd, HasHeader}
 use Rattle.bcder.specs.calls.Takes.{HasNone}
 use Rattle.bcder.specs.calls.Walking.{HasValue}
 use Rattle.bcder.specs.calls.Valued.{tag_of, HoldsValues}
@@ -57,6 +57,12 @@ pub data AllocatesFor (Tags : Tag → Type 0) (c : Reading) : Type 0 where
   of_header : HasTypedHeader Tags c → AllocatesFor Tags c
   of_depth : ((t : Tag) → IsValueTag t → Tags t) → BeginsDeep c → AllocatesFor Tags c
 
+-- content does not show that no value with one of the tags comes next: it doesn't of each of them; or, if all tags are among them,
+-- it is not at its end
+pub data MayHave (Tags : Tag → Type 0) (c : Reading) : Type 0 where
+  by_tags : ((rest : List ℕ) → ((t : Tag) → Tags t → IsAbsent (tagged t) c rest) → ⊥) → MayHave Tags c
+  by_end : ((t : Tag) → IsValueTag t → Tags t) → NotAtEnd c → MayHave Tags c
+
 module _ {T : Type 0} (Tags : Tag → Type 0) (Means : Tree → T → Type 0) where
   -- a value was taken as what it means
   pub record TakesTyped (c : Reading) (x : T) (d : Reading) : Type 0 where
@@ -70,7 +76,7 @@ module _ {T : Type 0} (Tags : Tag → Type 0) (Means : Tree → T → Type 0) wh
   pub record HasNoTyped (c : Reading) : Type 0 where
     pub usable : c.state ≡ Open
     pub value : (t : Tree) (w rest : List ℕ) (x : T) → HasTagged Tags c t w rest → Means t x → ⊥
-    pub absent : (rest : List ℕ) → ((t : Tag) → Tags t → IsAbsent (tagged t) c rest) → ⊥
+    pub absent : MayHave Tags c
 
   module _ {X : Type 0} where
     -- why none was taken, with error e: an earlier value was refused; the source failed; memory ran out for one;
