@@ -17,7 +17,7 @@ use Rattle.bcder.proofs.Lemmas.{IsWithinOwed, as_many_are_no_fewer, grew_in_betw
 use Rattle.bcder.proofs.Lemmas.{open_has_not_ended, open_has_not_failed}
 use Rattle.asn1.specs.declared.choice.Choice2.{Choice2}
 use Rattle.asn1.specs.declared.choice.Choice2.TheVariants.{One, Two}
-use Rattle.asn1.specs.Types.{HasTagged, HasNoneOf, elsewhere, at_end, AllocatesFor, of_header, of_depth, MayHave, by_tags, by_end, TakesTyped, HasNoTyped, RefusesTyped, TakesNextTyped}
+use Rattle.asn1.specs.Types.{HasTagged, AreEvery, HasNoneOf, elsewhere, at_end, AllocatesFor, of_header, of_depth, MayHave, by_tags, by_end, TakesTyped, HasNoTyped, RefusesTyped, TakesNextTyped}
 use Rattle.asn1.specs.Types as types
 use Rattle.asn1.specs.Choices.{EitherTag, IsChoice}
 use Rattle.asn1.proofs.Reading.{Alike, alike_back, none_alike, other_of_value, AreTags, absent_at_end, encoded_tag, no_value_at_end}
@@ -171,9 +171,9 @@ module _ {A B : Type 0} (P : Tag → Type 0) (M : Mode → Tree → A → Type 0
 
       neither_there : AreTags Q → Moves d e → e.mode ≡ d.mode → HasNoneOf Q d e → HasNoneOf (EitherTag P Q) c e
       neither_there i q o (elsewhere h) = elsewhere (each i q o h)
-      neither_there i q o (at_end k h) =
+      neither_there i q o (at_end every k h) =
           let l = s v.own v.is_own in
-          at_end (λ f. k (same.kind ∙ f))
+          at_end (λ t g. inr (every t g)) (λ f. k (same.kind ∙ f))
           (record {
             missing = (ends_there d c back e.stream.rest h.missing.0, h.missing.1);
             marked = h.marked ∙ l.marked;
@@ -207,7 +207,7 @@ module _ {A B : Type 0} (P : Tag → Type 0) (M : Mode → Tree → A → Type 0
           types.RefusesTyped.broken none z
 
     -- content is at its end
-    module _ (k : c.kind ≢ Octets) (z : HasNone any c d) where
+    module _ (every : AreEvery P) (k : c.kind ≢ Octets) (z : HasNone any c d) where
       form : d.kind ≢ Octets
       unfolding Moves
       form f = k (sym m.kind ∙ f)
@@ -237,12 +237,12 @@ module _ {A B : Type 0} (P : Tag → Type 0) (M : Mode → Tree → A → Type 0
 
       still_done : AreTags Q → Moves d e → e.mode ≡ d.mode → HasNoneOf Q d e → IsDone e
       still_done i q o (elsewhere h) = done_there d e (none_alike i.own d e (i.value_tags i.own i.is_own) q o (h i.own i.is_own)) z.missing.1
-      still_done i q o (at_end f h) = h.missing.1
+      still_done i q o (at_end g f h) = h.missing.1
 
       neither_at_end : AreTags Q → Moves d e → e.mode ≡ d.mode → e.marked ≡ d.marked → e.stream.faults ≡ d.stream.faults → HasNoneOf Q d e
           → HasNoneOf (EitherTag P Q) c e
       neither_at_end i q o y g h =
-          at_end k
+          at_end (λ t r. inl (every t r)) k
           (record {
             missing = (past_end d.stream.rest e.stream.rest z.missing.0 (same_rest q), still_done i q o h);
             marked = y ∙ z.marked;
@@ -273,16 +273,16 @@ module _ {A B : Type 0} (P : Tag → Type 0) (M : Mode → Tree → A → Type 0
 
     two_there : HasNoneOf P c d → (b : B) → TakesTyped Q (N c.mode) d b e → TakesTyped (EitherTag P Q) Means c (Two b) e
     two_there (elsewhere s) b h = two_taken s b h
-    two_there (at_end k z) b h = absurd (no_value_at_end d x (form k z) d.stream.rest (ends k z) h.tree h.octets e.stream.rest h.has.0)
+    two_there (at_end every k z) b h = absurd (no_value_at_end d x (form every k z) d.stream.rest (ends every k z) h.tree h.octets e.stream.rest h.has.0)
 
     neither : AreTags Q → Moves d e → HasNoneOf P c d → TakesNextTyped Q (N c.mode) {X = X} d (Ok None) e → HasNoneOf (EitherTag P Q) c e
     neither i q (elsewhere s) h = neither_there s i q h.mode h.none
-    neither i q (at_end k z) h = neither_at_end k z i q h.mode h.marked h.no_fault h.none
+    neither i q (at_end every k z) h = neither_at_end every k z i q h.mode h.marked h.no_fault h.none
 
     two_fails : AreTags Q → Moves d e → HasNoneOf P c d → (f : DecodeError X) → TakesNextTyped Q (N c.mode) d (Err f) e
         → RefusesTyped (EitherTag P Q) Means c f e
     two_fails i q (elsewhere s) f h = two_refused s f h.refused
-    two_fails i q (at_end k z) f h = fails_at_end k z i q f h.failed h.refused
+    two_fails i q (at_end every k z) f h = fails_at_end every k z i q f h.failed h.refused
 
     in_mode : (o : _) → TakesNextTyped Q (N d.mode) {X = X} d o e → TakesNextTyped Q (N c.mode) {X = X} d o e
     in_mode o h = subst (λ z. TakesNextTyped Q (N z) {X = X} d o e) n.mode h

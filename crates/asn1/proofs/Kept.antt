@@ -81,7 +81,7 @@ module _ (c d : Reading) (w : IsWithinOwed c) (form : c.kind ≢ Octets) (asked 
   }
   next_kept (Ok None) n = record {
     value = tt;
-    none = at_end form (record { missing = (n.end, n.done); marked = n.marked; no_fault = n.no_fault });
+    none = at_end (λ t g. g) form (record { missing = (n.end, n.done); marked = n.marked; no_fault = n.no_fault });
     no_fault = n.no_fault;
     refused = tt;
     failed = tt;

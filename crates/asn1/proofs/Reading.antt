@@ -20,7 +20,7 @@ use Rattle.bcder.specs.laws.Moved.{whole_marked}
 use Rattle.bcder.proofs.Lemmas.{open_has_not_ended, open_has_not_failed, IsWithinOwed, values_after, values_with_one_more, trees_with_one_more}
 use Rattle.bcder.proofs.Lemmas.{no_values_at_the_end as none_left_values, no_trees_at_the_end as none_left_trees, done_is_at_its_end}
 use Rattle.bcder.proofs.Lemmas.{no_values_without_a_first, header_is_there, one_values, no_values_of_octets, header_of_tagged}
-use Rattle.asn1.specs.Types.{HasNoneOf, elsewhere, at_end, by_tags, by_end, TakesTyped, HasNoTyped, RefusesTyped, TakesNextTyped, IsMember, BeginWithout, IsOptional, AreBoth, TakesFields}
+use Rattle.asn1.specs.Types.{AreEvery, HasNoneOf, elsewhere, at_end, by_tags, by_end, TakesTyped, HasNoTyped, RefusesTyped, TakesNextTyped, IsMember, BeginWithout, IsOptional, AreBoth, TakesFields}
 use Rattle.asn1.specs.Types.{HoldsNoFields, RefusesFields, ReadsFields}
 use Rattle.asn1.specs.Types as types
 use Rattle.asn1.proofs.Members.{no_cons, cons_rest, cons_first}
@@ -304,7 +304,7 @@ module _ (Tags : Tag → Type 0) (c d : Reading) (w : IsWithinOwed c) (m : Moves
 
   pub none_leaves_all : HasNoneOf Tags c d → LeavesAll Tags c d
   none_leaves_all (elsewhere n) = elsewhere_left n
-  none_leaves_all (at_end k n) = end_left k n
+  none_leaves_all (at_end f k n) = end_left k n
 
 -- ---- one value, and one that may be left out
 
@@ -413,7 +413,7 @@ module _ {T : Type 0} (Tags : Tag → Type 0) (Means : Tree → T → Type 0) (c
           q c.stream.rest
           (λ u p. inr (n.usable, other (other_of_value u c w t s.front s.behind (λ q. b (subst Tags (sym q) p)) s.has.encodes s.has.rest) refl))
 
-      none_by_end : ((t : Tag) → IsValueTag t → Tags t) → NotAtEnd c → (ts : Trees) → HoldsValues c ts → BeginWithout Tags ts → ⊥
+      none_by_end : AreEvery Tags → NotAtEnd c → (ts : Trees) → HoldsValues c ts → BeginWithout Tags ts → ⊥
       none_by_end f e no_trees h b = none_not_inside c w e h
       none_by_end f e (t ∷ₜ us) h b = let s = stands c t us h in b (f (tag_of t) (encoded_tag c.mode t s.front s.has.encodes))
 

@@ -20,7 +20,7 @@ module _ (Tags Others : Tag → Type 0) (to : (t : Tag) → Tags t → Others t)
 
   none_seen : HasNoneOf Tags c d → HasNoneOf Others c d
   none_seen (elsewhere f) = elsewhere (λ t p. f t (back t p))
-  none_seen (at_end k n) = at_end k n
+  none_seen (at_end f k n) = at_end (λ t g. to t (f t g)) k n
 
 module _ {A V X : Type 0} (Tags Others : Tag → Type 0) (to : (t : Tag) → Tags t → Others t) (back : (t : Tag) → Others t → Tags t) (Means : Tree → A → Type 0)
     (view : V → A) (c d : Reading) where

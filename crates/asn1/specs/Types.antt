@@ -39,11 +39,14 @@ Only tag t = t ≡ tag
 abbrev pub HasTagged : (Tag → Type 0) → Reading → Tree → List ℕ → List ℕ → Type 0
 HasTagged Tags c t w rest = HasValue c t w rest × Tags (tag_of t)
 
--- no value with one of the tags comes next: content shows that of each of them and is as it was, or it is at its end,
--- whose marker, if any, was taken
+-- all tags that a value can have are among them
+abbrev pub AreEvery : (Tag → Type 0) → Type 0
+AreEvery Tags = (t : Tag) → IsValueTag t → Tags t
+
+-- no value with one of the tags comes next; or, if they are all tags, content is at its end, whose marker, if any, was taken
 pub data HasNoneOf (Tags : Tag → Type 0) (c d : Reading) : Type 0 where
   elsewhere : ((t : Tag) → Tags t → HasNone (tagged t) c d) → HasNoneOf Tags c d
-  at_end : c.kind ≢ Octets → HasNone any c d → HasNoneOf Tags c d
+  at_end : AreEvery Tags → c.kind ≢ Octets → HasNone any c d → HasNoneOf Tags c d
 
 -- the header of a value with one of the tags comes next
 pub record HasTypedHeader (Tags : Tag → Type 0) (c : Reading) : Type 0 where
@@ -52,16 +55,16 @@ pub record HasTypedHeader (Tags : Tag → Type 0) (c : Reading) : Type 0 where
   pub after : List ℕ
   pub header : HasHeader (tagged tag) c after
 
--- what memory may run out for: a value with one of the tags, whose header comes next; or, if all tags are among them, a deep one
+-- what memory may run out for: a value with one of the tags, whose header comes next; or, if they are all tags, a deep one
 pub data AllocatesFor (Tags : Tag → Type 0) (c : Reading) : Type 0 where
   of_header : HasTypedHeader Tags c → AllocatesFor Tags c
-  of_depth : ((t : Tag) → IsValueTag t → Tags t) → BeginsDeep c → AllocatesFor Tags c
+  of_depth : AreEvery Tags → BeginsDeep c → AllocatesFor Tags c
 
--- content does not show that no value with one of the tags comes next: it doesn't of each of them; or, if all tags are among them,
+-- content does not show that no value with one of the tags comes next: it doesn't of each of them; or, if they are all tags,
 -- it is not at its end
 pub data MayHave (Tags : Tag → Type 0) (c : Reading) : Type 0 where
   by_tags : ((rest : List ℕ) → ((t : Tag) → Tags t → IsAbsent (tagged t) c rest) → ⊥) → MayHave Tags c
-  by_end : ((t : Tag) → IsValueTag t → Tags t) → NotAtEnd c → MayHave Tags c
+  by_end : AreEvery Tags → NotAtEnd c → MayHave Tags c
 
 module _ {T : Type 0} (Tags : Tag → Type 0) (Means : Tree → T → Type 0) where
   -- a value was taken as what it means
