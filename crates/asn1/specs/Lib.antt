@@ -13,3 +13,4 @@ pub mod ChoicesWritten
 pub mod DefaultsWritten
 pub mod Lent
 pub mod Anything
+pub mod SetsOf

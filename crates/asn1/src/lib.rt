@@ -21,6 +21,7 @@ mod leaves;
 mod lent;
 mod list;
 mod sequence;
+mod set_of;
 mod tagged;
 mod tuples;
 mod types;
@@ -46,6 +47,7 @@ pub use lent::{
 };
 pub use list::SequenceOf;
 pub use sequence::Sequence;
+pub use set_of::SetOf;
 pub use tagged::{Application, Context, Explicit, Private, TagMarker};
 pub use types::{Decode, Type};
 pub use whole::decode;
