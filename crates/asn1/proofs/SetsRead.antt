@@ -31,7 +31,7 @@ use Rattle.asn1.specs.SetsOf.{IsNotAfter, IsNotAfterFirst, AreAscending, AreSetO
 use Rattle.asn1.proofs.Members.{no_cons, cons_first, cons_rest}
 use Rattle.asn1.proofs.ReadingBack.{joined, and_none}
 use Rattle.asn1.proofs.Reading.{failed_holds_none, held_once, none_not_inside}
-use Rattle.asn1.proofs.Enclosed.{none_at_end}
+use Rattle.asn1.proofs.Reading.{none_held_at_end}
 
 -- ---- values that ascend
 
@@ -237,10 +237,10 @@ module _ {T : Type 0} (Tags : Tag → Type 0) (Means : Tree → T → Type 0) (c
 
     module _ (kd : d.kind ≢ Octets) (ke : e.kind ≢ Octets) {X : Type 0} where
       all_before : (n : CapturesNext {X = X} d (Ok None) e) → HoldsValues c r.trees
-      all_before n = subst (HoldsValues c) (and_none r.trees) (r.before no_trees (none_at_end d e.stream.rest kd n.end))
+      all_before n = subst (HoldsValues c) (and_none r.trees) (r.before no_trees (none_held_at_end d e.stream.rest kd n.end))
 
       nothing_left : (n : CapturesNext {X = X} d (Ok None) e) → HoldsValues e no_trees
-      nothing_left n = none_at_end e e.stream.rest ke (done_is_at_its_end e e.kind refl n.done)
+      nothing_left n = none_held_at_end e e.stream.rest ke (done_is_at_its_end e e.kind refl n.done)
 
       whole_set : (n : CapturesNext {X = X} d (Ok None) e) → TakesFields (AreSetOf c.mode Tags Means) c xs e
       whole_set n = record {
