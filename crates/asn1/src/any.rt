@@ -16,8 +16,8 @@ use bcder::encode::{EncodeError, Values, WriteError};
 use bcder::{Captured, Mode, Tag};
 use std::alloc::{AllocError, Global};
 use std::convert::Infallible;
-use std::io;
 use std::marker::Model;
+use std::{fmt, io};
 
 /// One value of whatever type, kept as its encoding: `ANY DEFINED BY` of older modules, and the
 /// open types of X.681, as the parameters of an algorithm.
@@ -25,7 +25,7 @@ use std::marker::Model;
 /// [`decode_as`](Any::decode_as) reads it as a value of a type. Two are the same if they are
 /// encodings of the same value. It has no tag of its own, so it can't be tagged implicitly
 /// (X.680, 31.2.7).
-#[derive(Debug, Drop)]
+#[derive(Drop)]
 pub struct Any {
     captured: Captured,
     mode: Mode,
@@ -57,6 +57,14 @@ impl Any {
         ensures one { IsOneValue self.now }
     {
         self.captured.as_slice()
+    }
+
+    /// Lends its encoding, as captured values, of which it is the only one.
+    pub fn captured(&self) -> &Captured
+        ensures captured { result.now ≡ self.now }
+        ensures one { IsOneValue result.now }
+    {
+        &self.captured
     }
 
     /// Returns its encoding, as captured values.
@@ -98,6 +106,14 @@ impl Clone for Any {
     }
 }
 
+/// Writes the octets as [`Captured`] does.
+impl fmt::Debug for Any {
+    fn fmt<W: fmt::Write>(&self, f: &mut fmt::Formatter<W>) -> fmt::Result {
+        self.captured.fmt(f)
+    }
+}
+
+/// Values of every tag, whatever tag is asked for.
 impl Type for Any {
     ghost TAG = { null_tag };
 
