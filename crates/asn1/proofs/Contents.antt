@@ -5,7 +5,7 @@ use Rattle.bcder.specs.declared.decode.error.DecodeError.{DecodeError}
 use Rattle.bcder.specs.x690.Identifier.{Tag}
 use Rattle.bcder.specs.x690.Tree.{Tree, primitive, constructed}
 use Rattle.bcder.specs.calls.Cause.{cause_of, of_memory}
-use Rattle.bcder.specs.calls.Content.{Reading, NamesFront}
+use Rattle.bcder.specs.calls.Content.{Reading}
 use Rattle.bcder.specs.calls.Typed.{HasPrimitive, HasBroken, TakesAs, RefusesAs, TakesNextAs}
 use Rattle.bcder.specs.calls.Typed as typed
 use Rattle.bcder.specs.calls.Readers.{MeanNothing}

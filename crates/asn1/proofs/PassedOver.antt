@@ -4,7 +4,7 @@ use Rattle.std.specs.Prelude.{Ok, Err}
 use Rattle.bcder.specs.declared.decode.error.DecodeError.{DecodeError}
 use Rattle.bcder.specs.x690.Tree.{Trees, no_trees}
 use Rattle.bcder.specs.calls.Cause.{cause_of}
-use Rattle.bcder.specs.calls.Content.{Reading, Octets, Moves, EndsBefore, IsDone, NamesFront}
+use Rattle.bcder.specs.calls.Content.{Reading, Octets, Moves, EndsBefore, IsDone}
 use Rattle.bcder.specs.calls.Skipping.{RefusesOne, by_walk, RefusesSkipAll, by_values}
 use Rattle.bcder.specs.calls.Skipping as skipping
 use Rattle.bcder.specs.calls.Valued.{HoldsValues}

@@ -1,5 +1,5 @@
 -- Lists whose members were rearranged.
-use Rattle.std.proofs.Common.{◌≡◌, ℕ, ◌+◌, List, [], ◌∷◌, map, set, get_or, length, sum_by, refl, ap, sym, ◌∙◌, subst}
+use Rattle.std.proofs.Common.{◌≡◌, ℕ, ◌+◌, List, [], ◌∷◌, map, set, get_or, sum_by, refl, ap, sym, ◌∙◌, subst}
 use Rattle.std.specs.Prelude.{IsPermutation}
 use Rattle.std.specs.List.{swap}
 use Rattle.std.specs.List.Sorted.{apply_swaps, SwapsInRange}

@@ -13,8 +13,8 @@ use Rattle.bcder.specs.calls.Valued.{tag_of}
 use Rattle.bcder.specs.laws.Canonical.{one_spelling}
 use Rattle.bcder.specs.laws.Complete.{only_at_front, one_list}
 use Rattle.asn1.specs.Types.{AreInside, Only, IsMember, AreList}
-use Rattle.asn1.specs.Keys.{list_key, MeansOne, IsMeantOnce}
-use Rattle.asn1.specs.SetsOf.{IsNotAfter, IsNotAfterFirst, AreAscending, AreSetOf, AreRearranged, AnyOrder, in_any_order}
+use Rattle.asn1.specs.Keys.{list_key, MeansOne}
+use Rattle.asn1.specs.SetsOf.{IsNotAfter, IsNotAfterFirst, AreAscending, AreSetOf, AreRearranged, in_any_order}
 use Rattle.asn1.proofs.Ones as ones
 use Rattle.asn1.proofs.Ones.{Once}
 use Rattle.asn1.proofs.Sorting.{same_octets, OneBeginsWithTheOther, antisymmetric, AllOf, BeforeFirst, Ascend, one_ascending}

@@ -1,4 +1,4 @@
-use Rattle.std.proofs.Common.{◌≡◌, ◌≢◌, ◌++◌, ◌∷◌, [], true, false, refl, subst, sym, ◌∙◌, arith, rules, Some, None}
+use Rattle.std.proofs.Common.{◌≡◌, ◌≢◌, ◌++◌, ◌∷◌, [], true, false, subst, sym, ◌∙◌, rules, Some, None}
 use Rattle.std.specs.Prelude.{Ok}
 use Rattle.std.specs.declared.vec.Vec.{Vec}
 use Rattle.std.specs.declared.alloc.Global.{Global}
@@ -11,7 +11,7 @@ use Rattle.bcder.proofs.Lemmas.{constructed_is_within_owed, constructed_is_not_o
 use Rattle.asn1.specs.Decoded.{IsValueOf}
 use Rattle.asn1.specs.SetsOf.{IsNotAfter, AreSetOf, RefusesOctets}
 use Rattle.asn1.proofs.Pairs.{reads_seen, refuses_seen}
-use Rattle.asn1.proofs.SetsRead.{SetSoFar, no_set_yet, shorter_set, one_more, reads_set, refuses_set, refuses_value, refuses_order}
+use Rattle.asn1.proofs.SetsRead.{SetSoFar, no_set_yet, one_more, reads_set, refuses_set, refuses_value, refuses_order}
 use Rattle.asn1.proofs.set_of.take_values.Goals as goal
 
 pub loop-captured-init : goal.loop-captured-init
