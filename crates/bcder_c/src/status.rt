@@ -1,0 +1,13 @@
+//! What the functions return.
+
+/// It was done.
+pub(crate) const DONE: u8 = 0;
+
+/// The number stands for no rules.
+pub(crate) const UNKNOWN_RULES: u8 = 1;
+
+/// Memory ran out.
+pub(crate) const NO_MEMORY: u8 = 2;
+
+/// What was asked for isn't there.
+pub(crate) const ABSENT: u8 = 3;
