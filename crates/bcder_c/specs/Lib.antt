@@ -1,3 +1,5 @@
 pub mod Rules
 pub mod Status
 pub mod Headings
+pub mod Depth
+pub mod Open

@@ -5,6 +5,8 @@
 //! `docs/C.md` says what is proved of them.
 #![tactic(auto)]
 
+mod checked;
 mod heading;
 mod rules;
 mod status;
+mod walk;

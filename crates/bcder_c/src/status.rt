@@ -11,3 +11,6 @@ pub(crate) const NO_MEMORY: u8 = 2;
 
 /// What was asked for isn't there.
 pub(crate) const ABSENT: u8 = 3;
+
+/// The contents octets of a value aren't all there.
+pub(crate) const BEYOND: u8 = 4;
