@@ -6,10 +6,7 @@ use Rattle.bcder.specs.x690.Encoding.{IsHeader}
 use Rattle.bcder.specs.calls.ContentsLen.{length_of}
 use Rattle.bcder_c.specs.declared.heading.Heading.{Heading}
 use Rattle.bcder_c.specs.Headings.{BeginsWith}
-
--- the octets begin with no header
-abbrev pub HasNoHeader : Mode → List ℕ → Type 0
-HasNoHeader mode w = (t : Tag) (form : Bool) (n : Option ℕ) (v x : List ℕ) → IsHeader mode t form (length_of n) v → w ≡ v ++ x → ⊥
+use Rattle.bcder_c.specs.Open.{HasNoHeader}
 
 pub no_heading : (m mode : Mode) (w : List ℕ) → m ≡ mode → HasNoHeader mode w → (h : Heading) → BeginsWith m w h → ⊥
 no_heading m mode w e none h b =

@@ -18,8 +18,7 @@ use Rattle.bcder.specs.laws.Sound.{none_is, some_inj, mapped, chained, end_sound
 use Rattle.bcder.specs.laws.Stands.{Stands, tree_sound}
 use Rattle.bcder.proofs.ReadingSteps.{read_tree_step, read_list_step}
 use Rattle.bcder.proofs.Ends.{from_header}
-use Rattle.bcder_c.specs.Open.{Open, Rest, after, rest_of, value_and_rest, to_come}
-use Rattle.bcder_c.proofs.Headings.{HasNoHeader}
+use Rattle.bcder_c.specs.Open.{Open, Rest, after, rest_of, value_and_rest, to_come, HasNoHeader}
 
 pub after_none : (r : Rest) → after [] r ≡ r
 after_none None = refl

@@ -3,3 +3,4 @@ pub mod Status
 pub mod Headings
 pub mod Depth
 pub mod Open
+pub mod Values

@@ -5,7 +5,12 @@ use Rattle.bcder.specs.declared.mode.Mode.{Mode}
 use Rattle.bcder.specs.x690.Tree.{Tree, Trees}
 use Rattle.bcder.specs.x690.Preorder.{Heading, preorder, preorders}
 use Rattle.bcder.specs.steps.Reading.{read_list, read_tree}
+use Rattle.bcder.specs.x690.Identifier.{Tag}
+use Rattle.bcder.specs.x690.Encoding.{IsHeader}
+use Rattle.bcder.specs.calls.ContentsLen.{length_of}
+use Rattle.bcder_c.specs.declared.checked.Checked.{Checked}
 use Rattle.bcder_c.specs.Depth.{deepest}
+use Rattle.bcder_c.specs.Status.{absent, beyond, ended}
 
 -- how an open value ends: at the last octet of its contents, before these octets; or by end-of-contents octets
 abbrev pub Open : Type 0
@@ -40,16 +45,42 @@ to_come [] x = x
 to_come (Some behind ∷ os) x = x ++ to_come os behind
 to_come (None ∷ os) x = to_come os x
 
+-- what was met: n octets, and values with these headings
+pub record Tallied (old new : Checked) (n : ℕ) (hs : List Heading) : Type 0 where
+  pub at : new.at ≡ old.at + n
+  pub values : new.values ≡ old.values + length hs
+  pub depth : new.depth ≡ max old.depth (deepest hs)
+
 -- the header of a value was passed, and the contents too, if it is primitive
-pub record Begins (mode : Mode) (os : List Open) (x : List ℕ) (ps : List Open) (y : List ℕ) (n : ℕ) : Type 0 where
+pub record Begins (mode : Mode) (os : List Open) (x : List ℕ) (ps : List Open) (y : List ℕ) (old new : Checked) : Type 0 where
   pub heading : Heading
-  pub depth : heading.depth ≡ length os
   pub same : value_and_rest mode os x ≡ after (heading ∷ []) (rest_of mode ps y)
   pub passed : List ℕ
   pub is : to_come os x ≡ passed ++ to_come ps y
-  pub size : length passed ≡ n
-  pub two : 2 ≤ n
+  pub tallied : Tallied old new (length passed) (heading ∷ [])
+  pub two : 2 ≤ length passed
   pub opens : length ps ≤ length os + 1
+
+-- the octets begin with no header
+abbrev pub HasNoHeader : Mode → List ℕ → Type 0
+HasNoHeader mode x = (t : Tag) (form : Bool) (n : Option ℕ) (v y : List ℕ) → IsHeader mode t form (length_of n) v → x ≡ v ++ y → ⊥
+
+-- the octets begin with a header, whose value has more contents octets than follow
+pub record GoesBeyond (mode : Mode) (x : List ℕ) : Type 0 where
+  pub tag : Tag
+  pub form : Bool
+  pub len : ℕ
+  pub header : List ℕ
+  pub behind : List ℕ
+  pub is_header : IsHeader mode tag form (length_of (Some len)) header
+  pub is : x ≡ header ++ behind
+  pub more : length behind < len
+
+-- why no value begins octets: there are none, they begin with no header, or the contents aren't all there
+pub data NoneBegins (mode : Mode) (x : List ℕ) (status : ℕ) : Type 0 where
+  no_octets : x ≡ [] → status ≡ ended → NoneBegins mode x status
+  no_header : HasNoHeader mode x → status ≡ absent → NoneBegins mode x status
+  goes_beyond : GoesBeyond mode x → status ≡ beyond → NoneBegins mode x status
 
 -- the innermost open value ended
 pub record Closes (mode : Mode) (o : Open) (x y : List ℕ) (n : ℕ) : Type 0 where

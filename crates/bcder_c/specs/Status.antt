@@ -17,6 +17,14 @@ no_memory = 2
 abbrev pub absent : ℕ
 absent = 3
 
+-- the contents octets of a value aren't all there
+abbrev pub beyond : ℕ
+beyond = 4
+
+-- the octets end where a value or an end has to follow
+abbrev pub ended : ℕ
+ended = 5
+
 -- P holds of what was stored, and it was done; or P holds of nothing, and nothing was stored
 abbrev pub Found : {T : Type 0} → (T → Type 0) → ℕ → T → T → Type 0
 Found P status old new = (status ≡ done) × P new ⊎ (status ≡ absent) × ((x : _) → P x → ⊥) × (new ≡ old)

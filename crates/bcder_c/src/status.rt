@@ -14,3 +14,6 @@ pub(crate) const ABSENT: u8 = 3;
 
 /// The contents octets of a value aren't all there.
 pub(crate) const BEYOND: u8 = 4;
+
+/// The octets end before a value does.
+pub(crate) const ENDED: u8 = 5;
