@@ -1,3 +1,5 @@
 pub mod Headings
 pub mod Reading
 pub mod Walking
+pub mod WholeWalk
+pub mod Listing

@@ -134,7 +134,7 @@ no_end_read mode x o none = go (read_end mode x) refl
 
 -- ---- the innermost open value, among those that are in memory
 
-last_apart : {X : Type 0} (xs : List X) (x : X) (n : ℕ) → length xs ≡ suc n → slice_get xs n ≡ Some x → xs ≡ take n xs ++ x ∷ []
+pub last_apart : {X : Type 0} (xs : List X) (x : X) (n : ℕ) → length xs ≡ suc n → slice_get xs n ≡ Some x → xs ≡ take n xs ++ x ∷ []
 last_apart [] x n l e = absurd (omega arith)
 last_apart (a ∷ []) x zero l e = ap (λ y. y ∷ []) (some_inj a x e)
 last_apart (a ∷ []) x (suc n) l e = absurd (omega arith)

@@ -9,4 +9,5 @@ mod checked;
 mod heading;
 mod rules;
 mod status;
+mod values;
 mod walk;

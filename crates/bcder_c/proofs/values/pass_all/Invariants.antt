@@ -1,0 +1,9 @@
+use Rattle.std.proofs.Common.{length}
+use Rattle.bcder_c.proofs.Listing.{InList}
+use Rattle.bcder_c.proofs.values.pass_all.Given as goal
+
+abbrev pub invariant-loop-rest : goal.invariant-loop-rest
+invariant-loop-rest l = InList l.fn.mode l.fn.octets l.checked l.rest
+
+abbrev pub decreases-loop-rest : goal.decreases-loop-rest
+decreases-loop-rest l = length l.rest

@@ -1,0 +1,48 @@
+use Rattle.std.proofs.Common.{◌≡◌, ◌+◌, ◌-◌, length, take, slice_get, option_map, Some, ◌∷◌, [], ap, refl, sym, subst, ◌∙◌, arith, rules}
+use Rattle.bcder.specs.x690.Identifier.{AreOctets}
+use Rattle.bcder_c.specs.Open.{open_values}
+use Rattle.bcder_c.proofs.WholeWalk.{walk_starts, walk_closes, walk_goes_on, walk_refused_first, walk_refused, walk_ends, innermost_first, walk_at, closes_smaller, none_open}
+use Rattle.bcder_c.proofs.walk.pass_value.Goals as goal
+
+pub returns-in-Err-clause-refused : goal.returns-in-Err-clause-refused
+returns-in-Err-clause-refused c =
+    λ k. walk_refused_first _ _ _ _ _ (c.in-Err.ensures.none k []) (c.in-Err.ensures.why k) (search rules)
+
+pub loop-innermost-init : goal.loop-innermost-init
+loop-innermost-init c =
+    let e : open_values c.new-opened.result.items ≡ [] = ap open_values c.new-opened.ensures.items in
+    walk_starts _ _ _ _ _ _ _ e c.requires.values c.in-Ok.ensures.begins
+
+pub loop-innermost-smaller-in-Some-close : goal.loop-innermost-smaller-in-Some-close
+loop-innermost-smaller-in-Some-close c =
+    let g : slice_get c.loop-innermost.opened.items (length c.loop-innermost.opened.items - 1) ≡ Some c.in-Some.field-0.now = search rules in
+    let p : c.pop-ended.new.self.items ≡ take (length c.loop-innermost.opened.items - 1) c.loop-innermost.opened.items = search rules in
+    let q : open_values c.loop-innermost.opened.items ≡ option_map (λ s. s.now) c.in-Some.field-0.now ∷ open_values c.pop-ended.new.self.items =
+        innermost_first c.loop-innermost.opened.items _ _ refl g ∙ ap (λ k. option_map (λ s. s.now) c.in-Some.field-0.now ∷ open_values k) (sym p) in
+    closes_smaller _ _ _ _ _ _ _ q c.in-Some-close.ensures.1
+
+pub loop-innermost-preserved-in-Some-close : goal.loop-innermost-preserved-in-Some-close
+loop-innermost-preserved-in-Some-close c =
+    let g : slice_get c.loop-innermost.opened.items (length c.loop-innermost.opened.items - 1) ≡ Some c.in-Some.field-0.now = search rules in
+    let p : c.pop-ended.new.self.items ≡ take (length c.loop-innermost.opened.items - 1) c.loop-innermost.opened.items = search rules in
+    let q : open_values c.loop-innermost.opened.items ≡ option_map (λ s. s.now) c.in-Some.field-0.now ∷ open_values c.pop-ended.new.self.items =
+        innermost_first c.loop-innermost.opened.items _ _ refl g ∙ ap (λ k. option_map (λ s. s.now) c.in-Some.field-0.now ∷ open_values k) (sym p) in
+    walk_closes _ _ _ _ _ _ _ (walk_at _ _ _ _ _ _ _ _ q c.loop-innermost.invariant) _ _ _ c.in-Some-close.ensures.1 c.in-Some-close.ensures.2 refl refl
+
+pub loop-innermost-preserved : goal.loop-innermost-preserved
+loop-innermost-preserved c =
+    let g : slice_get c.loop-innermost.opened.items (length c.loop-innermost.opened.items - 1) ≡ Some c.in-Some.field-0.now = search rules in
+    let q = innermost_first c.loop-innermost.opened.items _ _ refl g in
+    walk_goes_on _ _ _ _ _ _ _ (walk_at _ _ _ _ _ _ _ _ q c.loop-innermost.invariant) _ _ _ _ _ c.in-None.ensures.0 c.in-None.ensures.1 refl refl q c.in-Ok-begin.ensures.begins
+
+pub returns-in-Err-begin-clause-refused : goal.returns-in-Err-begin-clause-refused
+returns-in-Err-begin-clause-refused c =
+    let g : slice_get c.loop-innermost.opened.items (length c.loop-innermost.opened.items - 1) ≡ Some c.in-Some.field-0.now = search rules in
+    let q = innermost_first c.loop-innermost.opened.items _ _ refl g in
+    λ k. walk_refused _ _ _ _ _ _ _ _ _ (walk_at _ _ _ _ _ _ _ _ q c.loop-innermost.invariant) c.in-None.ensures.0 (c.in-Err-begin.ensures.none k _) (c.in-Err-begin.ensures.why k) (search rules)
+
+pub returns-clause-passed : goal.returns-clause-passed
+returns-clause-passed c =
+    let o : AreOctets c.args.octets.now = λ i. omega (arith, c.type_inv.octets i) in
+    let l : length c.loop-innermost.opened.items ≡ 0 = search rules in
+    walk_ends _ _ _ _ _ _ o (none_open c.loop-innermost.opened.items l) c.loop-innermost.invariant
