@@ -3,3 +3,4 @@ pub mod Reading
 pub mod Walking
 pub mod WholeWalk
 pub mod Listing
+pub mod Alone

@@ -21,7 +21,7 @@ nothing_met = record { at = 0; values = 0; depth = 0 }
 pub first_passed : (mode : Mode) (w x : List ℕ) (old c : Checked) → old ≡ nothing_met → PassedValue mode w x old c → PassesFirst mode w 0 c
 first_passed mode w x old c e p =
     let t : Tallied nothing_met c (length p.value) (preorder p.tree 0) = subst (λ k. Tallied k c (length p.value) (preorder p.tree 0)) e p.tallied in
-    found refl (record { tree = p.tree; value = p.value; behind = x; encodes = p.encodes; is = p.is; at = t.at; values = t.values; depth = t.depth ∙ omega arith })
+    found refl (record { tree = p.tree; value = p.value; behind = x; encodes = p.encodes; is = p.is; at = omega (arith, t.at); values = omega (arith, t.values); depth = omega (arith, t.depth) })
 
 -- a refusal at a place that is counted from 0
 pub first_refused : (mode : Mode) (w : List ℕ) (old c : Checked) (status : ℕ) → old ≡ nothing_met → (status ≢ no_memory → RefusedValue mode w old c status) → PassesFirst mode w status c
@@ -99,7 +99,7 @@ module _ (mode : Mode) (octets : List ℕ) (c : Checked) (rest : List ℕ) (l : 
       ended [] s =
           let is : octets ≡ l.front = l.is ∙ ap (λ z. l.front ++ z) s ∙ append-nil l.front in
           found refl (record {
-            trees = l.trees; encode = rw is l.encode; at = l.tallied.at ∙ ap length (sym is); values = l.tallied.values; depth = l.tallied.depth ∙ omega arith;
+            trees = l.trees; encode = rw is l.encode; at = omega (arith, l.tallied.at, ap length is); values = omega (arith, l.tallied.values); depth = omega (arith, l.tallied.depth);
           })
       ended (b ∷ r) s = absurd (omega (arith, ap length s))
 

@@ -4,3 +4,4 @@ pub mod Headings
 pub mod Depth
 pub mod Open
 pub mod Values
+pub mod Contents

@@ -6,6 +6,7 @@
 #![tactic(auto)]
 
 mod checked;
+mod contents;
 mod heading;
 mod rules;
 mod status;
