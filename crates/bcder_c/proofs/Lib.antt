@@ -4,3 +4,5 @@ pub mod Walking
 pub mod WholeWalk
 pub mod Listing
 pub mod Alone
+pub mod Spelling
+pub mod Unused

@@ -5,3 +5,4 @@ pub mod Depth
 pub mod Open
 pub mod Values
 pub mod Contents
+pub mod Text

@@ -4,7 +4,7 @@ ghost use Rattle.std.specs.Int.{w64};
 ghost use Rattle.bcder.specs.calls.Readers.{IsSigned, IsTruth, IsUnsigned};
 ghost use Rattle.bcder.specs.declared.mode.Mode.{Mode as ModeValue};
 ghost use Rattle.bcder.specs.x690.ObjectIdentifier.{IsComplete};
-ghost use Rattle.bcder_c.specs.Contents.{Holds};
+ghost use Rattle.bcder_c.specs.Contents.{HasSign, Holds};
 ghost use Rattle.bcder_c.specs.Rules.{AreRules, AreUnknown};
 ghost use Rattle.bcder_c.specs.Status.{Found, unknown_rules};
 
@@ -129,6 +129,42 @@ pub extern "C" fn bcder_oid(octets: &[u8]) -> u8
 {
     match is_identifier(octets) {
         Some(()) => DONE,
+        None => ABSENT,
+    }
+}
+
+/// Returns whether the octets are those of a negative integer, if they are those of an integer.
+fn sign_of(octets: &[u8]) -> Option<bool>
+    ensures { MatchOption result
+        ((negative : _) → HasSign octets.now negative → ⊥)
+        (λ negative. HasSign octets.now negative) }
+{
+    match octets {
+        [] => None,
+        [first] => Some(*first >= 0x80),
+        [first, second, ..] => {
+            if *first == 0x00 && *second < 0x80 {
+                return None;
+            }
+            if *first == 0xFF && *second >= 0x80 {
+                return None;
+            }
+            Some(*first >= 0x80)
+        }
+    }
+}
+
+/// Checks the contents octets of an INTEGER of any size (X.690, 8.3), and stores whether it is
+/// negative.
+#[unsafe(no_mangle)]
+pub extern "C" fn bcder_integer(octets: &[u8], negative: &mut bool) -> u8
+    ensures { Found (HasSign octets.now) result negative.old negative.new }
+{
+    match sign_of(octets) {
+        Some(read) => {
+            *negative = read;
+            DONE
+        }
         None => ABSENT,
     }
 }

@@ -5,10 +5,12 @@
 //! `docs/C.md` says what is proved of them.
 #![tactic(auto)]
 
+mod bits;
 mod checked;
 mod contents;
 mod heading;
 mod rules;
 mod status;
+mod text;
 mod values;
 mod walk;
