@@ -1,15 +1,14 @@
 -- What a reader says of contents octets that are all at hand.
-use Rattle.std.proofs.Common.{◌≡◌, ◌≢◌, ℕ, ◌<◌, List, length, take, Option, Some, None, Result, Ok, Err, IfOk, IfErr, refl, sym, ap, subst, ◌∙◌, arith}
+use Rattle.std.proofs.Common.{◌≡◌, ℕ, List, length, Some, Result, Ok, Err, IfOk, IfErr, sym, ap, subst, ◌∙◌, arith}
 use Rattle.std.proofs.lemmas.List.{take_all}
 use Rattle.std.specs.Borrow.{MutBor}
 use Rattle.bcder.specs.declared.mode.Mode.{Mode}
 use Rattle.bcder.specs.declared.decode.error.DecodeError.{DecodeError}
 use Rattle.bcder.specs.calls.Cause.{cause_of, of_source}
 use Rattle.bcder.specs.calls.Content.{Reading}
-use Rattle.bcder.specs.calls.Calls.{Answered}
 use Rattle.bcder.specs.calls.Stream.{at_hand}
 use Rattle.bcder.specs.calls.Alone.{RanAlone, RefusedAlone, by_closure, left_octets}
-use Rattle.bcder.specs.calls.Readers.{Reads, MeanNothing, RefusesReading, missing, refused, RefusesTooFew, source, few}
+use Rattle.bcder.specs.calls.Readers.{Reads, MeanNothing, RefusesReading, missing, refused, source, few}
 
 module _ {C T X : Type 0} (view : C → Reading) (post : MutBor C → Result T (DecodeError X) → MutBor C → Type 0) (Means : Mode → List ℕ → T → Type 0)
     (reads : (p : MutBor C) (r : Result T (DecodeError X)) (q : MutBor C) → post p r q → Reads (Means (view p.now).mode) (MeanNothing (Means (view p.now).mode)) (view p.now) r (view q.now))

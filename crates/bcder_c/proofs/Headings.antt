@@ -1,7 +1,6 @@
 -- What front_at says of octets that begin with no header.
-use Rattle.std.proofs.Common.{◌≡◌, ℕ, Bool, List, ◌++◌, Option, subst}
+use Rattle.std.proofs.Common.{◌≡◌, ℕ, List, subst}
 use Rattle.bcder.specs.declared.mode.Mode.{Mode}
-use Rattle.bcder.specs.x690.Identifier.{Tag}
 use Rattle.bcder.specs.x690.Encoding.{IsHeader}
 use Rattle.bcder.specs.calls.ContentsLen.{length_of}
 use Rattle.bcder_c.specs.declared.heading.Heading.{Heading}

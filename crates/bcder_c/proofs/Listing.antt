@@ -1,18 +1,16 @@
 -- A walk over values, one after the other.
-use Rattle.std.proofs.Common.{◌≡◌, ◌≢◌, ℕ, zero, suc, ◌+◌, ◌-◌, ◌<◌, ◌≤◌, List, [], ◌∷◌, ◌++◌, length, refl, sym, ap, subst, ◌∙◌, append_assoc, append-nil, inl, inr, arith}
-use Rattle.std.specs.Prelude.{max}
+use Rattle.std.proofs.Common.{◌≡◌, ◌≢◌, ℕ, ◌+◌, ◌<◌, ◌≤◌, List, [], ◌∷◌, ◌++◌, length, refl, sym, ap, subst, ◌∙◌, append_assoc, append-nil, inl, inr, arith}
 use Rattle.std.proofs.lemmas.Bool.{cases_eq}
 use Rattle.std.proofs.lemmas.List.{length-append}
 use Rattle.bcder.specs.declared.mode.Mode.{Mode}
-use Rattle.bcder.specs.x690.Tree.{Tree, Trees, no_trees, ◌∷ₜ◌, ◌+++◌}
-use Rattle.bcder.specs.x690.Preorder.{Heading, preorder, preorders}
-use Rattle.bcder.specs.x690.Encoding.{IsEncoding, AreEncodings}
+use Rattle.bcder.specs.x690.Tree.{Trees, no_trees, ◌∷ₜ◌, ◌+++◌}
+use Rattle.bcder.specs.x690.Preorder.{preorder, preorders}
+use Rattle.bcder.specs.x690.Encoding.{AreEncodings}
 use Rattle.bcder.specs.laws.Complete.{one_encoding, two_octets}
 use Rattle.bcder_c.specs.declared.checked.Checked.{Checked}
-use Rattle.bcder_c.specs.Depth.{deepest}
-use Rattle.bcder_c.specs.Open.{Tallied, NoneBegins}
-use Rattle.bcder_c.specs.Status.{done, no_memory}
-use Rattle.bcder_c.specs.Values.{PassedValue, HasNoValue, StopsAfter, RefusedValue, FirstValue, AllValues, AreNoValues, Passes, found, refused, lacking, PassesFirst, PassesAll}
+use Rattle.bcder_c.specs.Open.{Tallied}
+use Rattle.bcder_c.specs.Status.{no_memory}
+use Rattle.bcder_c.specs.Values.{PassedValue, HasNoValue, StopsAfter, RefusedValue, AreNoValues, found, refused, lacking, PassesFirst, PassesAll}
 use Rattle.bcder_c.proofs.WholeWalk.{tallied_both, tallied_none}
 
 abbrev pub nothing_met : Checked
@@ -69,7 +67,13 @@ pub record InList (mode : Mode) (octets : List ℕ) (c : Checked) (rest : List �
 
 pub list_starts : (mode : Mode) (octets : List ℕ) (c : Checked) → c ≡ nothing_met → InList mode octets c octets
 list_starts mode octets c e = rw e (record {
-  trees = no_trees; front = []; encode = refl; is = refl; tallied = tallied_none nothing_met; values = omega arith; within = omega arith;
+  trees = no_trees;
+  front = [];
+  encode = refl;
+  is = refl;
+  tallied = tallied_none nothing_met;
+  values = omega arith;
+  within = omega arith;
 })
 
 module _ (mode : Mode) (octets : List ℕ) (c : Checked) (rest : List ℕ) (l : InList mode octets c rest) where
@@ -99,7 +103,11 @@ module _ (mode : Mode) (octets : List ℕ) (c : Checked) (rest : List ℕ) (l : 
       ended [] s =
           let is : octets ≡ l.front = l.is ∙ ap (λ z. l.front ++ z) s ∙ append-nil l.front in
           found refl (record {
-            trees = l.trees; encode = rw is l.encode; at = omega (arith, l.tallied.at, ap length is); values = omega (arith, l.tallied.values); depth = omega (arith, l.tallied.depth);
+            trees = l.trees;
+            encode = rw is l.encode;
+            at = omega (arith, l.tallied.at, ap length is);
+            values = omega (arith, l.tallied.values);
+            depth = omega (arith, l.tallied.depth);
           })
       ended (b ∷ r) s = absurd (omega (arith, ap length s))
 
@@ -120,7 +128,9 @@ module _ (mode : Mode) (octets : List ℕ) (c : Checked) (rest : List ℕ) (l : 
             let v = r other in
             let s = v.stops in
             refused (no_more some v.none) (record {
-              passed = l.front ++ s.passed; rest = s.rest; behind = s.behind;
+              passed = l.front ++ s.passed;
+              rest = s.rest;
+              behind = s.behind;
               is = l.is ∙ ap (λ z. l.front ++ z) s.is ∙ sym (append_assoc l.front s.passed (s.rest ++ s.behind));
               count = omega (arith, v.at, l.tallied.at, s.count, length-append l.front s.passed);
               why = s.why;

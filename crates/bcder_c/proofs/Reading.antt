@@ -1,22 +1,20 @@
 -- What remains of octets, step by step.
-use Rattle.std.proofs.Common.{◌≡◌, ℕ, zero, suc, ◌+◌, ◌-◌, ◌<◌, ◌≤◌, Bool, true, false, List, [], ◌∷◌, ◌++◌, length, take, drop, map, reverse, Option, Some, None, option_map, option_and_then, slice_get, inl, inr, refl, sym, ap, subst, ◌∙◌, append_assoc, append-nil, arith}
+use Rattle.std.proofs.Common.{◌≡◌, ℕ, zero, suc, ◌<◌, ◌≤◌, Bool, true, false, List, [], ◌∷◌, ◌++◌, length, take, drop, Option, Some, None, option_map, option_and_then, slice_get, inl, inr, refl, sym, ap, ◌∙◌, append_assoc, arith}
 use Rattle.std.proofs.lemmas.Bool.{lt-ltb, le-ltb}
 use Rattle.std.proofs.Math.Numerals.{add-one}
-use Rattle.std.proofs.lemmas.List.{length-append, reverse-append, map-append}
-use denote.Ref.{Bor}
 use Rattle.bcder.specs.declared.mode.Mode.{Mode}
 use Rattle.bcder.specs.x690.Identifier.{AreOctets, Tag}
 use Rattle.bcder.specs.x690.Length.{IsEndOfContents}
 use Rattle.bcder.specs.x690.Tree.{Tree, primitive, constructed, Trees, ◌∷ₜ◌}
-use Rattle.bcder.specs.x690.Encoding.{IsHeader, IsEncoding, AreEncodings, IsDefinite, IsFramed}
+use Rattle.bcder.specs.x690.Encoding.{IsHeader, IsEncoding, IsFramed}
 use Rattle.bcder.specs.x690.Preorder.{Heading, preorder, preorders}
 use Rattle.bcder.specs.calls.ContentsLen.{length_of}
 use Rattle.bcder.specs.steps.Reading.{read_header, read_contents, read_end, at_end, read_list, read_tree}
 use Rattle.bcder.specs.laws.Complete.{header_complete}
 use Rattle.bcder.specs.laws.Lengths.{read_end-complete}
-use Rattle.bcder.specs.laws.Sound.{none_is, some_inj, mapped, chained, end_sound}
-use Rattle.bcder.specs.laws.Stands.{Stands, tree_sound}
-use Rattle.bcder.proofs.ReadingSteps.{read_tree_step, read_list_step}
+use Rattle.bcder.specs.laws.Sound.{some_inj, end_sound}
+use Rattle.bcder.specs.laws.Stands.{tree_sound}
+use Rattle.bcder.proofs.ReadingSteps.{read_list_step}
 use Rattle.bcder.proofs.Ends.{from_header}
 use Rattle.bcder_c.specs.Open.{Open, Rest, after, rest_of, value_and_rest, to_come, HasNoHeader}
 

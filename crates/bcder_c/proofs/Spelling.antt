@@ -1,8 +1,14 @@
 -- Octets that are characters of a set, one by one.
-use Rattle.std.proofs.Common.{◌≡◌, ℕ, Bool, true, false, List, [], ◌∷◌, ◌++◌, Option, Some, None, refl, sym, ap, subst, ◌∙◌}
+use Rattle.std.proofs.Common.{◌≡◌, ℕ, ◌-◌, ◌≤◌, Bool, true, false, List, [], ◌∷◌, length, get_or, take, drop, refl, sym, ap, subst, ◌∙◌, arith}
+use Rattle.std.proofs.lemmas.List.{take_all}
 use Rattle.bcder.specs.x690.AsciiSets.{one_octet_step}
-use Rattle.bcder.specs.x690.CharSet.{Front, Spells, IsOfSet}
+use Rattle.bcder.specs.x690.CharSet.{Front, IsOfSet}
 use Rattle.bcder.specs.laws.CharSets.{one_octet_taken}
+
+-- the first octet, and the others
+pub first_apart : (v : List ℕ) → 1 ≤ length v → v ≡ get_or v 0 0 ∷ take (length v - 1) (drop 1 v)
+first_apart [] l = absurd (omega arith)
+first_apart (b ∷ w) l = ap (λ y. b ∷ y) (sym (take_all (length (b ∷ w) - 1) w (omega arith)))
 
 module _ (has : ℕ → Bool) where
   pub none_spelled : IsOfSet (one_octet_step has) []

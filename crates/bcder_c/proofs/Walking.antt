@@ -1,8 +1,8 @@
 -- The steps of the walk over values.
-use Rattle.std.proofs.Common.{◌≡◌, ℕ, zero, suc, ◌+◌, ◌-◌, ◌<◌, ◌≤◌, Bool, true, false, IsTrue, List, [], ◌∷◌, ◌++◌, length, take, drop, map, reverse, Option, Some, None, option_map, refl, sym, ap, subst, ◌∙◌, append_assoc, arith}
+use Rattle.std.proofs.Common.{◌≡◌, ℕ, ◌+◌, ◌-◌, ◌<◌, ◌≤◌, Bool, true, false, IsTrue, List, [], ◌∷◌, ◌++◌, length, take, drop, map, reverse, Option, Some, None, option_map, refl, sym, ap, ◌∙◌, append_assoc, arith}
 use Rattle.std.proofs.Math.Nat.{max-zero}
 use Rattle.std.specs.Prelude.{max}
-use Rattle.std.proofs.lemmas.List.{length-append, length-reverse, length-map, reverse-append, map-append, take-append-drop, length-take, length-drop}
+use Rattle.std.proofs.lemmas.List.{length-append, length-reverse, length-map, reverse-append, map-append, take-append-drop}
 use denote.Ref.{Bor}
 use Rattle.bcder.specs.declared.mode.Mode.{Mode}
 use Rattle.bcder.specs.x690.Identifier.{AreOctets, Tag}
@@ -13,8 +13,7 @@ use Rattle.bcder.specs.calls.ContentsLen.{length_of}
 use Rattle.bcder.specs.steps.Reading.{read_tree}
 use Rattle.bcder.specs.laws.Complete.{header_size}
 use Rattle.bcder_c.specs.declared.checked.Checked.{Checked}
-use Rattle.bcder_c.specs.Depth.{deepest}
-use Rattle.bcder_c.specs.Open.{Open, open_values, Rest, after, rest_of, value_and_rest, to_come, Tallied, Begins, HasNoHeader, Closes, GoesOn}
+use Rattle.bcder_c.specs.Open.{Open, open_values, value_and_rest, Tallied, Begins, HasNoHeader, Closes, GoesOn}
 use Rattle.bcder_c.proofs.Reading.{definite_ends, indefinite_ends, indefinite_goes_on, definite_goes_on, no_tree, too_short, primitive_next, definite_next, indefinite_next, after_front, end_read, no_end_read}
 
 -- ---- the innermost open value

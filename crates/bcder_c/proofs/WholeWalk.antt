@@ -1,21 +1,19 @@
 -- A walk over a value, from its first octet to its last.
-use Rattle.std.proofs.Common.{◌≡◌, ℕ, zero, suc, ◌+◌, ◌-◌, ◌*◌, ◌^◌, ◌<◌, ◌≤◌, List, [], ◌∷◌, ◌++◌, length, take, Option, Some, None, option_map, slice_get, refl, sym, ap, subst, ◌∙◌, append_assoc, append-nil, arith}
+use Rattle.std.proofs.Common.{◌≡◌, ℕ, suc, ◌+◌, ◌-◌, ◌*◌, ◌<◌, ◌≤◌, List, [], ◌∷◌, ◌++◌, length, take, Option, Some, None, option_map, slice_get, refl, sym, ap, subst, ◌∙◌, append_assoc, append-nil, arith}
 use Rattle.std.specs.Prelude.{max}
 use Rattle.std.proofs.lemmas.List.{length-append}
 use denote.Ref.{Bor}
 use Rattle.bcder.specs.declared.mode.Mode.{Mode}
 use Rattle.bcder.specs.x690.Identifier.{AreOctets}
-use Rattle.bcder.specs.x690.Tree.{Tree}
 use Rattle.bcder.specs.x690.Preorder.{Heading, preorder}
-use Rattle.bcder.specs.x690.Encoding.{IsEncoding}
 use Rattle.bcder.specs.steps.Reading.{read_tree}
 use Rattle.bcder.specs.laws.Complete.{tree_complete}
 use Rattle.bcder.specs.laws.Sound.{none_is, some_inj, chained}
-use Rattle.bcder.specs.laws.Stands.{Stands, tree_sound}
+use Rattle.bcder.specs.laws.Stands.{tree_sound}
 use Rattle.bcder_c.specs.declared.checked.Checked.{Checked}
 use Rattle.bcder_c.specs.Depth.{deepest}
-use Rattle.bcder_c.specs.Open.{Open, open_values, Rest, after, rest_of, value_and_rest, to_come, Tallied, Begins, Closes, GoesOn, NoneBegins}
-use Rattle.bcder_c.specs.Values.{PassedValue, HasNoValue, StopsAfter, RefusedValue}
+use Rattle.bcder_c.specs.Open.{Open, open_values, after, rest_of, value_and_rest, to_come, Tallied, Begins, Closes, GoesOn, NoneBegins}
+use Rattle.bcder_c.specs.Values.{PassedValue, HasNoValue, RefusedValue}
 use Rattle.bcder_c.proofs.Reading.{after_both, last_apart}
 use Rattle.bcder_c.proofs.Walking.{open_pushed}
 
@@ -61,7 +59,11 @@ walk_starts mode octets old now os ps y e v b =
     let size = ap length is ∙ length-append b.passed (to_come ps y) in
     let none : length os ≡ 0 = ap length e in
     record {
-      met = b.heading ∷ []; same = same; passed = b.passed; is = is; tallied = b.tallied;
+      met = b.heading ∷ [];
+      same = same;
+      passed = b.passed;
+      is = is;
+      tallied = b.tallied;
       values = omega (arith, b.tallied.values, b.tallied.at, b.two);
       depth = omega (arith, b.opens, b.tallied.at, b.two, none);
       come = omega (arith, b.tallied.at, size);
@@ -76,7 +78,10 @@ module _ (mode : Mode) (octets : List ℕ) (old now : Checked) (o : Open) (os : 
       let front = length-append w.passed c.passed in
       let at : new.at ≡ old.at + length (w.passed ++ c.passed) = omega (arith, a, w.tallied.at, front, c.size) in
       record {
-        met = w.met; same = w.same ∙ ap (after w.met) (c.same os); passed = w.passed ++ c.passed; is = is;
+        met = w.met;
+        same = w.same ∙ ap (after w.met) (c.same os);
+        passed = w.passed ++ c.passed;
+        is = is;
         tallied = record { at = at; values = v ∙ w.tallied.values; depth = d ∙ w.tallied.depth };
         values = omega (arith, w.values, a, v);
         depth = omega (arith, w.depth, a);
@@ -97,7 +102,8 @@ module _ (mode : Mode) (octets : List ℕ) (old now : Checked) (o : Open) (os : 
       record {
         met = w.met ++ b.heading ∷ [];
         same = w.same ∙ ap (after w.met) (g os ∙ same) ∙ after_both w.met (b.heading ∷ []) (rest_of mode ps y);
-        passed = w.passed ++ b.passed; is = is;
+        passed = w.passed ++ b.passed;
+        is = is;
         tallied = record { at = at; values = t.values; depth = t.depth };
         values = omega (arith, w.values, a, v, b.tallied.at, b.tallied.values, b.two);
         depth = omega (arith, w.depth, a, b.tallied.at, b.two, few);
@@ -114,7 +120,8 @@ nothing_at_front mode octets e t v x h is =
 pub walk_refused_first : (mode : Mode) (octets : List ℕ) (old new : Checked) (status : ℕ) → value_and_rest mode [] octets ≡ None → NoneBegins mode octets status → new.at ≡ old.at → RefusedValue mode octets old new status
 walk_refused_first mode octets old new status e why a = record {
   none = nothing_at_front mode octets e;
-  place = 0; at = omega (arith, a);
+  place = 0;
+  at = omega (arith, a);
   stops = record { passed = []; rest = octets; behind = []; is = sym (append-nil octets); count = refl; why = why };
 }
 
@@ -123,7 +130,8 @@ walk_refused mode octets old now new o os x status w g e why a =
     let b = come_first (o ∷ os) x in
     record {
       none = nothing_at_front mode octets (w.same ∙ ap (after w.met) (g os ∙ e));
-      place = length w.passed; at = a ∙ w.tallied.at;
+      place = length w.passed;
+      at = a ∙ w.tallied.at;
       stops = record { passed = w.passed; rest = x; behind = b.0; is = w.is ∙ ap (λ z. w.passed ++ z) b.1; count = refl; why = why };
     }
 
@@ -140,7 +148,10 @@ walk_ends mode octets old now os x o e w =
     let same_octets : octets ≡ s.front ++ x = s.is ∙ ap (λ z. s.front ++ z) rest in
     let count : length w.passed ≡ length s.front = omega (arith, ap length is, ap length same_octets, length-append w.passed x, length-append s.front x) in
     record {
-      tree = c.0.0; value = s.front; encodes = s.is_encoding; is = same_octets;
+      tree = c.0.0;
+      value = s.front;
+      encodes = s.is_encoding;
+      is = same_octets;
       tallied = rw (met, ← count) w.tallied;
     }
 

@@ -1,5 +1,5 @@
 -- What the functions return.
-use Rattle.std.specs.Prelude.{◌≡◌, ◌≢◌, ◌⊎◌, ℕ}
+use Rattle.std.specs.Prelude.{◌≡◌, ◌⊎◌, ℕ}
 
 -- it was done
 abbrev pub done : ℕ

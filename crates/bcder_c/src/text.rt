@@ -25,7 +25,17 @@ fn has(set: AsciiSet, octet: u8) -> bool
         AsciiSet::Printable => {
             octet.is_ascii_alphanumeric()
                 || match octet {
-                    b' ' | b'\'' | b'(' | b')' | b'+' | b',' | b'-' | b'.' | b'/' | b':' | b'='
+                    b' '
+                    | b'\''
+                    | b'('
+                    | b')'
+                    | b'+'
+                    | b','
+                    | b'-'
+                    | b'.'
+                    | b'/'
+                    | b':'
+                    | b'='
                     | b'?' => true,
                     _ => false,
                 }

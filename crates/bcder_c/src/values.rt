@@ -20,12 +20,7 @@ const NOTHING: Checked = Checked {
 
 /// Passes over the first value (X.690, 8.1.1).
 #[unsafe(no_mangle)]
-pub extern "C" fn bcder_value(
-    alloc: Global,
-    rules: u8,
-    octets: &[u8],
-    checked: &mut Checked,
-) -> u8
+pub extern "C" fn bcder_value(alloc: Global, rules: u8, octets: &[u8], checked: &mut Checked) -> u8
     ensures unknown { AreUnknown rules → (result ≡ unknown_rules) × (checked.new ≡ checked.old) }
     ensures passed { (mode : ModeValue) → AreRules rules mode
         → PassesFirst mode octets.now result checked.new }
@@ -57,12 +52,7 @@ fn pass_all(alloc: Global, mode: Mode, octets: &[u8], checked: &mut Checked) -> 
 
 /// Passes over all octets as values, one after the other (X.690, 8.1.1).
 #[unsafe(no_mangle)]
-pub extern "C" fn bcder_check(
-    alloc: Global,
-    rules: u8,
-    octets: &[u8],
-    checked: &mut Checked,
-) -> u8
+pub extern "C" fn bcder_check(alloc: Global, rules: u8, octets: &[u8], checked: &mut Checked) -> u8
     ensures unknown { AreUnknown rules → (result ≡ unknown_rules) × (checked.new ≡ checked.old) }
     ensures passed { (mode : ModeValue) → AreRules rules mode
         → PassesAll mode octets.now result checked.new }

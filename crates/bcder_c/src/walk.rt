@@ -27,13 +27,7 @@ fn close<'a>(
         × (at.new ≡ at.old + n)) }
 {
     match innermost {
-        Some(behind) => {
-            if rest.is_empty() {
-                Some(behind)
-            } else {
-                None
-            }
-        }
+        Some(behind) => { if rest.is_empty() { Some(behind) } else { None } }
         None => match end_at(mode, rest) {
             Some(after) => {
                 *at += rest.len() - after.len();

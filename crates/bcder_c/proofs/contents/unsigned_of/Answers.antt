@@ -1,5 +1,4 @@
-use Rattle.std.proofs.Common.{refl, rules, ◌≡◌}
-use Rattle.bcder.specs.calls.Cause.{cause_of, of_source}
+use Rattle.std.proofs.Common.{rules}
 use Rattle.bcder.specs.calls.Readers.{IsUnsigned}
 use Rattle.bcder_c.proofs.Alone.{read_alone, refused_alone}
 use Rattle.bcder_c.proofs.contents.unsigned_of.Goals.{in-Ok, in-Err}

@@ -1,4 +1,4 @@
-use Rattle.std.proofs.Common.{◌<◌, length, arith, rules}
+use Rattle.std.proofs.Common.{◌<◌, length, rules}
 use Rattle.bcder_c.proofs.Listing.{list_starts, list_goes_on, list_shrinks, list_refused}
 use Rattle.bcder_c.proofs.values.pass_all.Goals as goal
 

@@ -1,4 +1,4 @@
-use Rattle.std.proofs.Common.{◌≡◌, ◌+◌, ◌-◌, ◌≤◌, length, ap, refl, sym, ◌∙◌, arith, rules, Some, None, ◌∷◌, ◌++◌, []}
+use Rattle.std.proofs.Common.{◌≡◌, ◌+◌, length, refl, sym, ◌∙◌, arith, rules, Some, None, ◌∷◌, ◌++◌, []}
 use Rattle.bcder.specs.x690.Identifier.{AreOctets}
 use Rattle.bcder_c.specs.Open.{open_values}
 use Rattle.bcder_c.proofs.Walking.{nothing_in_nothing, nothing_without_header, nothing_beyond, length_open, open_pushed, begins_primitive, begins_definite, begins_indefinite, must_be}

@@ -1,4 +1,4 @@
-use Rattle.std.proofs.Common.{◌≡◌, ◌<◌, ◌+◌, length, option_map, refl, ap, arith, rules}
+use Rattle.std.proofs.Common.{option_map, refl, ap, arith, rules}
 use Rattle.bcder.specs.x690.Identifier.{AreOctets}
 use Rattle.bcder_c.proofs.Walking.{closes_definite, goes_on_definite, closes_indefinite, goes_on_indefinite}
 use Rattle.bcder_c.proofs.walk.close.Goals as goal

@@ -1,4 +1,4 @@
-use Rattle.std.proofs.Common.{◌≡◌, ◌+◌, ◌-◌, length, take, slice_get, option_map, Some, ◌∷◌, [], ap, refl, sym, subst, ◌∙◌, arith, rules}
+use Rattle.std.proofs.Common.{◌≡◌, ◌-◌, length, take, slice_get, option_map, Some, ◌∷◌, [], ap, refl, sym, ◌∙◌, arith, rules}
 use Rattle.bcder.specs.x690.Identifier.{AreOctets}
 use Rattle.bcder_c.specs.Open.{open_values}
 use Rattle.bcder_c.proofs.WholeWalk.{walk_starts, walk_closes, walk_goes_on, walk_refused_first, walk_refused, walk_ends, innermost_first, walk_at, closes_smaller, none_open}
@@ -18,7 +18,7 @@ loop-innermost-smaller-in-Some-close c =
     let g : slice_get c.loop-innermost.opened.items (length c.loop-innermost.opened.items - 1) ≡ Some c.in-Some.field-0.now = search rules in
     let p : c.pop-ended.new.self.items ≡ take (length c.loop-innermost.opened.items - 1) c.loop-innermost.opened.items = search rules in
     let q : open_values c.loop-innermost.opened.items ≡ option_map (λ s. s.now) c.in-Some.field-0.now ∷ open_values c.pop-ended.new.self.items =
-        innermost_first c.loop-innermost.opened.items _ _ refl g ∙ ap (λ k. option_map (λ s. s.now) c.in-Some.field-0.now ∷ open_values k) (sym p) in
+    innermost_first c.loop-innermost.opened.items _ _ refl g ∙ ap (λ k. option_map (λ s. s.now) c.in-Some.field-0.now ∷ open_values k) (sym p) in
     closes_smaller _ _ _ _ _ _ _ q c.in-Some-close.ensures.1
 
 pub loop-innermost-preserved-in-Some-close : goal.loop-innermost-preserved-in-Some-close
@@ -26,7 +26,7 @@ loop-innermost-preserved-in-Some-close c =
     let g : slice_get c.loop-innermost.opened.items (length c.loop-innermost.opened.items - 1) ≡ Some c.in-Some.field-0.now = search rules in
     let p : c.pop-ended.new.self.items ≡ take (length c.loop-innermost.opened.items - 1) c.loop-innermost.opened.items = search rules in
     let q : open_values c.loop-innermost.opened.items ≡ option_map (λ s. s.now) c.in-Some.field-0.now ∷ open_values c.pop-ended.new.self.items =
-        innermost_first c.loop-innermost.opened.items _ _ refl g ∙ ap (λ k. option_map (λ s. s.now) c.in-Some.field-0.now ∷ open_values k) (sym p) in
+    innermost_first c.loop-innermost.opened.items _ _ refl g ∙ ap (λ k. option_map (λ s. s.now) c.in-Some.field-0.now ∷ open_values k) (sym p) in
     walk_closes _ _ _ _ _ _ _ (walk_at _ _ _ _ _ _ _ _ q c.loop-innermost.invariant) _ _ _ c.in-Some-close.ensures.1 c.in-Some-close.ensures.2 refl refl
 
 pub loop-innermost-preserved : goal.loop-innermost-preserved
