@@ -4,13 +4,13 @@ use Rattle.std.proofs.lemmas.Bool.{cases_eq}
 use Rattle.std.proofs.lemmas.List.{length-append}
 use Rattle.bcder.specs.declared.mode.Mode.{Mode}
 use Rattle.bcder.specs.x690.Tree.{Trees, no_trees, ◌∷ₜ◌, ◌+++◌}
-use Rattle.bcder.specs.x690.Preorder.{preorder, preorders}
+use Rattle.bcder.specs.x690.Preorder.{Heading, preorder, preorders}
 use Rattle.bcder.specs.x690.Encoding.{AreEncodings}
 use Rattle.bcder.specs.laws.Complete.{one_encoding, two_octets}
 use Rattle.bcder_c.specs.declared.checked.Checked.{Checked}
-use Rattle.bcder_c.specs.Open.{Tallied}
+use Rattle.bcder_c.specs.Open.{Open, Tallied, Reaches, at_first, one_on}
 use Rattle.bcder_c.specs.Status.{no_memory}
-use Rattle.bcder_c.specs.Values.{PassedValue, HasNoValue, StopsAfter, RefusedValue, AreNoValues, found, refused, lacking, PassesFirst, PassesAll}
+use Rattle.bcder_c.specs.Values.{PassedValue, HasNoValue, RefusedValue, AreNoValues, found, refused, lacking, PassesFirst, PassesAll}
 use Rattle.bcder_c.proofs.WholeWalk.{tallied_both, tallied_none}
 
 abbrev pub nothing_met : Checked
@@ -28,9 +28,19 @@ first_refused mode w old c status e r =
       | inl same ↦ lacking same
       | inr other ↦
           let v = r other in
-          let k : old.at ≡ 0 = ap (λ z. z.at) e in
-          let n : v.place ≡ c.at = omega (arith, v.at, k) in
-          refused v.none (subst (λ z. StopsAfter mode w z status) n v.stops)
+          let t : Tallied nothing_met c (length v.passed) v.met = subst (λ k. Tallied k c (length v.passed) v.met) e v.tallied in
+          refused v.none (record {
+            opened = v.opened;
+            rest = v.rest;
+            passed = v.passed;
+            met = v.met;
+            reaches = v.reaches;
+            at = omega (arith, t.at);
+            values = omega (arith, t.values);
+            depth = omega (arith, t.depth);
+            no_end = v.no_end;
+            why = v.why;
+          })
     ]
 
 -- ---- all values
@@ -55,12 +65,21 @@ rest_encodes mode (t ∷ₜ ts) (u ∷ₜ us) a b h k =
     let s = one_encoding mode t u h.0 k.0 (h.1 ++ b) k.1 h.2 k.2 is in
     rest_encodes mode ts us h.1 b h.3 (subst (AreEncodings mode us) (sym s.rest) k.3)
 
+-- a walk, and then another
+reaches_both : (mode : Mode) (w v p : List ℕ) (hs : List Heading) → Reaches mode w [] v p hs
+    → (os : List Open) (x q : List ℕ) (ks : List Heading) → Reaches mode v os x q ks → Reaches mode w os x (p ++ q) (hs ++ ks)
+reaches_both mode w v p hs r _ _ _ _ at_first =
+    rw (append-nil p, append-nil hs) r
+reaches_both mode w v p hs r _ _ _ _ (one_on ns os u x a b cs ds before step) =
+    rw (← append_assoc p a b, ← append_assoc hs cs ds) (one_on ns os u x (p ++ a) b (hs ++ cs) ds (reaches_both mode w v p hs r ns u a cs before) step)
+
 -- the values that were passed
 pub record InList (mode : Mode) (octets : List ℕ) (c : Checked) (rest : List ℕ) : Type 0 where
   pub trees : Trees
   pub front : List ℕ
   pub encode : AreEncodings mode trees front
   pub is : octets ≡ front ++ rest
+  pub reaches : Reaches mode octets [] rest front (preorders trees 0)
   pub tallied : Tallied nothing_met c (length front) (preorders trees 0)
   pub values : c.values ≤ c.at
   pub within : c.at + length rest ≡ length octets
@@ -71,6 +90,7 @@ list_starts mode octets c e = rw e (record {
   front = [];
   encode = refl;
   is = refl;
+  reaches = at_first;
   tallied = tallied_none nothing_met;
   values = omega arith;
   within = omega arith;
@@ -88,6 +108,7 @@ module _ (mode : Mode) (octets : List ℕ) (c : Checked) (rest : List ℕ) (l : 
         front = l.front ++ p.value;
         encode = encodings-append mode l.trees (p.tree ∷ₜ no_trees) l.front p.value l.encode (p.value, [], p.encodes, refl, sym (append-nil p.value));
         is = is;
+        reaches = rw one (reaches_both mode octets rest l.front (preorders l.trees 0) l.reaches [] after p.value (preorder p.tree 0) p.reaches);
         tallied = rw (one, n) t;
         values = v;
         within = omega (arith, t.at, n, ap length is, length-append (l.front ++ p.value) after);
@@ -126,13 +147,17 @@ module _ (mode : Mode) (octets : List ℕ) (c : Checked) (rest : List ℕ) (l : 
         | inl same ↦ lacking same
         | inr other ↦
             let v = r other in
-            let s = v.stops in
+            let t = tallied_both nothing_met c new (length l.front) (length v.passed) (preorders l.trees 0) v.met l.tallied v.tallied in
             refused (no_more some v.none) (record {
-              passed = l.front ++ s.passed;
-              rest = s.rest;
-              behind = s.behind;
-              is = l.is ∙ ap (λ z. l.front ++ z) s.is ∙ sym (append_assoc l.front s.passed (s.rest ++ s.behind));
-              count = omega (arith, v.at, l.tallied.at, s.count, length-append l.front s.passed);
-              why = s.why;
+              opened = v.opened;
+              rest = v.rest;
+              passed = l.front ++ v.passed;
+              met = preorders l.trees 0 ++ v.met;
+              reaches = reaches_both mode octets rest l.front (preorders l.trees 0) l.reaches v.opened v.rest v.passed v.met v.reaches;
+              at = omega (arith, t.at, length-append l.front v.passed);
+              values = omega (arith, t.values);
+              depth = omega (arith, t.depth);
+              no_end = v.no_end;
+              why = v.why;
             })
       ]

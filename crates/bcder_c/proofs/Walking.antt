@@ -1,8 +1,8 @@
 -- The steps of the walk over values.
-use Rattle.std.proofs.Common.{◌≡◌, ℕ, ◌+◌, ◌-◌, ◌<◌, ◌≤◌, Bool, true, false, IsTrue, List, [], ◌∷◌, ◌++◌, length, take, drop, map, reverse, Option, Some, None, option_map, refl, sym, ap, ◌∙◌, append_assoc, arith}
+use Rattle.std.proofs.Common.{◌≡◌, ℕ, ◌+◌, ◌-◌, ◌<◌, ◌≤◌, Bool, true, false, IsTrue, List, [], ◌∷◌, ◌++◌, length, take, drop, map, reverse, Option, Some, None, option_map, refl, sym, ap, subst, ◌∙◌, append_assoc, arith}
 use Rattle.std.proofs.Math.Nat.{max-zero}
 use Rattle.std.specs.Prelude.{max}
-use Rattle.std.proofs.lemmas.List.{length-append, length-reverse, length-map, reverse-append, map-append, take-append-drop}
+use Rattle.std.proofs.lemmas.List.{length-append, length-reverse, length-map, reverse-append, map-append, take-append-drop, length-take-le}
 use denote.Ref.{Bor}
 use Rattle.bcder.specs.declared.mode.Mode.{Mode}
 use Rattle.bcder.specs.x690.Identifier.{AreOctets, Tag}
@@ -13,17 +13,18 @@ use Rattle.bcder.specs.calls.ContentsLen.{length_of}
 use Rattle.bcder.specs.steps.Reading.{read_tree}
 use Rattle.bcder.specs.laws.Complete.{header_size}
 use Rattle.bcder_c.specs.declared.checked.Checked.{Checked}
-use Rattle.bcder_c.specs.Open.{Open, open_values, value_and_rest, Tallied, Begins, HasNoHeader, Closes, GoesOn}
+use Rattle.bcder_c.specs.Open.{Open, open_values, value_and_rest, Tallied, Begins, HasNoHeader, Closes, GoesOn, of_primitive, into_definite, into_indefinite, out_of_definite, out_of_indefinite}
 use Rattle.bcder_c.proofs.Reading.{definite_ends, indefinite_ends, indefinite_goes_on, definite_goes_on, no_tree, too_short, primitive_next, definite_next, indefinite_next, after_front, end_read, no_end_read}
 
 -- ---- the innermost open value
 
 pub closes_definite : (mode : Mode) (o : Open) (behind x : List ℕ) → o ≡ Some behind → length x ≡ 0 → Closes mode o x behind 0
-closes_definite mode o behind [] e l = rw e (record { same = λ os. definite_ends mode os behind; passed = []; is = λ os. refl; size = refl })
+closes_definite mode o behind [] e l =
+    rw e (record { same = λ os. definite_ends mode os behind; passed = []; is = λ os. refl; step = λ os. out_of_definite refl refl refl refl; size = refl })
 closes_definite mode o behind (b ∷ x) e l = absurd (omega arith)
 
 pub goes_on_definite : (mode : Mode) (o : Open) (behind x : List ℕ) → o ≡ Some behind → AreOctets x → 0 < length x → GoesOn mode o x
-goes_on_definite mode o behind x e octets l = rw e (λ os. definite_goes_on mode os behind x octets l)
+goes_on_definite mode o behind x e octets l = rw e (record { same = λ os. definite_goes_on mode os behind x octets l; no_end = l })
 
 pub closes_indefinite : (mode : Mode) (o : Open) (x y w : List ℕ) (n : ℕ) → o ≡ None → AreOctets x → IsEndOfContents mode w → x ≡ w ++ y → n ≡ length x - length y → Closes mode o x y n
 closes_indefinite mode o x y w n e octets end is size =
@@ -31,11 +32,13 @@ closes_indefinite mode o x y w n e octets end is size =
       same = λ os. indefinite_ends mode os x y octets (end_read mode w x y end is);
       passed = w;
       is = λ os. after_front os w y x is;
+      step = λ os. out_of_indefinite refl end is refl;
       size = omega (arith, length-append w y, ap length is);
     })
 
 pub goes_on_indefinite : (mode : Mode) (o : Open) (x : List ℕ) → o ≡ None → AreOctets x → ((w y : List ℕ) → IsEndOfContents mode w → x ≡ w ++ y → ⊥) → GoesOn mode o x
-goes_on_indefinite mode o x e octets none = rw e (λ os. indefinite_goes_on mode os x octets (no_end_read mode x octets none))
+goes_on_indefinite mode o x e octets none =
+    rw e (record { same = λ os. indefinite_goes_on mode os x octets (no_end_read mode x octets none); no_end = none })
 
 -- ---- the next value
 
@@ -76,6 +79,7 @@ module _ (mode : Mode) (x : List ℕ) (t : Tag) (f : Bool) (n : Option ℕ) (h z
 
   pub begins_primitive : (os : List Open) (y : List ℕ) (k m s : ℕ) (old new : Checked) → n ≡ Some k → f ≡ false → k ≤ length z → y ≡ drop k z → new.at ≡ old.at + s → s ≡ length x - length y → new.values ≡ old.values + 1 → new.depth ≡ max old.depth m → m ≡ length os + 1 → Begins mode os x os y old new
   begins_primitive os y k m s old new e form l back a size v deep depth =
+      let told : IsHeader mode t false (length_of (Some (length (take k z)))) h = subst (λ j. IsHeader mode t false (length_of (Some j)) h) (sym (length-take-le k z l)) (rw (e, form) at d) in
       let whole : x ≡ (h ++ take k z) ++ drop k z = is ∙ ap (λ w. h ++ w) (sym (take-append-drop k z)) ∙ sym (append_assoc h (take k z) (drop k z)) in
       let count : length (h ++ take k z) ≡ s = omega (arith, length-append (h ++ take k z) (drop k z), ap length whole, ap length back, size) in
       rw back (record {
@@ -83,6 +87,7 @@ module _ (mode : Mode) (x : List ℕ) (t : Tag) (f : Bool) (n : Option ℕ) (h z
         same = primitive_next mode x t f n h z octets d is k os e form l;
         passed = h ++ take k z;
         is = after_front os (h ++ take k z) (drop k z) x whole;
+        step = of_primitive t h (take k z) told (is ∙ ap (λ w. h ++ w) (sym (take-append-drop k z))) refl refl refl;
         tallied = tallied old new (length (h ++ take k z)) m (record { tag = t; constructed = false; depth = length os }) (a ∙ ap (λ r. old.at + r) (sym count)) v deep depth;
         two = omega (arith, two, length-append h (take k z));
         opens = omega arith;
@@ -90,12 +95,14 @@ module _ (mode : Mode) (x : List ℕ) (t : Tag) (f : Bool) (n : Option ℕ) (h z
 
   pub begins_definite : (os ps : List Open) (y b : List ℕ) (k m s : ℕ) (old new : Checked) → n ≡ Some k → f ≡ true → k ≤ length z → y ≡ take k z → b ≡ drop k z → ps ≡ Some b ∷ os → new.at ≡ old.at + s → s ≡ length x - length z → new.values ≡ old.values + 1 → new.depth ≡ max old.depth m → m ≡ length os + 1 → Begins mode os x ps y old new
   begins_definite os ps y b k m s old new e form l front back opens a size v deep depth =
+      let told : IsHeader mode t true (length_of (Some (length (take k z)))) h = subst (λ j. IsHeader mode t true (length_of (Some j)) h) (sym (length-take-le k z l)) (rw (e, form) at d) in
       let count : length h ≡ s = omega (arith, length-append h z, ap length is, size) in
       rw (opens, front, back) (record {
         heading = record { tag = t; constructed = true; depth = length os };
         same = definite_next mode x t f n h z octets d is k os e form l;
         passed = h;
         is = after_front os h z x is ∙ ap (λ w. h ++ w) (after_front os (take k z) (drop k z) z (sym (take-append-drop k z)));
+        step = into_definite t h (drop k z) told (is ∙ ap (λ w. h ++ w) (sym (take-append-drop k z))) refl refl refl;
         tallied = tallied old new (length h) m (record { tag = t; constructed = true; depth = length os }) (a ∙ ap (λ r. old.at + r) (sym count)) v deep depth;
         two = two;
         opens = omega arith;
@@ -103,12 +110,14 @@ module _ (mode : Mode) (x : List ℕ) (t : Tag) (f : Bool) (n : Option ℕ) (h z
 
   pub begins_indefinite : (os ps : List Open) (y : List ℕ) (m s : ℕ) (old new : Checked) → n ≡ None → f ≡ true → y ≡ z → ps ≡ None ∷ os → new.at ≡ old.at + s → s ≡ length x - length z → new.values ≡ old.values + 1 → new.depth ≡ max old.depth m → m ≡ length os + 1 → Begins mode os x ps y old new
   begins_indefinite os ps y m s old new e form front opens a size v deep depth =
+      let told : IsHeader mode t true (length_of None) h = rw (e, form) at d in
       let count : length h ≡ s = omega (arith, length-append h z, ap length is, size) in
       rw (opens, front) (record {
         heading = record { tag = t; constructed = true; depth = length os };
         same = indefinite_next mode x t f n h z octets d is os e form;
         passed = h;
         is = after_front os h z x is;
+        step = into_indefinite t h told is refl refl refl;
         tallied = tallied old new (length h) m (record { tag = t; constructed = true; depth = length os }) (a ∙ ap (λ r. old.at + r) (sym count)) v deep depth;
         two = two;
         opens = omega arith;

@@ -1,7 +1,7 @@
 -- A walk over a value, from its first octet to its last.
 use Rattle.std.proofs.Common.{◌≡◌, ℕ, suc, ◌+◌, ◌-◌, ◌*◌, ◌<◌, ◌≤◌, List, [], ◌∷◌, ◌++◌, length, take, Option, Some, None, option_map, slice_get, refl, sym, ap, subst, ◌∙◌, append_assoc, append-nil, arith}
 use Rattle.std.specs.Prelude.{max}
-use Rattle.std.proofs.lemmas.List.{length-append}
+use Rattle.std.proofs.lemmas.List.{length-append, append_cancel_right}
 use denote.Ref.{Bor}
 use Rattle.bcder.specs.declared.mode.Mode.{Mode}
 use Rattle.bcder.specs.x690.Identifier.{AreOctets}
@@ -12,7 +12,7 @@ use Rattle.bcder.specs.laws.Sound.{none_is, some_inj, chained}
 use Rattle.bcder.specs.laws.Stands.{tree_sound}
 use Rattle.bcder_c.specs.declared.checked.Checked.{Checked}
 use Rattle.bcder_c.specs.Depth.{deepest}
-use Rattle.bcder_c.specs.Open.{Open, open_values, after, rest_of, value_and_rest, to_come, Tallied, Begins, Closes, GoesOn, NoneBegins}
+use Rattle.bcder_c.specs.Open.{Open, open_values, after, rest_of, value_and_rest, to_come, Tallied, Begins, Closes, GoesOn, NoneBegins, Step, Reaches, at_first, one_on}
 use Rattle.bcder_c.specs.Values.{PassedValue, HasNoValue, RefusedValue}
 use Rattle.bcder_c.proofs.Reading.{after_both, last_apart}
 use Rattle.bcder_c.proofs.Walking.{open_pushed}
@@ -46,6 +46,7 @@ pub record InWalk (mode : Mode) (octets : List ℕ) (old now : Checked) (os : Li
   pub same : value_and_rest mode [] octets ≡ after met (rest_of mode os x)
   pub passed : List ℕ
   pub is : octets ≡ passed ++ to_come os x
+  pub reaches : Reaches mode octets os x passed met
   pub tallied : Tallied old now (length passed) met
   pub values : now.values ≤ now.at
   pub depth : length os ≤ now.at
@@ -63,6 +64,7 @@ walk_starts mode octets old now os ps y e v b =
       same = same;
       passed = b.passed;
       is = is;
+      reaches = one_on [] ps octets y [] b.passed [] (b.heading ∷ []) at_first (subst (λ k. Step mode k octets ps y b.passed (b.heading ∷ [])) e b.step);
       tallied = b.tallied;
       values = omega (arith, b.tallied.values, b.tallied.at, b.two);
       depth = omega (arith, b.opens, b.tallied.at, b.two, none);
@@ -82,6 +84,7 @@ module _ (mode : Mode) (octets : List ℕ) (old now : Checked) (o : Open) (os : 
         same = w.same ∙ ap (after w.met) (c.same os);
         passed = w.passed ++ c.passed;
         is = is;
+        reaches = subst (λ k. Reaches mode octets os y (w.passed ++ c.passed) k) (append-nil w.met) (one_on (o ∷ os) os x y w.passed c.passed w.met [] w.reaches (c.step os));
         tallied = record { at = at; values = v ∙ w.tallied.values; depth = d ∙ w.tallied.depth };
         values = omega (arith, w.values, a, v);
         depth = omega (arith, w.depth, a);
@@ -101,9 +104,10 @@ module _ (mode : Mode) (octets : List ℕ) (old now : Checked) (o : Open) (os : 
       let at : new.at ≡ old.at + length (w.passed ++ b.passed) = t.at ∙ ap (λ k. old.at + k) (sym front) in
       record {
         met = w.met ++ b.heading ∷ [];
-        same = w.same ∙ ap (after w.met) (g os ∙ same) ∙ after_both w.met (b.heading ∷ []) (rest_of mode ps y);
+        same = w.same ∙ ap (after w.met) (g.same os ∙ same) ∙ after_both w.met (b.heading ∷ []) (rest_of mode ps y);
         passed = w.passed ++ b.passed;
         is = is;
+        reaches = one_on (o ∷ os) ps x y w.passed b.passed w.met (b.heading ∷ []) w.reaches (subst (λ k. Step mode k x ps y b.passed (b.heading ∷ [])) q b.step);
         tallied = record { at = at; values = t.values; depth = t.depth };
         values = omega (arith, w.values, a, v, b.tallied.at, b.tallied.values, b.two);
         depth = omega (arith, w.depth, a, b.tallied.at, b.two, few);
@@ -117,23 +121,31 @@ nothing_at_front mode octets e t v x h is =
     let r : value_and_rest mode [] octets ≡ Some (preorder t 0 ++ [], x) = ap (value_and_rest mode []) is ∙ rw (tree_complete mode t v x h) refl in
     none_is _ (sym e ∙ r)
 
-pub walk_refused_first : (mode : Mode) (octets : List ℕ) (old new : Checked) (status : ℕ) → value_and_rest mode [] octets ≡ None → NoneBegins mode octets status → new.at ≡ old.at → RefusedValue mode octets old new status
+pub walk_refused_first : (mode : Mode) (octets : List ℕ) (old new : Checked) (status : ℕ) → value_and_rest mode [] octets ≡ None → NoneBegins mode octets status → new ≡ old → RefusedValue mode octets old new status
 walk_refused_first mode octets old new status e why a = record {
   none = nothing_at_front mode octets e;
-  place = 0;
-  at = omega (arith, a);
-  stops = record { passed = []; rest = octets; behind = []; is = sym (append-nil octets); count = refl; why = why };
+  opened = [];
+  rest = octets;
+  passed = [];
+  met = [];
+  reaches = at_first;
+  tallied = subst (λ c. Tallied old c 0 []) (sym a) (tallied_none old);
+  no_end = tt;
+  why = why;
 }
 
-pub walk_refused : (mode : Mode) (octets : List ℕ) (old now new : Checked) (o : Open) (os : List Open) (x : List ℕ) (status : ℕ) → InWalk mode octets old now (o ∷ os) x → GoesOn mode o x → value_and_rest mode (o ∷ os) x ≡ None → NoneBegins mode x status → new.at ≡ now.at → RefusedValue mode octets old new status
-walk_refused mode octets old now new o os x status w g e why a =
-    let b = come_first (o ∷ os) x in
-    record {
-      none = nothing_at_front mode octets (w.same ∙ ap (after w.met) (g os ∙ e));
-      place = length w.passed;
-      at = a ∙ w.tallied.at;
-      stops = record { passed = w.passed; rest = x; behind = b.0; is = w.is ∙ ap (λ z. w.passed ++ z) b.1; count = refl; why = why };
-    }
+pub walk_refused : (mode : Mode) (octets : List ℕ) (old now new : Checked) (o : Open) (os : List Open) (x : List ℕ) (status : ℕ) → InWalk mode octets old now (o ∷ os) x → GoesOn mode o x → value_and_rest mode (o ∷ os) x ≡ None → NoneBegins mode x status → new.at ≡ now.at → new.values ≡ now.values → new.depth ≡ now.depth → RefusedValue mode octets old new status
+walk_refused mode octets old now new o os x status w g e why a v d = record {
+  none = nothing_at_front mode octets (w.same ∙ ap (after w.met) (g.same os ∙ e));
+  opened = o ∷ os;
+  rest = x;
+  passed = w.passed;
+  met = w.met;
+  reaches = w.reaches;
+  tallied = record { at = a ∙ w.tallied.at; values = v ∙ w.tallied.values; depth = d ∙ w.tallied.depth };
+  no_end = g.no_end;
+  why = why;
+}
 
 pub walk_ends : (mode : Mode) (octets : List ℕ) (old now : Checked) (os : List Open) (x : List ℕ) → AreOctets octets → os ≡ [] → InWalk mode octets old now os x → PassedValue mode octets x old now
 unfolding rest_of
@@ -147,11 +159,13 @@ walk_ends mode octets old now os x o e w =
     let s = tree_sound mode octets c.0 o c.1 in
     let same_octets : octets ≡ s.front ++ x = s.is ∙ ap (λ z. s.front ++ z) rest in
     let count : length w.passed ≡ length s.front = omega (arith, ap length is, ap length same_octets, length-append w.passed x, length-append s.front x) in
+    let front : w.passed ≡ s.front = append_cancel_right w.passed s.front x (sym is ∙ same_octets) in
     record {
       tree = c.0.0;
       value = s.front;
       encodes = s.is_encoding;
       is = same_octets;
+      reaches = subst (λ k. Reaches mode octets k x s.front (preorder c.0.0 0)) e (rw (met, ← front) w.reaches);
       tallied = rw (met, ← count) w.tallied;
     }
 

@@ -6,6 +6,7 @@ use Rattle.bcder.specs.x690.Preorder.{Heading, preorder, preorders}
 use Rattle.bcder.specs.steps.Reading.{read_list, read_tree}
 use Rattle.bcder.specs.x690.Identifier.{Tag}
 use Rattle.bcder.specs.x690.Encoding.{IsHeader}
+use Rattle.bcder.specs.x690.Length.{IsEndOfContents}
 use Rattle.bcder.specs.calls.ContentsLen.{length_of}
 use Rattle.bcder_c.specs.declared.checked.Checked.{Checked}
 use Rattle.bcder_c.specs.Depth.{deepest}
@@ -50,12 +51,38 @@ pub record Tallied (old new : Checked) (n : ℕ) (hs : List Heading) : Type 0 wh
   pub values : new.values ≡ old.values + length hs
   pub depth : new.depth ≡ max old.depth (deepest hs)
 
+-- the heading of the next value
+abbrev pub heading_of : Tag → Bool → List Open → Heading
+heading_of t constructed os = record { tag = t; constructed = constructed; depth = length os }
+
+-- one step of a walk over octets, from the octets x inside the open values os to the octets y inside ps:
+-- past a primitive value, past the header of a constructed value, or past the end of the innermost one
+pub data Step (mode : Mode) (os : List Open) (x : List ℕ) (ps : List Open) (y passed : List ℕ) (met : List Heading) : Type 0 where
+  of_primitive : (t : Tag) (header contents : List ℕ) → IsHeader mode t false (length_of (Some (length contents))) header
+      → x ≡ header ++ (contents ++ y) → ps ≡ os → passed ≡ header ++ contents → met ≡ heading_of t false os ∷ []
+      → Step mode os x ps y passed met
+  into_definite : (t : Tag) (header behind : List ℕ) → IsHeader mode t true (length_of (Some (length y))) header
+      → x ≡ header ++ (y ++ behind) → ps ≡ Some behind ∷ os → passed ≡ header → met ≡ heading_of t true os ∷ []
+      → Step mode os x ps y passed met
+  into_indefinite : (t : Tag) (header : List ℕ) → IsHeader mode t true (length_of None) header
+      → x ≡ header ++ y → ps ≡ None ∷ os → passed ≡ header → met ≡ heading_of t true os ∷ []
+      → Step mode os x ps y passed met
+  out_of_definite : os ≡ Some y ∷ ps → x ≡ [] → passed ≡ [] → met ≡ [] → Step mode os x ps y passed met
+  out_of_indefinite : os ≡ None ∷ ps → IsEndOfContents mode passed → x ≡ passed ++ y → met ≡ [] → Step mode os x ps y passed met
+
+-- a walk over w, which met values with these headings, got to the octets x inside the open values os
+pub data Reaches (mode : Mode) (w : List ℕ) : List Open → List ℕ → List ℕ → List Heading → Type 0 where
+  at_first : Reaches mode w [] w [] []
+  one_on : (ns os : List Open) (v x p q : List ℕ) (hs ks : List Heading) → Reaches mode w ns v p hs → Step mode ns v os x q ks
+      → Reaches mode w os x (p ++ q) (hs ++ ks)
+
 -- the header of a value was passed, and the contents too, if it is primitive
 pub record Begins (mode : Mode) (os : List Open) (x : List ℕ) (ps : List Open) (y : List ℕ) (old new : Checked) : Type 0 where
   pub heading : Heading
   pub same : value_and_rest mode os x ≡ after (heading ∷ []) (rest_of mode ps y)
   pub passed : List ℕ
   pub is : to_come os x ≡ passed ++ to_come ps y
+  pub step : Step mode os x ps y passed (heading ∷ [])
   pub tallied : Tallied old new (length passed) (heading ∷ [])
   pub two : 2 ≤ length passed
   pub opens : length ps ≤ length os + 1
@@ -86,8 +113,15 @@ pub record Closes (mode : Mode) (o : Open) (x y : List ℕ) (n : ℕ) : Type 0 w
   pub same : (os : List Open) → rest_of mode (o ∷ os) x ≡ rest_of mode os y
   pub passed : List ℕ
   pub is : (os : List Open) → to_come (o ∷ os) x ≡ passed ++ to_come os y
+  pub step : (os : List Open) → Step mode (o ∷ os) x os y passed []
   pub size : length passed ≡ n
 
+-- the octets x don't begin with the end of the innermost open value: they are not at their end; they begin with no end-of-contents octets
+abbrev pub NotAtEnd : Mode → Open → List ℕ → Type 0
+NotAtEnd mode (Some behind) x = 0 < length x
+NotAtEnd mode None x = (v y : List ℕ) → IsEndOfContents mode v → x ≡ v ++ y → ⊥
+
 -- the innermost open value goes on: a value comes next, or should
-abbrev pub GoesOn : Mode → Open → List ℕ → Type 0
-GoesOn mode o x = (os : List Open) → rest_of mode (o ∷ os) x ≡ value_and_rest mode (o ∷ os) x
+pub record GoesOn (mode : Mode) (o : Open) (x : List ℕ) : Type 0 where
+  pub same : (os : List Open) → rest_of mode (o ∷ os) x ≡ value_and_rest mode (o ∷ os) x
+  pub no_end : NotAtEnd mode o x

@@ -1,12 +1,12 @@
 -- What is said of octets that begin with a value, or are values, and of those that don't or aren't.
-use Rattle.std.specs.Prelude.{◌≡◌, ℕ, ◌+◌, List, ◌++◌, length}
+use Rattle.std.specs.Prelude.{◌≡◌, ℕ, List, [], ◌∷◌, ◌++◌, length}
 use Rattle.bcder.specs.declared.mode.Mode.{Mode}
 use Rattle.bcder.specs.x690.Tree.{Tree, Trees}
-use Rattle.bcder.specs.x690.Preorder.{preorder, preorders}
+use Rattle.bcder.specs.x690.Preorder.{Heading, preorder, preorders}
 use Rattle.bcder.specs.x690.Encoding.{IsEncoding, AreEncodings}
 use Rattle.bcder_c.specs.declared.checked.Checked.{Checked}
 use Rattle.bcder_c.specs.Depth.{deepest}
-use Rattle.bcder_c.specs.Open.{NoneBegins, Tallied}
+use Rattle.bcder_c.specs.Open.{Open, NoneBegins, NotAtEnd, Reaches, Tallied}
 use Rattle.bcder_c.specs.Status.{done, no_memory}
 
 -- w begins with an encoding of a value, before the octets x, and it was told: its octets, the values in it, and their depth
@@ -15,27 +15,42 @@ pub record PassedValue (mode : Mode) (w x : List ℕ) (old new : Checked) : Type
   pub value : List ℕ
   pub encodes : IsEncoding mode tree value
   pub is : w ≡ value ++ x
+  pub reaches : Reaches mode w [] x value (preorder tree 0)
   pub tallied : Tallied old new (length value) (preorder tree 0)
 
 -- w begins with no encoding of a value
 abbrev pub HasNoValue : Mode → List ℕ → Type 0
 HasNoValue mode w = (t : Tree) (v x : List ℕ) → IsEncoding mode t v → w ≡ v ++ x → ⊥
 
--- after n octets of w no value begins: within the octets x, which are all, or end where an open value of definite length ends
-pub record StopsAfter (mode : Mode) (w : List ℕ) (n status : ℕ) : Type 0 where
-  pub passed : List ℕ
-  pub rest : List ℕ
-  pub behind : List ℕ
-  pub is : w ≡ passed ++ (rest ++ behind)
-  pub count : n ≡ length passed
-  pub why : NoneBegins mode rest status
+-- the octets x don't begin with the end of the innermost open value, if there is one
+abbrev pub NoneEnds : Mode → List Open → List ℕ → Type 0
+NoneEnds mode [] x = Unit {0}
+NoneEnds mode (o ∷ os) x = NotAtEnd mode o x
 
--- w begins with no encoding of a value, since after n octets none begins
+-- w begins with no encoding of a value: a walk over it got to where none begins and none ends
 pub record RefusedValue (mode : Mode) (w : List ℕ) (old new : Checked) (status : ℕ) : Type 0 where
   pub none : HasNoValue mode w
-  pub place : ℕ
-  pub at : new.at ≡ old.at + place
-  pub stops : StopsAfter mode w place status
+  pub opened : List Open
+  pub rest : List ℕ
+  pub passed : List ℕ
+  pub met : List Heading
+  pub reaches : Reaches mode w opened rest passed met
+  pub tallied : Tallied old new (length passed) met
+  pub no_end : NoneEnds mode opened rest
+  pub why : NoneBegins mode rest status
+
+-- a walk over w got to where no value begins and none ends; c tells the octets that it passed, and the values that it met
+pub record StopsAfter (mode : Mode) (w : List ℕ) (c : Checked) (status : ℕ) : Type 0 where
+  pub opened : List Open
+  pub rest : List ℕ
+  pub passed : List ℕ
+  pub met : List Heading
+  pub reaches : Reaches mode w opened rest passed met
+  pub at : c.at ≡ length passed
+  pub values : c.values ≡ length met
+  pub depth : c.depth ≡ deepest met
+  pub no_end : NoneEnds mode opened rest
+  pub why : NoneBegins mode rest status
 
 -- ---- what the functions say
 
@@ -65,7 +80,7 @@ AreNoValues mode w = (ts : Trees) → AreEncodings mode ts w → ⊥
 -- what was found, why it isn't there, or that memory ran out
 pub data Passes (Found Absent : Type 0) (mode : Mode) (w : List ℕ) (status : ℕ) (c : Checked) : Type 0 where
   found : status ≡ done → Found → Passes Found Absent mode w status c
-  refused : Absent → StopsAfter mode w c.at status → Passes Found Absent mode w status c
+  refused : Absent → StopsAfter mode w c status → Passes Found Absent mode w status c
   lacking : status ≡ no_memory → Passes Found Absent mode w status c
 
 -- the first value was passed, or there is none

@@ -39,7 +39,7 @@ pub returns-in-Err-begin-clause-refused : goal.returns-in-Err-begin-clause-refus
 returns-in-Err-begin-clause-refused c =
     let g : slice_get c.loop-innermost.opened.items (length c.loop-innermost.opened.items - 1) ≡ Some c.in-Some.field-0.now = search rules in
     let q = innermost_first c.loop-innermost.opened.items _ _ refl g in
-    λ k. walk_refused _ _ _ _ _ _ _ _ _ (walk_at _ _ _ _ _ _ _ _ q c.loop-innermost.invariant) c.in-None.ensures.0 (c.in-Err-begin.ensures.none k _) (c.in-Err-begin.ensures.why k) (search rules)
+    λ k. walk_refused _ _ _ _ _ _ _ _ _ (walk_at _ _ _ _ _ _ _ _ q c.loop-innermost.invariant) c.in-None.ensures.0 (c.in-Err-begin.ensures.none k _) (c.in-Err-begin.ensures.why k) (search rules) (search rules) (search rules)
 
 pub returns-clause-passed : goal.returns-clause-passed
 returns-clause-passed c =
