@@ -1,5 +1,5 @@
 -- A walk over values, one after the other.
-use Rattle.std.proofs.Common.{◌≡◌, ◌≢◌, ℕ, ◌+◌, ◌<◌, ◌≤◌, List, [], ◌∷◌, ◌++◌, length, refl, sym, ap, subst, ◌∙◌, append_assoc, append-nil, inl, inr, arith}
+use Rattle.std.proofs.Common.{◌^◌, max, ◌≡◌, ◌≢◌, ℕ, ◌+◌, ◌-◌, ◌<◌, ◌≤◌, List, [], ◌∷◌, ◌++◌, length, refl, sym, ap, subst, ◌∙◌, append_assoc, append-nil, inl, inr, arith}
 use Rattle.std.proofs.lemmas.Bool.{cases_eq}
 use Rattle.std.proofs.lemmas.List.{length-append}
 use Rattle.bcder.specs.declared.mode.Mode.{Mode}
@@ -9,8 +9,8 @@ use Rattle.bcder.specs.x690.Encoding.{AreEncodings}
 use Rattle.bcder.specs.laws.Complete.{one_encoding, two_octets}
 use Rattle.bcder_c.specs.declared.checked.Checked.{Checked}
 use Rattle.bcder_c.specs.Open.{Open, Tallied, Reaches, at_first, one_on}
-use Rattle.bcder_c.specs.Status.{no_memory}
-use Rattle.bcder_c.specs.Values.{PassedValue, HasNoValue, RefusedValue, AreNoValues, found, refused, lacking, PassesFirst, PassesAll}
+use Rattle.bcder_c.specs.Status.{no_memory, too_deep}
+use Rattle.bcder_c.specs.Values.{PassedValue, HasNoValue, RefusedValue, DeeperValue, AreNoValues, Passes, found, refused, lacking, PassesFirst, PassesAll, PassesWithin, within, deeper, PassesAllWithin}
 use Rattle.bcder_c.proofs.WholeWalk.{tallied_both, tallied_none}
 
 abbrev pub nothing_met : Checked
@@ -141,8 +141,8 @@ module _ (mode : Mode) (octets : List ℕ) (c : Checked) (rest : List ℕ) (l : 
       go no_trees k = absurd (omega (arith, ap length k))
       go (v ∷ₜ vs) k = none v k.0 k.1 k.2 k.4
 
-  pub list_refused : (new : Checked) (status : ℕ) → 0 < length rest → (status ≢ no_memory → RefusedValue mode rest c new status) → PassesAll mode octets status new
-  list_refused new status some r =
+  list_stops : (new : Checked) (status : ℕ) → 0 < length rest → (status ≢ no_memory → RefusedValue mode rest c new status) → PassesAll mode octets status new
+  list_stops new status some r =
       elim (cases_eq status no_memory) [
         | inl same ↦ lacking same
         | inr other ↦
@@ -161,3 +161,33 @@ module _ (mode : Mode) (octets : List ℕ) (c : Checked) (rest : List ℕ) (l : 
               why = v.why;
             })
       ]
+
+  pub list_refused : (new : Checked) (status levels : ℕ) → 0 < length rest → c.depth ≤ levels → new.depth ≤ max c.depth levels → (status ≢ no_memory → status ≢ too_deep → RefusedValue mode rest c new status) → (status ≡ too_deep → DeeperValue mode levels rest c new) → PassesAllWithin mode levels octets status new
+  list_refused new status levels some shallow deep r d =
+      elim (cases_eq status too_deep) [
+        | inl same ↦
+            let v = d same in
+            let t = tallied_both nothing_met c new (length l.front) (length v.passed) (preorders l.trees 0) v.met l.tallied v.tallied in
+            deeper same (record {
+              opened = v.opened;
+              rest = v.rest;
+              passed = l.front ++ v.passed;
+              met = preorders l.trees 0 ++ v.met;
+              reaches = reaches_both mode octets rest l.front (preorders l.trees 0) l.reaches v.opened v.rest v.passed v.met v.reaches;
+              at = omega (arith, t.at, length-append l.front v.passed);
+              values = omega (arith, t.values);
+              depth = omega (arith, t.depth);
+              count = v.count;
+              few = v.few;
+              begins = v.begins;
+            })
+        | inr other ↦ within (list_stops new status some (λ k. r k other)) (omega arith)
+      ]
+
+-- no value is inside so many others as a `usize` counts at most
+pub unlimited : {F A : Type 0} (mode : Mode) (levels : ℕ) (w : List ℕ) (status : ℕ) (c : Checked) → levels ≡ 2 ^ 64 - 1 → PassesWithin F A mode levels w status c → Passes F A mode w status c
+unlimited mode levels w status c e (within p d) = p
+unlimited mode levels w status c e (deeper s g) = absurd (omega (arith, g.few))
+
+pub ends_within : (mode : Mode) (octets : List ℕ) (c : Checked) (rest : List ℕ) (levels : ℕ) → InList mode octets c rest → length rest ≡ 0 → c.depth ≤ levels → PassesAllWithin mode levels octets 0 c
+ends_within mode octets c rest levels l e d = within (list_ends mode octets c rest l e) d

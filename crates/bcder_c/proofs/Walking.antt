@@ -1,5 +1,5 @@
 -- The steps of the walk over values.
-use Rattle.std.proofs.Common.{◌≡◌, ℕ, ◌+◌, ◌-◌, ◌<◌, ◌≤◌, Bool, true, false, IsTrue, List, [], ◌∷◌, ◌++◌, length, take, drop, map, reverse, Option, Some, None, option_map, refl, sym, ap, subst, ◌∙◌, append_assoc, arith}
+use Rattle.std.proofs.Common.{◌≡◌, ℕ, ◌+◌, ◌-◌, ◌^◌, ◌<◌, ◌≤◌, Bool, true, false, IsTrue, List, [], ◌∷◌, ◌++◌, length, take, drop, map, reverse, Option, Some, None, option_map, refl, sym, ap, subst, ◌∙◌, append_assoc, arith}
 use Rattle.std.proofs.Math.Nat.{max-zero}
 use Rattle.std.specs.Prelude.{max}
 use Rattle.std.proofs.lemmas.List.{length-append, length-reverse, length-map, reverse-append, map-append, take-append-drop, length-take-le}
@@ -13,7 +13,7 @@ use Rattle.bcder.specs.calls.ContentsLen.{length_of}
 use Rattle.bcder.specs.steps.Reading.{read_tree}
 use Rattle.bcder.specs.laws.Complete.{header_size}
 use Rattle.bcder_c.specs.declared.checked.Checked.{Checked}
-use Rattle.bcder_c.specs.Open.{Open, open_values, value_and_rest, Tallied, Begins, HasNoHeader, Closes, GoesOn, of_primitive, into_definite, into_indefinite, out_of_definite, out_of_indefinite}
+use Rattle.bcder_c.specs.Open.{Open, open_values, value_and_rest, Tallied, Begins, HasNoHeader, HasHeader, Closes, GoesOn, of_primitive, into_definite, into_indefinite, out_of_definite, out_of_indefinite}
 use Rattle.bcder_c.proofs.Reading.{definite_ends, indefinite_ends, indefinite_goes_on, definite_goes_on, no_tree, too_short, primitive_next, definite_next, indefinite_next, after_front, end_read, no_end_read}
 
 -- ---- the innermost open value
@@ -122,3 +122,9 @@ module _ (mode : Mode) (x : List ℕ) (t : Tag) (f : Bool) (n : Option ℕ) (h z
         two = two;
         opens = omega arith;
       })
+
+-- a value begins inside as many others as are allowed, each of which has two octets
+pub begins_too_deep : (mode : Mode) (x : List ℕ) (t : Tag) (f : Bool) (n : Option ℕ) (h z : List ℕ) (len levels at : ℕ) → IsHeader mode t f (length_of n) h → x ≡ h ++ z → len ≡ levels → len ≤ at → at + length x < 2 ^ 64 → HasHeader mode x × (len ≡ levels) × (levels + 2 < 2 ^ 64)
+begins_too_deep mode x t f n h z len levels at d is e l m =
+    let s = header_size mode t f (length_of n) h d in
+    (record { tag = t; form = f; len = n; header = h; behind = z; is_header = d; is = is }, e, omega (arith, s, ap length is, length-append h z))

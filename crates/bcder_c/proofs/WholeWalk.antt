@@ -1,5 +1,5 @@
 -- A walk over a value, from its first octet to its last.
-use Rattle.std.proofs.Common.{◌≡◌, ℕ, suc, ◌+◌, ◌-◌, ◌*◌, ◌<◌, ◌≤◌, List, [], ◌∷◌, ◌++◌, length, take, Option, Some, None, option_map, slice_get, refl, sym, ap, subst, ◌∙◌, append_assoc, append-nil, arith}
+use Rattle.std.proofs.Common.{◌≡◌, ℕ, suc, ◌+◌, ◌-◌, ◌*◌, ◌^◌, ◌<◌, ◌≤◌, List, [], ◌∷◌, ◌++◌, length, take, Option, Some, None, option_map, slice_get, refl, sym, ap, subst, ◌∙◌, append_assoc, append-nil, arith}
 use Rattle.std.specs.Prelude.{max}
 use Rattle.std.proofs.lemmas.List.{length-append, append_cancel_right}
 use denote.Ref.{Bor}
@@ -12,8 +12,8 @@ use Rattle.bcder.specs.laws.Sound.{none_is, some_inj, chained}
 use Rattle.bcder.specs.laws.Stands.{tree_sound}
 use Rattle.bcder_c.specs.declared.checked.Checked.{Checked}
 use Rattle.bcder_c.specs.Depth.{deepest}
-use Rattle.bcder_c.specs.Open.{Open, open_values, after, rest_of, value_and_rest, to_come, Tallied, Begins, Closes, GoesOn, NoneBegins, Step, Reaches, at_first, one_on}
-use Rattle.bcder_c.specs.Values.{PassedValue, HasNoValue, RefusedValue}
+use Rattle.bcder_c.specs.Open.{Open, open_values, after, rest_of, value_and_rest, to_come, Tallied, Begins, Closes, GoesOn, NoneBegins, HasHeader, Step, Reaches, at_first, one_on}
+use Rattle.bcder_c.specs.Values.{PassedValue, HasNoValue, RefusedValue, DeeperValue}
 use Rattle.bcder_c.proofs.Reading.{after_both, last_apart}
 use Rattle.bcder_c.proofs.Walking.{open_pushed}
 
@@ -145,6 +145,32 @@ walk_refused mode octets old now new o os x status w g e why a v d = record {
   tallied = record { at = a ∙ w.tallied.at; values = v ∙ w.tallied.values; depth = d ∙ w.tallied.depth };
   no_end = g.no_end;
   why = why;
+}
+
+pub walk_deeper_first : (mode : Mode) (octets : List ℕ) (old new : Checked) (levels : ℕ) → 0 ≡ levels → levels + 2 < 2 ^ 64 → HasHeader mode octets → new ≡ old → DeeperValue mode levels octets old new
+walk_deeper_first mode octets old new levels l f h a = record {
+  opened = [];
+  rest = octets;
+  passed = [];
+  met = [];
+  reaches = at_first;
+  tallied = subst (λ c. Tallied old c 0 []) (sym a) (tallied_none old);
+  count = l;
+  few = f;
+  begins = h;
+}
+
+pub walk_deeper : (mode : Mode) (octets : List ℕ) (old now new : Checked) (os : List Open) (x : List ℕ) (levels : ℕ) → InWalk mode octets old now os x → length os ≡ levels → levels + 2 < 2 ^ 64 → HasHeader mode x → new.at ≡ now.at → new.values ≡ now.values → new.depth ≡ now.depth → DeeperValue mode levels octets old new
+walk_deeper mode octets old now new os x levels w l f h a v d = record {
+  opened = os;
+  rest = x;
+  passed = w.passed;
+  met = w.met;
+  reaches = w.reaches;
+  tallied = record { at = a ∙ w.tallied.at; values = v ∙ w.tallied.values; depth = d ∙ w.tallied.depth };
+  count = l;
+  few = f;
+  begins = h;
 }
 
 pub walk_ends : (mode : Mode) (octets : List ℕ) (old now : Checked) (os : List Open) (x : List ℕ) → AreOctets octets → os ≡ [] → InWalk mode octets old now os x → PassedValue mode octets x old now

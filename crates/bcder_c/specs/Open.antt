@@ -91,6 +91,16 @@ pub record Begins (mode : Mode) (os : List Open) (x : List ℕ) (ps : List Open)
 abbrev pub HasNoHeader : Mode → List ℕ → Type 0
 HasNoHeader mode x = (t : Tag) (form : Bool) (n : Option ℕ) (v y : List ℕ) → IsHeader mode t form (length_of n) v → x ≡ v ++ y → ⊥
 
+-- the octets begin with the header of a value
+pub record HasHeader (mode : Mode) (x : List ℕ) : Type 0 where
+  pub tag : Tag
+  pub form : Bool
+  pub len : Option ℕ
+  pub header : List ℕ
+  pub behind : List ℕ
+  pub is_header : IsHeader mode tag form (length_of len) header
+  pub is : x ≡ header ++ behind
+
 -- the octets begin with a header, whose value has more contents octets than follow
 pub record GoesBeyond (mode : Mode) (x : List ℕ) : Type 0 where
   pub tag : Tag

@@ -25,6 +25,10 @@ beyond = 4
 abbrev pub ended : ℕ
 ended = 5
 
+-- a value is deeper than was allowed
+abbrev pub too_deep : ℕ
+too_deep = 6
+
 -- P holds of what was stored, and it was done; or P holds of nothing, and nothing was stored
 abbrev pub Found : {T : Type 0} → (T → Type 0) → ℕ → T → T → Type 0
 Found P status old new = (status ≡ done) × P new ⊎ (status ≡ absent) × ((x : _) → P x → ⊥) × (new ≡ old)

@@ -17,3 +17,6 @@ pub(crate) const BEYOND: u8 = 4;
 
 /// The octets end before a value does.
 pub(crate) const ENDED: u8 = 5;
+
+/// A value is deeper than was allowed.
+pub(crate) const TOO_DEEP: u8 = 6;

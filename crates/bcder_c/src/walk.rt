@@ -1,13 +1,13 @@
 //! Passing over values with a stack of those that are open.
-ghost use Rattle.std.specs.Prelude.{◌≡◌, ◌≢◌, ◌+◌, ◌-◌, ◌^◌, ◌<◌, ◌≤◌, max, None, length, MatchOption, IfOk, IfErr};
-ghost use Rattle.std.specs.Prelude.{OnErr};
-ghost use Rattle.std.specs.Prelude.{option_map};
-ghost use Rattle.bcder_c.specs.Open.{Begins, Closes, GoesOn, NoneBegins, open_values, value_and_rest};
-ghost use Rattle.bcder_c.specs.Values.{PassedValue, RefusedValue};
-ghost use Rattle.bcder_c.specs.Status.{no_memory};
+ghost use Rattle.std.specs.Prelude.{◌≡◌, ◌≢◌, ◌+◌, ◌-◌, ◌^◌, ◌<◌, ◌≤◌, max, None, length};
+ghost use Rattle.std.specs.Prelude.{MatchOption, IfOk, IfErr, OnOk, OnErr, option_map};
+ghost use Rattle.bcder_c.specs.Open.{Begins, Closes, GoesOn, HasHeader, NoneBegins};
+ghost use Rattle.bcder_c.specs.Open.{open_values, value_and_rest};
+ghost use Rattle.bcder_c.specs.Status.{no_memory, too_deep};
+ghost use Rattle.bcder_c.specs.Values.{DeeperValue, PassedValue, RefusedValue};
 
 use crate::checked::Checked;
-use crate::status::{ABSENT, BEYOND, ENDED, NO_MEMORY};
+use crate::status::{ABSENT, BEYOND, ENDED, NO_MEMORY, TOO_DEEP};
 use bcder::Mode;
 use bcder::plain::{end_at, front_at};
 use std::alloc::Global;
@@ -57,17 +57,24 @@ fn begin<'a>(
     mode: Mode,
     rest: &'a [u8],
     opened: &mut Vec<Option<&'a [u8]>>,
+    levels: usize,
     checked: &mut Checked,
 ) -> Result<&'a [u8], u8>
     requires at { checked.old.at + length rest.now < 2 ^ 64 }
     requires values { checked.old.values ≤ checked.old.at }
     requires depth { opened.old.len ≤ checked.old.at }
+    requires few { opened.old.len ≤ levels }
     ensures begins { IfOk result (λ inner.
         Begins mode (open_values opened.old.items) rest.now
         (open_values opened.new.items) inner.now checked.old checked.new) }
-    ensures why { IfErr result (λ status. status ≢ no_memory → NoneBegins mode rest.now status) }
-    ensures none { IfErr result (λ status. status ≢ no_memory
+    ensures few { OnOk result (opened.new.len ≤ levels) }
+    ensures shallow { OnOk result (checked.new.depth ≤ max checked.old.depth levels) }
+    ensures why { IfErr result (λ status. status ≢ no_memory → status ≢ too_deep
+        → NoneBegins mode rest.now status) }
+    ensures none { IfErr result (λ status. status ≢ no_memory → status ≢ too_deep
         → (os : _) → value_and_rest mode os rest.now ≡ None) }
+    ensures deep { IfErr result (λ status. status ≡ too_deep
+        → HasHeader mode rest.now × (opened.old.len ≡ levels) × (levels + 2 < 2 ^ 64)) }
     ensures kept { OnErr result (checked.new ≡ checked.old) }
 {
     if rest.is_empty() {
@@ -76,6 +83,9 @@ fn begin<'a>(
     let Some(front) = front_at(mode, rest) else {
         return Err(ABSENT);
     };
+    if opened.len() == levels {
+        return Err(TOO_DEEP);
+    }
     match front.len {
         Some(len) => {
             if front.rest.len() < len {
@@ -102,13 +112,15 @@ fn begin<'a>(
     }
 }
 
-/// Passes over the first value, adds what was met to `checked`, and returns the octets after it.
+/// Passes over the first value, adds what was met to `checked`, and returns the octets after it. A
+/// value inside `levels` others or more is refused.
 ///
 /// The open values are on the heap, so the depth of calls doesn't grow with the depth of values.
 pub(crate) fn pass_value<'a>(
     alloc: Global,
     mode: Mode,
     octets: &'a [u8],
+    levels: usize,
     checked: &mut Checked,
 ) -> Result<&'a [u8], u8>
     requires at { checked.old.at + length octets.now < 2 ^ 64 }
@@ -116,11 +128,14 @@ pub(crate) fn pass_value<'a>(
     ensures passed { IfOk result (λ rest.
         PassedValue mode octets.now rest.now checked.old checked.new) }
     ensures values { checked.new.values ≤ checked.new.at }
-    ensures refused { IfErr result (λ status. status ≢ no_memory
+    ensures shallow { checked.new.depth ≤ max checked.old.depth levels }
+    ensures refused { IfErr result (λ status. status ≢ no_memory → status ≢ too_deep
         → RefusedValue mode octets.now checked.old checked.new status) }
+    ensures deep { IfErr result (λ status. status ≡ too_deep
+        → DeeperValue mode levels octets.now checked.old checked.new) }
 {
     let mut opened: Vec<Option<&'a [u8]>> = Vec::new(alloc);
-    let mut rest = match begin(mode, octets, &mut opened, checked) {
+    let mut rest = match begin(mode, octets, &mut opened, levels, checked) {
         Ok(rest) => rest,
         Err(status) => return Err(status),
     };
@@ -130,7 +145,7 @@ pub(crate) fn pass_value<'a>(
                 let _ended = opened.pop();
                 rest = after;
             }
-            None => match begin(mode, rest, &mut opened, checked) {
+            None => match begin(mode, rest, &mut opened, levels, checked) {
                 Ok(inner) => rest = inner,
                 Err(status) => return Err(status),
             },
