@@ -1,8 +1,8 @@
 /* bcder.h: reading BER, CER and DER (ITU-T X.690), accepted exactly as the rules say. C11 and C++.
  *
- * Every function that returns a status stores its result where it returns BCDER_OK. bcder_value and
- * bcder_check store what was passed in every case but BCDER_UNKNOWN_RULES; all others store nothing
- * unless they return BCDER_OK. No octet outside (data, len) is read and each call ends. Nothing is
+ * Every function stores its result where it returns BCDER_OK. bcder_value, bcder_check and
+ * bcder_check_within store what was passed in every case but BCDER_UNKNOWN_RULES; all others store
+ * nothing unless they return BCDER_OK. No octet outside (data, len) is read and each call ends. Nothing is
  * kept between calls, so any number of threads may call. NULL with length 0 is no octets; no other
  * pointer may be NULL. Where a result is stored must not overlap the octets. docs/C.md says more. */
 #ifndef BCDER_H
@@ -24,7 +24,8 @@ enum {
   BCDER_NO_MEMORY = 2,     /* malloc failed, for a constructed value */
   BCDER_ABSENT = 3,        /* what was asked for isn't there */
   BCDER_BEYOND = 4,        /* a header gives a value more contents octets than there are */
-  BCDER_ENDED = 5          /* the octets end where a value or its end has to follow */
+  BCDER_ENDED = 5,         /* the octets end where a value or its end has to follow */
+  BCDER_TOO_DEEP = 6       /* a value is inside more others than were allowed */
 };
 
 /* the header of a value: its identifier octets and length octets */
@@ -56,6 +57,9 @@ uint8_t bcder_end(uint8_t rules, const uint8_t *data, size_t len, size_t *size);
 uint8_t bcder_value(uint8_t rules, const uint8_t *data, size_t len, bcder_checked_t *checked);
 /* The same of all octets: OK exactly if they are encodings of values, one after the other. */
 uint8_t bcder_check(uint8_t rules, const uint8_t *data, size_t len, bcder_checked_t *checked);
+/* The same, for values of a depth of at most `levels`. TOO_DEEP: after `at` octets a value begins
+ * inside `levels` others. It takes no more memory than values of that depth do. */
+uint8_t bcder_check_within(uint8_t rules, const uint8_t *data, size_t len, size_t levels, bcder_checked_t *checked);
 
 /* Contents octets of primitive values. ABSENT: they are not those of such a value. */
 uint8_t bcder_bool(uint8_t rules, const uint8_t *data, size_t len, bool *truth);     /* BOOLEAN */

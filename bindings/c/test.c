@@ -46,6 +46,17 @@ static void compare(int mode, const uint8_t *p, size_t n) {
   if (list ? status != BCDER_OK || c.at != n || c.values != l.values || c.depth != l.depth
            : status < BCDER_ABSENT || status > BCDER_ENDED || c.at > n)
     differs("a list", mode, p, n);
+  for (size_t levels = 0; levels < 3; levels++) {
+    bcder_checked_t w;
+    uint8_t of_all = status;
+    status = bcder_check_within((uint8_t)mode, p, n, levels, &w);
+    bool deep = c.depth > levels; /* what the check met, before it stopped if it did */
+    if (deep ? status != BCDER_TOO_DEEP || w.depth != levels || w.at > c.at
+             : status != BCDER_TOO_DEEP && (status != of_all || w.at != c.at || w.values != c.values || w.depth != c.depth))
+      differs("a list of few levels", mode, p, n);
+    if (status == BCDER_TOO_DEEP && list && l.depth <= levels) differs("a list that isn't deep", mode, p, n);
+    status = of_all;
+  }
   compared++;
 }
 
@@ -160,6 +171,7 @@ static void statuses(void) {
     CHECK(bcder_end((uint8_t)rules, sequence, 5, &size) == BCDER_UNKNOWN_RULES);
     CHECK(bcder_value((uint8_t)rules, sequence, 5, &c) == BCDER_UNKNOWN_RULES);
     CHECK(bcder_check((uint8_t)rules, sequence, 5, &c) == BCDER_UNKNOWN_RULES);
+    CHECK(bcder_check_within((uint8_t)rules, sequence, 5, 9, &c) == BCDER_UNKNOWN_RULES);
     CHECK(bcder_bool((uint8_t)rules, sequence, 1, &truth) == BCDER_UNKNOWN_RULES);
     CHECK(bcder_bits((uint8_t)rules, sequence, 1, &unused) == BCDER_UNKNOWN_RULES);
   }
@@ -171,6 +183,7 @@ static void statuses(void) {
     CHECK(bcder_end(rules, NULL, 0, &size) == BCDER_ABSENT);
     CHECK(bcder_value(rules, NULL, 0, &c) == BCDER_ENDED && c.at == 0 && c.values == 0 && c.depth == 0);
     CHECK(bcder_check(rules, NULL, 0, &c) == BCDER_OK && c.at == 0 && c.values == 0 && c.depth == 0);
+    CHECK(bcder_check_within(rules, NULL, 0, 0, &c) == BCDER_OK && c.at == 0 && c.values == 0 && c.depth == 0);
     CHECK(bcder_bool(rules, NULL, 0, &truth) == BCDER_ABSENT);
     CHECK(bcder_bits(rules, NULL, 0, &unused) == BCDER_ABSENT);
   }
@@ -182,6 +195,9 @@ static void statuses(void) {
   /* a SEQUENCE of an INTEGER, and each way that octets can be no values */
   CHECK(bcder_check(BCDER_DER, sequence, 5, &c) == BCDER_OK && c.at == 5 && c.values == 2 && c.depth == 2);
   CHECK(bcder_check(BCDER_CER, sequence, 5, &c) == BCDER_ABSENT && c.at == 0);
+  CHECK(bcder_check_within(BCDER_DER, sequence, 5, 2, &c) == BCDER_OK && c.at == 5 && c.values == 2 && c.depth == 2);
+  CHECK(bcder_check_within(BCDER_DER, sequence, 5, 1, &c) == BCDER_TOO_DEEP && c.at == 2 && c.values == 1 && c.depth == 1);
+  CHECK(bcder_check_within(BCDER_DER, sequence, 5, 0, &c) == BCDER_TOO_DEEP && c.at == 0 && c.values == 0 && c.depth == 0);
   static const uint8_t beyond[] = {0x05, 0x00, 0x30, 0x04, 0x02, 0x03, 0x01, 0x01};
   CHECK(bcder_check(BCDER_BER, beyond, 8, &c) == BCDER_BEYOND && c.at == 4 && c.values == 2 && c.depth == 1);
   CHECK(bcder_value(BCDER_BER, beyond, 8, &c) == BCDER_OK && c.at == 2 && c.values == 1 && c.depth == 1);
@@ -225,6 +241,8 @@ static void deep(void) {
   for (uint8_t rules = BCDER_BER; rules <= BCDER_CER; rules++) {
     CHECK(bcder_check(rules, w, n, &c) == BCDER_OK && c.at == n && c.values == LEVELS && c.depth == LEVELS);
     CHECK(bcder_value(rules, w, n, &c) == BCDER_OK && c.at == n && c.values == LEVELS && c.depth == LEVELS);
+    CHECK(bcder_check_within(rules, w, n, LEVELS, &c) == BCDER_OK && c.depth == LEVELS);
+    CHECK(bcder_check_within(rules, w, n, LEVELS - 1, &c) == BCDER_TOO_DEEP && c.depth == LEVELS - 1 && c.at == n / 2 - 2);
     CHECK(bcder_check(rules, w, n - 2, &c) == BCDER_ENDED && c.at == n - 2 && c.depth == LEVELS);
   }
   CHECK(bcder_check(BCDER_DER, w, n, &c) == BCDER_ABSENT && c.at == 0);
