@@ -137,7 +137,7 @@ class Judge:
 def lines_under(root, name):
     """The lines of crates.txt for a crate and those below it."""
     with open(f"{root}/crates.txt", encoding="utf-8") as it:
-        lines = {line.split(":")[0]: line for line in it if line.strip() and not line.startswith("#")}
+        lines = {line.split(":")[0].split()[0]: line for line in it if line.strip() and not line.startswith("#")}
     found, todo = {}, [name]
     while todo:
         crate = todo.pop()

@@ -1,0 +1,283 @@
+/* Tests of include/bcder.h: each function, each status, deep values, and all lists of up to three
+ * octets against the reader of reader.h. Prints what it did, and exits with 1 at the first fault. */
+#include "bcder.h"
+#include "reader.h"
+#include <stdio.h>
+#include <stdlib.h>
+#include <string.h>
+
+#define CHECK(fact) do { if (!(fact)) { printf("%s:%d: not so: %s\n", __FILE__, __LINE__, #fact); exit(1); } } while (0)
+
+static const char *const names[] = {"BER", "CER", "DER"};
+static unsigned long compared;
+
+/* ---- one list of octets, compared with the independent reader */
+
+static void differs(const char *what, int mode, const uint8_t *p, size_t n) {
+  printf("%s differs in %s for", what, names[mode]);
+  for (size_t i = 0; i < n; i++) printf(" %02X", p[i]);
+  printf("\n");
+  exit(1);
+}
+
+static void compare(int mode, const uint8_t *p, size_t n) {
+  bcder_heading_t h; ref_header r;
+  bool has = ref_heading(mode, p, n, &r);
+  uint8_t status = bcder_heading((uint8_t)mode, p, n, &h);
+  if (status != (has ? BCDER_OK : BCDER_ABSENT)) differs("a heading", mode, p, n);
+  if (has && (h.size != r.size || h.len != r.len || h.number != r.number || h.cls != r.cls ||
+              h.constructed != r.constructed || h.indefinite != r.indefinite))
+    differs("what a heading says", mode, p, n);
+
+  size_t size = 99, end = ref_end(mode, p, n);
+  status = bcder_end((uint8_t)mode, p, n, &size);
+  if (status != (end ? BCDER_OK : BCDER_ABSENT) || size != (end ? end : 99)) differs("an end", mode, p, n);
+
+  bcder_checked_t c; ref_count k = {0, 0};
+  size_t first = ref_value(mode, p, n, 0, &k);
+  status = bcder_value((uint8_t)mode, p, n, &c);
+  if (first ? status != BCDER_OK || c.at != first || c.values != k.values || c.depth != k.depth
+            : status < BCDER_ABSENT || status > BCDER_ENDED || c.at > n)
+    differs("a value", mode, p, n);
+
+  ref_count l = {0, 0};
+  bool list = ref_list(mode, p, n, 0, &l);
+  status = bcder_check((uint8_t)mode, p, n, &c);
+  if (list ? status != BCDER_OK || c.at != n || c.values != l.values || c.depth != l.depth
+           : status < BCDER_ABSENT || status > BCDER_ENDED || c.at > n)
+    differs("a list", mode, p, n);
+  for (size_t levels = 0; levels < 3; levels++) {
+    bcder_checked_t w;
+    uint8_t of_all = status;
+    status = bcder_check_within((uint8_t)mode, p, n, levels, &w);
+    bool deep = c.depth > levels; /* what the check met, before it stopped if it did */
+    if (deep ? status != BCDER_TOO_DEEP || w.depth != levels || w.at > c.at
+             : status != BCDER_TOO_DEEP && (status != of_all || w.at != c.at || w.values != c.values || w.depth != c.depth))
+      differs("a list of few levels", mode, p, n);
+    if (status == BCDER_TOO_DEEP && list && l.depth <= levels) differs("a list that isn't deep", mode, p, n);
+    status = of_all;
+  }
+  compared++;
+}
+
+/* ---- contents octets, by X.690, 8.2, 8.3, 8.6, 8.8, 8.19, 8.23 and RFC 3629 */
+
+static bool ref_utf8(const uint8_t *p, size_t n) {
+  for (size_t i = 0; i < n;) {
+    uint32_t c = p[i], least; size_t k;
+    if (c < 0x80) { i++; continue; }
+    if ((c & 0xE0) == 0xC0) { k = 1; c &= 0x1F; least = 0x80; }
+    else if ((c & 0xF0) == 0xE0) { k = 2; c &= 0x0F; least = 0x800; }
+    else if ((c & 0xF8) == 0xF0) { k = 3; c &= 0x07; least = 0x10000; }
+    else return false;
+    if (n - i <= k) return false;
+    for (size_t j = 1; j <= k; j++) { if ((p[i + j] & 0xC0) != 0x80) return false; c = c << 6 | (p[i + j] & 0x3F); }
+    if (c < least || c > 0x10FFFF || (c >= 0xD800 && c <= 0xDFFF)) return false;
+    i += k + 1;
+  }
+  return true;
+}
+
+static bool all_in(const char *set, size_t size, const uint8_t *p, size_t n) {
+  for (size_t i = 0; i < n; i++) if (memchr(set, p[i], size) == NULL) return false;
+  return true;
+}
+
+static bool ref_integer(const uint8_t *p, size_t n) {
+  return n == 1 || (n > 1 && !(p[0] == 0 && p[1] < 0x80) && !(p[0] == 0xFF && p[1] >= 0x80));
+}
+
+static void contents(const uint8_t *p, size_t n) {
+  static const char digits[] = "0123456789 ";
+  static const char printable[] = "ABCDEFGHIJKLMNOPQRSTUVWXYZabcdefghijklmnopqrstuvwxyz0123456789 '()+,-./:=?";
+  for (int mode = 0; mode < 3; mode++) {
+    bool truth = false;
+    bool is = n == 1 && (mode == REF_BER || p[0] == 0 || p[0] == 0xFF);
+    if (bcder_bool((uint8_t)mode, p, n, &truth) != (is ? BCDER_OK : BCDER_ABSENT) || truth != (is && p[0] != 0))
+      differs("a boolean", mode, p, n);
+    uint8_t unused = 99;
+    is = n > 0 && p[0] < 8 && (p[0] == 0 || n > 1) && !(mode == REF_CER && n > 1000) &&
+         (mode == REF_BER || n == 1 || (p[n - 1] & ((1 << p[0]) - 1)) == 0);
+    if (bcder_bits((uint8_t)mode, p, n, &unused) != (is ? BCDER_OK : BCDER_ABSENT) || unused != (is ? p[0] : 99))
+      differs("a bit string", mode, p, n);
+  }
+  bool integer = ref_integer(p, n), minus = false;
+  if (bcder_integer(p, n, &minus) != (integer ? BCDER_OK : BCDER_ABSENT) || minus != (integer && p[0] >= 0x80))
+    differs("an integer", 0, p, n);
+  /* the number as an __int128, which has room for all that is asked */
+  __int128 z = 0; int64_t i64 = 77; uint64_t u64 = 77;
+  if (integer && n <= 9) {
+    z = p[0] >= 0x80 ? -1 : 0;
+    for (size_t i = 0; i < n; i++) z = z * 256 + p[i];
+  }
+  bool fits = integer && n <= 9 && z >= INT64_MIN && z <= INT64_MAX;
+  if (bcder_i64(p, n, &i64) != (fits ? BCDER_OK : BCDER_ABSENT) || i64 != (fits ? (int64_t)z : 77)) differs("an int64_t", 0, p, n);
+  fits = integer && n <= 9 && z >= 0 && z <= UINT64_MAX;
+  if (bcder_u64(p, n, &u64) != (fits ? BCDER_OK : BCDER_ABSENT) || u64 != (fits ? (uint64_t)z : 77)) differs("a uint64_t", 0, p, n);
+  if (bcder_null(p, n) != (n == 0 ? BCDER_OK : BCDER_ABSENT)) differs("a null", 0, p, n);
+  if (bcder_oid(p, n) != (n > 0 && p[n - 1] < 0x80 ? BCDER_OK : BCDER_ABSENT)) differs("an identifier", 0, p, n);
+  if (bcder_utf8(p, n) != (ref_utf8(p, n) ? BCDER_OK : BCDER_ABSENT)) differs("UTF-8", 0, p, n);
+  if (bcder_numeric(p, n) != (all_in(digits, sizeof digits - 1, p, n) ? BCDER_OK : BCDER_ABSENT)) differs("a NumericString", 0, p, n);
+  if (bcder_printable(p, n) != (all_in(printable, sizeof printable - 1, p, n) ? BCDER_OK : BCDER_ABSENT)) differs("a PrintableString", 0, p, n);
+  bool ascii = true;
+  for (size_t i = 0; i < n; i++) ascii = ascii && p[i] < 0x80;
+  if (bcder_ia5(p, n) != (ascii ? BCDER_OK : BCDER_ABSENT)) differs("an IA5String", 0, p, n);
+}
+
+/* ---- lists of octets */
+
+static void short_lists(void) {
+  uint8_t w[3];
+  for (size_t n = 0; n <= 3; n++)
+    for (unsigned long v = 0; v < 1ul << (8 * n); v++) {
+      for (size_t i = 0; i < n; i++) w[i] = (uint8_t)(v >> (8 * i));
+      for (int mode = 0; mode < 3; mode++) compare(mode, w, n);
+      contents(w, n);
+    }
+  printf("lists of up to 3 octets: %lu comparisons\n", compared);
+}
+
+static void longer_lists(void) {
+  static const uint8_t letters[] = {0x00, 0x01, 0x02, 0x04, 0x1F, 0x24, 0x30, 0x80, 0x81, 0x84, 0x9F, 0xFF};
+  enum { LETTERS = sizeof letters };
+  unsigned long before = compared;
+  uint8_t w[6];
+  for (size_t n = 4; n <= 6; n++) {
+    unsigned long count = 1;
+    for (size_t i = 0; i < n; i++) count *= LETTERS;
+    for (unsigned long v = 0; v < count; v++) {
+      unsigned long x = v;
+      for (size_t i = 0; i < n; i++, x /= LETTERS) w[i] = letters[x % LETTERS];
+      for (int mode = 0; mode < 3; mode++) compare(mode, w, n);
+      contents(w, n);
+    }
+  }
+  printf("lists of 4 to 6 octets over %d letters: %lu comparisons\n", LETTERS, compared - before);
+}
+
+/* ---- what the header says of each status */
+
+static void statuses(void) {
+  static const uint8_t sequence[] = {0x30, 0x03, 0x02, 0x01, 0x05};
+  bcder_heading_t h, h0;
+  bcder_checked_t c, c0;
+  size_t size = 7;
+  bool truth = true;
+  uint8_t unused = 7;
+  memset(&h, 0xAA, sizeof h); h0 = h;
+  memset(&c, 0xAA, sizeof c); c0 = c;
+  for (unsigned rules = 3; rules < 256; rules++) {
+    CHECK(bcder_heading((uint8_t)rules, sequence, 5, &h) == BCDER_UNKNOWN_RULES);
+    CHECK(bcder_end((uint8_t)rules, sequence, 5, &size) == BCDER_UNKNOWN_RULES);
+    CHECK(bcder_value((uint8_t)rules, sequence, 5, &c) == BCDER_UNKNOWN_RULES);
+    CHECK(bcder_check((uint8_t)rules, sequence, 5, &c) == BCDER_UNKNOWN_RULES);
+    CHECK(bcder_check_within((uint8_t)rules, sequence, 5, 9, &c) == BCDER_UNKNOWN_RULES);
+    CHECK(bcder_bool((uint8_t)rules, sequence, 1, &truth) == BCDER_UNKNOWN_RULES);
+    CHECK(bcder_bits((uint8_t)rules, sequence, 1, &unused) == BCDER_UNKNOWN_RULES);
+  }
+  CHECK(memcmp(&h, &h0, sizeof h) == 0 && memcmp(&c, &c0, sizeof c) == 0 && size == 7 && truth && unused == 7);
+
+  /* no octets, behind NULL */
+  for (uint8_t rules = 0; rules < 3; rules++) {
+    CHECK(bcder_heading(rules, NULL, 0, &h) == BCDER_ABSENT);
+    CHECK(bcder_end(rules, NULL, 0, &size) == BCDER_ABSENT);
+    CHECK(bcder_value(rules, NULL, 0, &c) == BCDER_ENDED && c.at == 0 && c.values == 0 && c.depth == 0);
+    CHECK(bcder_check(rules, NULL, 0, &c) == BCDER_OK && c.at == 0 && c.values == 0 && c.depth == 0);
+    CHECK(bcder_check_within(rules, NULL, 0, 0, &c) == BCDER_OK && c.at == 0 && c.values == 0 && c.depth == 0);
+    CHECK(bcder_bool(rules, NULL, 0, &truth) == BCDER_ABSENT);
+    CHECK(bcder_bits(rules, NULL, 0, &unused) == BCDER_ABSENT);
+  }
+  int64_t i; uint64_t u; bool minus;
+  CHECK(bcder_null(NULL, 0) == BCDER_OK && bcder_oid(NULL, 0) == BCDER_ABSENT);
+  CHECK(bcder_i64(NULL, 0, &i) == BCDER_ABSENT && bcder_u64(NULL, 0, &u) == BCDER_ABSENT && bcder_integer(NULL, 0, &minus) == BCDER_ABSENT);
+  CHECK(bcder_utf8(NULL, 0) == BCDER_OK && bcder_numeric(NULL, 0) == BCDER_OK && bcder_printable(NULL, 0) == BCDER_OK && bcder_ia5(NULL, 0) == BCDER_OK);
+
+  /* a SEQUENCE of an INTEGER, and each way that octets can be no values */
+  CHECK(bcder_check(BCDER_DER, sequence, 5, &c) == BCDER_OK && c.at == 5 && c.values == 2 && c.depth == 2);
+  CHECK(bcder_check(BCDER_CER, sequence, 5, &c) == BCDER_ABSENT && c.at == 0);
+  CHECK(bcder_check_within(BCDER_DER, sequence, 5, 2, &c) == BCDER_OK && c.at == 5 && c.values == 2 && c.depth == 2);
+  CHECK(bcder_check_within(BCDER_DER, sequence, 5, 1, &c) == BCDER_TOO_DEEP && c.at == 2 && c.values == 1 && c.depth == 1);
+  CHECK(bcder_check_within(BCDER_DER, sequence, 5, 0, &c) == BCDER_TOO_DEEP && c.at == 0 && c.values == 0 && c.depth == 0);
+  static const uint8_t beyond[] = {0x05, 0x00, 0x30, 0x04, 0x02, 0x03, 0x01, 0x01};
+  CHECK(bcder_check(BCDER_BER, beyond, 8, &c) == BCDER_BEYOND && c.at == 4 && c.values == 2 && c.depth == 1);
+  CHECK(bcder_value(BCDER_BER, beyond, 8, &c) == BCDER_OK && c.at == 2 && c.values == 1 && c.depth == 1);
+  static const uint8_t ended[] = {0x30, 0x80, 0x05, 0x00};
+  CHECK(bcder_check(BCDER_BER, ended, 4, &c) == BCDER_ENDED && c.at == 4 && c.values == 2 && c.depth == 2);
+  static const uint8_t absent[] = {0x30, 0x80, 0x05, 0x00, 0x00, 0x01};
+  CHECK(bcder_check(BCDER_BER, absent, 6, &c) == BCDER_ABSENT && c.at == 4);
+  printf("statuses: as the header says\n");
+}
+
+/* ---- longer contents octets */
+
+static void longer_contents(void) {
+  uint8_t w[1100];
+  memset(w, 0, sizeof w);
+  for (size_t n = 4; n <= 18; n++)
+    for (unsigned i = 0; i < 256; i++) {
+      w[0] = (uint8_t)i;
+      for (unsigned j = 0; j < 256; j++) {
+        w[1] = (uint8_t)j; w[n - 1] = (uint8_t)(i ^ j);
+        contents(w, n);
+      }
+    }
+  /* 9.2: a primitive BIT STRING has at most 1000 contents octets in CER */
+  memset(w, 0, sizeof w);
+  for (size_t n = 998; n <= 1003; n++) contents(w, n);
+  printf("longer contents octets: as X.690 says\n");
+}
+
+/* ---- deep values */
+
+enum { LEVELS = 1000000 };
+
+static void deep(void) {
+  bcder_checked_t c;
+  size_t n = 4 * (size_t)LEVELS;
+  uint8_t *w = malloc(n);
+  CHECK(w != NULL);
+  for (size_t i = 0; i < LEVELS; i++) { w[2 * i] = 0x30; w[2 * i + 1] = 0x80; }
+  memset(w + 2 * (size_t)LEVELS, 0, 2 * (size_t)LEVELS);
+  for (uint8_t rules = BCDER_BER; rules <= BCDER_CER; rules++) {
+    CHECK(bcder_check(rules, w, n, &c) == BCDER_OK && c.at == n && c.values == LEVELS && c.depth == LEVELS);
+    CHECK(bcder_value(rules, w, n, &c) == BCDER_OK && c.at == n && c.values == LEVELS && c.depth == LEVELS);
+    CHECK(bcder_check_within(rules, w, n, LEVELS, &c) == BCDER_OK && c.depth == LEVELS);
+    CHECK(bcder_check_within(rules, w, n, LEVELS - 1, &c) == BCDER_TOO_DEEP && c.depth == LEVELS - 1 && c.at == n / 2 - 2);
+    CHECK(bcder_check(rules, w, n - 2, &c) == BCDER_ENDED && c.at == n - 2 && c.depth == LEVELS);
+  }
+  CHECK(bcder_check(BCDER_DER, w, n, &c) == BCDER_ABSENT && c.at == 0);
+  free(w);
+
+  /* of definite length, from the innermost out */
+  size_t room = 6 * (size_t)LEVELS, at = room;
+  w = malloc(room);
+  CHECK(w != NULL);
+  for (size_t i = 0; i < LEVELS; i++) {
+    size_t len = room - at;
+    if (len < 0x80) w[--at] = (uint8_t)len;
+    else {
+      size_t k = 0;
+      for (size_t v = len; v != 0; v >>= 8, k++) w[--at] = (uint8_t)v;
+      w[--at] = (uint8_t)(0x80 + k);
+    }
+    w[--at] = 0x30;
+  }
+  for (uint8_t rules = BCDER_BER; rules <= BCDER_DER; rules++) {
+    uint8_t wanted = rules == BCDER_CER ? BCDER_ABSENT : BCDER_OK;
+    CHECK(bcder_check(rules, w + at, room - at, &c) == wanted);
+    if (wanted == BCDER_OK) CHECK(c.at == room - at && c.values == LEVELS && c.depth == LEVELS);
+  }
+  CHECK(bcder_check(BCDER_DER, w + at, room - at - 1, &c) == BCDER_BEYOND && c.at == 0);
+  free(w);
+  printf("deep values: %d levels of either form of length\n", LEVELS);
+}
+
+int main(void) {
+  statuses();
+  longer_contents();
+  deep();
+  short_lists();
+  longer_lists();
+  printf("all as it should be\n");
+  return 0;
+}

@@ -1,0 +1,8 @@
+pub mod Headings
+pub mod Reading
+pub mod Walking
+pub mod WholeWalk
+pub mod Listing
+pub mod Alone
+pub mod Spelling
+pub mod Unused

@@ -1,0 +1,34 @@
+-- What the functions return.
+use Rattle.std.specs.Prelude.{◌≡◌, ◌⊎◌, ℕ}
+
+-- it was done
+abbrev pub done : ℕ
+done = 0
+
+-- the number stands for no rules
+abbrev pub unknown_rules : ℕ
+unknown_rules = 1
+
+-- memory ran out
+abbrev pub no_memory : ℕ
+no_memory = 2
+
+-- what was asked for isn't there
+abbrev pub absent : ℕ
+absent = 3
+
+-- the contents octets of a value aren't all there
+abbrev pub beyond : ℕ
+beyond = 4
+
+-- the octets end where a value or an end has to follow
+abbrev pub ended : ℕ
+ended = 5
+
+-- a value is deeper than was allowed
+abbrev pub too_deep : ℕ
+too_deep = 6
+
+-- P holds of what was stored, and it was done; or P holds of nothing, and nothing was stored
+abbrev pub Found : {T : Type 0} → (T → Type 0) → ℕ → T → T → Type 0
+Found P status old new = (status ≡ done) × P new ⊎ (status ≡ absent) × ((x : _) → P x → ⊥) × (new ≡ old)

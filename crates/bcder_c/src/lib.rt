@@ -1,0 +1,16 @@
+//! Reading BER, CER and DER (ITU-T X.690) for callers in C.
+//!
+//! Octets come as a pointer and a length, results go to places that the caller names, and all else
+//! is numbers. Nothing is kept between calls. `include/bcder.h` declares the functions, and
+//! `docs/C.md` says what is proved of them.
+#![tactic(auto)]
+
+mod bits;
+mod checked;
+mod contents;
+mod heading;
+mod rules;
+mod status;
+mod text;
+mod values;
+mod walk;
