@@ -12,3 +12,7 @@ pub mod Tuples
 pub mod ChoicesWritten
 pub mod DefaultsWritten
 pub mod SetsOf
+pub mod SetsWritten
+pub mod Sorting
+pub mod Rearranging
+pub mod SetsLaws
