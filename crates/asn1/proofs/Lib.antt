@@ -27,7 +27,7 @@ pub mod Rows
 pub mod BitsBack
 pub mod PassedOver
 pub mod Kept
-pub mod Sorting
-pub mod Rearranging
 pub mod SetsRead
 pub mod SetsOnce
+pub mod SetsSorted
+pub mod SetsBack

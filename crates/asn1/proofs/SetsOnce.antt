@@ -17,8 +17,8 @@ use Rattle.asn1.specs.Keys.{list_key, MeansOne}
 use Rattle.asn1.specs.SetsOf.{IsNotAfter, IsNotAfterFirst, AreAscending, AreSetOf, AreRearranged, in_any_order}
 use Rattle.asn1.proofs.Ones as ones
 use Rattle.asn1.proofs.Ones.{Once}
-use Rattle.asn1.proofs.Sorting.{same_octets, OneBeginsWithTheOther, antisymmetric, AllOf, BeforeFirst, Ascend, one_ascending}
-use Rattle.asn1.proofs.Rearranging.{same_by}
+use Rattle.asn1.specs.Sorting.{same_octets, decided, reflexive, transitive, OneBeginsWithTheOther, antisymmetric, AllOf, BeforeFirst, Ascend, one_ascending}
+use Rattle.asn1.specs.Rearranging.{same_by}
 use std.Quotient as quotient
 use std.Logic.{∥∥₁_prop, ∥∥₁_elim, ∥∥₁_map}
 
@@ -99,8 +99,8 @@ module _ {T K : Type 0} (mode : Mode) (ne : mode ≢ Ber) (Tags : Tag → Type 0
     keys : map key_of pieces ≡ list_key key xs
     octets : flat (map octets_of pieces) ≡ v
     each : AllOf IsOne (map octets_of pieces)
-    first : (t : Tree) (w : List ℕ) → IsEncoding mode t w → IsNotAfterFirst mode t ts → BeforeFirst w (map octets_of pieces)
-    ascend : AreAscending mode ts → Ascend (map octets_of pieces)
+    first : (t : Tree) (w : List ℕ) → IsEncoding mode t w → IsNotAfterFirst mode t ts → BeforeFirst IsNotAfter w (map octets_of pieces)
+    ascend : AreAscending mode ts → Ascend IsNotAfter (map octets_of pieces)
 
   no_pieces : (ts : Trees) (v : List ℕ) → no_trees ≡ ts → AreEncodings mode ts v → Pieces ts [] v
   unfolding flat key_of octets_of
@@ -142,7 +142,7 @@ module _ {T K : Type 0} (mode : Mode) (ne : mode ≢ Ber) (Tags : Tag → Type 0
       let q : IsPermutation (map key_of a.pieces) (map key_of b.pieces) =
       subst (λ z. IsPermutation z (map key_of b.pieces)) (sym a.keys) (subst (IsPermutation (list_key key xs)) (sym b.keys) p) in
       let s = same_by key_of octets_of one_piece a.pieces b.pieces q in
-      let z = one_ascending IsOne one_or_other (map octets_of a.pieces) (map octets_of b.pieces) a.each b.each (a.ascend (g.2 ne)) (b.ascend (h.2 ne)) s in
+      let z = one_ascending IsNotAfter decided reflexive transitive IsOne one_or_other (map octets_of a.pieces) (map octets_of b.pieces) a.each b.each (a.ascend (g.2 ne)) (b.ascend (h.2 ne)) s in
       sym a.octets ∙ ap flat z ∙ b.octets
 
   same_values : (ts us : Trees) (xs ys : List T) (v w : List ℕ) → AreEncodings mode ts v → AreEncodings mode us w → AreSetOf mode Tags Means ts xs no_trees

@@ -14,3 +14,7 @@ pub mod DefaultsWritten
 pub mod Lent
 pub mod Anything
 pub mod SetsOf
+pub mod SetsWritten
+pub mod Sorting
+pub mod Rearranging
+pub mod SetsLaws

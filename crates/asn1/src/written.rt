@@ -18,6 +18,7 @@ mod identifiers;
 mod lists;
 mod numbers;
 mod plain;
+mod sets;
 mod strings;
 mod tagged;
 mod tuples;

@@ -7,7 +7,7 @@ use Rattle.std.proofs.lemmas.List.{map-set, length-map}
 use Rattle.std.proofs.Math.ListN.{get_or-map}
 use Rattle.std.proofs.lemmas.List.Sums.{sum_by-cons}
 use Rattle.std.proofs.lemmas.List.Sorted.{IsPermutation-map, sum_by-IsPermutation}
-use Rattle.asn1.proofs.Sorting.{total, Same}
+use Rattle.asn1.specs.Sorting.{total, Same}
 
 -- rearranged lists have the same members
 module _ {E : Type 0} where

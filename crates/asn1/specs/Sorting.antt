@@ -119,52 +119,54 @@ module _ {E : Type 0} where
   AllOf P [] = Unit {0}
   AllOf P (e ∷ es) = P e × AllOf P es
 
--- octets do not come after the first of these
-abbrev pub BeforeFirst : List ℕ → List (List ℕ) → Type 0
-BeforeFirst e [] = Unit {0}
-BeforeFirst e (f ∷ fs) = IsNotAfter e f
+-- the first of these is as far on as v, or none is there; and so each is behind the one before
+module _ {E : Type 0} (R : E → E → Type 0) where
+  abbrev pub BeforeFirst : E → List E → Type 0
+  BeforeFirst e [] = Unit {0}
+  BeforeFirst e (f ∷ fs) = R e f
 
-abbrev pub Ascend : List (List ℕ) → Type 0
-Ascend [] = Unit {0}
-Ascend (e ∷ es) = BeforeFirst e es × Ascend es
+  abbrev pub Ascend : List E → Type 0
+  Ascend [] = Unit {0}
+  Ascend (e ∷ es) = BeforeFirst e es × Ascend es
 
-module _ (P : List ℕ → Type 0) (anti : (v w : List ℕ) → P v → P w → IsNotAfter v w → IsNotAfter w v → v ≡ w) where
-  -- 0 for octets that do not stand before e, otherwise 1
-  before : List ℕ → List ℕ → ℕ
-  before e f = zero_if (decided e f)
+module _ {E : Type 0} (R : E → E → Type 0) (test : (v w : E) → Decided (R v w)) (same : (v : E) → R v v)
+    (over : (u v w : E) → R u v → R v w → R u w) (P : E → Type 0) (anti : (v w : E) → P v → P w → R v w → R w v → v ≡ w) where
+  -- 0 for a member that does not stand before e, otherwise 1
+  before : E → E → ℕ
+  before e f = zero_if (test e f)
 
-  not_before : (e f : List ℕ) → before e f ≡ 0 → IsNotAfter e f
+  not_before : (e f : E) → before e f ≡ 0 → R e f
   unfolding before
-  not_before e f h = where_zero (decided e f) h
+  not_before e f h = where_zero (test e f) h
 
-  is_not_before : (e f : List ℕ) → IsNotAfter e f → before e f ≡ 0
+  is_not_before : (e f : E) → R e f → before e f ≡ 0
   unfolding before
-  is_not_before e f h = zero_where (decided e f) h
+  is_not_before e f h = zero_where (test e f) h
 
-  none_before : (a e : List ℕ) (es : List (List ℕ)) → IsNotAfter a e → Ascend (e ∷ es) → total (before a) (e ∷ es) ≡ 0
+  none_before : (a e : E) (es : List E) → R a e → Ascend R (e ∷ es) → total (before a) (e ∷ es) ≡ 0
   none_before a e [] h k = (let z = is_not_before a e h in omega (arith, z))
   none_before a e (f ∷ fs) h k =
       let z = is_not_before a e h in
-      let y = none_before a f fs (transitive a e f h k.0) k.1 in
+      let y = none_before a f fs (over a e f h k.0) k.1 in
       omega (arith, z, y)
 
-  first_least : (a f : List ℕ) (fs : List (List ℕ)) → total (before a) (f ∷ fs) ≡ 0 → IsNotAfter a f
+  first_least : (a f : E) (fs : List E) → total (before a) (f ∷ fs) ≡ 0 → R a f
   first_least a f fs h = not_before a f (omega (arith, h))
 
-  rest_same : (e f : List ℕ) (es fs : List (List ℕ)) → e ≡ f → Same (e ∷ es) (f ∷ fs) → Same es fs
+  rest_same : (e f : E) (es fs : List E) → e ≡ f → Same (e ∷ es) (f ∷ fs) → Same es fs
   rest_same e f es fs q s = record {
     totals = λ g. (let h = s.totals g in let k = ap g q in omega (arith, h, k));
   }
 
   -- lists that ascend and have the same members are the same
-  pub one_ascending : (es fs : List (List ℕ)) → AllOf P es → AllOf P fs → Ascend es → Ascend fs → Same es fs → es ≡ fs
+  pub one_ascending : (es fs : List E) → AllOf P es → AllOf P fs → Ascend R es → Ascend R fs → Same es fs → es ≡ fs
   one_ascending [] [] p q a b s = refl
   one_ascending [] (f ∷ fs) p q a b s = absurd (let h = s.totals (λ _. 1) in omega (arith, h))
   one_ascending (e ∷ es) [] p q a b s = absurd (let h = s.totals (λ _. 1) in omega (arith, h))
   one_ascending (e ∷ es) (f ∷ fs) p q a b s =
       let h = s.totals (before e) in
       let k = s.totals (before f) in
-      let i = first_least e f fs (sym h ∙ none_before e e es (reflexive e) a) in
-      let j = first_least f e es (k ∙ none_before f f fs (reflexive f) b) in
+      let i = first_least e f fs (sym h ∙ none_before e e es (same e) a) in
+      let j = first_least f e es (k ∙ none_before f f fs (same f) b) in
       let x : e ≡ f = anti e f p.0 q.0 i j in
       ap (λ z. z ∷ es) x ∙ ap (λ z. f ∷ z) (one_ascending es fs p.1 q.1 a.1 b.1 (rest_same e f es fs x s))
