@@ -72,7 +72,8 @@ module _ {T : Type 0} (Tags : Tag → Type 0) (Means : Tree → T → Type 0) wh
 
   module _ {X : Type 0} where
     -- why none was taken, with error e: an earlier value was refused; the source failed; memory ran out for one;
-    -- or what comes next is nothing that is read. If every tag is asked for, it is neither the end nor a value
+    -- or what comes next is nothing that is read. If the tags are every tag, memory ran out for whatever comes next,
+    -- or it is neither a value nor the end
     pub data RefusesTyped (c : Reading) (e : DecodeError X) (d : Reading) : Type 0 where
       failed : c.state ≡ Failed → IsRefusal e → RefusesTyped c e d
       source : cause_of e ≡ of_source → Grew c.stream.faults d.stream.faults → RefusesTyped c e d
