@@ -17,7 +17,7 @@ use Rattle.bcder.proofs.Lemmas.{IsWithinOwed, as_many_are_no_fewer, grew_in_betw
 use Rattle.bcder.proofs.Lemmas.{open_has_not_ended, done_is_at_its_end}
 use Rattle.asn1.specs.declared.choice.Choice2.{Choice2}
 use Rattle.asn1.specs.declared.choice.Choice2.TheVariants.{One, Two}
-use Rattle.asn1.specs.Types.{HasTagged, IsEvery, HasNoneOf, HasTypedHeader, TakesTyped, HasNoTyped, RefusesTyped, TakesNextTyped}
+use Rattle.asn1.specs.Types.{HasTagged, IsEvery, HasNoneOf, TakesTyped, HasNoTyped, RefusesTyped, TakesNextTyped}
 use Rattle.asn1.specs.Types as types
 use Rattle.asn1.specs.Choices.{EitherTag, IsChoice}
 use Rattle.asn1.proofs.Reading.{Alike, alike_back, none_alike, other_of_value, AreTags, absent_at_end, no_value_at_end}

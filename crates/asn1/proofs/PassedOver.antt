@@ -1,14 +1,14 @@
 -- All values up to the end of content, passed over.
-use Rattle.std.proofs.Common.{◌≢◌, List, ℕ, Some, None, refl, sym, ◌∙◌, subst, inl, inr}
+use Rattle.std.proofs.Common.{◌≢◌, Some, None, refl, sym, ◌∙◌, subst, inl, inr}
 use Rattle.std.specs.Prelude.{Ok, Err}
 use Rattle.bcder.specs.declared.decode.error.DecodeError.{DecodeError}
 use Rattle.bcder.specs.x690.Tree.{Trees, no_trees}
 use Rattle.bcder.specs.calls.Cause.{cause_of}
-use Rattle.bcder.specs.calls.Content.{Reading, Octets, Moves, EndsBefore, IsDone, NamesFront}
+use Rattle.bcder.specs.calls.Content.{Reading, Octets, Moves, IsDone}
 use Rattle.bcder.specs.calls.Skipping.{RefusesOne, by_walk, RefusesSkipAll, by_values}
 use Rattle.bcder.specs.calls.Skipping as skipping
 use Rattle.bcder.specs.calls.Valued.{HoldsValues}
-use Rattle.bcder.specs.calls.Walking.{HasValues, PassesValue, PassedBy, AllBy}
+use Rattle.bcder.specs.calls.Walking.{HasValues, PassedBy, AllBy}
 use Rattle.bcder.specs.calls.Walking as walking
 use Rattle.bcder.proofs.Lemmas.{open_has_not_ended, open_has_not_failed, IsWithinOwed, values_after, values_with_one_more}
 use Rattle.bcder.proofs.Lemmas.{done_is_at_its_end}

@@ -8,7 +8,7 @@ use Rattle.bcder.specs.x690.Identifier.{Tag, IsValueTag, identifier, end_of_cont
 use Rattle.bcder.specs.x690.Tree.{Tree, primitive, constructed, Trees, no_trees, ◌∷ₜ◌}
 use Rattle.bcder.specs.x690.Encoding.{IsHeader, IsEncoding, AreEncodings, IsFramed}
 use Rattle.bcder.specs.calls.Cause.{IsRefusal}
-use Rattle.bcder.specs.calls.Content.{Reading, ContentForm, octets, values, Octets, IndefiniteValues, Moves, MovesBy, Whole, Falls, NotAtEnd, IsAtEnd, IsDone, EndsBefore}
+use Rattle.bcder.specs.calls.Content.{Reading, ContentForm, octets, values, Octets, IndefiniteValues, Moves, MovesBy, Whole, Falls, NotAtEnd, IsAtEnd, EndsBefore}
 use Rattle.bcder.specs.calls.Content.{of_octets, of_definite, of_indefinite, of_unbounded}
 use Rattle.bcder.specs.calls.Content.{any, tagged, HasOther, HasMarker, IsAbsent, IsElsewhere, none_left, other}
 use Rattle.bcder.specs.calls.CapturingValues.{HasNoNext}
@@ -17,11 +17,11 @@ use Rattle.bcder.specs.calls.Walking.{NoValue, HasValue, HasValues, PassesValue,
 use Rattle.bcder.specs.calls.Valued.{HoldsValues, tag_of}
 use Rattle.bcder.specs.laws.Complete.{only_at_front}
 use Rattle.bcder.specs.laws.Lists.{AreEncodings-one}
-use Rattle.bcder.specs.laws.Moved.{whole_marked, moved_keeps_kind}
+use Rattle.bcder.specs.laws.Moved.{whole_marked}
 use Rattle.bcder.proofs.Lemmas.{open_has_not_ended, open_has_not_failed, IsWithinOwed, values_after, values_with_one_more, trees_with_one_more}
 use Rattle.bcder.proofs.Lemmas.{no_values_without_a_first, header_is_there, one_values, no_values_of_octets, header_of_tagged}
 use Rattle.bcder.proofs.Lemmas.{no_values_at_the_end, no_trees_at_the_end, done_is_at_its_end}
-use Rattle.asn1.specs.Types.{HasNoneOf, TakesTyped, HasNoTyped, RefusesTyped, TakesNextTyped, IsMember, BeginWithout, IsOptional, AreBoth, TakesFields}
+use Rattle.asn1.specs.Types.{HasNoneOf, TakesTyped, HasNoTyped, RefusesTyped, TakesNextTyped, IsMember, BeginWithout, IsOptional, TakesFields}
 use Rattle.asn1.specs.Types.{HoldsNoFields, RefusesFields, ReadsFields}
 use Rattle.asn1.specs.Types as types
 use Rattle.asn1.proofs.Members.{no_cons, cons_rest, cons_first}

@@ -4,7 +4,7 @@ use Rattle.std.specs.Prelude.{Result, Ok, Err}
 use Rattle.bcder.specs.declared.decode.error.DecodeError.{DecodeError}
 use Rattle.bcder.specs.x690.Identifier.{Tag}
 use Rattle.bcder.specs.x690.Tree.{Tree}
-use Rattle.bcder.specs.calls.Content.{Reading, tagged, HasHeader, NamesFront}
+use Rattle.bcder.specs.calls.Content.{Reading, tagged, HasHeader}
 use Rattle.bcder.specs.calls.Takes.{HasNone}
 use Rattle.bcder.specs.calls.Valued.{TakesTree, HasNoTree, WantsMemoryFor, RefusesTree, TakesNextTree}
 use Rattle.bcder.specs.calls.Valued as valued
