@@ -7,6 +7,8 @@
 #[cfg(test)]
 mod additions;
 #[cfg(test)]
+mod any;
+#[cfg(test)]
 mod boxed;
 #[cfg(test)]
 mod choices;
