@@ -123,7 +123,7 @@ module _ {A B : Type 0} (P : Tag → Type 0) (M : Mode → Tree → A → Type 0
   pub fails_one : {X : Type 0} (f : DecodeError X) → TakesNextTyped P (M c.mode) c (Err f) d → TakesNextTyped (EitherTag P Q) Means c (Err f) d
   fails_one f n = record { value = tt; none = tt; no_fault = tt; refused = one_refused f n.refused; failed = n.failed; mode = n.mode; marked = n.marked }
 
-  -- ---- none with one of the first type's tags, and what the second returns
+  -- ---- none of the first type, and what the second returns
 
   module _ {X : Type 0} (m : Moves c d) (v : AreTags P) (n : TakesNextTyped P (M c.mode) {X = X} c (Ok None) d) (x : IsWithinOwed d) (e : Reading) where
     -- content is as it was

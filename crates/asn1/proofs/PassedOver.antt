@@ -1,5 +1,5 @@
 -- All values up to the end of content, passed over.
-use Rattle.std.proofs.Common.{◌≢◌, Some, None, refl, sym, ◌∙◌, subst, inl, inr}
+use Rattle.std.proofs.Common.{◌≢◌, List, ℕ, Some, None, refl, sym, ◌∙◌, subst, inl, inr}
 use Rattle.std.specs.Prelude.{Ok, Err}
 use Rattle.bcder.specs.declared.decode.error.DecodeError.{DecodeError}
 use Rattle.bcder.specs.x690.Tree.{Trees, no_trees}
@@ -8,16 +8,24 @@ use Rattle.bcder.specs.calls.Content.{Reading, Octets, Moves, EndsBefore, IsDone
 use Rattle.bcder.specs.calls.Skipping.{RefusesOne, by_walk, RefusesSkipAll, by_values}
 use Rattle.bcder.specs.calls.Skipping as skipping
 use Rattle.bcder.specs.calls.Valued.{HoldsValues}
-use Rattle.bcder.specs.calls.Walking.{HasValues, PassedBy, AllBy}
+use Rattle.bcder.specs.calls.Walking.{HasValues, PassesValue, PassedBy, AllBy}
 use Rattle.bcder.specs.calls.Walking as walking
 use Rattle.bcder.proofs.Lemmas.{open_has_not_ended, open_has_not_failed, IsWithinOwed, values_after, values_with_one_more}
-use Rattle.bcder.proofs.Lemmas.{done_is_at_its_end}
+use Rattle.bcder.proofs.Lemmas.{no_values_at_the_end, no_trees_at_the_end, done_is_at_its_end}
 use Rattle.bcder.proofs.Lemmas.{no_values_without_a_first, as_many_are_no_fewer, grew_in_between}
 use Rattle.asn1.specs.Types.{AreAll, TakesFields, RefusesFields, ReadsFields}
 use Rattle.asn1.specs.Types as types
-use Rattle.asn1.proofs.Reading.{held_once, failed_holds_none, end_holds_none}
+use Rattle.asn1.proofs.Reading.{held_once, failed_holds_none}
 
 -- ---- content at its end
+
+end_holds_none : (c : Reading) → c.kind ≢ Octets → (after : List ℕ) → EndsBefore c after → HoldsValues c no_trees
+end_holds_none c k after (inl e) = inr (e, refl)
+end_holds_none c k after (inr e) = inl (record {
+  usable = e.0;
+  values = no_values_at_the_end c after k e.1;
+  are = no_trees_at_the_end c after k e.1;
+})
 
 module _ {T : Type 0} (c d : Reading) (k : d.kind ≢ Octets) (x : T) where
   all_taken : (ts : Trees) → HoldsValues c ts → IsDone d → TakesFields AreAll c x d

@@ -173,67 +173,10 @@ module _ (tag : Tag) (c : Reading) (w : IsWithinOwed c) where
 
 pub absent_at_end : (c : Reading) → IsWithinOwed c → (c.kind ≢ Octets) → (after : List ℕ) → IsAtEnd c after
     → (rest : List ℕ) × ((tag : Tag) → IsValueTag tag → IsElsewhere tag c rest)
-absent_at_end c w after (of_octets q e) = ([], λ tag v. none_left (empty tag c w c.stream.rest (w.fits 0 e)) refl)
-absent_at_end c w after (of_definite q e) = ([], λ tag v. none_left (empty tag c w c.stream.rest (w.fits 0 e)) refl)
-absent_at_end c w after (of_indefinite q m) = (c.stream.rest, λ tag v. other (marker_other tag c w v c.stream.rest after refl m) refl)
-absent_at_end c w after (of_unbounded q e) = ([], λ tag v. none_left e refl)
-
--- at the end no value comes next
-pub no_value_at_end : (c : Reading) → IsWithinOwed c → (after : List ℕ) → EndsBefore c after → (t : Tree) (v behind : List ℕ) → HasValue c t v behind → ⊥
-no_value_at_end c w after (inl e) t v behind h = open_has_not_ended c.state h.usable e
-no_value_at_end c w after (inr e) t v behind h =
-    let f = header_of_tagged c w (tag_of t) t v behind (h, refl) in
-    let q = absent_at_end c w after e.1 in
-    header_is_there (tag_of t) c f.0 q.0 h.usable f.1 (inr (e.0, q.1 (tag_of t) (subst IsValueTag f.1.is_asked f.1.is_header.is_value_tag)))
-
--- ---- where content was at its end
-
-pub end_holds_none : (c : Reading) → c.kind ≢ Octets → (after : List ℕ) → EndsBefore c after → HoldsValues c no_trees
-end_holds_none c k after (inl e) = inr (e, refl)
-end_holds_none c k after (inr e) = inl (record {
-  usable = e.0;
-  values = no_values_at_the_end c after k e.1;
-  are = no_trees_at_the_end c after k e.1;
-})
-
--- content c holds no values, if it holds any, and d is left of it
-record HeldNone (c d : Reading) : Type 0 where
-  none : (ts : Trees) → HoldsValues c ts → ts ≡ no_trees
-  stays : (ts : Trees) → HoldsValues c ts → HoldsValues d no_trees
-  back : (us : Trees) → HoldsValues d us → (us ≡ no_trees) × HoldsValues c no_trees
-
-octets_or_not : (f : ContentForm) → (f ≡ Octets) ⊎ (f ≢ Octets)
-octets_or_not octets = inl refl
-octets_or_not (values k) = inr (λ e. (let z : values k ≡ octets = e in cc))
-
-octets_ended : (c : Reading) → c.kind ≡ Octets → (ts : Trees) → HoldsValues c ts → (c.state ≡ Ended) × (ts ≡ no_trees)
-octets_ended c k ts (inl h) = absurd (no_values_of_octets c k h.values)
-octets_ended c k ts (inr h) = h
-
-octets_were_ended : (c : Reading) → c.kind ≡ Octets → (c.state ≡ Ended) ⊎ (c.kind ≡ IndefiniteValues) → c.state ≡ Ended
-octets_were_ended c k (inl e) = e
-octets_were_ended c k (inr e) = (let z : Octets ≡ IndefiniteValues = sym k ∙ e in cc)
-
-held_at_end : (c d : Reading) → Moves c d → HasNone any c d → HeldNone c d
-unfolding Moves
-held_at_end c d m h = elim (octets_or_not c.kind) [
-  | inl k ↦ record {
-    none = λ ts x. (octets_ended c k ts x).1;
-    stays = λ ts x. inr ((m.ended (octets_ended c k ts x).0).0, refl);
-    back = λ us x. (let e = octets_ended d (m.kind ∙ k) us x in (e.1, inr (octets_were_ended c k (m.ends e.0), refl)));
-  }
-  | inr k ↦
-      let o : d.kind ≢ Octets = (λ e. k (sym m.kind ∙ e)) in
-      let x = end_holds_none c k d.stream.rest h.missing.0 in
-      let y = end_holds_none d o d.stream.rest (done_is_at_its_end d d.kind refl h.missing.1) in
-      record { none = λ ts z. held_once c ts no_trees z x; stays = λ ts z. y; back = λ us z. (held_once d us no_trees z y, x) }
-]
-
-pub no_next_holds_none : (c : Reading) → HasNoNext c → (ts : Trees) → HoldsValues c ts → ⊥
-no_next_holds_none c n ts (inl h) =
-    let v : NoValue c = record { none = λ t x y q r. n.none.none t x y (record { usable = n.usable; encodes = q; rest = r }) } in
-    no_values_without_a_first c n.usable v n.some h.values
-no_next_holds_none c n ts (inr h) = open_has_not_ended c.state n.usable h.0
+absent_at_end c w k after (of_octets q e) = absurd (k q)
+absent_at_end c w k after (of_definite q e) = ([], λ tag v. none_left (empty tag c w c.stream.rest (w.fits 0 e)) refl)
+absent_at_end c w k after (of_indefinite q m) = (c.stream.rest, λ tag v. other (marker_other tag c w v c.stream.rest after refl m) refl)
+absent_at_end c w k after (of_unbounded q e) = ([], λ tag v. none_left e refl)
 
 framed_tag : (mode : Mode) (t : Tag) (contents v : List ℕ) → IsFramed mode t contents v → IsValueTag t
 framed_tag mode t contents v (inl d) = d.is_header.is_value_tag
@@ -439,9 +382,8 @@ module _ {T : Type 0} (Tags : Tag → Type 0) (Means : Tree → T → Type 0) (c
     pub none_before : (us : Trees) → HoldsValues d us → (ts : Trees) × HoldsValues c ts × IsOptional Tags Means ts None us
     none_before us k = let h : HoldsValues c us = left.held us k in (us, h, (left.begins us h, refl))
 
-    pub none_behind : HasNoneOf Tags c d → (ts us : Trees) (y : Option T) → HoldsValues c ts → IsOptional Tags Means ts y us → HoldsValues d us
-    none_behind n ts us (Some y) k g = absurd (member_missing n ts us y k g)
-    none_behind n ts us None k g = left_behind n ts us k g.1
+    optional_none : TakesFields (IsOptional Tags Means) c None d
+    optional_none = record { before = none_before; behind = none_behind }
 
     pub member_missing : HoldsNoFields (IsMember Tags Means) c
     member_missing ts us y k g = not_begun g.tree us (member_tagged Tags Means c ts us y k g) g.tagged
@@ -485,16 +427,12 @@ module _ {T : Type 0} (Tags : Tag → Type 0) (Means : Tree → T → Type 0) (c
     refused_member e (types.RefusesTyped.source s g) = types.RefusesFields.source s g
     refused_member e (types.RefusesTyped.memory s h) = types.RefusesFields.memory s
     refused_member e (types.RefusesTyped.broken n a) = types.RefusesFields.broken (no_member n) a
-    refused_member e (types.RefusesTyped.memory_for_any s i) = types.RefusesFields.memory s
-    refused_member e (types.RefusesTyped.no_next i n a) = types.RefusesFields.broken (λ ts us y k g. no_next_holds_none c n ts k) a
 
     refused_optional : AreTags Tags → (e : DecodeError X) → RefusesTyped Tags Means c e d → RefusesFields (IsOptional Tags Means) c e d
     refused_optional v e (types.RefusesTyped.failed s a) = types.RefusesFields.broken (λ ts us y k g. failed_holds_none c s ts k) a
     refused_optional v e (types.RefusesTyped.source s g) = types.RefusesFields.source s g
     refused_optional v e (types.RefusesTyped.memory s h) = types.RefusesFields.memory s
     refused_optional v e (types.RefusesTyped.broken n a) = types.RefusesFields.broken (no_optional v n) a
-    refused_optional v e (types.RefusesTyped.memory_for_any s i) = types.RefusesFields.memory s
-    refused_optional v e (types.RefusesTyped.no_next i n a) = types.RefusesFields.broken (λ ts us y k g. no_next_holds_none c n ts k) a
 
 -- ---- what the readers say
 

@@ -35,8 +35,6 @@ module _ {A V X : Type 0} (Tags Others : Tag → Type 0) (to : (t : Tag) → Tag
         absent = may_seen Tags Others to back c d n.absent;
       } in
       types.RefusesTyped.broken none a
-  refused_seen e (types.RefusesTyped.memory_for_any s i) = types.RefusesTyped.memory_for_any s (λ t p. to t (i t p))
-  refused_seen e (types.RefusesTyped.no_next i n a) = types.RefusesTyped.no_next (λ t p. to t (i t p)) n a
 
   pub retagged_none : TakesNextTyped Tags Means {X = X} c (Ok None) d → TakesNextTyped Others (λ (t : Tree) (x : V). Means t (view x)) {X = X} c (Ok None) d
   retagged_none r = record { value = tt; none = none_seen Tags Others to back c d r.none; no_fault = r.no_fault; refused = tt; failed = tt; mode = r.mode; marked = r.marked }

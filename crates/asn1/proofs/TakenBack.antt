@@ -39,15 +39,6 @@ module _ {T K : Type 0} (Tags : Tag → Type 0) (Means : Tree → T → Type 0) 
     refused {X} f d (types.RefusesTyped.source z g) = inl (z, g)
     refused {X} f d (types.RefusesTyped.memory z h) = inr z
     refused {X} f d (types.RefusesTyped.broken b a) = absurd (b.value k.tree e.octets after k.some there k.means)
-    refused {X} f d (types.RefusesTyped.memory_for_any z i) = inr z
-    refused {X} f d (types.RefusesTyped.no_next i b a) = absurd (b.none.none k.tree e.octets after there.0)
-
-    not_none : (d : Reading) → HasNoneOf Tags c d → ⊥
-    not_none d (types.HasNoneOf.of_tags f) =
-        let u = tag_of k.tree in
-        let h = header_of_tagged c w u k.tree e.octets after (there.0, refl) in
-        header_is_there u c h.0 d.stream.rest s.usable h.1 (f u k.tagged).missing.0
-    not_none d (types.HasNoneOf.at_end i h) = no_value_at_end c w d.stream.rest h.missing.0 k.tree e.octets after there.0
 
     not_none : (d : Reading) → HasNoneOf Tags c d → ⊥
     not_none d (elsewhere f) =

@@ -83,15 +83,12 @@ module _ {T : Type 0} (Tags : Tag → Type 0) (Means : Tree → T → Type 0) wh
 
   module _ {X : Type 0} where
     -- why none was taken, with error e: an earlier value was refused; the source failed; memory ran out for one;
-    -- or what comes next is nothing that is read. If the tags are every tag, memory ran out for whatever comes next,
-    -- or it is neither a value nor the end
+    -- or what comes next is nothing that is read
     pub data RefusesTyped (c : Reading) (e : DecodeError X) (d : Reading) : Type 0 where
       failed : c.state ≡ Failed → IsRefusal e → RefusesTyped c e d
       source : cause_of e ≡ of_source → Grew c.stream.faults d.stream.faults → RefusesTyped c e d
       memory : cause_of e ≡ of_memory → AllocatesFor Tags c → RefusesTyped c e d
       broken : HasNoTyped c → IsRefusal e → RefusesTyped c e d
-      memory_for_any : cause_of e ≡ of_memory → IsEvery Tags → RefusesTyped c e d
-      no_next : IsEvery Tags → HasNoNext c → IsRefusal e → RefusesTyped c e d
 
     -- the effect of a call that returns the value, or that there is none with the tags
     pub record TakesNextTyped (c : Reading) (r : Result (Option T) (DecodeError X)) (d : Reading) : Type 0 where

@@ -1,6 +1,7 @@
 //! A value of any type, kept as its encoding.
 ghost use Rattle.std.specs.Prelude.{◌≡◌, IfOk, IfErr, Option};
 ghost use Rattle.bcder.specs.calls.Captured.{kept_stream};
+ghost use Rattle.bcder.specs.calls.CapturingValues.{CapturedNext, ExactlyNextCaptured};
 ghost use Rattle.bcder.specs.calls.Gathered.{KeptMeans};
 ghost use Rattle.bcder.specs.calls.Views.{Moved};
 ghost use Rattle.bcder.specs.laws.Gathered.{kept_lawful};
@@ -44,6 +45,31 @@ impl Model for Any {
 }
 
 impl Any {
+    /// Takes the next value, whatever its type, or returns `None` at the end of the content, whose
+    /// marker it takes.
+    ///
+    /// This is [`Constructed::capture_opt_one`]: what is kept are the octets that come next.
+    ///
+    /// # Errors
+    ///
+    /// Those of `capture_opt_one`. The content has then failed.
+    #[inline(always)]
+    pub fn take_opt<S: Source>(
+        alloc: Global,
+        cons: &mut Constructed<'_, S>,
+    ) -> Result<Option<Any>, DecodeError<S::Error>>
+        ensures moves { Moved S.stream cons }
+        ensures captured { CapturedNext S.stream cons result }
+        ensures exact { ExactlyNextCaptured S.stream cons result }
+    {
+        let mode = cons.mode();
+        match cons.capture_opt_one(alloc) {
+            Ok(Some(captured)) => Ok(Some(Any { captured, mode })),
+            Ok(None) => Ok(None),
+            Err(error) => Err(error),
+        }
+    }
+
     /// Returns the rules in which it is encoded.
     pub fn mode(&self) -> Mode
         ensures { result ≡ self.now.mode }
@@ -138,17 +164,13 @@ impl Type for Any {
 }
 
 impl<S: Source> Decode<S> for Any {
+    #[inline(always)]
     fn take_opt_if(
         alloc: Global,
         cons: &mut Constructed<'_, S>,
         _tag: Tag,
     ) -> Result<Option<Any>, DecodeError<S::Error>> {
-        let mode = cons.mode();
-        match cons.capture_opt_one(alloc) {
-            Ok(Some(captured)) => Ok(Some(Any { captured, mode })),
-            Ok(None) => Ok(None),
-            Err(error) => Err(error),
-        }
+        Any::take_opt(alloc, cons)
     }
 }
 
