@@ -31,7 +31,7 @@ mod written;
 pub use additions::ExtensionAdditions;
 pub use choice::{Choice2, Choice3, Choice4};
 pub use default::{DefaultValue, OrDefault};
-pub use definition::Definition;
+pub use definition::{DecodeDefinition, Definition};
 pub use definition_written::EncodeDefinition;
 pub use fields::{DecodeFields, Fields};
 pub use implicit::{FixedTag, Implicit};

@@ -2,8 +2,10 @@
 ghost use Rattle.std.specs.Prelude.{false, refl};
 
 use asn1::{
-    ByRef, DefaultValue, Definition, Encode, EncodeDefinition, OrDefault, Sequence, SequenceOf,
+    ByRef, DecodeDefinition, DefaultValue, Definition, Encode, EncodeDefinition, OrDefault,
+    Sequence, SequenceOf,
 };
+use bcder::decode::Source;
 use bcder::encode::{EncodeError, WriteError};
 use bcder::{Mode, NoMemory, OctetString, Oid, Tag};
 use bytes::Bytes;
@@ -63,6 +65,8 @@ impl Definition for Extension {
         }
     }
 }
+
+impl<S: Source> DecodeDefinition<S> for Extension {}
 
 impl EncodeDefinition for Extension {
     fn len_parts(&self, tag: Tag, mode: Mode) -> Result<usize, EncodeError> {
