@@ -26,3 +26,7 @@ pub mod DefaultedBack
 pub mod Rows
 pub mod BitsBack
 pub mod PassedOver
+pub mod Sorting
+pub mod Rearranging
+pub mod SetsRead
+pub mod SetsOnce

@@ -11,3 +11,4 @@ pub mod Told
 pub mod Tuples
 pub mod ChoicesWritten
 pub mod DefaultsWritten
+pub mod SetsOf

@@ -31,6 +31,8 @@ mod plain;
 #[cfg(test)]
 mod rows;
 #[cfg(test)]
+mod sets;
+#[cfg(test)]
 mod strings;
 #[cfg(test)]
 mod tuples;
