@@ -10,6 +10,7 @@ pub mod TakenBack
 pub mod Alike
 pub mod Lists
 pub mod Alternatives
+pub mod AnyValues
 pub mod Seen
 pub mod Decoding
 pub mod LeafReaders

@@ -13,7 +13,7 @@ use Rattle.bcder.proofs.Lemmas.{IsWithinOwed, as_many_are_no_fewer, grew_in_betw
 use Rattle.asn1.specs.Types.{HasNoneOf, TakesTyped, HasNoTyped, RefusesTyped, TakesNextTyped, AreList, TakesFields, HoldsNoFields, RefusesFields, ReadsFields}
 use Rattle.asn1.specs.Types as types
 use Rattle.asn1.proofs.Reading.{AreTags, passes, member_before, behind_first, member_tagged, tagged_first, none_before, none_behind, no_member, no_optional}
-use Rattle.asn1.proofs.Reading.{member_missing, failed_holds_none}
+use Rattle.asn1.proofs.Reading.{member_missing, failed_holds_none, no_next_holds_none}
 
 module _ {T : Type 0} (Tags : Tag → Type 0) (Means : Tree → T → Type 0) where
   -- so many were taken of the list that content begins with, and these go on with it
@@ -98,6 +98,9 @@ module _ {T : Type 0} (Tags : Tag → Type 0) (Means : Tree → T → Type 0) wh
       list_refused f (types.RefusesTyped.source s g) = types.RefusesFields.source s (grew_in_between _ _ _ _ (as_many_are_no_fewer _ _ r.no_fault) g refl)
       list_refused f (types.RefusesTyped.memory s h) = types.RefusesFields.memory s
       list_refused f (types.RefusesTyped.broken n a) = types.RefusesFields.broken (no_list n) a
+      list_refused f (types.RefusesTyped.memory_for_any s i) = types.RefusesFields.memory s
+      list_refused f (types.RefusesTyped.no_next i n a) =
+          types.RefusesFields.broken (λ ts us y k g. (let b = r.behind ts us y k g in no_next_holds_none d n b.0 b.2)) a
 
 -- ---- what the reader says, after so many
 

@@ -11,21 +11,13 @@ use Rattle.bcder.specs.calls.Valued.{HoldsValues}
 use Rattle.bcder.specs.calls.Walking.{HasValues, PassesValue, PassedBy, AllBy}
 use Rattle.bcder.specs.calls.Walking as walking
 use Rattle.bcder.proofs.Lemmas.{open_has_not_ended, open_has_not_failed, IsWithinOwed, values_after, values_with_one_more}
-use Rattle.bcder.proofs.Lemmas.{no_values_at_the_end, no_trees_at_the_end, done_is_at_its_end}
+use Rattle.bcder.proofs.Lemmas.{done_is_at_its_end}
 use Rattle.bcder.proofs.Lemmas.{no_values_without_a_first, as_many_are_no_fewer, grew_in_between}
 use Rattle.asn1.specs.Types.{AreAll, TakesFields, RefusesFields, ReadsFields}
 use Rattle.asn1.specs.Types as types
-use Rattle.asn1.proofs.Reading.{held_once, failed_holds_none}
+use Rattle.asn1.proofs.Reading.{held_once, failed_holds_none, end_holds_none}
 
 -- ---- content at its end
-
-end_holds_none : (c : Reading) → c.kind ≢ Octets → (after : List ℕ) → EndsBefore c after → HoldsValues c no_trees
-end_holds_none c k after (inl e) = inr (e, refl)
-end_holds_none c k after (inr e) = inl (record {
-  usable = e.0;
-  values = no_values_at_the_end c after k e.1;
-  are = no_trees_at_the_end c after k e.1;
-})
 
 module _ {T : Type 0} (c d : Reading) (k : d.kind ≢ Octets) (x : T) where
   all_taken : (ts : Trees) → HoldsValues c ts → IsDone d → TakesFields AreAll c x d

@@ -1,23 +1,26 @@
 -- Readers of fields, by the readers of values.
 use Rattle.std.proofs.Common.{◌≡◌, ◌≢◌, ℕ, ◌+◌, ◌-◌, ◌≤◌, Bool, true, false, List, [], ◌∷◌, ◌++◌, length, Option, Some, None, refl, ap, sym, ◌∙◌, arith}
 use Rattle.std.proofs.Common.{length-append, append_assoc, append-nil, subst, inl, inr}
-use Rattle.std.specs.Prelude.{Result, Ok, Err}
-use Rattle.bcder.specs.declared.decode.content.State.TheVariants.{Failed}
+use Rattle.std.specs.Prelude.{◌⊎◌, Result, Ok, Err}
+use Rattle.bcder.specs.declared.decode.content.State.TheVariants.{Ended, Failed}
 use Rattle.bcder.specs.declared.decode.error.DecodeError.{DecodeError}
 use Rattle.bcder.specs.x690.Identifier.{Tag, IsValueTag, identifier, end_of_contents}
 use Rattle.bcder.specs.x690.Tree.{Tree, primitive, constructed, Trees, no_trees, ◌∷ₜ◌}
 use Rattle.bcder.specs.x690.Encoding.{IsHeader, IsEncoding, AreEncodings, IsFramed}
 use Rattle.bcder.specs.calls.Cause.{IsRefusal}
-use Rattle.bcder.specs.calls.Content.{Reading, Octets, Moves, MovesBy, Whole, Falls, NotAtEnd, IsAtEnd, of_octets, of_definite, of_indefinite, of_unbounded}
-use Rattle.bcder.specs.calls.Content.{tagged, HasOther, HasMarker, IsAbsent, IsElsewhere, none_left, other}
+use Rattle.bcder.specs.calls.Content.{Reading, ContentForm, octets, values, Octets, IndefiniteValues, Moves, MovesBy, Whole, Falls, NotAtEnd, IsAtEnd, IsDone, EndsBefore}
+use Rattle.bcder.specs.calls.Content.{of_octets, of_definite, of_indefinite, of_unbounded}
+use Rattle.bcder.specs.calls.Content.{any, tagged, HasOther, HasMarker, IsAbsent, IsElsewhere, none_left, other}
+use Rattle.bcder.specs.calls.CapturingValues.{HasNoNext}
 use Rattle.bcder.specs.calls.Takes.{HasNone}
 use Rattle.bcder.specs.calls.Walking.{NoValue, HasValue, HasValues, PassesValue, ClosesBefore}
 use Rattle.bcder.specs.calls.Valued.{HoldsValues, tag_of}
 use Rattle.bcder.specs.laws.Complete.{only_at_front}
 use Rattle.bcder.specs.laws.Lists.{AreEncodings-one}
-use Rattle.bcder.specs.laws.Moved.{whole_marked}
+use Rattle.bcder.specs.laws.Moved.{whole_marked, moved_keeps_kind}
 use Rattle.bcder.proofs.Lemmas.{open_has_not_ended, open_has_not_failed, IsWithinOwed, values_after, values_with_one_more, trees_with_one_more}
 use Rattle.bcder.proofs.Lemmas.{no_values_without_a_first, header_is_there, one_values, no_values_of_octets, header_of_tagged}
+use Rattle.bcder.proofs.Lemmas.{no_values_at_the_end, no_trees_at_the_end, done_is_at_its_end}
 use Rattle.asn1.specs.Types.{HasNoneOf, TakesTyped, HasNoTyped, RefusesTyped, TakesNextTyped, IsMember, BeginWithout, IsOptional, AreBoth, TakesFields}
 use Rattle.asn1.specs.Types.{HoldsNoFields, RefusesFields, ReadsFields}
 use Rattle.asn1.specs.Types as types
@@ -163,12 +166,69 @@ module _ (tag : Tag) (c : Reading) (w : IsWithinOwed c) where
     rest = r ∙ m.rest ∙ ap (λ z. z ++ x) m.is_end.is;
   }
 
-absent_at_end : (c : Reading) → IsWithinOwed c → (c.kind ≢ Octets) → (after : List ℕ) → IsAtEnd c after
+pub absent_at_end : (c : Reading) → IsWithinOwed c → (after : List ℕ) → IsAtEnd c after
     → (rest : List ℕ) × ((tag : Tag) → IsValueTag tag → IsElsewhere tag c rest)
-absent_at_end c w k after (of_octets q e) = absurd (k q)
-absent_at_end c w k after (of_definite q e) = ([], λ tag v. none_left (empty tag c w c.stream.rest (w.fits 0 e)) refl)
-absent_at_end c w k after (of_indefinite q m) = (c.stream.rest, λ tag v. other (marker_other tag c w v c.stream.rest after refl m) refl)
-absent_at_end c w k after (of_unbounded q e) = ([], λ tag v. none_left e refl)
+absent_at_end c w after (of_octets q e) = ([], λ tag v. none_left (empty tag c w c.stream.rest (w.fits 0 e)) refl)
+absent_at_end c w after (of_definite q e) = ([], λ tag v. none_left (empty tag c w c.stream.rest (w.fits 0 e)) refl)
+absent_at_end c w after (of_indefinite q m) = (c.stream.rest, λ tag v. other (marker_other tag c w v c.stream.rest after refl m) refl)
+absent_at_end c w after (of_unbounded q e) = ([], λ tag v. none_left e refl)
+
+-- at the end no value comes next
+pub no_value_at_end : (c : Reading) → IsWithinOwed c → (after : List ℕ) → EndsBefore c after → (t : Tree) (v behind : List ℕ) → HasValue c t v behind → ⊥
+no_value_at_end c w after (inl e) t v behind h = open_has_not_ended c.state h.usable e
+no_value_at_end c w after (inr e) t v behind h =
+    let f = header_of_tagged c w (tag_of t) t v behind (h, refl) in
+    let q = absent_at_end c w after e.1 in
+    header_is_there (tag_of t) c f.0 q.0 h.usable f.1 (inr (e.0, q.1 (tag_of t) (subst IsValueTag f.1.is_asked f.1.is_header.is_value_tag)))
+
+-- ---- where content was at its end
+
+pub end_holds_none : (c : Reading) → c.kind ≢ Octets → (after : List ℕ) → EndsBefore c after → HoldsValues c no_trees
+end_holds_none c k after (inl e) = inr (e, refl)
+end_holds_none c k after (inr e) = inl (record {
+  usable = e.0;
+  values = no_values_at_the_end c after k e.1;
+  are = no_trees_at_the_end c after k e.1;
+})
+
+-- content c holds no values, if it holds any, and d is left of it
+record HeldNone (c d : Reading) : Type 0 where
+  none : (ts : Trees) → HoldsValues c ts → ts ≡ no_trees
+  stays : (ts : Trees) → HoldsValues c ts → HoldsValues d no_trees
+  back : (us : Trees) → HoldsValues d us → (us ≡ no_trees) × HoldsValues c no_trees
+
+octets_or_not : (f : ContentForm) → (f ≡ Octets) ⊎ (f ≢ Octets)
+octets_or_not octets = inl refl
+octets_or_not (values k) = inr (λ e. (let z : values k ≡ octets = e in cc))
+
+octets_ended : (c : Reading) → c.kind ≡ Octets → (ts : Trees) → HoldsValues c ts → (c.state ≡ Ended) × (ts ≡ no_trees)
+octets_ended c k ts (inl h) = absurd (no_values_of_octets c k h.values)
+octets_ended c k ts (inr h) = h
+
+octets_were_ended : (c : Reading) → c.kind ≡ Octets → (c.state ≡ Ended) ⊎ (c.kind ≡ IndefiniteValues) → c.state ≡ Ended
+octets_were_ended c k (inl e) = e
+octets_were_ended c k (inr e) = (let z : Octets ≡ IndefiniteValues = sym k ∙ e in cc)
+
+held_at_end : (c d : Reading) → Moves c d → HasNone any c d → HeldNone c d
+unfolding Moves
+held_at_end c d m h = elim (octets_or_not c.kind) [
+  | inl k ↦ record {
+    none = λ ts x. (octets_ended c k ts x).1;
+    stays = λ ts x. inr ((m.ended (octets_ended c k ts x).0).0, refl);
+    back = λ us x. (let e = octets_ended d (m.kind ∙ k) us x in (e.1, inr (octets_were_ended c k (m.ends e.0), refl)));
+  }
+  | inr k ↦
+      let o : d.kind ≢ Octets = (λ e. k (sym m.kind ∙ e)) in
+      let x = end_holds_none c k d.stream.rest h.missing.0 in
+      let y = end_holds_none d o d.stream.rest (done_is_at_its_end d d.kind refl h.missing.1) in
+      record { none = λ ts z. held_once c ts no_trees z x; stays = λ ts z. y; back = λ us z. (held_once d us no_trees z y, x) }
+]
+
+pub no_next_holds_none : (c : Reading) → HasNoNext c → (ts : Trees) → HoldsValues c ts → ⊥
+no_next_holds_none c n ts (inl h) =
+    let v : NoValue c = record { none = λ t x y q r. n.none.none t x y (record { usable = n.usable; encodes = q; rest = r }) } in
+    no_values_without_a_first c n.usable v n.some h.values
+no_next_holds_none c n ts (inr h) = open_has_not_ended c.state n.usable h.0
 
 -- ---- where no values are held, content is at its end
 
@@ -303,27 +363,36 @@ module _ {T : Type 0} (Tags : Tag → Type 0) (Means : Tree → T → Type 0) (c
   }
 
   -- it is left out
-  module _ (v : AreTags Tags) (n : HasNoneOf Tags c d) where
-    absent : (u : Tag) → Tags u → IsAbsent (tagged u) c d.stream.rest
-    absent u p = (n u p).missing.0
+  module _ (v : AreTags Tags) where
+    absent : ((u : Tag) → Tags u → HasNone (tagged u) c d) → (u : Tag) → Tags u → IsAbsent (tagged u) c d.stream.rest
+    absent f u p = (f u p).missing.0
 
-    same_content : Alike c d
-    same_content = none_alike v.own c d (v.value_tags v.own v.is_own) m o (n v.own v.is_own)
+    same_content : ((u : Tag) → Tags u → HasNone (tagged u) c d) → Alike c d
+    same_content f = none_alike v.own c d (v.value_tags v.own v.is_own) m o (f v.own v.is_own)
 
-    pub none_behind : (ts us : Trees) (y : Option T) → HoldsValues c ts → IsOptional Tags Means ts y us → HoldsValues d us
-    none_behind ts us (Some y) k g = absurd (not_tagged Tags c w d.stream.rest absent g.tree us (member_tagged Tags Means c ts us y k g) g.tagged)
-    none_behind ts us None k g = subst (HoldsValues d) (sym g.1) (same_held c d same_content ts k)
+    pub member_missing : HasNoneOf Tags c d → HoldsNoFields (IsMember Tags Means) c
+    member_missing (types.HasNoneOf.of_tags f) ts us y k g =
+        not_tagged Tags c w d.stream.rest (absent f) g.tree us (member_tagged Tags Means c ts us y k g) g.tagged
+    member_missing (types.HasNoneOf.at_end i h) ts us y k g =
+        no_cons g.tree us ((held_at_end c d m h).none (g.tree ∷ₜ us) (member_tagged Tags Means c ts us y k g))
 
-    pub none_before : (us : Trees) → HoldsValues d us → (ts : Trees) × HoldsValues c ts × IsOptional Tags Means ts None us
-    none_before us k =
-        let h : HoldsValues c us = same_held d c (alike_back c d same_content) us k in
-        (us, h, (begin_without Tags c w d.stream.rest absent us h, refl))
+    left_behind : HasNoneOf Tags c d → (ts us : Trees) → HoldsValues c ts → us ≡ ts → HoldsValues d us
+    left_behind (types.HasNoneOf.of_tags f) ts us k e = subst (HoldsValues d) (sym e) (same_held c d (same_content f) ts k)
+    left_behind (types.HasNoneOf.at_end i h) ts us k e =
+        (let z = held_at_end c d m h in subst (HoldsValues d) (sym (e ∙ z.none ts k)) (z.stays ts k))
 
-    optional_none : TakesFields (IsOptional Tags Means) c None d
-    optional_none = record { before = none_before; behind = none_behind }
+    pub none_behind : HasNoneOf Tags c d → (ts us : Trees) (y : Option T) → HoldsValues c ts → IsOptional Tags Means ts y us → HoldsValues d us
+    none_behind n ts us (Some y) k g = absurd (member_missing n ts us y k g)
+    none_behind n ts us None k g = left_behind n ts us k g.1
 
-    pub member_missing : HoldsNoFields (IsMember Tags Means) c
-    member_missing ts us y k g = not_tagged Tags c w d.stream.rest absent g.tree us (member_tagged Tags Means c ts us y k g) g.tagged
+    pub none_before : HasNoneOf Tags c d → (us : Trees) → HoldsValues d us → (ts : Trees) × HoldsValues c ts × IsOptional Tags Means ts None us
+    none_before (types.HasNoneOf.of_tags f) us k =
+        let h : HoldsValues c us = same_held d c (alike_back c d (same_content f)) us k in
+        (us, h, (begin_without Tags c w d.stream.rest (absent f) us h, refl))
+    none_before (types.HasNoneOf.at_end i h) us k = (let z = (held_at_end c d m h).back us k in (no_trees, z.1, (tt, z.0)))
+
+    optional_none : HasNoneOf Tags c d → TakesFields (IsOptional Tags Means) c None d
+    optional_none n = record { before = none_before n; behind = none_behind n }
 
   -- it was refused
   pub no_member : HasNoTyped Tags Means c → HoldsNoFields (IsMember Tags Means) c
@@ -334,11 +403,10 @@ module _ {T : Type 0} (Tags : Tag → Type 0) (Means : Tree → T → Type 0) (c
   pub none_absent : AreTags Tags → (n : HasNoTyped Tags Means c) → (ts : Trees) → HoldsValues c ts → BeginWithout Tags ts → ⊥
   none_absent v n no_trees (inr h) b = open_has_not_ended c.state n.usable h.0
   none_absent v n no_trees (inl h) b =
-      let k : c.kind ≢ Octets = (λ q. no_values_of_octets c q h.values) in
       none_not_inside c w (record {
         none = λ x z. elim z [
           | inl y ↦ open_has_not_ended c.state n.usable y
-          | inr y ↦ (let q = absent_at_end c w k x y.1 in n.absent q.0 (λ u p. inr (y.0, q.1 u (v.value_tags u p))))
+          | inr y ↦ (let q = absent_at_end c w x y.1 in n.absent q.0 (λ u p. inr (y.0, q.1 u (v.value_tags u p))))
         ];
       }) (inl h)
   none_absent v n (t ∷ₜ us) h b =
@@ -356,12 +424,16 @@ module _ {T : Type 0} (Tags : Tag → Type 0) (Means : Tree → T → Type 0) (c
     refused_member e (types.RefusesTyped.source s g) = types.RefusesFields.source s g
     refused_member e (types.RefusesTyped.memory s h) = types.RefusesFields.memory s
     refused_member e (types.RefusesTyped.broken n a) = types.RefusesFields.broken (no_member n) a
+    refused_member e (types.RefusesTyped.memory_for_any s i) = types.RefusesFields.memory s
+    refused_member e (types.RefusesTyped.no_next i n a) = types.RefusesFields.broken (λ ts us y k g. no_next_holds_none c n ts k) a
 
     refused_optional : AreTags Tags → (e : DecodeError X) → RefusesTyped Tags Means c e d → RefusesFields (IsOptional Tags Means) c e d
     refused_optional v e (types.RefusesTyped.failed s a) = types.RefusesFields.broken (λ ts us y k g. failed_holds_none c s ts k) a
     refused_optional v e (types.RefusesTyped.source s g) = types.RefusesFields.source s g
     refused_optional v e (types.RefusesTyped.memory s h) = types.RefusesFields.memory s
     refused_optional v e (types.RefusesTyped.broken n a) = types.RefusesFields.broken (no_optional v n) a
+    refused_optional v e (types.RefusesTyped.memory_for_any s i) = types.RefusesFields.memory s
+    refused_optional v e (types.RefusesTyped.no_next i n a) = types.RefusesFields.broken (λ ts us y k g. no_next_holds_none c n ts k) a
 
 -- ---- what the readers say
 

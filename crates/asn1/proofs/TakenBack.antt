@@ -12,9 +12,10 @@ use Rattle.bcder.specs.calls.TakenBack.{StandsIn, SourceFailedOrNoMemory}
 use Rattle.bcder.specs.calls.WrittenStrings.{AnswersSuch}
 use Rattle.bcder.specs.calls.Valued.{tag_of}
 use Rattle.bcder.proofs.Lemmas.{open_has_not_failed, IsWithinOwed, value_once, header_is_there, header_of_tagged}
-use Rattle.asn1.specs.Types.{HasTagged, TakesTyped, RefusesTyped, TakesNextTyped}
+use Rattle.asn1.specs.Types.{HasTagged, HasNoneOf, TakesTyped, RefusesTyped, TakesNextTyped}
 use Rattle.asn1.specs.Types as types
 use Rattle.asn1.specs.Writing.{IsWritten, HasKey}
+use Rattle.asn1.proofs.Reading.{no_value_at_end}
 
 module _ {T K : Type 0} (Tags : Tag → Type 0) (Means : Tree → T → Type 0) (key : T → K) (n : K) (mode : Mode) (e : Encoded)
     (encodes : AreEncodings mode e.values e.octets) where
@@ -38,14 +39,20 @@ module _ {T K : Type 0} (Tags : Tag → Type 0) (Means : Tree → T → Type 0) 
     refused {X} f d (types.RefusesTyped.source z g) = inl (z, g)
     refused {X} f d (types.RefusesTyped.memory z h) = inr z
     refused {X} f d (types.RefusesTyped.broken b a) = absurd (b.value k.tree e.octets after k.some there k.means)
+    refused {X} f d (types.RefusesTyped.memory_for_any z i) = inr z
+    refused {X} f d (types.RefusesTyped.no_next i b a) = absurd (b.none.none k.tree e.octets after there.0)
+
+    not_none : (d : Reading) → HasNoneOf Tags c d → ⊥
+    not_none d (types.HasNoneOf.of_tags f) =
+        let u = tag_of k.tree in
+        let h = header_of_tagged c w u k.tree e.octets after (there.0, refl) in
+        header_is_there u c h.0 d.stream.rest s.usable h.1 (f u k.tagged).missing.0
+    not_none d (types.HasNoneOf.at_end i h) = no_value_at_end c w d.stream.rest h.missing.0 k.tree e.octets after there.0
 
     pub taken_back : {X : Type 0} (r : Result (Option T) (DecodeError X)) (d : Reading) → TakesNextTyped Tags Means c r d
         → AnswersSuch (HasKey key n) after c r d
     taken_back {X} (Ok (Some y)) d t =
         let a = returned y d t.value in
         record { value = a.0; rest = a.1; stays = t.value.stays; no_fault = t.no_fault; fails = tt; mode = t.mode; marked = t.marked }
-    taken_back {X} (Ok None) d t =
-        let u = tag_of k.tree in
-        let h = header_of_tagged c w u k.tree e.octets after (there.0, refl) in
-        absurd (header_is_there u c h.0 d.stream.rest s.usable h.1 (t.none u k.tagged).missing.0)
+    taken_back {X} (Ok None) d t = absurd (not_none d t.none)
     taken_back {X} (Err f) d t = record { value = tt; rest = tt; stays = tt; no_fault = tt; fails = refused f d t.refused; mode = t.mode; marked = t.marked }

@@ -13,7 +13,7 @@ use Rattle.asn1.specs.Types.{Only, HasNoneOf, TakesTyped, HasNoTyped, HasTypedHe
 use Rattle.asn1.specs.Types as types
 
 pub none_of_one : (tag : Tag) (c d : Reading) → HasNone (tagged tag) c d → HasNoneOf (Only tag) c d
-none_of_one tag c d n u e = subst (λ t. HasNone (tagged t) c d) (sym e) n
+none_of_one tag c d n = types.HasNoneOf.of_tags (λ u e. subst (λ t. HasNone (tagged t) c d) (sym e) n)
 
 pub typed_header : (tag : Tag) (c : Reading) (after : List ℕ) → HasHeader (tagged tag) c after → HasTypedHeader (Only tag) c
 typed_header tag c after h = record { tag = tag; is_one = refl; after = after; header = h }

@@ -8,6 +8,7 @@ pub mod Canonical
 pub mod Markers
 pub mod Defaults
 pub mod Told
+pub mod Any
 pub mod Tuples
 pub mod ChoicesWritten
 pub mod DefaultsWritten

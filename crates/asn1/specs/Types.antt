@@ -7,10 +7,11 @@ use Rattle.bcder.specs.declared.decode.content.Constructed.{Constructed}
 use Rattle.bcder.specs.declared.decode.content.State.TheVariants.{Open, Failed}
 use Rattle.bcder.specs.declared.decode.error.DecodeError.{DecodeError}
 use Rattle.bcder.specs.calls.Cause.{cause_of, of_source, of_memory, IsRefusal}
-use Rattle.bcder.specs.x690.Identifier.{Tag}
+use Rattle.bcder.specs.x690.Identifier.{Tag, IsValueTag}
 use Rattle.bcder.specs.x690.Tree.{Tree, primitive, constructed, Trees, no_trees, ◌∷ₜ◌}
 use Rattle.bcder.specs.calls.Stream.{Stream, Grew}
-use Rattle.bcder.specs.calls.Content.{Reading, tagged, IsAbsent, HasHeader}
+use Rattle.bcder.specs.calls.Content.{Reading, any, tagged, IsAbsent, HasHeader}
+use Rattle.bcder.specs.calls.CapturingValues.{HasNoNext}
 use Rattle.bcder.specs.calls.Takes.{HasNone}
 use Rattle.bcder.specs.calls.Walking.{HasValue}
 use Rattle.bcder.specs.calls.Valued.{tag_of, HoldsValues}
@@ -38,9 +39,14 @@ Only tag t = t ≡ tag
 abbrev pub HasTagged : (Tag → Type 0) → Reading → Tree → List ℕ → List ℕ → Type 0
 HasTagged Tags c t w rest = HasValue c t w rest × Tags (tag_of t)
 
--- no value with one of the tags comes next
-abbrev pub HasNoneOf : (Tag → Type 0) → Reading → Reading → Type 0
-HasNoneOf Tags c d = (t : Tag) → Tags t → HasNone (tagged t) c d
+-- every tag that a value can have, as ANY allows
+abbrev pub IsEvery : (Tag → Type 0) → Type 0
+IsEvery Tags = (t : Tag) → IsValueTag t → Tags t
+
+-- no value with one of the tags comes next; or, if every tag is one of them, content was at its end, whose marker, if any, was taken
+pub data HasNoneOf (Tags : Tag → Type 0) (c d : Reading) : Type 0 where
+  of_tags : ((t : Tag) → Tags t → HasNone (tagged t) c d) → HasNoneOf Tags c d
+  at_end : IsEvery Tags → HasNone any c d → HasNoneOf Tags c d
 
 -- the header of a value with one of the tags comes next
 pub record HasTypedHeader (Tags : Tag → Type 0) (c : Reading) : Type 0 where
@@ -66,12 +72,14 @@ module _ {T : Type 0} (Tags : Tag → Type 0) (Means : Tree → T → Type 0) wh
 
   module _ {X : Type 0} where
     -- why none was taken, with error e: an earlier value was refused; the source failed; memory ran out for one;
-    -- or what comes next is nothing that is read
+    -- or what comes next is nothing that is read. If every tag is asked for, it is neither the end nor a value
     pub data RefusesTyped (c : Reading) (e : DecodeError X) (d : Reading) : Type 0 where
       failed : c.state ≡ Failed → IsRefusal e → RefusesTyped c e d
       source : cause_of e ≡ of_source → Grew c.stream.faults d.stream.faults → RefusesTyped c e d
       memory : cause_of e ≡ of_memory → HasTypedHeader Tags c → RefusesTyped c e d
       broken : HasNoTyped c → IsRefusal e → RefusesTyped c e d
+      memory_for_any : cause_of e ≡ of_memory → IsEvery Tags → RefusesTyped c e d
+      no_next : IsEvery Tags → HasNoNext c → IsRefusal e → RefusesTyped c e d
 
     -- the effect of a call that returns the value, or that there is none with the tags
     pub record TakesNextTyped (c : Reading) (r : Result (Option T) (DecodeError X)) (d : Reading) : Type 0 where

@@ -6,6 +6,7 @@
 #![tactic(auto, using(bcder::specs::laws::Moved::untouched_is_moved))]
 
 mod additions;
+mod any;
 mod boxed;
 mod choice;
 mod default;
@@ -30,6 +31,7 @@ mod writers;
 mod written;
 
 pub use additions::ExtensionAdditions;
+pub use any::Any;
 pub use choice::{Choice2, Choice3, Choice4};
 pub use default::{DefaultValue, OrDefault};
 pub use definition::{DecodeDefinition, Definition};

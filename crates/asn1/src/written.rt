@@ -10,6 +10,7 @@ ghost use Rattle.asn1.specs.Types.{BeginWithout};
 ghost use Rattle.asn1.specs.Writing.{WritesOptional, optional_lawful};
 
 mod additions;
+mod any;
 mod bit_strings;
 mod boxed;
 mod choice;

@@ -36,12 +36,13 @@ returns-in-Ok-Some-take_opt_from-clause-took g c =
     let j = of_constructed g.S.Source.stream c.take_opt_from.new.cons in
     let k = of_constructed g.S.Source.stream c.take_opt_from-in-Ok-None.new.cons in
     let w = constructed_is_within_owed g.S.Source.stream g.met.S.Source.sound c.args.cons.now in
+    let z = constructed_is_within_owed g.S.Source.stream g.met.S.Source.sound c.take_opt_from.new.cons in
     let m = c.take_opt_from.ensures.moves i (untouched_is_moved i) in
     let v : AreTags P = record { own = g.A.Type.TAG; is_own = g.met.A.Type.tagged; value_tags = g.met.A.Type.value_tags } in
     let n : TakesNextTyped P (g.A.Type.means i.mode) {X = g.row.S-Error.Denot} i (Ok None) j = rw c.in-Ok-None.field-0-is at c.in-Ok-None.ensures.took in
     let h : TakesNextTyped Q (g.B.Type.means j.mode) {X = g.row.S-Error.Denot} j (Ok (Some c.in-Ok-Some-take_opt_from.two)) k =
     rw c.in-Ok-Some-take_opt_from.field-0-is at c.in-Ok-Some-take_opt_from.ensures.took in
-    next_two P g.A.Type.means Q g.B.Type.means i j w m v n k c.in-Ok-Some-take_opt_from.two h
+    next_two P g.A.Type.means Q g.B.Type.means i j w m z v n k c.in-Ok-Some-take_opt_from.two h
 
 pub returns-in-Ok-None-take_opt_from-clause-took : goal.returns-in-Ok-None-take_opt_from-clause-took
 returns-in-Ok-None-take_opt_from-clause-took g c =
@@ -51,6 +52,7 @@ returns-in-Ok-None-take_opt_from-clause-took g c =
     let j = of_constructed g.S.Source.stream c.take_opt_from.new.cons in
     let k = of_constructed g.S.Source.stream c.take_opt_from-in-Ok-None.new.cons in
     let w = constructed_is_within_owed g.S.Source.stream g.met.S.Source.sound c.args.cons.now in
+    let z = constructed_is_within_owed g.S.Source.stream g.met.S.Source.sound c.take_opt_from.new.cons in
     let m = c.take_opt_from.ensures.moves i (untouched_is_moved i) in
     let q = c.take_opt_from-in-Ok-None.ensures.moves j (untouched_is_moved j) in
     let v : AreTags P = record { own = g.A.Type.TAG; is_own = g.met.A.Type.tagged; value_tags = g.met.A.Type.value_tags } in
@@ -58,7 +60,7 @@ returns-in-Ok-None-take_opt_from-clause-took g c =
     let n : TakesNextTyped P (g.A.Type.means i.mode) {X = g.row.S-Error.Denot} i (Ok None) j = rw c.in-Ok-None.field-0-is at c.in-Ok-None.ensures.took in
     let h : TakesNextTyped Q (g.B.Type.means j.mode) {X = g.row.S-Error.Denot} j (Ok None) k =
     rw c.in-Ok-None-take_opt_from.field-0-is at c.in-Ok-None-take_opt_from.ensures.took in
-    next_neither P g.A.Type.means Q g.B.Type.means i j w m v n k u q h
+    next_neither P g.A.Type.means Q g.B.Type.means i j w m z v n k u q h
 
 pub returns-in-Err-take_opt_from-clause-took : goal.returns-in-Err-take_opt_from-clause-took
 returns-in-Err-take_opt_from-clause-took g c =
@@ -68,7 +70,9 @@ returns-in-Err-take_opt_from-clause-took g c =
     let j = of_constructed g.S.Source.stream c.take_opt_from.new.cons in
     let k = of_constructed g.S.Source.stream c.take_opt_from-in-Ok-None.new.cons in
     let w = constructed_is_within_owed g.S.Source.stream g.met.S.Source.sound c.args.cons.now in
+    let z = constructed_is_within_owed g.S.Source.stream g.met.S.Source.sound c.take_opt_from.new.cons in
     let m = c.take_opt_from.ensures.moves i (untouched_is_moved i) in
     let v : AreTags P = record { own = g.A.Type.TAG; is_own = g.met.A.Type.tagged; value_tags = g.met.A.Type.value_tags } in
     let n : TakesNextTyped P (g.A.Type.means i.mode) {X = g.row.S-Error.Denot} i (Ok None) j = rw c.in-Ok-None.field-0-is at c.in-Ok-None.ensures.took in
-    fails_two P g.A.Type.means Q g.B.Type.means i j w m v n k c.in-Err-take_opt_from.error c.in-Err-take_opt_from.ensures.took
+    let u : AreTags Q = record { own = g.B.Type.TAG; is_own = g.met.B.Type.tagged; value_tags = g.met.B.Type.value_tags } in
+    fails_two P g.A.Type.means Q g.B.Type.means i j w m z v n k u c.in-Err-take_opt_from.error c.in-Err-take_opt_from.ensures.took
