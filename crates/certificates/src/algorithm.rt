@@ -1,12 +1,12 @@
 //! Algorithms, and the keys that belong to them.
 ghost use Rattle.std.specs.Prelude.{refl};
 
-use crate::Any;
-use asn1::{ByRef, DecodeDefinition, Definition, Encode, EncodeDefinition, Sequence};
+use asn1::{
+    Any, ByRef, DecodeDefinition, Definition, Encode, EncodeDefinition, ObjectIdentifier, Sequence,
+};
 use bcder::decode::Source;
 use bcder::encode::{EncodeError, WriteError};
-use bcder::{BitString, Mode, Oid, Tag};
-use bytes::Bytes;
+use bcder::{BitString, Mode, Tag};
 use std::io;
 
 /// An algorithm, with what it is used with (RFC 5280, section 4.1.1.2).
@@ -17,18 +17,18 @@ use std::io;
 #[derive(Debug, Drop)]
 pub struct AlgorithmIdentifier {
     /// Which algorithm it is.
-    pub algorithm: Oid<Bytes>,
+    pub algorithm: ObjectIdentifier,
 
     /// Its parameters, of a type that depends on the algorithm.
     pub parameters: Option<Any>,
 }
 
 impl Definition for AlgorithmIdentifier {
-    type As = Sequence<(Oid<Bytes>, Option<Any>)>;
+    type As = Sequence<(ObjectIdentifier, Option<Any>)>;
 
     ghost parts = { λ x. (x.algorithm, x.parameters) };
 
-    fn from_parts(value: Sequence<(Oid<Bytes>, Option<Any>)>) -> AlgorithmIdentifier {
+    fn from_parts(value: Sequence<(ObjectIdentifier, Option<Any>)>) -> AlgorithmIdentifier {
         let Sequence((algorithm, parameters)) = value;
         AlgorithmIdentifier {
             algorithm,

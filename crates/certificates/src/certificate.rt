@@ -1,17 +1,12 @@
 //! Certificates.
-ghost use Rattle.std.specs.Prelude.{refl};
-
 use crate::{AlgorithmIdentifier, Name, SubjectPublicKeyInfo, Validity};
 use asn1::{
-    ByRef, Context, DecodeDefinition, DefaultValue, Definition, Encode, EncodeDefinition, Explicit,
-    Implicit, OrDefault, Sequence,
+    Context, DecodeDefinition, DefaultValue, Definition, Explicit, Implicit, OrDefault, Sequence,
 };
 use bcder::decode::Source;
-use bcder::encode::{EncodeError, WriteError};
-use bcder::{BitString, Integer, Mode, NoMemory, Tag};
+use bcder::{BitString, Integer, NoMemory};
 use extensions::Extensions;
 use std::alloc::Global;
-use std::io;
 
 /// A certificate (RFC 5280, section 4.1).
 ///
@@ -49,40 +44,6 @@ impl Definition for Certificate {
 }
 
 impl<S: Source> DecodeDefinition<S> for Certificate {}
-
-impl EncodeDefinition for Certificate {
-    fn len_parts(&self, tag: Tag, mode: Mode) -> Result<usize, EncodeError> {
-        Sequence((
-            ByRef(&self.tbs_certificate),
-            ByRef(&self.signature_algorithm),
-            ByRef(&self.signature_value),
-        ))
-        .encoded_len_as(tag, mode)
-    }
-
-    fn write_parts<W: io::Write>(
-        &self,
-        tag: Tag,
-        mode: Mode,
-        target: &mut W,
-    ) -> Result<(), WriteError> {
-        Sequence((
-            ByRef(&self.tbs_certificate),
-            ByRef(&self.signature_algorithm),
-            ByRef(&self.signature_value),
-        ))
-        .write_encoded_as(tag, mode, target)
-    }
-
-    ghost made = { λ v. (
-      record {
-        tbs_certificate = v.0;
-        signature_algorithm = v.1;
-        signature_value = v.2;
-      },
-      refl,
-    ) };
-}
 
 /// The version of a certificate: 0 is the first, 1 the second and 2 the third (RFC 5280, section
 /// 4.1.2.1).
@@ -220,58 +181,3 @@ impl Definition for TbsCertificate {
 }
 
 impl<S: Source> DecodeDefinition<S> for TbsCertificate {}
-
-impl EncodeDefinition for TbsCertificate {
-    fn len_parts(&self, tag: Tag, mode: Mode) -> Result<usize, EncodeError> {
-        Sequence((
-            ByRef(&self.version),
-            ByRef(&self.serial_number),
-            ByRef(&self.signature),
-            ByRef(&self.issuer),
-            ByRef(&self.validity),
-            ByRef(&self.subject),
-            ByRef(&self.subject_public_key_info),
-            ByRef(&self.issuer_unique_id),
-            ByRef(&self.subject_unique_id),
-            ByRef(&self.extensions),
-        ))
-        .encoded_len_as(tag, mode)
-    }
-
-    fn write_parts<W: io::Write>(
-        &self,
-        tag: Tag,
-        mode: Mode,
-        target: &mut W,
-    ) -> Result<(), WriteError> {
-        Sequence((
-            ByRef(&self.version),
-            ByRef(&self.serial_number),
-            ByRef(&self.signature),
-            ByRef(&self.issuer),
-            ByRef(&self.validity),
-            ByRef(&self.subject),
-            ByRef(&self.subject_public_key_info),
-            ByRef(&self.issuer_unique_id),
-            ByRef(&self.subject_unique_id),
-            ByRef(&self.extensions),
-        ))
-        .write_encoded_as(tag, mode, target)
-    }
-
-    ghost made = { λ v. (
-      record {
-        version = v.0;
-        serial_number = v.1;
-        signature = v.2;
-        issuer = v.3;
-        validity = v.4;
-        subject = v.5;
-        subject_public_key_info = v.6;
-        issuer_unique_id = v.7;
-        subject_unique_id = v.8;
-        extensions = v.9;
-      },
-      refl,
-    ) };
-}

@@ -6,7 +6,6 @@
 mod algorithm;
 mod certificate;
 mod name;
-mod standin;
 mod time;
 mod validity;
 
@@ -14,6 +13,5 @@ pub use algorithm::{AlgorithmIdentifier, SubjectPublicKeyInfo};
 pub use certificate::{Certificate, TbsCertificate, UniqueIdentifier, Version, Version1};
 pub use extensions::{Extension, Extensions};
 pub use name::{AttributeTypeAndValue, Name, RelativeDistinguishedName};
-pub use standin::{Any, SetOf};
 pub use time::{GeneralizedTime, UtcTime};
 pub use validity::{Time, Validity};

@@ -1,12 +1,13 @@
 //! Names of issuers and subjects.
 ghost use Rattle.std.specs.Prelude.{refl};
 
-use crate::{Any, SetOf};
-use asn1::{ByRef, DecodeDefinition, Definition, Encode, EncodeDefinition, Sequence, SequenceOf};
+use asn1::{
+    Any, ByRef, DecodeDefinition, Definition, Encode, EncodeDefinition, ObjectIdentifier, Sequence,
+    SequenceOf, SetOf,
+};
 use bcder::decode::Source;
 use bcder::encode::{EncodeError, WriteError};
-use bcder::{Mode, Oid, Tag};
-use bytes::Bytes;
+use bcder::{Mode, Tag};
 use std::io;
 
 /// A name (RFC 5280, section 4.1.2.4).
@@ -37,23 +38,6 @@ impl Definition for Name {
 
 impl<S: Source> DecodeDefinition<S> for Name {}
 
-impl EncodeDefinition for Name {
-    fn len_parts(&self, tag: Tag, mode: Mode) -> Result<usize, EncodeError> {
-        self.rdn_sequence.encoded_len_as(tag, mode)
-    }
-
-    fn write_parts<W: io::Write>(
-        &self,
-        tag: Tag,
-        mode: Mode,
-        target: &mut W,
-    ) -> Result<(), WriteError> {
-        self.rdn_sequence.write_encoded_as(tag, mode, target)
-    }
-
-    ghost made = { λ v. (record { rdn_sequence = v }, refl) };
-}
-
 /// One part of a name. It has one attribute or several.
 ///
 ///     RelativeDistinguishedName ::= SET SIZE (1..MAX) OF AttributeTypeAndValue
@@ -73,18 +57,18 @@ pub type RelativeDistinguishedName = SetOf<AttributeTypeAndValue>;
 #[derive(Debug, Drop)]
 pub struct AttributeTypeAndValue {
     /// Which attribute it is: the `type`, which is a word of Rust.
-    pub attribute_type: Oid<Bytes>,
+    pub attribute_type: ObjectIdentifier,
 
     /// Its value, of a type that depends on the attribute.
     pub value: Any,
 }
 
 impl Definition for AttributeTypeAndValue {
-    type As = Sequence<(Oid<Bytes>, Any)>;
+    type As = Sequence<(ObjectIdentifier, Any)>;
 
     ghost parts = { λ x. (x.attribute_type, x.value) };
 
-    fn from_parts(value: Sequence<(Oid<Bytes>, Any)>) -> AttributeTypeAndValue {
+    fn from_parts(value: Sequence<(ObjectIdentifier, Any)>) -> AttributeTypeAndValue {
         let Sequence((attribute_type, value)) = value;
         AttributeTypeAndValue {
             attribute_type,

@@ -1,8 +1,7 @@
 //! Compares what types of `asn1` read and write with what openssl and pyasn1 say.
 //!
 //! First it reads certificates by the types of `certificates`, and prints each field on a line. The
-//! output that is wanted was written by openssl. It writes each certificate, and cuts it before
-//! each octet.
+//! output that is wanted was written by openssl. Then it cuts each certificate before each octet.
 //!
 //! Then it reads random values, which pyasn1 encoded in BER, CER and DER, and writes them in each
 //! mode. Last it changes each octet of some values. What is taken then was written by another
@@ -32,7 +31,7 @@ fn replay_certificates(rt: &HostRuntime) -> Result<(), Error> {
         certificate::compare_line,
     )?;
     print!(rt; "{}", report.text)?;
-    print(rt, "certificates written", report.written)?;
+    print(rt, "certificates read", report.taken)?;
     print(rt, "certificates cut", report.cut)
 }
 

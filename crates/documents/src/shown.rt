@@ -1,9 +1,9 @@
 //! Values as the data shows them.
-use asn1::{Choice2, Choice3, Explicit, Implicit, OrDefault, Sequence};
+use asn1::{
+    Choice2, Choice3, Explicit, Implicit, ObjectIdentifier, OrDefault, Sequence, SequenceOf, SetOf,
+};
 use bcder::string::Utf8String;
-use bcder::{BitString, Integer, OctetString, Oid};
-use bytes::Bytes;
-use certificates::SetOf;
+use bcder::{BitString, Integer, OctetString};
 use std::alloc::{AllocError, Global};
 use std::fmt::{self, Display};
 
@@ -31,8 +31,6 @@ impl Plain for i128 {}
 impl Plain for u128 {}
 
 impl Plain for bool {}
-
-impl Plain for Oid<Bytes> {}
 
 impl<P: Plain> Show for P {
     fn show(&self, alloc: Global, text: &mut String) -> Result<(), AllocError> {
@@ -93,6 +91,18 @@ impl Show for Utf8String {
 }
 
 impl<F: Show> Show for Sequence<F> {
+    fn show(&self, alloc: Global, text: &mut String) -> Result<(), AllocError> {
+        self.0.show(alloc, text)
+    }
+}
+
+impl Show for ObjectIdentifier {
+    fn show(&self, alloc: Global, text: &mut String) -> Result<(), AllocError> {
+        text.push_str(format!(in alloc; "{}", self.0)?.as_str())
+    }
+}
+
+impl<T: Show> Show for SequenceOf<T> {
     fn show(&self, alloc: Global, text: &mut String) -> Result<(), AllocError> {
         self.0.show(alloc, text)
     }

@@ -3,15 +3,13 @@
 use crate::types::{Choice, KINDS, Kind, Marked, Nested, Record, Tagged, Wrapped};
 use crate::values::{Tallies, is_written, read};
 use anyhow::Error;
-use asn1::{Decode, Encode, Leaf, SequenceOf};
+use asn1::{Any, Decode, Encode, Leaf, ObjectIdentifier, SequenceOf, SetOf};
 use bcder::decode::BytesSource;
 use bcder::string::Utf8String;
-use bcder::{BitString, Integer, Mode, OctetString, Oid};
-use bytes::Bytes;
-use certificates::{AlgorithmIdentifier, Any, GeneralizedTime, SetOf, UtcTime};
+use bcder::{BitString, Integer, Mode, OctetString};
+use certificates::{AlgorithmIdentifier, GeneralizedTime, UtcTime};
 use lines::fields::{find, next, octets_of};
 use lines::malformed::Malformed;
-use lines::tally::Tally;
 use std::alloc::Global;
 use std::str::Split;
 
@@ -55,22 +53,16 @@ fn turned(alloc: Global, octets: &[u8], index: usize, turn: Turn) -> Result<Vec<
     Ok(all)
 }
 
-/// Compares octets with a change.
-fn compare_one<T: Decode<BytesSource> + Encode>(
+/// Compares whether octets are read, and returns what is.
+fn compare_read<T: Decode<BytesSource>>(
     alloc: Global,
     octets: &[u8],
     taken: bool,
     tallies: &mut Tallies,
-) -> Result<(), Error> {
-    match read::<T>(alloc, Mode::Der, octets)? {
-        Some(value) => {
-            tallies.read.count(taken);
-            let same = is_written(alloc, Mode::Der, &value, octets);
-            tallies.written.count(same);
-        }
-        None => tallies.read.count(!taken),
-    }
-    Ok(())
+) -> Result<Option<T>, Error> {
+    let value = read::<T>(alloc, Mode::Der, octets)?;
+    tallies.read.count(value.is_some() == taken);
+    Ok(value)
 }
 
 /// Compares a value of a type.
@@ -84,7 +76,28 @@ fn compare<T: Decode<BytesSource> + Encode>(
         let mut index = 0usize;
         for answer in next(columns)?.chars() {
             let changed = turned(alloc, octets, index, turn)?;
-            compare_one::<T>(alloc, &changed, answer != '-', tallies)?;
+            if let Some(value) = compare_read::<T>(alloc, &changed, answer != '-', tallies)? {
+                let same = is_written(alloc, Mode::Der, &value, &changed);
+                tallies.written.count(same);
+            }
+            index = index.saturating_add(1);
+        }
+    }
+    Ok(())
+}
+
+/// Compares a value of a type that is only read.
+fn compare_only_read<T: Decode<BytesSource>>(
+    alloc: Global,
+    octets: &[u8],
+    columns: &mut Split<'_, char>,
+    tallies: &mut Tallies,
+) -> Result<(), Error> {
+    for turn in TURNS {
+        let mut index = 0usize;
+        for answer in next(columns)?.chars() {
+            let changed = turned(alloc, octets, index, turn)?;
+            let _ = compare_read::<T>(alloc, &changed, answer != '-', tallies)?;
             index = index.saturating_add(1);
         }
     }
@@ -107,19 +120,19 @@ pub fn compare_line(alloc: Global, line: &str, tallies: &mut Tallies) -> Result<
         Kind::Integer => compare::<Integer>(alloc, octets, &mut fields, tallies),
         Kind::Boolean => compare::<bool>(alloc, octets, &mut fields, tallies),
         Kind::Null => compare::<()>(alloc, octets, &mut fields, tallies),
-        Kind::Identifier => compare::<Oid<Bytes>>(alloc, octets, &mut fields, tallies),
+        Kind::Identifier => compare::<ObjectIdentifier>(alloc, octets, &mut fields, tallies),
         Kind::Octets => compare::<OctetString>(alloc, octets, &mut fields, tallies),
         Kind::Bits => compare::<BitString>(alloc, octets, &mut fields, tallies),
         Kind::Utf8 => compare::<Utf8String>(alloc, octets, &mut fields, tallies),
         Kind::Record => compare::<Record>(alloc, octets, &mut fields, tallies),
         Kind::List => compare::<SequenceOf<i32>>(alloc, octets, &mut fields, tallies),
-        Kind::Set => compare::<SetOf<i32>>(alloc, octets, &mut fields, tallies),
-        Kind::Sets => compare::<SetOf<OctetString>>(alloc, octets, &mut fields, tallies),
+        Kind::Set => compare_only_read::<SetOf<i32>>(alloc, octets, &mut fields, tallies),
+        Kind::Sets => compare_only_read::<SetOf<OctetString>>(alloc, octets, &mut fields, tallies),
         Kind::Choice => compare::<Choice>(alloc, octets, &mut fields, tallies),
         Kind::Explicit => compare::<Wrapped>(alloc, octets, &mut fields, tallies),
         Kind::Implicit => compare::<Marked>(alloc, octets, &mut fields, tallies),
         Kind::Tagged => compare::<Tagged>(alloc, octets, &mut fields, tallies),
-        Kind::Nested => compare::<Nested>(alloc, octets, &mut fields, tallies),
+        Kind::Nested => compare_only_read::<Nested>(alloc, octets, &mut fields, tallies),
         Kind::Utc => compare::<Leaf<UtcTime>>(alloc, octets, &mut fields, tallies),
         Kind::General => compare::<Leaf<GeneralizedTime>>(alloc, octets, &mut fields, tallies),
         Kind::Any => compare::<Any>(alloc, octets, &mut fields, tallies),

@@ -2,13 +2,11 @@
 ghost use Rattle.std.specs.Prelude.{◌≡◌};
 
 use asn1::{
-    Application, Choice2, Choice3, Context, DefaultValue, Explicit, Implicit, OrDefault, Sequence,
-    SequenceOf,
+    Application, Choice2, Choice3, Context, DefaultValue, Explicit, Implicit, ObjectIdentifier,
+    OrDefault, Sequence, SequenceOf, SetOf,
 };
 use bcder::string::Utf8String;
-use bcder::{NoMemory, OctetString, Oid};
-use bytes::Bytes;
-use certificates::SetOf;
+use bcder::{NoMemory, OctetString};
 use std::alloc::Global;
 
 /// The 7 of `INTEGER DEFAULT 7`.
@@ -60,7 +58,7 @@ pub type Tagged = Sequence<
 >;
 
 /// `SEQUENCE OF SEQUENCE { OBJECT IDENTIFIER, SET OF CHOICE }`.
-pub type Nested = SequenceOf<Sequence<(Oid<Bytes>, SetOf<Either>)>>;
+pub type Nested = SequenceOf<Sequence<(ObjectIdentifier, SetOf<Either>)>>;
 
 /// The type that a word of the data names.
 #[derive(Clone, Copy, Debug, PartialEq, Eq)]

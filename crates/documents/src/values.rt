@@ -2,12 +2,11 @@
 use crate::shown::Show;
 use crate::types::{Choice, Either, KINDS, Kind, Marked, Nested, Record, Tagged, Wrapped};
 use anyhow::Error;
-use asn1::{Decode, Encode, SequenceOf, decode, encode};
+use asn1::{Decode, Encode, ObjectIdentifier, SequenceOf, SetOf, decode, encode};
 use bcder::decode::BytesSource;
 use bcder::string::Utf8String;
-use bcder::{BitString, Integer, Mode, OctetString, Oid};
+use bcder::{BitString, Integer, Mode, OctetString};
 use bytes::Bytes;
-use certificates::SetOf;
 use lines::fields::{find, next, octets_of};
 use lines::malformed::Malformed;
 use lines::tally::{Differing, Tally, differ_in};
@@ -83,25 +82,36 @@ fn is_read_back<T: Decode<BytesSource> + Encode + Show>(
     }
 }
 
-/// Compares what is read of a value in a mode, and what is written of that in each mode.
-fn compare_read<T: Decode<BytesSource> + Encode + Show>(
+/// Compares what is read in a mode with a text, and returns it.
+fn compare_read<T: Decode<BytesSource> + Show>(
     alloc: Global,
     mode: Mode,
     octets: &[u8],
     wanted: &str,
+    tallies: &mut Tallies,
+) -> Result<Option<T>, Error> {
+    let value = read::<T>(alloc, mode, octets)?;
+    match &value {
+        Some(value) => tallies.read.count(is_shown(alloc, value, wanted)?),
+        None => tallies.read.count(wanted == "refused"),
+    }
+    Ok(value)
+}
+
+/// Compares what is written in each mode of a value that was read.
+fn compare_written<T: Decode<BytesSource> + Encode + Show>(
+    alloc: Global,
+    value: Option<T>,
+    wanted: &str,
     row: &Row<'_>,
     tallies: &mut Tallies,
 ) -> Result<(), Error> {
-    match read::<T>(alloc, mode, octets)? {
-        Some(value) => {
-            tallies.read.count(is_shown(alloc, &value, wanted)?);
-            let cer = is_written(alloc, Mode::Cer, &value, row.cer.as_slice());
-            tallies.written.count(cer);
-            let der = is_written(alloc, Mode::Der, &value, row.der.as_slice());
-            tallies.written.count(der);
-            tallies.written.count(is_read_back(alloc, &value, wanted)?);
-        }
-        None => tallies.read.count(wanted == "refused"),
+    if let Some(value) = value {
+        let cer = is_written(alloc, Mode::Cer, &value, row.cer.as_slice());
+        tallies.written.count(cer);
+        let der = is_written(alloc, Mode::Der, &value, row.der.as_slice());
+        tallies.written.count(der);
+        tallies.written.count(is_read_back(alloc, &value, wanted)?);
     }
     Ok(())
 }
@@ -112,9 +122,24 @@ fn compare<T: Decode<BytesSource> + Encode + Show>(
     row: &Row<'_>,
     tallies: &mut Tallies,
 ) -> Result<(), Error> {
-    compare_read::<T>(alloc, Mode::Ber, &row.ber, row.text, row, tallies)?;
-    compare_read::<T>(alloc, Mode::Cer, &row.cer, row.sorted, row, tallies)?;
-    compare_read::<T>(alloc, Mode::Der, &row.der, row.sorted, row, tallies)
+    let value = compare_read::<T>(alloc, Mode::Ber, &row.ber, row.text, tallies)?;
+    compare_written(alloc, value, row.text, row, tallies)?;
+    let value = compare_read::<T>(alloc, Mode::Cer, &row.cer, row.sorted, tallies)?;
+    compare_written(alloc, value, row.sorted, row, tallies)?;
+    let value = compare_read::<T>(alloc, Mode::Der, &row.der, row.sorted, tallies)?;
+    compare_written(alloc, value, row.sorted, row, tallies)
+}
+
+/// Compares a value of a type that is only read.
+fn compare_only_read<T: Decode<BytesSource> + Show>(
+    alloc: Global,
+    row: &Row<'_>,
+    tallies: &mut Tallies,
+) -> Result<(), Error> {
+    let _ = compare_read::<T>(alloc, Mode::Ber, &row.ber, row.text, tallies)?;
+    let _ = compare_read::<T>(alloc, Mode::Cer, &row.cer, row.sorted, tallies)?;
+    let _ = compare_read::<T>(alloc, Mode::Der, &row.der, row.sorted, tallies)?;
+    Ok(())
 }
 
 /// Returns a field, or the one before in place of `=`.
@@ -148,19 +173,19 @@ pub fn compare_line(alloc: Global, line: &str, tallies: &mut Tallies) -> Result<
         Kind::Integer => compare::<Integer>(alloc, &row, tallies),
         Kind::Boolean => compare::<bool>(alloc, &row, tallies),
         Kind::Null => compare::<()>(alloc, &row, tallies),
-        Kind::Identifier => compare::<Oid<Bytes>>(alloc, &row, tallies),
+        Kind::Identifier => compare::<ObjectIdentifier>(alloc, &row, tallies),
         Kind::Octets => compare::<OctetString>(alloc, &row, tallies),
         Kind::Bits => compare::<BitString>(alloc, &row, tallies),
         Kind::Utf8 => compare::<Utf8String>(alloc, &row, tallies),
         Kind::Record => compare::<Record>(alloc, &row, tallies),
         Kind::List => compare::<SequenceOf<i32>>(alloc, &row, tallies),
-        Kind::Set => compare::<SetOf<i32>>(alloc, &row, tallies),
-        Kind::Sets => compare::<SetOf<OctetString>>(alloc, &row, tallies),
+        Kind::Set => compare_only_read::<SetOf<i32>>(alloc, &row, tallies),
+        Kind::Sets => compare_only_read::<SetOf<OctetString>>(alloc, &row, tallies),
         Kind::Choice => compare::<Choice>(alloc, &row, tallies),
         Kind::Explicit => compare::<Wrapped>(alloc, &row, tallies),
         Kind::Implicit => compare::<Marked>(alloc, &row, tallies),
         Kind::Tagged => compare::<Tagged>(alloc, &row, tallies),
-        Kind::Nested => compare::<Nested>(alloc, &row, tallies),
+        Kind::Nested => compare_only_read::<Nested>(alloc, &row, tallies),
         Kind::Utc | Kind::General | Kind::Any | Kind::Algorithm => Err(Error::from(Malformed)),
     }
 }
