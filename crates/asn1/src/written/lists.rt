@@ -3,6 +3,7 @@ ghost use Rattle.std.specs.Prelude.{All, Any};
 ghost use Rattle.bcder.specs.calls.Joined.{EachOf, Joined, IsSum};
 ghost use Rattle.bcder.specs.calls.Encoders.{HasEncoding, TellsSum, WritesParts};
 ghost use Rattle.std.specs.Prelude.{ℕ, ◌+◌};
+ghost use Rattle.bcder.specs.laws.Meanings.{constructed_lawful};
 ghost use Rattle.asn1.specs.Types.{BeginWithout};
 ghost use Rattle.asn1.specs.Writing.{each_lawful};
 
@@ -110,5 +111,6 @@ impl<T: Encode> Encode for SequenceOf<T> {
         <Sequence<Vec<T>>>::is_read_back(tag, mode);
     }
 
-    ghost lawful = { ⟦<Sequence<Vec<T>> as Encode>⟧.lawful };
+    ghost lawful = { λ tag x mode. constructed_lawful tag
+        (each_lawful (λ v. T.writes T.TAG v mode) (λ v. T.lawful T.TAG v mode) x.items) };
 }
