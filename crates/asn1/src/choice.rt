@@ -6,7 +6,7 @@ ghost use Rattle.asn1.specs.Choices.{EitherTag, IsChoice, choice_key, either_tag
 ghost use Rattle.asn1.specs.Choices.{three_in_two, four_in_two};
 ghost use Rattle.asn1.specs.declared.choice.Choice2.{Choice2 as ChoiceOfKeys};
 
-use crate::{Decode, Definition, Type};
+use crate::{Decode, DecodeDefinition, Definition, Type};
 use bcder::Tag;
 use bcder::decode::{Constructed, DecodeError, Source};
 use std::alloc::Global;
@@ -95,6 +95,9 @@ impl<A: Type, B: Type, C: Type> Definition for Choice3<A, B, C> {
     }
 }
 
+impl<S: Source, A: Decode<S>, B: Decode<S>, C: Decode<S>> DecodeDefinition<S>
+    for Choice3<A, B, C> {}
+
 /// A CHOICE of four types.
 #[derive(Clone, Copy, Debug, PartialEq, Eq, Drop)]
 pub enum Choice4<A, B, C, D> {
@@ -122,3 +125,6 @@ impl<A: Type, B: Type, C: Type, D: Type> Definition for Choice4<A, B, C, D> {
         }
     }
 }
+
+impl<S: Source, A: Decode<S>, B: Decode<S>, C: Decode<S>, D: Decode<S>> DecodeDefinition<S>
+    for Choice4<A, B, C, D> {}

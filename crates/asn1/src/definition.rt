@@ -49,10 +49,13 @@ impl<D: Definition> Type for D {
     ghost value_tags = { D.As.value_tags };
 }
 
-impl<S: Source, D: Definition> Decode<S> for D
-where
-    D::As: Decode<S>,
-{
+/// A [`Definition`] that is read from a source, because the type behind its `::=` is.
+///
+/// It is one line: `impl<S: Source> DecodeDefinition<S> for Validity {}`. By it the compiler knows
+/// that the type is read without a look at its parts, so types can be nested to any depth.
+pub trait DecodeDefinition<S: Source>: Definition<As: Decode<S>> {}
+
+impl<S: Source, D: Definition + DecodeDefinition<S>> Decode<S> for D {
     #[inline(always)]
     fn take_opt_if(
         alloc: Global,

@@ -11,10 +11,7 @@ use std::io;
 /// A type that writes itself as the type behind its `::=` (X.680, 16.1).
 ///
 /// The two functions write the value's parts, each in one line.
-pub trait EncodeDefinition: Definition
-where
-    Self::As: Encode,
-{
+pub trait EncodeDefinition: Definition<As: Encode> {
     /// Returns the number of octets of the encoding with the tag.
     ///
     /// # Errors
@@ -42,10 +39,7 @@ where
     ghost made: { (value : Self.As) → ((x : Self) × (Self.Definition.parts x ≡ value)) };
 }
 
-impl<D: EncodeDefinition> Encode for D
-where
-    D::As: Encode,
-{
+impl<D: Definition + EncodeDefinition> Encode for D {
     ghost writes = { λ tag x mode. D.As.writes tag (D.parts x) mode };
 
     ghost may_lack = { λ x mode. D.As.may_lack (D.parts x) mode };

@@ -20,6 +20,7 @@ mod leaf_written;
 mod leaves;
 mod lent;
 mod list;
+mod object_identifier;
 mod sequence;
 mod set_of;
 mod tagged;
@@ -34,7 +35,7 @@ pub use additions::ExtensionAdditions;
 pub use any::Any;
 pub use choice::{Choice2, Choice3, Choice4};
 pub use default::{DefaultValue, OrDefault};
-pub use definition::Definition;
+pub use definition::{DecodeDefinition, Definition};
 pub use definition_written::EncodeDefinition;
 pub use fields::{DecodeFields, Fields};
 pub use implicit::{FixedTag, Implicit};
@@ -46,6 +47,7 @@ pub use lent::{
     Utf8StringRef,
 };
 pub use list::SequenceOf;
+pub use object_identifier::ObjectIdentifier;
 pub use sequence::Sequence;
 pub use set_of::SetOf;
 pub use tagged::{Application, Context, Explicit, Private, TagMarker};

@@ -1,7 +1,11 @@
 //! Constraints.
 ghost use Rattle.std.specs.Prelude.{false, refl};
 
-use asn1::{ByRef, DefaultValue, Definition, Encode, EncodeDefinition, OrDefault, Sequence};
+use asn1::{
+    ByRef, DecodeDefinition, DefaultValue, Definition, Encode, EncodeDefinition, OrDefault,
+    Sequence,
+};
+use bcder::decode::Source;
 use bcder::encode::{EncodeError, WriteError};
 use bcder::{Mode, NoMemory, Tag};
 use std::alloc::Global;
@@ -31,6 +35,8 @@ impl Definition for BasicConstraints {
         BasicConstraints { ca, path_len }
     }
 }
+
+impl<S: Source> DecodeDefinition<S> for BasicConstraints {}
 
 impl EncodeDefinition for BasicConstraints {
     fn len_parts(&self, tag: Tag, mode: Mode) -> Result<usize, EncodeError> {

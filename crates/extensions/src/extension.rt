@@ -2,11 +2,12 @@
 ghost use Rattle.std.specs.Prelude.{false, refl};
 
 use asn1::{
-    ByRef, DefaultValue, Definition, Encode, EncodeDefinition, OrDefault, Sequence, SequenceOf,
+    ByRef, DecodeDefinition, DefaultValue, Definition, Encode, EncodeDefinition, ObjectIdentifier,
+    OrDefault, Sequence, SequenceOf,
 };
+use bcder::decode::Source;
 use bcder::encode::{EncodeError, WriteError};
-use bcder::{Mode, NoMemory, OctetString, Oid, Tag};
-use bytes::Bytes;
+use bcder::{Mode, NoMemory, OctetString, Tag};
 use std::alloc::Global;
 use std::io;
 
@@ -19,7 +20,7 @@ use std::io;
 #[derive(Debug, Drop)]
 pub struct Extension {
     /// Which extension it is.
-    pub id: Oid<Bytes>,
+    pub id: ObjectIdentifier,
 
     /// Whether a certificate has to be refused by those who don't know the extension.
     pub critical: OrDefault<bool, NotCritical>,
@@ -48,12 +49,12 @@ impl DefaultValue<bool> for NotCritical {
 }
 
 impl Definition for Extension {
-    type As = Sequence<(Oid<Bytes>, OrDefault<bool, NotCritical>, OctetString)>;
+    type As = Sequence<(ObjectIdentifier, OrDefault<bool, NotCritical>, OctetString)>;
 
     ghost parts = { λ x. (x.id, x.critical, x.value) };
 
     fn from_parts(
-        value: Sequence<(Oid<Bytes>, OrDefault<bool, NotCritical>, OctetString)>,
+        value: Sequence<(ObjectIdentifier, OrDefault<bool, NotCritical>, OctetString)>,
     ) -> Extension {
         let Sequence((id, critical, value)) = value;
         Extension {
@@ -63,6 +64,8 @@ impl Definition for Extension {
         }
     }
 }
+
+impl<S: Source> DecodeDefinition<S> for Extension {}
 
 impl EncodeDefinition for Extension {
     fn len_parts(&self, tag: Tag, mode: Mode) -> Result<usize, EncodeError> {

@@ -1,6 +1,7 @@
 //! Keys and signatures.
-use asn1::{Definition, Sequence};
+use asn1::{DecodeDefinition, Definition, Sequence};
 use bcder::Integer;
+use bcder::decode::Source;
 
 /// A public key of RSA (RFC 8017, A.1.1).
 ///
@@ -30,6 +31,8 @@ impl Definition for RsaPublicKey {
     }
 }
 
+impl<S: Source> DecodeDefinition<S> for RsaPublicKey {}
+
 /// A signature by ECDSA (RFC 3279, section 2.2.3).
 ///
 ///     Ecdsa-Sig-Value ::= SEQUENCE {
@@ -54,3 +57,5 @@ impl Definition for EcdsaSignature {
         EcdsaSignature { r, s }
     }
 }
+
+impl<S: Source> DecodeDefinition<S> for EcdsaSignature {}

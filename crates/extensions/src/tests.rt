@@ -1,6 +1,6 @@
 //! Tests. The octets are put together by hand, from X.690 and RFC 5280.
 use crate::{BasicConstraints, EcdsaSignature, Extensions, Time, Validity};
-use asn1::{Choice2, OrDefault, Sequence, decode, encode};
+use asn1::{Choice2, OrDefault, SequenceOf, decode, encode};
 use bcder::Mode;
 use bcder::decode::DecodeError;
 use std::alloc::Global;
@@ -94,7 +94,7 @@ fn extensions_are_read(rt: HostRuntime) {
         octets.as_slice(),
     );
     match read {
-        Ok(Sequence(extensions)) => {
+        Ok(SequenceOf(extensions)) => {
             assert_eq!(rt; extensions.len(), 3);
             let mut critical = 0u32;
             let mut octets = 0usize;

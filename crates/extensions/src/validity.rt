@@ -3,7 +3,8 @@ ghost use Rattle.std.proofs.Common.{rules};
 ghost use Rattle.asn1.specs.Markers.{universal_tagged};
 ghost use Rattle.bcder.specs.x690.Identifier.{universal};
 
-use asn1::{Choice2, Definition, Implicit, Sequence, TagMarker};
+use asn1::{Choice2, DecodeDefinition, Definition, Implicit, Sequence, TagMarker};
+use bcder::decode::Source;
 use bcder::{OctetString, Tag};
 
 /// When a certificate is valid (RFC 5280, section 4.1.2.5).
@@ -30,6 +31,8 @@ impl Definition for Validity {
         }
     }
 }
+
+impl<S: Source> DecodeDefinition<S> for Validity {}
 
 /// A time, in one of two notations.
 ///

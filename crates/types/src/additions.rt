@@ -1,7 +1,8 @@
 //! Extension additions. Expected values are worked by hand from X.690, 8.9.
 use crate::rows::{Read, reads, writes};
-use asn1::{Definition, ExtensionAdditions, Sequence};
+use asn1::{DecodeDefinition, Definition, ExtensionAdditions, Sequence};
 use bcder::Mode;
+use bcder::decode::Source;
 
 /// `SEQUENCE { a INTEGER, ... }`.
 type Extensible = Sequence<(u32, ExtensionAdditions)>;
@@ -22,6 +23,8 @@ impl Definition for Version {
         Version { number }
     }
 }
+
+impl<S: Source> DecodeDefinition<S> for Version {}
 
 const FIVE: &str = "Sequence((5, ExtensionAdditions))";
 

@@ -4,9 +4,10 @@ ghost use Rattle.asn1.specs.declared.choice.Choice2.TheVariants.{One, Two};
 
 use crate::rows::{Read, reads, takes, writes};
 use asn1::{
-    ByRef, Choice2, Context, Definition, Encode, EncodeDefinition, EncodeFields, Explicit,
-    OctetStringRef, Sequence,
+    ByRef, Choice2, Context, DecodeDefinition, Definition, Encode, EncodeDefinition, EncodeFields,
+    Explicit, OctetStringRef, Sequence,
 };
+use bcder::decode::{SliceSource, Source};
 use bcder::encode::{EncodeError, WriteError};
 use bcder::{Mode, Tag};
 use std::io;
@@ -28,6 +29,8 @@ impl Definition for Validity {
         Validity { from, until }
     }
 }
+
+impl<S: Source> DecodeDefinition<S> for Validity {}
 
 impl EncodeDefinition for Validity {
     fn len_parts(&self, tag: Tag, mode: Mode) -> Result<usize, EncodeError> {
@@ -67,6 +70,8 @@ impl Definition for Answer {
         }
     }
 }
+
+impl<S: Source> DecodeDefinition<S> for Answer {}
 
 impl EncodeDefinition for Answer {
     fn len_parts(&self, _tag: Tag, mode: Mode) -> Result<usize, EncodeError> {
@@ -109,6 +114,8 @@ impl Definition for Wrapped {
     }
 }
 
+impl<S: Source> DecodeDefinition<S> for Wrapped {}
+
 impl EncodeDefinition for Wrapped {
     fn len_parts(&self, tag: Tag, mode: Mode) -> Result<usize, EncodeError> {
         Sequence(ByRef(&self.number)).encoded_len_as(tag, mode)
@@ -143,6 +150,8 @@ impl<'a> Definition for Entry<'a> {
         Entry { number, octets }
     }
 }
+
+impl<'a> DecodeDefinition<SliceSource<'a>> for Entry<'a> {}
 
 const VALIDITY: [Read; 1] = [(
     Mode::Der,

@@ -1,7 +1,8 @@
 //! Implicit tags. Expected values are worked by hand from X.690, 8.14.
 use crate::rows::{Read, Written, rewrites, takes};
-use asn1::{Application, Context, Definition, Explicit, Implicit, Sequence};
+use asn1::{Application, Context, DecodeDefinition, Definition, Explicit, Implicit, Sequence};
 use bcder::Mode;
+use bcder::decode::Source;
 
 /// `[0] IMPLICIT INTEGER`.
 type Number = Implicit<Context<0>, u32>;
@@ -32,6 +33,8 @@ impl Definition for Version {
         Version(value.value)
     }
 }
+
+impl<S: Source> DecodeDefinition<S> for Version {}
 
 const OWN: [Read; 1] = [(Mode::Der, &[0x42, 0x01, 0x05], "Version(5)")];
 

@@ -7,18 +7,18 @@ const NUMBERS: [Read; 11] = [
     (
         Mode::Der,
         &[0x30, 0x06, 0x02, 0x01, 0x05, 0x02, 0x01, 0x07],
-        "Sequence([5, 7])",
+        "SequenceOf([5, 7])",
     ),
-    (Mode::Der, &[0x30, 0x00], "Sequence([])"),
+    (Mode::Der, &[0x30, 0x00], "SequenceOf([])"),
     (
         Mode::Ber,
         &[0x30, 0x80, 0x02, 0x01, 0x05, 0x00, 0x00],
-        "Sequence([5])",
+        "SequenceOf([5])",
     ),
     (
         Mode::Cer,
         &[0x30, 0x80, 0x02, 0x01, 0x05, 0x00, 0x00],
-        "Sequence([5])",
+        "SequenceOf([5])",
     ),
     // of another type, too large, cut, and with another tag
     (
@@ -67,6 +67,6 @@ fn a_list_is_written(rt: HostRuntime) {
     let mut items = Vec::new(rt.alloc());
     assert!(rt; items.push(1i8).is_ok());
     assert!(rt; items.push(-1i8).is_ok());
-    let list: SequenceOf<i8> = Sequence(items);
+    let list: SequenceOf<i8> = SequenceOf(items);
     writes(&rt, rt.alloc(), &list, Mode::Der, &octets);
 }

@@ -3,11 +3,12 @@ ghost use Rattle.std.specs.Prelude.{All, Any};
 ghost use Rattle.bcder.specs.calls.Joined.{EachOf, Joined, IsSum};
 ghost use Rattle.bcder.specs.calls.Encoders.{HasEncoding, TellsSum, WritesParts};
 ghost use Rattle.std.specs.Prelude.{ℕ, ◌+◌};
+ghost use Rattle.bcder.specs.laws.Meanings.{constructed_lawful};
 ghost use Rattle.asn1.specs.Types.{BeginWithout};
 ghost use Rattle.asn1.specs.Writing.{each_lawful};
 
-use crate::Type;
-use crate::writers::{Encode, EncodeFields};
+use crate::writers::{ByRef, Encode, EncodeFields};
+use crate::{Sequence, SequenceOf, Type};
 use bcder::encode::{EncodeError, WriteError};
 use bcder::{Mode, Tag};
 use std::io;
@@ -83,4 +84,33 @@ impl<T: Encode> EncodeFields for Vec<T> {
 
     ghost lawful = { λ x mode.
         each_lawful (λ v. T.writes T.TAG v mode) (λ v. T.lawful T.TAG v mode) x.items };
+}
+
+/// It is written as a SEQUENCE of the values.
+impl<T: Encode> Encode for SequenceOf<T> {
+    ghost writes = { ⟦<Sequence<Vec<T>> as Encode>⟧.writes };
+
+    ghost may_lack = { ⟦<Sequence<Vec<T>> as Encode>⟧.may_lack };
+
+    ghost is_clear = { ⟦<Sequence<Vec<T>> as Encode>⟧.is_clear };
+
+    fn encoded_len_as(&self, tag: Tag, mode: Mode) -> Result<usize, EncodeError> {
+        Sequence(ByRef(&self.0)).encoded_len_as(tag, mode)
+    }
+
+    fn write_encoded_as<W: io::Write>(
+        &self,
+        tag: Tag,
+        mode: Mode,
+        target: &mut W,
+    ) -> Result<(), WriteError> {
+        Sequence(ByRef(&self.0)).write_encoded_as(tag, mode, target)
+    }
+
+    fn is_read_back(tag: Tag, mode: Mode) {
+        <Sequence<Vec<T>>>::is_read_back(tag, mode);
+    }
+
+    ghost lawful = { λ tag x mode. constructed_lawful tag
+        (each_lawful (λ v. T.writes T.TAG v mode) (λ v. T.lawful T.TAG v mode) x.items) };
 }

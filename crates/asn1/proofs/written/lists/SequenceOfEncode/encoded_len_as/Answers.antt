@@ -1,0 +1,17 @@
+use Rattle.std.proofs.Common.{Any, subst}
+use Rattle.std.specs.declared.vec.Vec.{Vec}
+use Rattle.std.specs.declared.alloc.Global.{Global}
+use Rattle.bcder.specs.calls.Joined.{EachOf, Joined}
+use Rattle.bcder.specs.calls.Encoders.{SizeOfValues}
+use Rattle.bcder.specs.calls.Meaning.{ValueMeans, constructed_meaning}
+use Rattle.asn1.proofs.written.lists.SequenceOfEncode.encoded_len_as.Goals as goal
+
+pub returns : goal.returns
+returns g c =
+    let tag = c.args.tag in
+    let mode = c.args.mode in
+    let W = λ (x : g.row.T.Denot). g.T.Encode.writes g.T.Type.TAG x mode in
+    let L = λ (x : g.row.T.Denot). g.T.Encode.may_lack x mode in
+    subst (λ (v : Vec g.row.T.Denot Global).
+    SizeOfValues (ValueMeans tag (constructed_meaning tag mode) (Joined (EachOf {X = g.row.T.Denot} W v.items))) (Any {X = g.row.T.Denot} L v.items)
+        c.encoded_len_as.result) c.self.view_is c.encoded_len_as.ensures
