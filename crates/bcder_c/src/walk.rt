@@ -23,7 +23,8 @@ fn close<'a>(
     requires { at.old + length rest.now < 2 ^ 64 }
     ensures { MatchOption result
         (GoesOn mode (option_map (λ s. s.now) innermost.entry) rest.now × (at.new ≡ at.old))
-        (λ after. (n : _) × Closes mode (option_map (λ s. s.now) innermost.entry) rest.now after.now n
+        (λ after. (n : _)
+        × Closes mode (option_map (λ s. s.now) innermost.entry) rest.now after.now n
         × (at.new ≡ at.old + n)) }
 {
     match innermost {
