@@ -3,7 +3,7 @@ use crate::rows::{Read, Written, reads, rewrites, takes};
 use asn1::{Any, Choice2, Context, Decode, Explicit, Sequence, decode, encode};
 use bcder::decode::BytesSource;
 use bcder::encode::EncodeError;
-use bcder::{Mode, Oid};
+use bcder::{Captured, Mode, Oid};
 use bytes::Bytes;
 use std::alloc::Global;
 use std::fmt::Debug;
@@ -233,6 +233,15 @@ fn decodes<T: Decode<BytesSource> + Debug>(rt: &impl Abort, alloc: Global, rows:
         };
         assert_eq!(rt; text.as_str(), *wanted, "{octets:?} in {mode:?}");
     }
+}
+
+#[test]
+fn a_value_is_encoded_and_kept(rt: HostRuntime) {
+    let alloc = rt.alloc();
+    let octets = encode(alloc, Mode::Der, &5_u32).expect(&rt, "refused");
+    let value = decode::<Any, Captured>(alloc, Mode::Der, octets).expect(&rt, "refused");
+    assert!(&rt; value.as_slice() == [0x02, 0x01, 0x05].as_slice());
+    assert!(&rt; value.mode() == Mode::Der);
 }
 
 const NUMBERS: [Read; 3] = [
