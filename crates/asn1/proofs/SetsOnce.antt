@@ -13,8 +13,8 @@ use Rattle.bcder.specs.calls.Valued.{tag_of}
 use Rattle.bcder.specs.laws.Canonical.{one_spelling}
 use Rattle.bcder.specs.laws.Complete.{only_at_front, one_list}
 use Rattle.asn1.specs.Types.{AreInside, Only, IsMember, AreList}
-use Rattle.asn1.specs.Keys.{list_key, MeansOne, IsMeantOnce}
-use Rattle.asn1.specs.SetsOf.{IsNotAfter, IsNotAfterFirst, AreAscending, AreSetOf, AreRearranged, AnyOrder, in_any_order}
+use Rattle.asn1.specs.Keys.{list_key, MeansOne}
+use Rattle.asn1.specs.SetsOf.{IsNotAfter, IsNotAfterFirst, AreAscending, AreSetOf, AreRearranged, in_any_order}
 use Rattle.asn1.proofs.Ones as ones
 use Rattle.asn1.proofs.Ones.{Once}
 use Rattle.asn1.specs.Sorting.{same_octets, decided, reflexive, transitive, OneBeginsWithTheOther, antisymmetric, AllOf, BeforeFirst, Ascend, one_ascending}
@@ -142,7 +142,9 @@ module _ {T K : Type 0} (mode : Mode) (ne : mode ≢ Ber) (Tags : Tag → Type 0
       let q : IsPermutation (map key_of a.pieces) (map key_of b.pieces) =
       subst (λ z. IsPermutation z (map key_of b.pieces)) (sym a.keys) (subst (IsPermutation (list_key key xs)) (sym b.keys) p) in
       let s = same_by key_of octets_of one_piece a.pieces b.pieces q in
-      let z = one_ascending IsNotAfter decided reflexive transitive IsOne one_or_other (map octets_of a.pieces) (map octets_of b.pieces) a.each b.each (a.ascend (g.2 ne)) (b.ascend (h.2 ne)) s in
+      let z =
+      one_ascending IsNotAfter decided reflexive transitive IsOne one_or_other (map octets_of a.pieces) (map octets_of b.pieces) a.each b.each
+      (a.ascend (g.2 ne)) (b.ascend (h.2 ne)) s in
       sym a.octets ∙ ap flat z ∙ b.octets
 
   same_values : (ts us : Trees) (xs ys : List T) (v w : List ℕ) → AreEncodings mode ts v → AreEncodings mode us w → AreSetOf mode Tags Means ts xs no_trees

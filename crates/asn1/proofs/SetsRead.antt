@@ -1,10 +1,9 @@
 -- A SET OF, read value by value up to the end of content.
 use Rattle.std.proofs.Common.{◌≡◌, ◌≢◌, ℕ, ◌+◌, ◌≤◌, List, [], ◌∷◌, ◌++◌, length, refl, ap, sym, ◌∙◌, append_assoc, subst, inl, inr}
-use Rattle.std.specs.Prelude.{Result, Ok, Err, Option, Some, None}
+use Rattle.std.specs.Prelude.{Ok, Err, None}
 use Rattle.std.specs.declared.convert.Infallible.{Infallible}
 use Rattle.bcder.specs.declared.mode.Mode.{Mode}
 use Rattle.bcder.specs.declared.mode.Mode.TheVariants.{Ber}
-use Rattle.bcder.specs.declared.decode.content.State.TheVariants.{Open, Ended, Failed}
 use Rattle.bcder.specs.declared.decode.error.DecodeError.{DecodeError}
 use Rattle.bcder.specs.declared.decode.error.DecodeError.TheVariants.{Source, Content, NoMemory}
 use Rattle.bcder.specs.x690.Identifier.{Tag}
@@ -21,7 +20,7 @@ use Rattle.bcder.specs.calls.Valued.{HoldsValues, tag_of}
 use Rattle.bcder.specs.laws.Canonical.{one_spelling}
 use Rattle.bcder.specs.laws.Complete.{only_at_front}
 use Rattle.bcder.specs.laws.Moved.{untouched_is_moved, moved_twice_is_moved}
-use Rattle.bcder.proofs.Lemmas.{open_has_not_ended, IsWithinOwed, as_many_are_no_fewer, grew_in_between, shorter_by_a_value, one_values, done_is_at_its_end}
+use Rattle.bcder.proofs.Lemmas.{open_has_not_ended, IsWithinOwed, as_many_are_no_fewer, grew_in_between, shorter_by_a_value, done_is_at_its_end}
 use Rattle.bcder.proofs.Lemmas.{values_after, values_with_one_more, trees_with_one_more}
 use Rattle.asn1.specs.Types.{IsMember, BeginWithout, AreList, TakesFields, HoldsNoFields, RefusesFields, ReadsFields}
 use Rattle.asn1.specs.Types as types
@@ -180,7 +179,8 @@ module _ {T : Type 0} (Tags : Tag → Type 0) (Means : Tree → T → Type 0) (c
       same_value : (t : Tree) → IsEncoding c.mode t k.octets → t ≡ v.tree
       same_value t h = (only_at_front c.mode v.tree k.octets [] encodes t k.octets [] h refl).0
 
-      not_after_first : c.mode ≢ Ber → (u : Tree) (us : Trees) (y : List ℕ) → IsEncoding c.mode u y → IsNotAfter k.octets y → IsNotAfterFirst c.mode v.tree (u ∷ₜ us)
+      not_after_first : c.mode ≢ Ber → (u : Tree) (us : Trees) (y : List ℕ) → IsEncoding c.mode u y → IsNotAfter k.octets y
+          → IsNotAfterFirst c.mode v.tree (u ∷ₜ us)
       not_after_first ne u us y h n a b f g =
           subst (λ z. IsNotAfter z b) (one_spelling c.mode ne v.tree k.octets a encodes f) (subst (IsNotAfter k.octets) (one_spelling c.mode ne u y b h g) n)
 
@@ -211,7 +211,8 @@ module _ {T : Type 0} (Tags : Tag → Type 0) (Means : Tree → T → Type 0) (c
         }
 
       -- content is no set if that value is not of the type, or comes too early
-      value_is_of_type : (ts us : Trees) (ys : List T) → HoldsValues c ts → AreSetOf c.mode Tags Means ts ys us → (y : T) × IsValueOf c.mode Tags Means k.octets y
+      value_is_of_type : (ts us : Trees) (ys : List T) → HoldsValues c ts → AreSetOf c.mode Tags Means ts ys us
+          → (y : T) × IsValueOf c.mode Tags Means k.octets y
       unfolding trees_more
       value_is_of_type ts us ys h g =
           let b = more_behind ts h in

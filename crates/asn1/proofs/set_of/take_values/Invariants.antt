@@ -1,4 +1,4 @@
-use Rattle.std.proofs.Common.{length, ◌≡◌}
+use Rattle.std.proofs.Common.{length}
 use Rattle.bcder.specs.calls.Views.{of_constructed}
 use Rattle.asn1.proofs.SetsRead.{SetSoFar}
 use Rattle.asn1.proofs.set_of.take_values.Given as goal
