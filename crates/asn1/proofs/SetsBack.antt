@@ -1,8 +1,7 @@
 -- A SET OF that is written is read back, whatever its order was.
-use Rattle.std.proofs.Common.{◌≡◌, ◌≢◌, ℕ, ◌<◌, List, [], ◌∷◌, ◌++◌, map, length, refl, ap, sym, ◌∙◌, append-nil, subst, inl, inr, suc, arith}
-use Rattle.std.specs.Prelude.{Ok, Err, All, IsPermutation}
+use Rattle.std.proofs.Common.{◌≡◌, ◌≢◌, ℕ, List, [], ◌∷◌, map, length, refl, ap, sym, ◌∙◌, subst, inl, inr, suc, arith}
+use Rattle.std.specs.Prelude.{Ok, All, IsPermutation}
 use Rattle.std.proofs.lemmas.List.Sorted.{IsPermutation-refl, IsPermutation-map, length_permutation}
-use Rattle.std.proofs.lemmas.List.{length-map}
 use Rattle.bcder.specs.declared.mode.Mode.{Mode}
 use Rattle.bcder.specs.declared.mode.Mode.TheVariants.{Ber, Cer, Der}
 use Rattle.bcder.specs.x690.Identifier.{Tag}
@@ -13,12 +12,12 @@ use Rattle.bcder.specs.calls.Joined.{EachOf, Joined}
 use Rattle.bcder.specs.calls.Valued.{tag_of}
 use Rattle.bcder.specs.laws.Canonical.{one_spelling}
 use Rattle.bcder.specs.laws.Complete.{one_list}
-use Rattle.asn1.specs.Types.{IsMember, AreList}
-use Rattle.asn1.specs.Writing.{IsWritten, IsReadAs, AreTaken, AreReadAs}
+use Rattle.asn1.specs.Types.{AreList}
+use Rattle.asn1.specs.Writing.{IsWritten, IsReadAs, AreReadAs}
 use Rattle.asn1.specs.Keys.{list_key, MeansOne}
-use Rattle.asn1.specs.Rearranging.{Lifted, lifted}
-use Rattle.asn1.specs.SetsOf.{IsNotAfter, IsNotAfterFirst, AreAscending, AreSetOf, in_any_order}
-use Rattle.asn1.specs.SetsWritten.{IsUpTo, IsUpToFirst, AreInOrder, flat, AreWrittenEach, AreWrittenInOrder, InOrder, WritesSetOf}
+use Rattle.asn1.specs.Rearranging.{lifted}
+use Rattle.asn1.specs.SetsOf.{IsNotAfter, AreAscending, AreSetOf, in_any_order}
+use Rattle.asn1.specs.SetsWritten.{IsUpTo, AreInOrder, flat, AreWrittenEach, AreWrittenInOrder, WritesSetOf}
 use Rattle.asn1.proofs.Ones as ones
 use Rattle.asn1.proofs.ListsBack.{list_read_back}
 use Rattle.asn1.proofs.ReadingBack.{and_none}
@@ -131,7 +130,9 @@ module _ {T K : Type 0} (mode : Mode) (Tags : Tag → Type 0) (Means : Tree → 
           refl,
           λ n. subst (AreAscending mode) t (ascends ne f.members (subst AreInOrder (sym f.are) a.ascend)),
         );
-        keys = subst (λ q. IsPermutation q (list_key key (map some_of f.members))) i.keys (subst (IsPermutation (map told_of i.items)) (sym (same_keys f.members)) p);
+        keys =
+            subst (λ q. IsPermutation q (list_key key (map some_of f.members))) i.keys
+            (subst (IsPermutation (map told_of i.items)) (sym (same_keys f.members)) p);
       }
 
   row_back : (mode ≡ Ber) → (xs : List T) → All (λ v. IsReadAs Tags Means key v (W v)) xs → (z : Encoded) → Joined (EachOf W xs) (Ok z) → SetBack xs z.values
@@ -155,12 +156,13 @@ keys_long key [] = refl
 keys_long key (x ∷ xs) = ap suc (keys_long key xs)
 
 -- and so in a vector
-pub set_read_back : {T K V : Type 0} (mode : Mode) (tag : Tag) (Tags : Tag → Type 0) (Means : Tree → T → Type 0) (key : T → K) → MeansOne Means key
+pub set_read_back : {T K V : Type 0} (mode : Mode) (Tags : Tag → Type 0) (Means : Tree → T → Type 0) (key : T → K) → MeansOne Means key
     → (W : T → Meaning → Type 0) (l : (x : T) → IsLawful mode (W x)) (items : V → List T) (x : V) (of_items : List T → V)
     → ((ws : List T) → length ws ≡ length (items x) → items (of_items ws) ≡ ws) → All (λ v. IsReadAs Tags Means key v (W v)) (items x)
-    → AreReadAs (λ (ts : Trees) (y : V) (us : Trees). AreSetOf mode Tags Means ts (items y) us) (λ y. in_any_order (list_key key (items y))) (λ us. us ≡ no_trees) x
+    → AreReadAs (λ (ts : Trees) (y : V) (us : Trees). AreSetOf mode Tags Means ts (items y) us) (λ y. in_any_order (list_key key (items y)))
+    (λ us. us ≡ no_trees) x
     (WritesSetOf mode W (items x))
-set_read_back {T} {K} {V} mode tag Tags Means key one W l items x of_items made k e m us f =
+set_read_back {T} {K} {V} mode Tags Means key one W l items x of_items made k e m us f =
     let b = back_in_any mode Tags Means key W l (items x) k e m in
     let n : length b.some ≡ length (items x) =
     sym (keys_long key b.some) ∙ length_permutation (list_key key (items x)) (list_key key b.some) b.keys ∙ keys_long key (items x) in

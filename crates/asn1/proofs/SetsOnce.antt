@@ -142,7 +142,9 @@ module _ {T K : Type 0} (mode : Mode) (ne : mode ≢ Ber) (Tags : Tag → Type 0
       let q : IsPermutation (map key_of a.pieces) (map key_of b.pieces) =
       subst (λ z. IsPermutation z (map key_of b.pieces)) (sym a.keys) (subst (IsPermutation (list_key key xs)) (sym b.keys) p) in
       let s = same_by key_of octets_of one_piece a.pieces b.pieces q in
-      let z = one_ascending IsNotAfter decided reflexive transitive IsOne one_or_other (map octets_of a.pieces) (map octets_of b.pieces) a.each b.each (a.ascend (g.2 ne)) (b.ascend (h.2 ne)) s in
+      let z =
+      one_ascending IsNotAfter decided reflexive transitive IsOne one_or_other (map octets_of a.pieces) (map octets_of b.pieces) a.each b.each
+      (a.ascend (g.2 ne)) (b.ascend (h.2 ne)) s in
       sym a.octets ∙ ap flat z ∙ b.octets
 
   same_values : (ts us : Trees) (xs ys : List T) (v w : List ℕ) → AreEncodings mode ts v → AreEncodings mode us w → AreSetOf mode Tags Means ts xs no_trees

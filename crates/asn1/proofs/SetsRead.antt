@@ -179,7 +179,8 @@ module _ {T : Type 0} (Tags : Tag → Type 0) (Means : Tree → T → Type 0) (c
       same_value : (t : Tree) → IsEncoding c.mode t k.octets → t ≡ v.tree
       same_value t h = (only_at_front c.mode v.tree k.octets [] encodes t k.octets [] h refl).0
 
-      not_after_first : c.mode ≢ Ber → (u : Tree) (us : Trees) (y : List ℕ) → IsEncoding c.mode u y → IsNotAfter k.octets y → IsNotAfterFirst c.mode v.tree (u ∷ₜ us)
+      not_after_first : c.mode ≢ Ber → (u : Tree) (us : Trees) (y : List ℕ) → IsEncoding c.mode u y → IsNotAfter k.octets y
+          → IsNotAfterFirst c.mode v.tree (u ∷ₜ us)
       not_after_first ne u us y h n a b f g =
           subst (λ z. IsNotAfter z b) (one_spelling c.mode ne v.tree k.octets a encodes f) (subst (IsNotAfter k.octets) (one_spelling c.mode ne u y b h g) n)
 
@@ -210,7 +211,8 @@ module _ {T : Type 0} (Tags : Tag → Type 0) (Means : Tree → T → Type 0) (c
         }
 
       -- content is no set if that value is not of the type, or comes too early
-      value_is_of_type : (ts us : Trees) (ys : List T) → HoldsValues c ts → AreSetOf c.mode Tags Means ts ys us → (y : T) × IsValueOf c.mode Tags Means k.octets y
+      value_is_of_type : (ts us : Trees) (ys : List T) → HoldsValues c ts → AreSetOf c.mode Tags Means ts ys us
+          → (y : T) × IsValueOf c.mode Tags Means k.octets y
       unfolding trees_more
       value_is_of_type ts us ys h g =
           let b = more_behind ts h in

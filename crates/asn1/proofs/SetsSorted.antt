@@ -1,37 +1,36 @@
 -- A SET OF, written: the items' octets are put in order.
-use Rattle.std.proofs.Common.{◌≡◌, ◌≢◌, ℕ, ◌+◌, ◌<◌, ◌≤◌, ◌^◌, Bool, true, false, List, [], ◌∷◌, ◌++◌, map, take, get_or, length, refl, ap, sym, ◌∙◌, append-nil, append_assoc, subst, inl, inr, arith, length-append, take_all, take-suc}
+use Rattle.std.proofs.Common.{◌≡◌, ◌≢◌, ℕ, ◌+◌, ◌<◌, Bool, true, false, List, [], ◌∷◌, ◌++◌, map, get_or, length, refl, ap, sym, ◌∙◌, subst, inl, inr, arith}
 use Rattle.std.proofs.Common.{Less, Equal}
-use Rattle.std.specs.Prelude.{◌⊎◌, Result, Ok, Err, Option, IsPermutation, IsSortedBy, slice_index_or, Any, suc}
+use Rattle.std.specs.Prelude.{Result, Ok, Err, Option, IsPermutation, IsSortedBy, Any, suc}
 use Rattle.std.specs.Cmp.Lexicographic.{slice_cmp}
 use Rattle.std.specs.Ordering.{nat_cmp, is_lt, ordering_then}
 use Rattle.std.specs.Cmp.{nat_cmp_is, IsStrictWeakOrder}
 use Rattle.std.proofs.lemmas.Cmp.{nat_list_cmp_total}
 use Rattle.std.proofs.lemmas.List.MinMax.{ranks_by}
 use Rattle.std.proofs.lemmas.Bool.{cases_lt}
-use Rattle.std.proofs.lemmas.List.Sorted.{IsPermutation-refl, IsPermutation-sym, IsPermutation-trans, IsPermutation-cons, IsPermutation-map, IsPermutation-swap, IsPermutation-keeps}
-use Rattle.std.proofs.lemmas.List.Sorted.{All-permutation}
+use Rattle.std.proofs.lemmas.List.Sorted.{IsPermutation-refl, IsPermutation-trans, IsPermutation-cons}
+use Rattle.std.proofs.lemmas.List.Sorted.{IsPermutation-map, IsPermutation-swap, All-permutation}
 use Rattle.std.proofs.lemmas.List.Elements.{All-from_recursion, recursion_from_All}
 use Rattle.std.specs.List.{AllByRecursion}
 use Rattle.bcder.specs.declared.encode.error.EncodeError.{EncodeError}
-use Rattle.bcder.specs.declared.encode.error.EncodeError.TheVariants.{NoMemory, SizeOverflow}
 use Rattle.bcder.specs.declared.encode.error.WriteError.{WriteError}
 use Rattle.bcder.specs.declared.mode.Mode.{Mode}
 use Rattle.bcder.specs.declared.mode.Mode.TheVariants.{Ber, Cer, Der}
 use Rattle.bcder.specs.x690.Tree.{Trees, no_trees, ◌+++◌}
 use Rattle.bcder.specs.x690.Encoding.{AreEncodings}
 use Rattle.bcder.specs.calls.Captured.{Kept}
-use Rattle.bcder.specs.calls.Meaning.{Encoded, Meaning, IsOne, IsLawful, encoded_octets}
-use Rattle.bcder.specs.calls.Joined.{nothing, join, Then, NoValues, EachOf, Joined}
+use Rattle.bcder.specs.calls.Meaning.{Encoded, Meaning, IsLawful, encoded_octets}
+use Rattle.bcder.specs.calls.Joined.{nothing, EachOf, Joined}
 use Rattle.bcder.specs.calls.Gathered.{suits, KeptMeans, HoldsMeant}
-use Rattle.bcder.specs.calls.Encoders.{RefusesBy, TellsSize, SizeOfValues, Writes, WroteMeant, WroteNothing}
+use Rattle.bcder.specs.calls.Encoders.{RefusesBy, SizeOfValues, Writes}
 use Rattle.bcder.specs.laws.Joined.{EachOf_lawful}
 use Rattle.bcder.specs.laws.Gathered.{kept_lawful}
 use Rattle.bcder.specs.laws.Lists.{AreEncodings-join}
 use Rattle.bcder.proofs.Lemmas.{lacks_more}
-use Rattle.asn1.specs.Sorting.{Same}
 use Rattle.asn1.specs.Rearranging.{same_members}
-use Rattle.asn1.specs.SetsWritten.{IsUpTo, IsUpToFirst, AreInOrder, flat, AreWrittenEach, AreWrittenInOrder, InOrder, WritesSetOf, MayLackForSet, octets_of_each, AreKeptIn, AreKeptInOrder}
-use Rattle.asn1.specs.SetsLaws.{up_to_decided, up_to_over, same_size, as_joined}
+use Rattle.asn1.specs.SetsWritten.{IsUpTo, IsUpToFirst, AreInOrder, flat, AreWrittenEach, AreWrittenInOrder, InOrder, WritesSetOf, MayLackForSet}
+use Rattle.asn1.specs.SetsWritten.{octets_of_each, AreKeptIn, AreKeptInOrder}
+use Rattle.asn1.specs.SetsLaws.{up_to_decided, same_size, as_joined}
 
 every_shuffled : {X : Type 0} (P : X → Type 0) (xs ys : List X) → IsPermutation xs ys → AllByRecursion P xs → AllByRecursion P ys
 every_shuffled P xs ys p h = recursion_from_All P ys (All-permutation P xs ys p (All-from_recursion P xs h))
@@ -153,11 +152,13 @@ module _ {T : Type 0} {mode : Mode} (W : T → Meaning → Type 0) (l : (x : T) 
   -- ---- what the calls say
 
   -- the size of the items in a row is that of them in order
-  in_order_size : (xs : List T) (L K : Type 0) → (L → K) → (r : Result ℕ EncodeError) → SizeOfValues (Joined (EachOf W xs)) L r → SizeOfValues (InOrder mode W xs) K r
+  in_order_size : (xs : List T) (L K : Type 0) → (L → K) → (r : Result ℕ EncodeError) → SizeOfValues (Joined (EachOf W xs)) L r
+      → SizeOfValues (InOrder mode W xs) K r
   in_order_size xs L K f (Ok n) (y, m, q) = (let o = ordered xs y m in (o.what, o.is, q ∙ o.size))
   in_order_size xs L K f (Err e) h = record { meant = h.meant; lacking = λ q. f (h.lacking q) }
 
-pub set_size : {T : Type 0} (mode : Mode) (W : T → Meaning → Type 0) (l : (x : T) → IsLawful mode (W x)) (L : T → Type 0) (xs : List T) (r : Result ℕ EncodeError)
+pub set_size : {T : Type 0} (mode : Mode) (W : T → Meaning → Type 0) (l : (x : T) → IsLawful mode (W x)) (L : T → Type 0) (xs : List T)
+    (r : Result ℕ EncodeError)
     → SizeOfValues (Joined (EachOf W xs)) (Any L xs) r → SizeOfValues (WritesSetOf mode W xs) (MayLackForSet mode L xs) r
 set_size Ber W l L xs (Ok n) h = h
 set_size Ber W l L xs (Err e) h = record { meant = h.meant; lacking = λ q. inl (h.lacking q) }
@@ -300,7 +301,8 @@ module _ {T : Type 0} (mode : Mode) (W : T → Meaning → Type 0) where
   pub none_kept_yet : KeptSoFar mode W [] []
   none_kept_yet = record { each = tt; in_mode = tt }
 
-  pub one_kept : (xs : List T) (cs : List Kept) (x : T) (c : Kept) → KeptSoFar mode W xs cs → HoldsMeant (W x) mode c → KeptSoFar mode W (xs ++ (x ∷ [])) (cs ++ (c ∷ []))
+  pub one_kept : (xs : List T) (cs : List Kept) (x : T) (c : Kept) → KeptSoFar mode W xs cs → HoldsMeant (W x) mode c
+      → KeptSoFar mode W (xs ++ (x ∷ [])) (cs ++ (c ∷ []))
   one_kept xs cs x c k h = record {
     each =
         subst (AreWrittenEach W (xs ++ (x ∷ []))) (ap (λ v. octets_of_each cs ++ (v ∷ [])) (sym (ap (λ (z : Kept). z.octets) h.holds)) ∙ sym (octets_more cs c))
@@ -349,7 +351,8 @@ module _ (mode : Mode) where
   of_all [] h = tt
   of_all (c ∷ cs) h = (h.0, of_all cs h.1)
 
-  pub kept_sorted : {T : Type 0} (W : T → Meaning → Type 0) (xs : List T) (cs ds : List Kept) → KeptSoFar mode W xs cs → IsPermutation cs ds → IsSortedBy less ds
+  pub kept_sorted : {T : Type 0} (W : T → Meaning → Type 0) (xs : List T) (cs ds : List Kept) → KeptSoFar mode W xs cs → IsPermutation cs ds
+      → IsSortedBy less ds
       → AreKeptInOrder mode W xs ds
   kept_sorted W xs cs ds k p s = record {
     pieces = octets_of_each cs;

@@ -24,7 +24,8 @@ module _ {P K : Type 0} (f : P → K) where
   map_swap [] i j = refl
   map_swap (d ∷ ys) i j =
       map-set f (set (d ∷ ys) i (get_or (d ∷ ys) j d)) j (get_or (d ∷ ys) i d)
-      ∙ ap (λ l. set l j (f (get_or (d ∷ ys) i d))) (map-set f (d ∷ ys) i (get_or (d ∷ ys) j d) ∙ ap (set (map f (d ∷ ys)) i) (sym (get_or-map f (d ∷ ys) j d)))
+      ∙ ap (λ l. set l j (f (get_or (d ∷ ys) i d)))
+      (map-set f (d ∷ ys) i (get_or (d ∷ ys) j d) ∙ ap (set (map f (d ∷ ys)) i) (sym (get_or-map f (d ∷ ys) j d)))
       ∙ ap (set (set (map f (d ∷ ys)) i (get_or (map f (d ∷ ys)) j (f d))) j) (sym (get_or-map f (d ∷ ys) i d))
 
   map_swaps : (xs : List P) (ps : List (ℕ × ℕ)) → map f (apply_swaps xs ps) ≡ apply_swaps (map f xs) ps
@@ -44,7 +45,8 @@ module _ {P K : Type 0} (f : P → K) where
   }
 
   -- members that are told apart by what f is are told apart by what g is
-  pub one_by_one : {E : Type 0} (g : P → E) → ((p q : P) → f p ≡ f q → g p ≡ g q) → (ps qs : List P) → map f ps ≡ map f qs → map g ps ≡ map g qs
+  pub one_by_one : {E : Type 0} (g : P → E) → ((p q : P) → f p ≡ f q → g p ≡ g q) → (ps qs : List P) → map f ps ≡ map f qs
+      → map g ps ≡ map g qs
   one_by_one g once [] [] e = refl
   one_by_one g once [] (q ∷ qs) e = absurd (let z : [] ≡ (f q ∷ map f qs) = e in cc)
   one_by_one g once (p ∷ ps) [] e = absurd (let z : (f p ∷ map f ps) ≡ [] = e in cc)

@@ -1,5 +1,5 @@
 -- What is written of a SET OF is one thing at most, and an encoding.
-use Rattle.std.specs.Prelude.{◌≡◌, ◌<◌, ◌⊎◌, ◌+◌, ℕ, List, [], ◌∷◌, ◌++◌, length, Ok, Err, IsPermutation, refl}
+use Rattle.std.specs.Prelude.{◌≡◌, ◌+◌, ℕ, List, [], ◌∷◌, ◌++◌, length, Ok, Err, refl}
 use Rattle.std.proofs.Common.{inl, inr, sym, ap, ◌∙◌, subst, arith, length-append}
 use Rattle.std.proofs.lemmas.Bool.{cases_lt}
 use Rattle.bcder.specs.declared.encode.error.EncodeError.{EncodeError}
@@ -12,7 +12,7 @@ use Rattle.bcder.specs.laws.Complete.{one_list}
 use Rattle.asn1.specs.Writing.{each_lawful}
 use Rattle.asn1.specs.Sorting.{Decided, Same, total, AllOf, Ascend, one_ascending}
 use Rattle.asn1.specs.Rearranging.{same_members}
-use Rattle.asn1.specs.SetsWritten.{IsUpTo, IsUpToFirst, AreInOrder, flat, AreWrittenEach, AreWrittenInOrder, InOrder, WritesSetOf}
+use Rattle.asn1.specs.SetsWritten.{IsUpTo, AreInOrder, flat, AreWrittenEach, AreWrittenInOrder, InOrder, WritesSetOf}
 
 -- ---- the order
 
@@ -75,7 +75,8 @@ as_ascending (v ∷ (w ∷ ws)) h = (h.0, as_ascending (w ∷ ws) h.1)
 -- lists in order with the same members are the same
 pub one_in_order : (vs ws : List (List ℕ)) → AreInOrder vs → AreInOrder ws → Same vs ws → vs ≡ ws
 one_in_order vs ws h k s =
-    one_ascending IsUpTo up_to_decided up_to_itself up_to_over (λ _. Unit {0}) (λ v w p q. up_to_both v w) vs ws (any_piece vs) (any_piece ws)
+    one_ascending IsUpTo up_to_decided up_to_itself up_to_over (λ _. Unit {0}) (λ v w p q. up_to_both v w) vs ws (any_piece vs)
+    (any_piece ws)
     (as_ascending vs h) (as_ascending ws k) s
 
 pub flat_size : (vs : List (List ℕ)) → length (flat vs) ≡ total length vs
@@ -148,7 +149,8 @@ module _ {T : Type 0} (W : T → Meaning → Type 0) where
     in_order_lawful : IsLawful mode (InOrder mode W xs)
     in_order_lawful = record { one = record { same = same_in_order }; encodes = λ e a. a.encode }
 
-lawful_in : {T : Type 0} (mode : Mode) (W : T → Meaning → Type 0) → ((x : T) → IsLawful mode (W x)) → (xs : List T) → IsLawful mode (WritesSetOf mode W xs)
+lawful_in : {T : Type 0} (mode : Mode) (W : T → Meaning → Type 0) → ((x : T) → IsLawful mode (W x)) → (xs : List T)
+    → IsLawful mode (WritesSetOf mode W xs)
 lawful_in Ber W l xs = each_lawful W l xs
 lawful_in Cer W l xs = in_order_lawful W l xs
 lawful_in Der W l xs = in_order_lawful W l xs

@@ -65,7 +65,8 @@ loop-captured-preserved g c =
     let m = c.capture_opt_one.ensures.moves d (untouched_is_moved d) in
     let n : CapturesNext {X = g.row.S-Error.Denot} d (Ok (Some k)) e = rw c.in-Ok-Some.field-0-is at c.in-Ok-Some.ensures.captured in
     let x = c.in-Ok-read_value.value in
-    let v : IsValueOf i.mode Tags (g.T.Type.means i.mode) k.octets x = subst (λ z. IsValueOf z Tags (g.T.Type.means z) k.octets x) c.mode-mode.ensures c.in-Ok-read_value.ensures.value in
+    let v : IsValueOf i.mode Tags (g.T.Type.means i.mode) k.octets x =
+    subst (λ z. IsValueOf z Tags (g.T.Type.means z) k.octets x) c.mode-mode.ensures c.in-Ok-read_value.ensures.value in
     let o : c.in-Ok.octets ≡ k.octets = c.in-Ok.ensures.value in
     let t : c.may_follow.result ≡ true = search rules in
     let f = λ (ne : i.mode ≢ Ber).
@@ -114,7 +115,8 @@ returns-in-Err-read_value-clause-took g c =
     let m = c.capture_opt_one.ensures.moves d (untouched_is_moved d) in
     let n : CapturesNext {X = g.row.S-Error.Denot} d (Ok (Some k)) e = rw c.in-Ok-Some.field-0-is at c.in-Ok-Some.ensures.captured in
     let f = c.in-Err-read_value.error in
-    let v : RefusesOctets i.mode Tags (g.T.Type.means i.mode) k.octets f = subst (λ z. RefusesOctets z Tags (g.T.Type.means z) k.octets f) c.mode-mode.ensures c.in-Err-read_value.ensures.refused in
+    let v : RefusesOctets i.mode Tags (g.T.Type.means i.mode) k.octets f =
+    subst (λ z. RefusesOctets z Tags (g.T.Type.means z) k.octets f) c.mode-mode.ensures c.in-Err-read_value.ensures.refused in
     refuses_seen (AreSetOf i.mode Tags (g.T.Type.means i.mode)) (λ (z : Vec g.row.T.Denot Global). z.items) i e f
     (refuses_value Tags (g.T.Type.means i.mode) i xs last d e r w m n.mode f k n.captured v n.marked)
 

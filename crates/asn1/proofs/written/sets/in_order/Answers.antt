@@ -1,4 +1,4 @@
-use Rattle.std.proofs.Common.{◌≡◌, ◌++◌, ◌∷◌, [], ◌+◌, take, take-suc, add-one, take_all, get_or, ap, ◌∙◌, subst, sym, rules, arith}
+use Rattle.std.proofs.Common.{◌≡◌, ◌++◌, ◌∷◌, [], ◌+◌, take, take-suc, add-one, take_all, ap, ◌∙◌, subst, sym, rules}
 use Rattle.std.proofs.lemmas.List.Sorted.{answers_always}
 use Rattle.asn1.proofs.SetsSorted.{KeptSoFar, none_kept_yet, one_kept, kept_sorted, less, less_is_order}
 use Rattle.asn1.proofs.written.sets.in_order.Goals as goal
@@ -17,7 +17,8 @@ loop-item-preserved g c =
     let i = c.loop-item.item-index in
     let x = c.item-item.result in
     let cs = c.loop-item.pieces.items in
-    let t : take (i + 1) xs ≡ take i xs ++ (x ∷ []) = ap (λ n. take n xs) (add-one i) ∙ take-suc xs i x c.loop-item-test.true ∙ ap (λ z. take i xs ++ (z ∷ [])) (sym c.item-item.is) in
+    let t : take (i + 1) xs ≡ take i xs ++ (x ∷ []) =
+    ap (λ n. take n xs) (add-one i) ∙ take-suc xs i x c.loop-item-test.true ∙ ap (λ z. take i xs ++ (z ∷ [])) (sym c.item-item.is) in
     let q : c.push.new.self.items ≡ cs ++ (c.in-Ok.piece ∷ []) = search rules in
     subst (λ z. KeptSoFar mode W z c.push.new.self.items) (sym t)
     (subst (KeptSoFar mode W (take i xs ++ (x ∷ []))) (sym q) (one_kept mode W (take i xs) cs x c.in-Ok.piece c.loop-item.invariant c.in-Ok.ensures))

@@ -24,7 +24,7 @@ returns g c = λ x k.
     subst (λ t. (v : g.row.T.Denot) → g.T.Encode.is_clear v mode → IsReadAs (g.T.Type.tags t) Means key v (g.T.Encode.writes t v mode)) c.tag.ensures
     c.is_read_back.ensures in
     let back =
-    set_read_back mode tag Tags Means key (c.values_are_one.ensures.one mode) W (λ v. g.met.T.Encode.lawful g.T.Type.TAG v mode)
+    set_read_back mode Tags Means key (c.values_are_one.ensures.one mode) W (λ v. g.met.T.Encode.lawful g.T.Type.TAG v mode)
     (λ (v : Vec g.row.T.Denot Global). v.items) x (with_items x) (λ ws n. with_items_is x ws (n ∙ sym x.ok.0)) (λ i v h. one _ (k i v h)) in
     inside_read_back tag (λ (v : Vec g.row.T.Denot Global). in_any_order (list_key key v.items)) x
     (λ (ts : Trees) (y : Vec g.row.T.Denot Global) (us : Trees). AreSetOf mode Tags Means ts y.items us) (λ us. us ≡ no_trees) mode (WritesSetOf mode W x.items)
