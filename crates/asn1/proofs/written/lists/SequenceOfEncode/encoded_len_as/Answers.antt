@@ -14,4 +14,4 @@ returns g c =
     let L = λ (x : g.row.T.Denot). g.T.Encode.may_lack x mode in
     subst (λ (v : Vec g.row.T.Denot Global).
     SizeOfValues (ValueMeans tag (constructed_meaning tag mode) (Joined (EachOf {X = g.row.T.Denot} W v.items))) (Any {X = g.row.T.Denot} L v.items)
-        c.encoded_len_as.result) c.self.view_is c.encoded_len_as.ensures
+    c.encoded_len_as.result) c.self.view_is c.encoded_len_as.ensures

@@ -14,5 +14,5 @@ returns g c =
     let L = λ (x : g.row.T.Denot). g.T.Encode.may_lack x mode in
     subst (λ (v : Vec g.row.T.Denot Global).
     Writes encoded_octets (ValueMeans tag (constructed_meaning tag mode) (Joined (EachOf {X = g.row.T.Denot} W v.items)))
-        (Any {X = g.row.T.Denot} L v.items) (g.W.Write.contents c.args.target.now) (g.W.Write.contents c.write_encoded_as.new.target)
-        c.write_encoded_as.result) c.self.view_is c.write_encoded_as.ensures
+    (Any {X = g.row.T.Denot} L v.items) (g.W.Write.contents c.args.target.now) (g.W.Write.contents c.write_encoded_as.new.target)
+    c.write_encoded_as.result) c.self.view_is c.write_encoded_as.ensures
