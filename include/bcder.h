@@ -20,7 +20,7 @@ enum { BCDER_BER = 0, BCDER_CER = 1, BCDER_DER = 2 };
 /* what is returned */
 enum {
   BCDER_OK = 0,            /* it was done */
-  BCDER_UNKNOWN_RULES = 1, /* the number stands for no set of rules */
+  BCDER_UNKNOWN_RULES = 1, /* no set of rules has this number */
   BCDER_NO_MEMORY = 2,     /* malloc failed, for a constructed value */
   BCDER_ABSENT = 3,        /* what was asked for isn't there */
   BCDER_BEYOND = 4,        /* a header gives a value more contents octets than there are */
@@ -45,13 +45,13 @@ typedef struct {
   size_t depth;       /* the number of values one inside the other, at most */
 } bcder_checked_t;
 
-/* Reads the header at the front. ABSENT: no front of the octets is a header that the rules allow.
+/* Reads the header at the front. ABSENT: no prefix of the octets is a header that the rules allow.
  * Whether the contents octets are all there isn't checked. */
 uint8_t bcder_heading(uint8_t rules, const uint8_t *data, size_t len, bcder_heading_t *heading);
 /* Stores how many end-of-contents octets are at the front. ABSENT: there are none. */
 uint8_t bcder_end(uint8_t rules, const uint8_t *data, size_t len, size_t *size);
 
-/* Passes the value at the front: `at` is its number of octets. ABSENT, BEYOND, ENDED: no front of
+/* Passes the value at the front: `at` is its number of octets. ABSENT, BEYOND, ENDED: no prefix of
  * the octets is the encoding of a value, and after `at` octets it was seen why: no header or end
  * stands there, one of a value that isn't all there, or nothing. Any depth; memory by malloc. */
 uint8_t bcder_value(uint8_t rules, const uint8_t *data, size_t len, bcder_checked_t *checked);
