@@ -126,23 +126,29 @@ static void contents(const uint8_t *p, size_t n) {
 
 /* ---- lists of octets */
 
+#ifdef BRIEF /* for a slower run, under the sanitizers */
+enum { SHORT = 2, LONGER = 5 };
+#else
+enum { SHORT = 3, LONGER = 6 };
+#endif
+
 static void short_lists(void) {
-  uint8_t w[3];
-  for (size_t n = 0; n <= 3; n++)
+  uint8_t w[SHORT];
+  for (size_t n = 0; n <= SHORT; n++)
     for (unsigned long v = 0; v < 1ul << (8 * n); v++) {
       for (size_t i = 0; i < n; i++) w[i] = (uint8_t)(v >> (8 * i));
       for (int mode = 0; mode < 3; mode++) compare(mode, w, n);
       contents(w, n);
     }
-  printf("lists of up to 3 octets: %lu comparisons\n", compared);
+  printf("lists of up to %d octets: %lu comparisons\n", SHORT, compared);
 }
 
 static void longer_lists(void) {
   static const uint8_t letters[] = {0x00, 0x01, 0x02, 0x04, 0x1F, 0x24, 0x30, 0x80, 0x81, 0x84, 0x9F, 0xFF};
   enum { LETTERS = sizeof letters };
   unsigned long before = compared;
-  uint8_t w[6];
-  for (size_t n = 4; n <= 6; n++) {
+  uint8_t w[LONGER];
+  for (size_t n = 4; n <= LONGER; n++) {
     unsigned long count = 1;
     for (size_t i = 0; i < n; i++) count *= LETTERS;
     for (unsigned long v = 0; v < count; v++) {
@@ -152,7 +158,7 @@ static void longer_lists(void) {
       contents(w, n);
     }
   }
-  printf("lists of 4 to 6 octets over %d letters: %lu comparisons\n", LETTERS, compared - before);
+  printf("lists of 4 to %d octets over %d letters: %lu comparisons\n", LONGER, LETTERS, compared - before);
 }
 
 /* ---- what the header says of each status */

@@ -6,3 +6,5 @@ pub mod Listing
 pub mod Alone
 pub mod Spelling
 pub mod Unused
+pub mod Stepping
+pub mod WholeSteps

@@ -19,6 +19,14 @@ abbrev pub IsTold : Option ℕ → ℕ → Bool → Type 0
 IsTold (Some n) len indefinite = (len ≡ n) × (indefinite ≡ false)
 IsTold None len indefinite = (len ≡ 0) × (indefinite ≡ true)
 
+-- h tells a header of so many octets, with this tag, form and length
+pub record Tells (tag : Tag) (form : Bool) (len : Option ℕ) (count : ℕ) (h : Heading) : Type 0 where
+  pub size : h.size ≡ count
+  pub class : h.class ≡ class_number tag.class
+  pub number : h.number ≡ tag.number
+  pub constructed : h.constructed ≡ form
+  pub length : IsTold len h.len h.indefinite
+
 -- w begins with the header of a value, of which h tells the size, the tag, the form and the length
 pub record BeginsWith (mode : Mode) (w : List ℕ) (h : Heading) : Type 0 where
   pub tag : Tag

@@ -4,5 +4,6 @@ pub mod Headings
 pub mod Depth
 pub mod Open
 pub mod Values
+pub mod Next
 pub mod Contents
 pub mod Text

@@ -29,6 +29,14 @@ ended = 5
 abbrev pub too_deep : ℕ
 too_deep = 6
 
+-- all octets were passed
+abbrev pub finished : ℕ
+finished = 7
+
+-- the state is none of a walk over these octets
+abbrev pub misused : ℕ
+misused = 8
+
 -- P holds of what was stored, and it was done; or P holds of nothing, and nothing was stored
 abbrev pub Found : {T : Type 0} → (T → Type 0) → ℕ → T → T → Type 0
 Found P status old new = (status ≡ done) × P new ⊎ (status ≡ absent) × ((x : _) → P x → ⊥) × (new ≡ old)

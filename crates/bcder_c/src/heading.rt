@@ -1,7 +1,7 @@
 //! The header of a value and the end-of-contents octets, at the front of octets.
 ghost use Rattle.std.specs.Prelude.{◌≡◌};
 ghost use Rattle.bcder.specs.declared.mode.Mode.{Mode as ModeValue};
-ghost use Rattle.bcder_c.specs.Headings.{BeginsWith, BeginsWithEnd, IsTold, class_number};
+ghost use Rattle.bcder_c.specs.Headings.{BeginsWith, BeginsWithEnd, IsTold, Tells, class_number};
 ghost use Rattle.bcder_c.specs.Rules.{AreRules, AreUnknown};
 ghost use Rattle.bcder_c.specs.Status.{Found, unknown_rules};
 
@@ -58,6 +58,21 @@ fn length_told(len: Option<usize>) -> (usize, bool)
     }
 }
 
+/// Tells a header of so many octets.
+pub(crate) fn heading_of(tag: Tag, constructed: bool, len: Option<usize>, size: usize) -> Heading
+    ensures { Tells tag constructed len size result }
+{
+    let (len, indefinite) = length_told(len);
+    Heading {
+        size,
+        len,
+        number: tag.number(),
+        class: class_of(tag),
+        constructed,
+        indefinite,
+    }
+}
+
 /// Reads the header of the value at the front of the octets (X.690, 8.1.2, 8.1.3).
 #[unsafe(no_mangle)]
 pub extern "C" fn bcder_heading(rules: u8, octets: &[u8], heading: &mut Heading) -> u8
@@ -72,15 +87,8 @@ pub extern "C" fn bcder_heading(rules: u8, octets: &[u8], heading: &mut Heading)
     let Some(front) = front_at(mode, octets) else {
         return ABSENT;
     };
-    let (len, indefinite) = length_told(front.len);
-    *heading = Heading {
-        size: octets.len() - front.rest.len(),
-        len,
-        number: front.tag.number(),
-        class: class_of(front.tag),
-        constructed: front.constructed,
-        indefinite,
-    };
+    let size = octets.len() - front.rest.len();
+    *heading = heading_of(front.tag, front.constructed, front.len, size);
     DONE
 }
 

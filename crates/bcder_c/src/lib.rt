@@ -9,6 +9,7 @@ mod bits;
 mod checked;
 mod contents;
 mod heading;
+mod next;
 mod rules;
 mod status;
 mod text;

@@ -20,3 +20,9 @@ pub(crate) const ENDED: u8 = 5;
 
 /// A value is deeper than was allowed.
 pub(crate) const TOO_DEEP: u8 = 6;
+
+/// All octets were passed.
+pub(crate) const FINISHED: u8 = 7;
+
+/// The state is none of a walk over these octets.
+pub(crate) const MISUSED: u8 = 8;
