@@ -1,5 +1,5 @@
--- All values of a source, where they are one.
-use Rattle.std.proofs.Common.{◌≡◌, ◌≢◌, [], ◌++◌, refl, sym, ◌∙◌, ap, append-nil, subst, inl, inr}
+-- All values of a source, where they are fields, or one value.
+use Rattle.std.proofs.Common.{◌≡◌, ◌≢◌, ℕ, List, [], ◌++◌, refl, sym, ◌∙◌, ap, append-nil, subst, inl, inr}
 use Rattle.std.specs.Prelude.{Result, Ok, Err, IfOk, IfErr}
 use Rattle.std.specs.Borrow.{MutBor}
 use Rattle.bcder.specs.declared.mode.Mode.{Mode}
@@ -7,7 +7,7 @@ use Rattle.bcder.specs.declared.decode.content.State.{State}
 use Rattle.bcder.specs.declared.decode.content.State.TheVariants.{Open, Ended, Failed}
 use Rattle.bcder.specs.declared.decode.error.DecodeError.{DecodeError}
 use Rattle.bcder.specs.x690.Identifier.{Tag}
-use Rattle.bcder.specs.x690.Tree.{Tree, no_trees, ◌∷ₜ◌}
+use Rattle.bcder.specs.x690.Tree.{Tree, Trees, no_trees, ◌∷ₜ◌}
 use Rattle.bcder.specs.x690.Encoding.{IsEncoding, AreEncodings}
 use Rattle.bcder.specs.laws.Lists.{AreEncodings-one}
 use Rattle.bcder.specs.calls.Cause.{cause_of}
@@ -23,9 +23,9 @@ use Rattle.bcder.specs.calls.DecodingAll as all
 use Rattle.bcder.proofs.Lemmas.{open_has_not_ended, open_has_not_failed, as_many_are_no_fewer, grew_in_between}
 use Rattle.asn1.specs.Types.{IsMember, TakesFields, HoldsNoFields, RefusesFields, ReadsFields}
 use Rattle.asn1.specs.Types as types
-use Rattle.asn1.specs.Decoded.{IsValueOf, RefusesAll}
+use Rattle.asn1.specs.Decoded.{IsValueOf, RefusesAll, AreFields, RefusesFieldsOf}
 use Rattle.asn1.specs.Decoded as decoded
-use Rattle.asn1.proofs.Reading.{member_tagged, none_held_at_end}
+use Rattle.asn1.proofs.Reading.{none_held_at_end}
 
 unbounded_not_octets : UnboundedValues ≢ Octets
 unbounded_not_octets e = cc
@@ -38,30 +38,28 @@ is_open Open f n = refl
 is_open Ended f n = absurd (n refl)
 is_open Failed f n = absurd (f refl)
 
-module _ {T : Type 0} (mode : Mode) (Tags : Tag → Type 0) (Means : Tree → T → Type 0) (s : Stream) (i : Reading) (o : IsAllOf s mode i) where
+module _ {T : Type 0} (mode : Mode) (Takes : Trees → T → Trees → Type 0) (s : Stream) (i : Reading) (o : IsAllOf s mode i) where
   octets_are : i.stream.rest ≡ s.rest
   octets_are = ap (λ (z : Stream). z.rest) o.stream
 
-  -- one value up to the end is all octets
-  one_value : (t : Tree) → HoldsValues i (t ∷ₜ no_trees) → IsEncoding mode t s.rest
-  one_value t (inr h) = absurd (open_has_not_ended i.state o.state h.0)
-  one_value t (inl h) =
+  -- the values up to the end are all octets
+  all_encode : (ts : Trees) → HoldsValues i ts → AreEncodings mode ts s.rest
+  all_encode ts (inr h) = absurd (open_has_not_ended i.state o.state h.0)
+  all_encode ts (inl h) =
       let v : HasValues i = h.values in
       let c : v.after ≡ [] = subst (λ k. ClosesBefore k i.mode i.owed v.all v.after) o.kind v.closes in
       let e : s.rest ≡ v.all = sym octets_are ∙ v.rest ∙ ap (λ z. v.all ++ z) c ∙ append-nil v.all in
-      let k : AreEncodings mode (t ∷ₜ no_trees) v.all =
-      subst (λ z. AreEncodings z (t ∷ₜ no_trees) v.all) o.mode (subst (λ z. AreEncodings i.mode z v.all) h.are v.encode) in
-      subst (IsEncoding mode t) (sym (e ∙ k.4 ∙ ap (λ z. k.0 ++ z) k.3 ∙ append-nil k.0)) k.2
+      subst (AreEncodings mode ts) (sym e) (subst (λ z. AreEncodings z ts v.all) o.mode (subst (λ z. AreEncodings i.mode z v.all) h.are v.encode))
 
   -- and the other way round
-  value_held : (t : Tree) → IsEncoding mode t s.rest → HoldsValues i (t ∷ₜ no_trees)
-  value_held t e = inl (record {
+  all_held : (ts : Trees) → AreEncodings mode ts s.rest → HoldsValues i ts
+  all_held ts e = inl (record {
     usable = o.state;
     values = record {
-      trees = t ∷ₜ no_trees;
+      trees = ts;
       all = s.rest;
       after = [];
-      encode = subst (λ z. AreEncodings z (t ∷ₜ no_trees) s.rest) (sym o.mode) (AreEncodings-one mode t s.rest e);
+      encode = subst (λ z. AreEncodings z ts s.rest) (sym o.mode) e;
       rest = octets_are ∙ sym (append-nil s.rest);
       closes = subst (λ k. ClosesBefore k i.mode i.owed s.rest []) (sym o.kind) refl;
     };
@@ -80,16 +78,12 @@ module _ {T : Type 0} (mode : Mode) (Tags : Tag → Type 0) (Means : Tree → T 
     none_held : j.stream.rest ≡ [] → HoldsValues j no_trees
     none_held e = none_held_at_end j [] (λ k. unbounded_not_octets (sym left_unbounded ∙ k)) (inr (left_open, of_unbounded left_unbounded e))
 
-    value_of : (x : T) → TakesFields (IsMember Tags Means) i x j → j.stream.rest ≡ [] → IsValueOf mode Tags Means s.rest x
-    value_of x t e =
-        let b = t.before no_trees (none_held e) in
-        record { tree = b.2.tree; encodes = one_value b.2.tree (member_tagged Tags Means i b.0 no_trees x b.1 b.2); tagged = b.2.tagged; means = b.2.means }
+    fields_of : (x : T) → TakesFields Takes i x j → j.stream.rest ≡ [] → AreFields mode Takes s.rest x
+    fields_of x t e = (let b = t.before no_trees (none_held e) in record { trees = b.0; encode = all_encode b.0 b.1; taken = b.2 })
 
-    -- octets that are left show that they are not one value
-    not_one : (x : T) → TakesFields (IsMember Tags Means) i x j → (j.stream.rest ≡ [] → ⊥) → (y : T) → IsValueOf mode Tags Means s.rest y → ⊥
-    not_one x t n y v =
-        nothing
-        (t.behind (v.tree ∷ₜ no_trees) no_trees y (value_held v.tree v.encodes) (record { tree = v.tree; are = refl; tagged = v.tagged; means = v.means }))
+    -- octets that are left show that they are no fields
+    not_all : (x : T) → TakesFields Takes i x j → (j.stream.rest ≡ [] → ⊥) → (y : T) → AreFields mode Takes s.rest y → ⊥
+    not_all x t n y v = nothing (t.behind v.trees no_trees y (all_held v.trees v.encode) v.taken)
       where
         nothing : HoldsValues j no_trees → ⊥
         nothing (inr h) = open_has_not_ended j.state left_open h.0
@@ -101,68 +95,103 @@ module _ {T : Type 0} (mode : Mode) (Tags : Tag → Type 0) (Means : Tree → T 
             empty : (h.values.all ++ h.values.after) ≡ []
             empty = ap (λ z. z ++ h.values.after) none ∙ subst (λ k. ClosesBefore k j.mode j.owed h.values.all h.values.after) left_unbounded h.values.closes
 
-  no_value : HoldsNoFields (IsMember Tags Means) i → (y : T) → IsValueOf mode Tags Means s.rest y → ⊥
-  no_value n y v = n (v.tree ∷ₜ no_trees) no_trees y (value_held v.tree v.encodes) (record { tree = v.tree; are = refl; tagged = v.tagged; means = v.means })
+  no_fields : HoldsNoFields Takes i → (y : T) → AreFields mode Takes s.rest y → ⊥
+  no_fields n y v = n v.trees no_trees y (all_held v.trees v.encode) v.taken
 
-  failed_not_one : (j : Reading) → j.state ≡ Failed → (x : T) → TakesFields (IsMember Tags Means) i x j → (y : T) → IsValueOf mode Tags Means s.rest y → ⊥
-  failed_not_one j f x t y v =
-      elim (t.behind (v.tree ∷ₜ no_trees) no_trees y (value_held v.tree v.encodes) (record { tree = v.tree; are = refl; tagged = v.tagged; means = v.means })) [
+  failed_not_all : (j : Reading) → j.state ≡ Failed → (x : T) → TakesFields Takes i x j → (y : T) → AreFields mode Takes s.rest y → ⊥
+  failed_not_all j f x t y v =
+      elim (t.behind v.trees no_trees y (all_held v.trees v.encode) v.taken) [
         | inl h ↦ open_has_not_failed j.state h.usable f
         | inr h ↦ (let z : ◌≡◌ {A = State} Ended Failed = sym h.0 ∙ f in cc)
       ]
 
--- ---- what a closure that takes one value decodes
+-- ---- what a closure that takes fields decodes
 
-module _ {C T X : Type 0} (view : C → Reading) (post : MutBor C → Result T (DecodeError X) → MutBor C → Type 0) (mode : Mode) (Tags : Tag → Type 0)
-    (Means : Mode → Tree → T → Type 0)
+module _ {C T X : Type 0} (view : C → Reading) (post : MutBor C → Result T (DecodeError X) → MutBor C → Type 0) (mode : Mode)
+    (Takes : Mode → Trees → T → Trees → Type 0)
     (reads : (p : MutBor C) (r : Result T (DecodeError X)) (q : MutBor C) → post p r q
-    → ReadsFields (IsMember Tags (Means (view p.now).mode)) (view p.now) r (view q.now))
+    → ReadsFields (Takes (view p.now).mode) (view p.now) r (view q.now))
     (s : Stream) where
   answered_fields : (i j : Reading) (r : Result T (DecodeError X)) → Answered {R = Result T (DecodeError X)} view post i r j → i.mode ≡ mode
-      → ReadsFields (IsMember Tags (Means mode)) i r j
+      → ReadsFields (Takes mode) i r j
   answered_fields i j r a e =
-      subst (λ z. ReadsFields (IsMember Tags (Means z)) i r j) e
-      (subst (λ z. ReadsFields (IsMember Tags (Means z.mode)) z r j) a.handed_is
-      (subst (λ z. ReadsFields (IsMember Tags (Means (view a.handed.now).mode)) (view a.handed.now) r z) a.left_is (reads a.handed r a.left a.called)))
+      subst (λ z. ReadsFields (Takes z) i r j) e
+      (subst (λ z. ReadsFields (Takes z.mode) z r j) a.handed_is
+      (subst (λ z. ReadsFields (Takes (view a.handed.now).mode) (view a.handed.now) r z) a.left_is (reads a.handed r a.left a.called)))
 
-  pub decoded_value : (x : T) → DecodesWhole view post s mode x → IsValueOf mode Tags (Means mode) s.rest x
-  decoded_value x d =
+  decoded_fields : (x : T) → DecodesWhole view post s mode x → AreFields mode (Takes mode) s.rest x
+  decoded_fields x d =
       let h = d.decodes.hands in
       let r = answered_fields d.decodes.handed d.decodes.left (Ok x) d.decodes.answered h.over.mode in
-      value_of mode Tags (Means mode) s d.decodes.handed h.over d.decodes.left h.moves d.decodes.usable x r.value
+      fields_of mode (Takes mode) s d.decodes.handed h.over d.decodes.left h.moves d.decodes.usable x r.value
       (ap (λ (z : Stream). z.rest) h.leaves ∙ d.none_left)
 
   module _ (e : DecodeError X) where
-    fields_refused : (i j : Reading) (later : Stream) → HandsAll s mode i j later → RefusesFields (IsMember Tags (Means mode)) i e j
-        → RefusesAll mode Tags (Means mode) s e
+    fields_refused : (i j : Reading) (later : Stream) → HandsAll s mode i j later → RefusesFields (Takes mode) i e j
+        → RefusesFieldsOf mode (Takes mode) s e
     fields_refused i j later h (types.RefusesFields.source c g) =
-        decoded.RefusesAll.source later c
+        decoded.RefusesFieldsOf.source later c
         (grew_in_between _ _ _ _ (as_many_are_no_fewer _ _ (ap (λ (z : Stream). z.faults) h.over.stream)) g (ap (λ (z : Stream). z.faults) h.leaves))
-    fields_refused i j later h (types.RefusesFields.memory c) = decoded.RefusesAll.memory c
-    fields_refused i j later h (types.RefusesFields.broken n a) = decoded.RefusesAll.broken (no_value mode Tags (Means mode) s i h.over n) a
+    fields_refused i j later h (types.RefusesFields.memory c) = decoded.RefusesFieldsOf.memory c
+    fields_refused i j later h (types.RefusesFields.broken n a) = decoded.RefusesFieldsOf.broken (no_fields mode (Takes mode) s i h.over n) a
 
-    closure_refused : (i j : Reading) (later : Stream) → HandsAll s mode i j later → RefusesOn cause_of view post i e j → RefusesAll mode Tags (Means mode) s e
+    closure_refused : (i j : Reading) (later : Stream) → HandsAll s mode i j later → RefusesOn cause_of view post i e j
+        → RefusesFieldsOf mode (Takes mode) s e
     closure_refused i j later h (decoding.RefusesOn.by_closure a) = fields_refused i j later h (answered_fields i j (Err e) a h.over.mode).refused
     closure_refused i j later h (decoding.RefusesOn.left_failed x a f c) =
-        decoded.RefusesAll.broken (failed_not_one mode Tags (Means mode) s i h.over j f x (answered_fields i j (Ok x) a h.over.mode).value) c
+        decoded.RefusesFieldsOf.broken (failed_not_all mode (Takes mode) s i h.over j f x (answered_fields i j (Ok x) a h.over.mode).value) c
 
-    pub decoding_refused : RefusesWhole view post s mode e → RefusesAll mode Tags (Means mode) s e
+    decoding_refused : RefusesWhole view post s mode e → RefusesFieldsOf mode (Takes mode) s e
     decoding_refused (all.RefusesWhole.by_decoding later d) = closure_refused d.handed d.left later d.hands d.refuses
     decoding_refused (all.RefusesWhole.by_rest x left later d (all.RefusesRest.octets_left n a p f)) =
         let r = answered_fields d.handed d.left (Ok x) d.answered d.hands.over.mode in
         let same = sym (ap (λ (z : Stream). z.rest) d.hands.leaves) in
-        decoded.RefusesAll.broken
-        (not_one mode Tags (Means mode) s d.handed d.hands.over d.left d.hands.moves d.usable x r.value (λ z. n (same ∙ z))) a
+        decoded.RefusesFieldsOf.broken
+        (not_all mode (Takes mode) s d.handed d.hands.over d.left d.hands.moves d.usable x r.value (λ z. n (same ∙ z))) a
     decoding_refused (all.RefusesWhole.by_rest x left later d (all.RefusesRest.source_failed c g)) =
         let r = answered_fields d.handed d.left (Ok x) d.answered d.hands.over.mode in
         let faults = λ (z : Stream). z.faults in
         let same = sym (ap faults d.hands.leaves) ∙ r.no_fault ∙ ap faults d.hands.over.stream in
-        decoded.RefusesAll.source later c (grew_in_between _ _ _ _ (as_many_are_no_fewer _ _ same) g refl)
+        decoded.RefusesFieldsOf.source later c (grew_in_between _ _ _ _ (as_many_are_no_fewer _ _ same) g refl)
 
-  pub decoded_all : (r : Result T (DecodeError X)) → IfOk r (λ x. DecodesWhole view post s mode x) → IfOk r (λ x. IsValueOf mode Tags (Means mode) s.rest x)
-  decoded_all (Ok x) h = decoded_value x h
+  pub decoded_all : (r : Result T (DecodeError X)) → IfOk r (λ x. DecodesWhole view post s mode x) → IfOk r (λ x. AreFields mode (Takes mode) s.rest x)
+  decoded_all (Ok x) h = decoded_fields x h
   decoded_all (Err e) h = tt
 
-  pub refused_all : (r : Result T (DecodeError X)) → IfErr r (λ e. RefusesWhole view post s mode e) → IfErr r (λ e. RefusesAll mode Tags (Means mode) s e)
+  pub refused_all : (r : Result T (DecodeError X)) → IfErr r (λ e. RefusesWhole view post s mode e) → IfErr r (λ e. RefusesFieldsOf mode (Takes mode) s e)
   refused_all (Ok x) h = tt
   refused_all (Err e) h = decoding_refused e h
+
+-- ---- one value
+
+one_value : (mode : Mode) (t : Tree) (w : List ℕ) → AreEncodings mode (t ∷ₜ no_trees) w → IsEncoding mode t w
+one_value mode t w k = subst (IsEncoding mode t) (sym (k.4 ∙ ap (λ z. k.0 ++ z) k.3 ∙ append-nil k.0)) k.2
+
+module _ {T : Type 0} (mode : Mode) (Tags : Tag → Type 0) (Means : Tree → T → Type 0) where
+  value_of : (w : List ℕ) (x : T) → AreFields mode (IsMember Tags Means) w x → IsValueOf mode Tags Means w x
+  value_of w x f =
+      let m : IsMember Tags Means f.trees x no_trees = f.taken in
+      record { tree = m.tree; encodes = one_value mode m.tree w (subst (λ z. AreEncodings mode z w) m.are f.encode); tagged = m.tagged; means = m.means }
+
+  as_fields : (w : List ℕ) (x : T) → IsValueOf mode Tags Means w x → AreFields mode (IsMember Tags Means) w x
+  as_fields w x v = record {
+    trees = v.tree ∷ₜ no_trees;
+    encode = AreEncodings-one mode v.tree w v.encodes;
+    taken = record { tree = v.tree; are = refl; tagged = v.tagged; means = v.means };
+  }
+
+  none_refused : {X : Type 0} (s : Stream) (e : DecodeError X) → RefusesFieldsOf mode (IsMember Tags Means) s e → RefusesAll mode Tags Means s e
+  none_refused s e (decoded.RefusesFieldsOf.source later c g) = decoded.RefusesAll.source later c g
+  none_refused s e (decoded.RefusesFieldsOf.memory c) = decoded.RefusesAll.memory c
+  none_refused s e (decoded.RefusesFieldsOf.broken n a) = decoded.RefusesAll.broken (λ x v. n x (as_fields s.rest x v)) a
+
+  module _ {X : Type 0} (s : Stream) where
+    pub one_decoded : (r : Result T (DecodeError X)) → IfOk r (λ x. AreFields mode (IsMember Tags Means) s.rest x)
+        → IfOk r (λ x. IsValueOf mode Tags Means s.rest x)
+    one_decoded (Ok x) h = value_of s.rest x h
+    one_decoded (Err e) h = tt
+
+    pub one_refused : (r : Result T (DecodeError X)) → IfErr r (λ e. RefusesFieldsOf mode (IsMember Tags Means) s e)
+        → IfErr r (λ e. RefusesAll mode Tags Means s e)
+    one_refused (Ok x) h = tt
+    one_refused (Err e) h = none_refused s e h

@@ -31,3 +31,7 @@ pub mod SetsRead
 pub mod SetsOnce
 pub mod SetsSorted
 pub mod SetsBack
+pub mod ByTag
+pub mod SetTaken
+pub mod ToldApart
+pub mod DecodedBack

@@ -1,6 +1,8 @@
 -- As many values as have one of the tags.
 use Rattle.std.proofs.Common.{◌≡◌, ◌+◌, ◌≤◌, length, List, [], ◌∷◌, ◌++◌, Some, None, refl, sym, ◌∙◌, append_assoc, append-nil, subst}
-use Rattle.std.specs.Prelude.{Ok, Err}
+use Rattle.std.specs.Prelude.{Result, Ok, Err}
+use Rattle.std.specs.declared.vec.Vec.{Vec}
+use Rattle.std.specs.declared.alloc.Global.{Global}
 use Rattle.bcder.specs.declared.mode.Mode.{Mode}
 use Rattle.bcder.specs.declared.decode.error.DecodeError.{DecodeError}
 use Rattle.bcder.specs.x690.Identifier.{Tag}
@@ -10,10 +12,11 @@ use Rattle.bcder.specs.calls.Content.{Reading, Moves}
 use Rattle.bcder.specs.calls.Valued.{HoldsValues}
 use Rattle.bcder.specs.laws.Moved.{untouched_is_moved, moved_twice_is_moved}
 use Rattle.bcder.proofs.Lemmas.{IsWithinOwed, as_many_are_no_fewer, grew_in_between, shorter_by_a_value}
-use Rattle.asn1.specs.Types.{HasNoneOf, TakesTyped, HasNoTyped, RefusesTyped, TakesNextTyped, AreList, TakesFields, HoldsNoFields, RefusesFields, ReadsFields}
+use Rattle.asn1.specs.Types.{HasNoneOf, TakesTyped, HasNoTyped, RefusesTyped, TakesNextTyped, AreList, items_of, TakesFields, HoldsNoFields, RefusesFields, ReadsFields}
 use Rattle.asn1.specs.Types as types
 use Rattle.asn1.proofs.Reading.{AreTags, passes, member_before, behind_first, member_tagged, tagged_first, none_before, none_behind, no_member, no_optional}
 use Rattle.asn1.proofs.Reading.{member_missing, failed_holds_none}
+use Rattle.asn1.proofs.Pairs.{reads_seen, refuses_seen}
 
 module _ {T : Type 0} (Tags : Tag → Type 0) (Means : Tree → T → Type 0) where
   -- so many were taken of the list that content begins with, and these go on with it
@@ -137,3 +140,10 @@ module _ {T X : Type 0} (Tags : Tag → Type 0) (Means : Mode → Tree → T →
   pub keeps_no_list : (f : DecodeError X) → cause_of f ≡ of_memory → (x : T) → TakesNextTyped Tags (Means d.mode) {X = X} d (Ok (Some x)) e
       → ReadsFields (AreList Tags (Means c.mode)) c (Err f) e
   keeps_no_list f a x n = record { value = tt; no_fault = tt; refused = types.RefusesFields.memory a; mode = n.mode ∙ r.mode; marked = n.marked ∙ r.marked }
+
+-- the same of a vector
+pub list_as_fields : {T X : Type 0} (Tags : Tag → Type 0) (Means : Mode → Tree → T → Type 0) (c d : Reading) (r : Result (Vec T Global) (DecodeError X))
+    → ReadsFields (AreList Tags (Means c.mode)) c (items_of r) d
+    → ReadsFields (λ (ts : Trees) (y : Vec T Global) (us : Trees). AreList Tags (Means c.mode) ts y.items us) c r d
+list_as_fields Tags Means c d (Ok x) h = reads_seen (AreList Tags (Means c.mode)) (λ (z : Vec _ Global). z.items) c d x h
+list_as_fields Tags Means c d (Err e) h = refuses_seen (AreList Tags (Means c.mode)) (λ (z : Vec _ Global). z.items) c d e h

@@ -21,7 +21,7 @@ join_nothing e = rw (and_none e.values, append-nil e.octets) refl
 fits_behind : (x y e : Encoded) → e ≡ join x y → length e.octets < 2 ^ 64 → length y.octets < 2 ^ 64
 fits_behind x y e q s = let n = ap (λ (z : Encoded). length z.octets) q ∙ length-append x.octets y.octets in omega (arith, n, s)
 
-behind_as_last : (M P : Encoded → Type 0) (e : Encoded) → Joins M P e → Joins M (AsLast P) e
+pub behind_as_last : (M P : Encoded → Type 0) (e : Encoded) → Joins M P e → Joins M (AsLast P) e
 behind_as_last M P e ((x, y, m, p, q), s) = ((x, y, m, (y, nothing, (p, fits_behind x y e q s), refl, join_nothing y), q), s)
 
 -- what is written in a row is read back, if the first and those behind it are

@@ -293,7 +293,7 @@ module _ {T : Type 0} (Tags : Tag → Type 0) (Means : Tree → T → Type 0) (c
 none_of_it : Infallible → ⊥
 none_of_it e = elim e [ ]
 
-never_of_source : (e : DecodeError Infallible) → cause_of e ≡ of_source → ⊥
+pub never_of_source : (e : DecodeError Infallible) → cause_of e ≡ of_source → ⊥
 never_of_source (Source e) h = absurd (none_of_it e)
 never_of_source (Content error pos) h = cc
 never_of_source NoMemory h = cc

@@ -176,7 +176,7 @@ module _ (mode : Mode) where
   abbrev KeptRow : List Kept → Meaning → Type 0
   KeptRow cs = EachOf (λ (c : Kept). KeptMeans c mode) cs
 
-  flat_of : (cs : List Kept) (y : Encoded) → KeptRow cs (Ok y) → y.octets ≡ flat (octets_of_each cs)
+  pub flat_of : (cs : List Kept) (y : Encoded) → KeptRow cs (Ok y) → y.octets ≡ flat (octets_of_each cs)
   flat_of [] y m = (let q : y ≡ nothing = cc in ap (λ (z : Encoded). z.octets) q)
   flat_of (c ∷ cs) y (d, z, m, n, q) =
       ap (λ (a : Encoded). a.octets) q ∙ ap (λ a. a ++ z.octets) m.2 ∙ ap (λ a. c.octets ++ a) (flat_of cs z n)

@@ -12,9 +12,11 @@ pub mod Tuples
 pub mod ChoicesWritten
 pub mod DefaultsWritten
 pub mod Lent
+pub mod TagSets
 pub mod Anything
 pub mod SetsOf
 pub mod SetsWritten
 pub mod Sorting
 pub mod Rearranging
 pub mod SetsLaws
+pub mod Sets

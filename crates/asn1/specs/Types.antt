@@ -1,6 +1,8 @@
 -- What types of ASN.1 say of values, and what their readers return.
-use Rattle.std.specs.Prelude.{◌≡◌, ◌≢◌, ℕ, List, [], ◌∷◌, Option, Some, None, Result, IfOk, IfErr, IfSome, IfNone, OnOk, OnErr}
+use Rattle.std.specs.Prelude.{◌≡◌, ◌≢◌, ℕ, List, [], ◌∷◌, Option, Some, None, Result, Ok, Err, IfOk, IfErr, IfSome, IfNone, OnOk, OnErr}
 use Rattle.std.specs.Borrow.{MutBor}
+use Rattle.std.specs.declared.vec.Vec.{Vec}
+use Rattle.std.specs.declared.alloc.Global.{Global}
 use denote.Triple.Both.{Both}
 use Rattle.bcder.specs.declared.mode.Mode.{Mode}
 use Rattle.bcder.specs.declared.decode.content.Constructed.{Constructed}
@@ -173,6 +175,16 @@ module _ {T : Type 0} (Takes : Trees → T → Trees → Type 0) where
 abbrev pub TookFields : {S T X : Type 0} → (S → Stream) → Both (MutBor (Constructed S)) (MutBor (Constructed S))
     → (Mode → Trees → T → Trees → Type 0) → Result T (DecodeError X) → Type 0
 TookFields stream c Takes r = ReadsFields (Takes (before stream c).mode) (before stream c) r (after stream c)
+
+-- a vector's items
+abbrev pub items_of : {T X : Type 0} → Result (Vec T Global) X → Result (List T) X
+items_of (Ok x) = Ok x.items
+items_of (Err e) = Err e
+
+-- as many values as have one of the tags were taken
+abbrev pub TookList : {S T X : Type 0} → (S → Stream) → Both (MutBor (Constructed S)) (MutBor (Constructed S)) → (Tag → Type 0)
+    → (Mode → Tree → T → Type 0) → Result (Vec T Global) (DecodeError X) → Type 0
+TookList stream c Tags Means r = ReadsFields (AreList Tags (Means (before stream c).mode)) (before stream c) (items_of r) (after stream c)
 
 -- fields of a pair
 abbrev pub Pair : {A B : Type 0} → (Trees → A → Trees → Type 0) → (Trees → B → Trees → Type 0) → Trees → A × B → Trees → Type 0

@@ -11,7 +11,7 @@ ghost use Rattle.asn1.specs.Anything.{Every, IsOneValue, KeepsValue, kept_value}
 ghost use Rattle.asn1.specs.Decoded.{IsValueOf, RefusesAll};
 ghost use Rattle.asn1.specs.Tags.{null_tagged};
 
-use crate::{Decode, Encode, Type, decode};
+use crate::{Decode, Encode, Path, Type, decode};
 use bcder::decode::{BytesSource, Constructed, DecodeError, Source};
 use bcder::encode::{EncodeError, Values, WriteError};
 use bcder::{Captured, Mode, Tag};
@@ -146,6 +146,10 @@ impl Type for Any {
     #[inline(always)]
     fn tag() -> Tag {
         Tag::NULL
+    }
+
+    fn expect(path: &mut Path) {
+        path.expect_any();
     }
 
     ghost tags = { Every };

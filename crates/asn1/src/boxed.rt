@@ -2,7 +2,7 @@
 ghost use Rattle.bcder.specs.calls.Views.{Moved};
 ghost use Rattle.asn1.specs.Types.{TookFields};
 
-use crate::{DecodeFields, Fields};
+use crate::{DecodeFields, Fields, Path};
 use bcder::decode::{Constructed, DecodeError, Source};
 use std::alloc::Global;
 
@@ -29,6 +29,20 @@ impl<S: Source, F: DecodeFields<S>> DecodeFields<S> for Box<F> {
         match F::take_fields(alloc, cons) {
             Ok(fields) => match Box::new(alloc, fields) {
                 Ok(boxed) => Ok(boxed),
+                Err(_) => Err(DecodeError::no_memory()),
+            },
+            Err(error) => Err(error),
+        }
+    }
+
+    fn trace_fields(
+        alloc: Global,
+        cons: &mut Constructed<'_, S>,
+        path: &mut Path,
+    ) -> Result<Box<F>, DecodeError<S::Error>> {
+        match F::trace_fields(alloc, cons, path) {
+            Ok(fields) => match Box::new(alloc, fields) {
+                Ok(held) => Ok(held),
                 Err(_) => Err(DecodeError::no_memory()),
             },
             Err(error) => Err(error),

@@ -6,7 +6,7 @@ ghost use Rattle.asn1.specs.Choices.{EitherTag, IsChoice, choice_key, either_tag
 ghost use Rattle.asn1.specs.Choices.{three_in_two, four_in_two};
 ghost use Rattle.asn1.specs.declared.choice.Choice2.{Choice2 as ChoiceOfKeys};
 
-use crate::{Decode, DecodeDefinition, Definition, Type};
+use crate::{Decode, DecodeDefinition, Definition, Path, Type};
 use bcder::Tag;
 use bcder::decode::{Constructed, DecodeError, Source};
 use std::alloc::Global;
@@ -29,6 +29,11 @@ impl<A: Type, B: Type> Type for Choice2<A, B> {
     #[inline(always)]
     fn tag() -> Tag {
         A::tag()
+    }
+
+    fn expect(path: &mut Path) {
+        A::expect(path);
+        B::expect(path);
     }
 
     ghost tags = { λ _ t. EitherTag (A.tags A.TAG) (B.tags B.TAG) t };
@@ -66,6 +71,30 @@ impl<S: Source, A: Decode<S>, B: Decode<S>> Decode<S> for Choice2<A, B> {
                 Err(error) => Err(error),
             },
             Err(error) => Err(error),
+        }
+    }
+
+    fn trace_opt_if(
+        alloc: Global,
+        cons: &mut Constructed<'_, S>,
+        _tag: Tag,
+        path: &mut Path,
+    ) -> Result<Option<Choice2<A, B>>, DecodeError<S::Error>> {
+        match A::trace_opt_from(alloc, cons, path) {
+            Ok(Some(one)) => return Ok(Some(Choice2::One(one))),
+            Ok(None) => {}
+            Err(error) => {
+                path.at_first();
+                return Err(error);
+            }
+        }
+        match B::trace_opt_from(alloc, cons, path) {
+            Ok(Some(two)) => Ok(Some(Choice2::Two(two))),
+            Ok(None) => Ok(None),
+            Err(error) => {
+                path.at_second();
+                Err(error)
+            }
         }
     }
 }

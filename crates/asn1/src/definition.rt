@@ -1,7 +1,7 @@
 //! A user's own type, defined by another (X.680, 16.1).
 ghost use Rattle.std.specs.Prelude.{◌≡◌};
 
-use crate::{Decode, Type};
+use crate::{Decode, Path, Type};
 use bcder::Tag;
 use bcder::decode::{Constructed, DecodeError, Source};
 use std::alloc::Global;
@@ -13,6 +13,13 @@ use std::alloc::Global;
 pub trait Definition: Drop + Sized {
     /// The type behind the `::=`.
     type As: Type;
+
+    /// Its name, for errors. It may be left out.
+    const NAME: &'static str = "";
+
+    /// The names of its fields or alternatives, for errors. Without them, fields are shown by
+    /// their number, from 0.
+    const PARTS: &'static [&'static str] = &[];
 
     /// The value as one of that type.
     ghost parts: { Self → Self.As };
@@ -28,6 +35,14 @@ impl<D: Definition> Type for D {
     #[inline(always)]
     fn tag() -> Tag {
         <D::As>::tag()
+    }
+
+    fn name() -> &'static str {
+        D::NAME
+    }
+
+    fn expect(path: &mut Path) {
+        <D::As>::expect(path);
     }
 
     ghost tags = { D.As.tags };
@@ -66,6 +81,22 @@ impl<S: Source, D: Definition + DecodeDefinition<S>> Decode<S> for D {
             Ok(Some(parts)) => Ok(Some(D::from_parts(parts))),
             Ok(None) => Ok(None),
             Err(error) => Err(error),
+        }
+    }
+
+    fn trace_opt_if(
+        alloc: Global,
+        cons: &mut Constructed<'_, S>,
+        tag: Tag,
+        path: &mut Path,
+    ) -> Result<Option<D>, DecodeError<S::Error>> {
+        match <D::As>::trace_opt_if(alloc, cons, tag, path) {
+            Ok(Some(parts)) => Ok(Some(D::from_parts(parts))),
+            Ok(None) => Ok(None),
+            Err(error) => {
+                path.name_part(D::PARTS);
+                Err(error)
+            }
         }
     }
 }

@@ -7,7 +7,7 @@ ghost use Rattle.bcder.specs.declared.mode.Mode.TheVariants.{Ber};
 ghost use Rattle.asn1.specs.Types.{TookFields, IsMember, IsOptional, AreBoth};
 ghost use Rattle.asn1.specs.Keys.{TakeOne, LeaveEncodings, AreTakenOnce, option_key};
 
-use crate::{Decode, Type};
+use crate::{Decode, Path, Type};
 use bcder::decode::{Constructed, ContentError, DecodeError, Source};
 use std::alloc::Global;
 
@@ -48,6 +48,24 @@ pub trait DecodeFields<S: Source>: Fields {
     ) -> Result<Self, DecodeError<S::Error>>
         ensures moves { Moved S.stream cons }
         ensures took { TookFields S.stream cons Self.takes result };
+
+    /// Does what [`take_fields`](Self::take_fields) does, and notes which field was refused. By
+    /// default they are one.
+    ///
+    /// # Errors
+    ///
+    /// Those of `take_fields`.
+    fn trace_fields(
+        alloc: Global,
+        cons: &mut Constructed<'_, S>,
+        path: &mut Path,
+    ) -> Result<Self, DecodeError<S::Error>>
+        ensures moves { Moved S.stream cons }
+        ensures took { TookFields S.stream cons Self.takes result }
+    {
+        path.next_field();
+        Self::take_fields(alloc, cons)
+    }
 }
 
 /// A value.
@@ -77,6 +95,22 @@ impl<S: Source, T: Type + Decode<S>> DecodeFields<S> for T {
             Err(error) => Err(error),
         }
     }
+
+    fn trace_fields(
+        alloc: Global,
+        cons: &mut Constructed<'_, S>,
+        path: &mut Path,
+    ) -> Result<T, DecodeError<S::Error>> {
+        path.next_field();
+        match T::trace_opt_from(alloc, cons, path) {
+            Ok(Some(value)) => Ok(value),
+            Ok(None) => {
+                T::expect(path);
+                Err(cons.content_err(ContentError::from_static("a value is missing")))
+            }
+            Err(error) => Err(error),
+        }
+    }
 }
 
 /// A value that may be left out.
@@ -101,6 +135,15 @@ impl<S: Source, T: Decode<S>> DecodeFields<S> for Option<T> {
         cons: &mut Constructed<'_, S>,
     ) -> Result<Option<T>, DecodeError<S::Error>> {
         T::take_opt_from(alloc, cons)
+    }
+
+    fn trace_fields(
+        alloc: Global,
+        cons: &mut Constructed<'_, S>,
+        path: &mut Path,
+    ) -> Result<Option<T>, DecodeError<S::Error>> {
+        path.next_field();
+        T::trace_opt_from(alloc, cons, path)
     }
 }
 
@@ -131,6 +174,21 @@ impl<S: Source, A: DecodeFields<S>, B: DecodeFields<S>> DecodeFields<S> for (A, 
             Err(error) => return Err(error),
         };
         match B::take_fields(alloc, cons) {
+            Ok(second) => Ok((first, second)),
+            Err(error) => Err(error),
+        }
+    }
+
+    fn trace_fields(
+        alloc: Global,
+        cons: &mut Constructed<'_, S>,
+        path: &mut Path,
+    ) -> Result<(A, B), DecodeError<S::Error>> {
+        let first = match A::trace_fields(alloc, cons, path) {
+            Ok(first) => first,
+            Err(error) => return Err(error),
+        };
+        match B::trace_fields(alloc, cons, path) {
             Ok(second) => Ok((first, second)),
             Err(error) => Err(error),
         }

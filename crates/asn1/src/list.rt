@@ -3,11 +3,13 @@ ghost use Rattle.std.specs.Prelude.{List, refl};
 ghost use Rattle.bcder.specs.x690.Identifier.{sequence_tag};
 ghost use Rattle.bcder.specs.calls.Views.{Moved};
 ghost use Rattle.asn1.specs.Types.{AreInside, AreList, Only, TookFields, TookNextTyped};
+ghost use Rattle.asn1.specs.Types.{TookList};
 ghost use Rattle.asn1.specs.Keys.{list_key};
 ghost use Rattle.asn1.specs.Tags.{sequence_tagged, only_tagged};
 ghost use Rattle.asn1.specs.Markers.{only_fixed};
 
-use crate::{Decode, DecodeFields, Fields, FixedTag, Sequence, Type};
+use crate::sequence::trace_inside;
+use crate::{Decode, DecodeFields, Fields, FixedTag, Path, Sequence, Type};
 use bcder::Tag;
 use bcder::decode::{Constructed, DecodeError, Source};
 use std::alloc::Global;
@@ -81,6 +83,19 @@ impl<S: Source, T: Decode<S>> Decode<S> for SequenceOf<T> {
             Err(error) => Err(error),
         }
     }
+
+    fn trace_opt_if(
+        alloc: Global,
+        cons: &mut Constructed<'_, S>,
+        tag: Tag,
+        path: &mut Path,
+    ) -> Result<Option<SequenceOf<T>>, DecodeError<S::Error>> {
+        match trace_inside::<S, Vec<T>>(alloc, cons, tag, false, path) {
+            Ok(Some(values)) => Ok(Some(SequenceOf(values))),
+            Ok(None) => Ok(None),
+            Err(error) => Err(error),
+        }
+    }
 }
 
 /// As many values as have one of the type's tags, in their order.
@@ -104,17 +119,52 @@ impl<S: Source, T: Decode<S>> DecodeFields<S> for Vec<T> {
         alloc: Global,
         cons: &mut Constructed<'_, S>,
     ) -> Result<Vec<T>, DecodeError<S::Error>> {
-        let mut all = Vec::new(alloc);
+        take_list(alloc, cons)
+    }
+
+    fn trace_fields(
+        alloc: Global,
+        cons: &mut Constructed<'_, S>,
+        path: &mut Path,
+    ) -> Result<Vec<T>, DecodeError<S::Error>> {
+        path.next_field();
+        let mut list = Vec::new(alloc);
         loop {
-            match T::take_opt_from(alloc, cons) {
+            match T::trace_opt_from(alloc, cons, path) {
                 Ok(Some(value)) => {
-                    if all.push(value).is_err() {
+                    if list.push(value).is_err() {
                         return Err(DecodeError::no_memory());
                     }
                 }
-                Ok(None) => return Ok(all),
-                Err(error) => return Err(error),
+                Ok(None) => return Ok(list),
+                Err(error) => {
+                    path.at_item(list.len());
+                    return Err(error);
+                }
             }
+        }
+    }
+}
+
+/// Takes as many values as have one of the type's tags.
+#[inline(always)]
+pub(crate) fn take_list<S: Source, T: Decode<S>>(
+    alloc: Global,
+    cons: &mut Constructed<'_, S>,
+) -> Result<Vec<T>, DecodeError<S::Error>>
+    ensures moves { Moved S.stream cons }
+    ensures took { TookList S.stream cons (T.tags T.TAG) T.means result }
+{
+    let mut all = Vec::new(alloc);
+    loop {
+        match T::take_opt_from(alloc, cons) {
+            Ok(Some(value)) => {
+                if all.push(value).is_err() {
+                    return Err(DecodeError::no_memory());
+                }
+            }
+            Ok(None) => return Ok(all),
+            Err(error) => return Err(error),
         }
     }
 }

@@ -2,10 +2,10 @@
 ghost use Rattle.std.specs.Prelude.{refl};
 ghost use Rattle.bcder.specs.x690.Identifier.{sequence_tag};
 ghost use Rattle.bcder.specs.calls.Views.{Moved};
-ghost use Rattle.asn1.specs.Types.{AreInside, Only, TookNextTyped};
+ghost use Rattle.asn1.specs.Types.{AreInside, Only, TookFields, TookNextTyped};
 ghost use Rattle.asn1.specs.Tags.{sequence_tagged, only_tagged};
 
-use crate::{Decode, DecodeFields, Fields, Type};
+use crate::{Decode, DecodeFields, Fields, Path, Type};
 use bcder::Tag;
 use bcder::decode::{Constructed, DecodeError, Source};
 use std::alloc::Global;
@@ -23,6 +23,37 @@ pub(crate) fn take_inside<S: Source, F: DecodeFields<S>>(
         (λ mode. AreInside (F.takes mode)) result }
 {
     cons.take_opt_constructed_if(tag, |cons| F::take_fields(alloc, cons))
+}
+
+/// Takes fields from the first on, and notes the one that was refused, if they are numbered.
+fn trace_all<S: Source, F: DecodeFields<S>>(
+    alloc: Global,
+    cons: &mut Constructed<'_, S>,
+    numbered: bool,
+    path: &mut Path,
+) -> Result<F, DecodeError<S::Error>>
+    ensures moves { Moved S.stream cons }
+    ensures took { TookFields S.stream cons F.takes result }
+{
+    let outer = path.enter();
+    let fields = F::trace_fields(alloc, cons, path);
+    path.leave(outer, numbered && fields.is_err());
+    fields
+}
+
+/// Does what [`take_inside`] does, and notes in which part of the value something was refused.
+pub(crate) fn trace_inside<S: Source, F: DecodeFields<S>>(
+    alloc: Global,
+    cons: &mut Constructed<'_, S>,
+    tag: Tag,
+    numbered: bool,
+    path: &mut Path,
+) -> Result<Option<F>, DecodeError<S::Error>>
+    ensures moves { Moved S.stream cons }
+    ensures took { TookNextTyped S.stream cons (Only tag)
+        (λ mode. AreInside (F.takes mode)) result }
+{
+    cons.take_opt_constructed_if(tag, |cons| trace_all::<S, F>(alloc, cons, numbered, path))
 }
 
 /// A SEQUENCE of fields.
@@ -72,6 +103,19 @@ impl<S: Source, F: DecodeFields<S>> Decode<S> for Sequence<F> {
         tag: Tag,
     ) -> Result<Option<Sequence<F>>, DecodeError<S::Error>> {
         match take_inside(alloc, cons, tag) {
+            Ok(Some(fields)) => Ok(Some(Sequence(fields))),
+            Ok(None) => Ok(None),
+            Err(error) => Err(error),
+        }
+    }
+
+    fn trace_opt_if(
+        alloc: Global,
+        cons: &mut Constructed<'_, S>,
+        tag: Tag,
+        path: &mut Path,
+    ) -> Result<Option<Sequence<F>>, DecodeError<S::Error>> {
+        match trace_inside(alloc, cons, tag, true, path) {
             Ok(Some(fields)) => Ok(Some(Sequence(fields))),
             Ok(None) => Ok(None),
             Err(error) => Err(error),

@@ -10,7 +10,8 @@ ghost use Rattle.asn1.specs.Markers.{only_fixed};
 ghost use Rattle.asn1.specs.Decoded.{IsValueOf};
 ghost use Rattle.asn1.specs.SetsOf.{IsNotAfter, AreSetOf, AnyOrder, in_any_order, RefusesOctets};
 
-use crate::{Decode, FixedTag, Type, decode};
+use crate::whole::trace;
+use crate::{Decode, FixedTag, Path, Type, decode};
 use bcder::decode::{BytesSource, Constructed, ContentError, DecodeError, Source};
 use bcder::{Captured, Mode, Tag};
 use bytes::Bytes;
@@ -177,6 +178,95 @@ fn take_set_of<S: Source, T: Decode<BytesSource>>(
     )
 }
 
+/// Does what [`read_value`] does, and notes in which part of the value something was refused.
+fn trace_value<T: Decode<BytesSource>, E>(
+    alloc: Global,
+    mode: Mode,
+    captured: Captured,
+    path: &mut Path,
+) -> Result<T, DecodeError<E>>
+    ensures value { IfOk result (λ x.
+        IsValueOf mode (T.tags T.TAG) (T.means mode) captured.octets x) }
+    ensures refused { IfErr result (λ e.
+        RefusesOctets mode (T.tags T.TAG) (T.means mode) captured.octets e) }
+{
+    let outer = path.enter();
+    let read = trace::<T, Captured>(alloc, mode, captured, path);
+    path.leave(outer, false);
+    match read {
+        Ok(value) => Ok(value),
+        Err(error) => Err(error.convert()),
+    }
+}
+
+/// Does what [`take_values`] does, and notes in which value something was refused.
+fn trace_values<S: Source, T: Decode<BytesSource>>(
+    alloc: Global,
+    cons: &mut Constructed<'_, S>,
+    path: &mut Path,
+) -> Result<Vec<T>, DecodeError<S::Error>>
+    ensures moves { Moved S.stream cons }
+    ensures took { TookFields S.stream cons (λ mode ts x us.
+        AreSetOf mode (T.tags T.TAG) (T.means mode) ts x.items us) result }
+{
+    let mode = cons.mode();
+    let mut list = Vec::new(alloc);
+    let mut last = Bytes::new();
+    loop {
+        match cons.capture_opt_one(alloc) {
+            Ok(Some(captured)) => {
+                let Ok(octets) = captured.bytes() else {
+                    return Err(DecodeError::no_memory());
+                };
+                if !may_follow(mode, last.as_slice(), octets.as_slice()) {
+                    path.at_item(list.len());
+                    let error = ContentError::from_static("values of a set are out of order");
+                    return Err(cons.content_err(error));
+                }
+                match trace_value::<T, S::Error>(alloc, mode, captured, path) {
+                    Ok(value) => {
+                        if list.push(value).is_err() {
+                            return Err(DecodeError::no_memory());
+                        }
+                    }
+                    Err(error) => {
+                        path.at_item(list.len());
+                        return Err(error);
+                    }
+                }
+                last = octets;
+            }
+            Ok(None) => return Ok(list),
+            Err(error) => {
+                path.at_item(list.len());
+                return Err(error);
+            }
+        }
+    }
+}
+
+/// Does what [`take_set_of`] does, and notes in which value something was refused.
+fn trace_set_of<S: Source, T: Decode<BytesSource>>(
+    alloc: Global,
+    cons: &mut Constructed<'_, S>,
+    tag: Tag,
+    path: &mut Path,
+) -> Result<Option<Vec<T>>, DecodeError<S::Error>>
+    ensures moves { Moved S.stream cons }
+    ensures took { TookNextTyped S.stream cons (Only tag) (λ mode t x.
+        AreInside (λ ts y us. AreSetOf mode (T.tags T.TAG) (T.means mode) ts y.items us) t x)
+        result }
+{
+    cons.take_opt_constructed_if(
+        tag,
+        |cons|
+            ensures moves { Moved S.stream cons }
+            ensures took { TookFields S.stream cons (λ mode ts x us.
+                AreSetOf mode (T.tags T.TAG) (T.means mode) ts x.items us) result }
+        { trace_values(alloc, cons, path) },
+    )
+}
+
 impl<S: Source, T: Decode<BytesSource>> Decode<S> for SetOf<T> {
     #[inline(always)]
     fn take_opt_if(
@@ -185,6 +275,19 @@ impl<S: Source, T: Decode<BytesSource>> Decode<S> for SetOf<T> {
         tag: Tag,
     ) -> Result<Option<SetOf<T>>, DecodeError<S::Error>> {
         match take_set_of(alloc, cons, tag) {
+            Ok(Some(values)) => Ok(Some(SetOf(values))),
+            Ok(None) => Ok(None),
+            Err(error) => Err(error),
+        }
+    }
+
+    fn trace_opt_if(
+        alloc: Global,
+        cons: &mut Constructed<'_, S>,
+        tag: Tag,
+        path: &mut Path,
+    ) -> Result<Option<SetOf<T>>, DecodeError<S::Error>> {
+        match trace_set_of(alloc, cons, tag, path) {
             Ok(Some(values)) => Ok(Some(SetOf(values))),
             Ok(None) => Ok(None),
             Err(error) => Err(error),

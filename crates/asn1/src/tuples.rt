@@ -5,7 +5,7 @@ ghost use Rattle.asn1.specs.Tuples.{SeenAs, first_of_3, first_of_4, first_of_5, 
 ghost use Rattle.asn1.specs.Tuples.{first_of_7, first_of_8, first_of_9, first_of_10, first_of_11};
 ghost use Rattle.asn1.specs.Tuples.{first_of_12};
 
-use crate::{DecodeFields, Fields};
+use crate::{DecodeFields, Fields, Path};
 use bcder::decode::{Constructed, DecodeError, Source};
 use std::alloc::Global;
 
@@ -32,6 +32,20 @@ impl<S: Source, A: DecodeFields<S>, B: DecodeFields<S>, C: DecodeFields<S>> Deco
         cons: &mut Constructed<'_, S>,
     ) -> Result<(A, B, C), DecodeError<S::Error>> {
         match <(A, (B, C))>::take_fields(alloc, cons) {
+            Ok(fields) => {
+                let (a, (b, c)) = fields;
+                Ok((a, b, c))
+            }
+            Err(error) => Err(error),
+        }
+    }
+
+    fn trace_fields(
+        alloc: Global,
+        cons: &mut Constructed<'_, S>,
+        path: &mut Path,
+    ) -> Result<(A, B, C), DecodeError<S::Error>> {
+        match <(A, (B, C))>::trace_fields(alloc, cons, path) {
             Ok(fields) => {
                 let (a, (b, c)) = fields;
                 Ok((a, b, c))
@@ -69,6 +83,20 @@ impl<
         cons: &mut Constructed<'_, S>,
     ) -> Result<(A, B, C, D), DecodeError<S::Error>> {
         match <(A, (B, C, D))>::take_fields(alloc, cons) {
+            Ok(fields) => {
+                let (a, (b, c, d)) = fields;
+                Ok((a, b, c, d))
+            }
+            Err(error) => Err(error),
+        }
+    }
+
+    fn trace_fields(
+        alloc: Global,
+        cons: &mut Constructed<'_, S>,
+        path: &mut Path,
+    ) -> Result<(A, B, C, D), DecodeError<S::Error>> {
+        match <(A, (B, C, D))>::trace_fields(alloc, cons, path) {
             Ok(fields) => {
                 let (a, (b, c, d)) = fields;
                 Ok((a, b, c, d))
@@ -114,6 +142,20 @@ impl<
             Err(error) => Err(error),
         }
     }
+
+    fn trace_fields(
+        alloc: Global,
+        cons: &mut Constructed<'_, S>,
+        path: &mut Path,
+    ) -> Result<(A, B, C, D, E), DecodeError<S::Error>> {
+        match <(A, (B, C, D, E))>::trace_fields(alloc, cons, path) {
+            Ok(fields) => {
+                let (a, (b, c, d, e)) = fields;
+                Ok((a, b, c, d, e))
+            }
+            Err(error) => Err(error),
+        }
+    }
 }
 
 /// Six fields.
@@ -147,6 +189,20 @@ impl<
         cons: &mut Constructed<'_, S>,
     ) -> Result<(A, B, C, D, E, F), DecodeError<S::Error>> {
         match <(A, (B, C, D, E, F))>::take_fields(alloc, cons) {
+            Ok(fields) => {
+                let (a, (b, c, d, e, f)) = fields;
+                Ok((a, b, c, d, e, f))
+            }
+            Err(error) => Err(error),
+        }
+    }
+
+    fn trace_fields(
+        alloc: Global,
+        cons: &mut Constructed<'_, S>,
+        path: &mut Path,
+    ) -> Result<(A, B, C, D, E, F), DecodeError<S::Error>> {
+        match <(A, (B, C, D, E, F))>::trace_fields(alloc, cons, path) {
             Ok(fields) => {
                 let (a, (b, c, d, e, f)) = fields;
                 Ok((a, b, c, d, e, f))
@@ -195,6 +251,20 @@ impl<
             Err(error) => Err(error),
         }
     }
+
+    fn trace_fields(
+        alloc: Global,
+        cons: &mut Constructed<'_, S>,
+        path: &mut Path,
+    ) -> Result<(A, B, C, D, E, F, G), DecodeError<S::Error>> {
+        match <(A, (B, C, D, E, F, G))>::trace_fields(alloc, cons, path) {
+            Ok(fields) => {
+                let (a, (b, c, d, e, f, g)) = fields;
+                Ok((a, b, c, d, e, f, g))
+            }
+            Err(error) => Err(error),
+        }
+    }
 }
 
 /// Eight fields.
@@ -230,6 +300,20 @@ impl<
         cons: &mut Constructed<'_, S>,
     ) -> Result<(A, B, C, D, E, F, G, H), DecodeError<S::Error>> {
         match <(A, (B, C, D, E, F, G, H))>::take_fields(alloc, cons) {
+            Ok(fields) => {
+                let (a, (b, c, d, e, f, g, h)) = fields;
+                Ok((a, b, c, d, e, f, g, h))
+            }
+            Err(error) => Err(error),
+        }
+    }
+
+    fn trace_fields(
+        alloc: Global,
+        cons: &mut Constructed<'_, S>,
+        path: &mut Path,
+    ) -> Result<(A, B, C, D, E, F, G, H), DecodeError<S::Error>> {
+        match <(A, (B, C, D, E, F, G, H))>::trace_fields(alloc, cons, path) {
             Ok(fields) => {
                 let (a, (b, c, d, e, f, g, h)) = fields;
                 Ok((a, b, c, d, e, f, g, h))
@@ -289,6 +373,20 @@ impl<
             Err(error) => Err(error),
         }
     }
+
+    fn trace_fields(
+        alloc: Global,
+        cons: &mut Constructed<'_, S>,
+        path: &mut Path,
+    ) -> Result<(A, B, C, D, E, F, G, H, I), DecodeError<S::Error>> {
+        match <(A, (B, C, D, E, F, G, H, I))>::trace_fields(alloc, cons, path) {
+            Ok(fields) => {
+                let (a, (b, c, d, e, f, g, h, i)) = fields;
+                Ok((a, b, c, d, e, f, g, h, i))
+            }
+            Err(error) => Err(error),
+        }
+    }
 }
 
 /// Ten fields.
@@ -336,6 +434,20 @@ impl<
         cons: &mut Constructed<'_, S>,
     ) -> Result<(A, B, C, D, E, F, G, H, I, J), DecodeError<S::Error>> {
         match <(A, (B, C, D, E, F, G, H, I, J))>::take_fields(alloc, cons) {
+            Ok(fields) => {
+                let (a, (b, c, d, e, f, g, h, i, j)) = fields;
+                Ok((a, b, c, d, e, f, g, h, i, j))
+            }
+            Err(error) => Err(error),
+        }
+    }
+
+    fn trace_fields(
+        alloc: Global,
+        cons: &mut Constructed<'_, S>,
+        path: &mut Path,
+    ) -> Result<(A, B, C, D, E, F, G, H, I, J), DecodeError<S::Error>> {
+        match <(A, (B, C, D, E, F, G, H, I, J))>::trace_fields(alloc, cons, path) {
             Ok(fields) => {
                 let (a, (b, c, d, e, f, g, h, i, j)) = fields;
                 Ok((a, b, c, d, e, f, g, h, i, j))
@@ -399,6 +511,20 @@ impl<
             Err(error) => Err(error),
         }
     }
+
+    fn trace_fields(
+        alloc: Global,
+        cons: &mut Constructed<'_, S>,
+        path: &mut Path,
+    ) -> Result<(A, B, C, D, E, F, G, H, I, J, K), DecodeError<S::Error>> {
+        match <(A, (B, C, D, E, F, G, H, I, J, K))>::trace_fields(alloc, cons, path) {
+            Ok(fields) => {
+                let (a, (b, c, d, e, f, g, h, i, j, k)) = fields;
+                Ok((a, b, c, d, e, f, g, h, i, j, k))
+            }
+            Err(error) => Err(error),
+        }
+    }
 }
 
 /// Twelve fields.
@@ -450,6 +576,20 @@ impl<
         cons: &mut Constructed<'_, S>,
     ) -> Result<(A, B, C, D, E, F, G, H, I, J, K, L), DecodeError<S::Error>> {
         match <(A, (B, C, D, E, F, G, H, I, J, K, L))>::take_fields(alloc, cons) {
+            Ok(fields) => {
+                let (a, (b, c, d, e, f, g, h, i, j, k, l)) = fields;
+                Ok((a, b, c, d, e, f, g, h, i, j, k, l))
+            }
+            Err(error) => Err(error),
+        }
+    }
+
+    fn trace_fields(
+        alloc: Global,
+        cons: &mut Constructed<'_, S>,
+        path: &mut Path,
+    ) -> Result<(A, B, C, D, E, F, G, H, I, J, K, L), DecodeError<S::Error>> {
+        match <(A, (B, C, D, E, F, G, H, I, J, K, L))>::trace_fields(alloc, cons, path) {
             Ok(fields) => {
                 let (a, (b, c, d, e, f, g, h, i, j, k, l)) = fields;
                 Ok((a, b, c, d, e, f, g, h, i, j, k, l))

@@ -8,6 +8,7 @@ ghost use Rattle.bcder.specs.declared.mode.Mode.TheVariants.{Ber};
 ghost use Rattle.asn1.specs.Types.{TookNextTyped};
 ghost use Rattle.asn1.specs.Keys.{MeansOne, IsMeantOnce};
 
+use crate::Path;
 use bcder::Tag;
 use bcder::decode::{Constructed, DecodeError, Source};
 use std::alloc::Global;
@@ -20,6 +21,17 @@ pub trait Type: Drop + Sized {
     /// The tag of its values. A CHOICE has several, and this is its first type's.
     fn tag() -> Tag
         ensures { result ≡ TAG };
+
+    /// The name of the type, for errors. It is empty, unless a [`Definition`](crate::Definition)
+    /// gives one.
+    fn name() -> &'static str {
+        ""
+    }
+
+    /// Notes that a value of the type was expected.
+    fn expect(path: &mut Path) {
+        path.expect(Self::tag());
+    }
 
     /// The tags that its values have if this one is asked for. That is this one, but a CHOICE,
     /// which has no tag of its own (X.680, 29.7), has those of its alternatives.
@@ -83,5 +95,40 @@ pub trait Decode<S: Source>: Type {
         ensures took { TookNextTyped S.stream cons (Self.tags Self.TAG) Self.means result }
     {
         Self::take_opt_if(alloc, cons, Self::tag())
+    }
+
+    /// Does what [`take_opt_if`](Self::take_opt_if) does, and notes in which part of the value
+    /// something was refused. By default it notes none.
+    ///
+    /// # Errors
+    ///
+    /// Those of `take_opt_if`.
+    fn trace_opt_if(
+        alloc: Global,
+        cons: &mut Constructed<'_, S>,
+        tag: Tag,
+        _path: &mut Path,
+    ) -> Result<Option<Self>, DecodeError<S::Error>>
+        ensures moves { Moved S.stream cons }
+        ensures took { TookNextTyped S.stream cons (Self.tags tag) Self.means result }
+    {
+        Self::take_opt_if(alloc, cons, tag)
+    }
+
+    /// Does what [`take_opt_from`](Self::take_opt_from) does, and notes in which part of the value
+    /// something was refused.
+    ///
+    /// # Errors
+    ///
+    /// Those of `take_opt_from`.
+    final fn trace_opt_from(
+        alloc: Global,
+        cons: &mut Constructed<'_, S>,
+        path: &mut Path,
+    ) -> Result<Option<Self>, DecodeError<S::Error>>
+        ensures moves { Moved S.stream cons }
+        ensures took { TookNextTyped S.stream cons (Self.tags Self.TAG) Self.means result }
+    {
+        Self::trace_opt_if(alloc, cons, Self::tag(), path)
     }
 }

@@ -1,13 +1,15 @@
-//! All octets of a source as one value.
-ghost use Rattle.std.specs.Prelude.{IfOk, IfErr};
+//! All octets of a source as one value, or as fields.
+ghost use Rattle.std.specs.Prelude.{◌≡◌, IfOk, IfErr};
+ghost use Rattle.bcder.specs.calls.Stream.{at_hand};
 ghost use Rattle.bcder.specs.calls.Views.{Moved};
-ghost use Rattle.asn1.specs.Types.{TookFields, IsMember};
-ghost use Rattle.asn1.specs.Decoded.{IsValueOf, RefusesAll};
+ghost use Rattle.asn1.specs.Types.{TookFields};
+ghost use Rattle.asn1.specs.Decoded.{IsValueOf, RefusesAll, AreFields, RefusesFieldsOf};
 
-use crate::{Decode, DecodeFields, Type};
+use crate::{Decode, DecodeFields, Path, Type, TypeError};
 use bcder::Mode;
-use bcder::decode::{Constructed, DecodeError, IntoSource, Source};
+use bcder::decode::{Constructed, DecodeError, IntoSource, SliceSource, Source};
 use std::alloc::Global;
+use std::convert::Infallible;
 
 /// Decodes a source that is one value of a type, with nothing behind it.
 ///
@@ -28,27 +30,115 @@ where
     ensures refused { IfErr result (λ e.
         RefusesAll mode (T.tags T.TAG) (T.means mode) (I.gives source) e) }
 {
-    decode_source::<T, I::Source>(alloc, mode, source.into_source())
+    decode_fields::<T, I::Source>(alloc, mode, source.into_source())
 }
 
-/// Decodes all of a source.
+/// Decodes a source that is fields, with nothing behind them.
 #[inline(always)]
-fn decode_source<T: Type + Decode<S>, S: Source + Drop>(
+pub(crate) fn decode_fields<F: DecodeFields<S>, S: Source + Drop>(
     alloc: Global,
     mode: Mode,
     source: S,
-) -> Result<T, DecodeError<S::Error>>
+) -> Result<F, DecodeError<S::Error>>
     ensures value { IfOk result (λ x.
-        IsValueOf mode (T.tags T.TAG) (T.means mode) (S.stream source).rest x) }
+        AreFields mode (F.takes mode) (S.stream source).rest x) }
     ensures refused { IfErr result (λ e.
-        RefusesAll mode (T.tags T.TAG) (T.means mode) (S.stream source) e) }
+        RefusesFieldsOf mode (F.takes mode) (S.stream source) e) }
 {
     mode.decode_all(
         source,
         |cons|
             ensures moves { Moved S.stream cons }
-            ensures took { TookFields S.stream cons
-                (λ mode ts x us. IsMember (T.tags T.TAG) (T.means mode) ts x us) result }
-        { T::take_fields(alloc, cons) },
+            ensures took { TookFields S.stream cons F.takes result }
+        { F::take_fields(alloc, cons) },
     )
+}
+
+/// Does what [`decode_fields`] does, and notes in which part of them something was refused.
+fn trace_all<F: DecodeFields<S>, S: Source + Drop>(
+    alloc: Global,
+    mode: Mode,
+    source: S,
+    path: &mut Path,
+) -> Result<F, DecodeError<S::Error>>
+    ensures value { IfOk result (λ x.
+        AreFields mode (F.takes mode) (S.stream source).rest x) }
+    ensures refused { IfErr result (λ e.
+        RefusesFieldsOf mode (F.takes mode) (S.stream source) e) }
+{
+    mode.decode_all(
+        source,
+        |cons|
+            ensures moves { Moved S.stream cons }
+            ensures took { TookFields S.stream cons F.takes result }
+        { F::trace_fields(alloc, cons, path) },
+    )
+}
+
+/// Does what [`decode`] does, and notes in which part of the value something was refused.
+pub(crate) fn trace<T, I: IntoSource>(
+    alloc: Global,
+    mode: Mode,
+    source: I,
+    path: &mut Path,
+) -> Result<T, DecodeError<<I::Source as Source>::Error>>
+where
+    T: Type + Decode<I::Source>,
+    I::Source: Drop,
+    ensures value { IfOk result (λ x.
+        IsValueOf mode (T.tags T.TAG) (T.means mode) (I.gives source).rest x) }
+    ensures refused { IfErr result (λ e.
+        RefusesAll mode (T.tags T.TAG) (T.means mode) (I.gives source) e) }
+{
+    trace_all::<T, I::Source>(alloc, mode, source.into_source(), path)
+}
+
+/// Decodes octets that are one value of a type, with nothing behind it. The error says in which
+/// part of the value something was refused.
+///
+/// Unless something is refused, it is [`decode`]. Else the octets are read again, and the parts are
+/// noted on the way.
+///
+/// # Errors
+///
+/// Returns an error if the octets are not one value of the type in this mode, or if memory runs
+/// out.
+#[inline(always)]
+pub fn decode_octets<'a, T: Type + Decode<SliceSource<'a>>>(
+    alloc: Global,
+    mode: Mode,
+    octets: &'a [u8],
+) -> Result<T, TypeError>
+    ensures value { IfOk result (λ x.
+        IsValueOf mode (T.tags T.TAG) (T.means mode) octets.now x) }
+    ensures refused { IfErr result (λ e.
+        RefusesAll mode (T.tags T.TAG) (T.means mode) (at_hand octets.now) e.error) }
+{
+    match decode::<T, &'a [u8]>(alloc, mode, octets) {
+        Ok(value) => Ok(value),
+        Err(error) => {
+            let source = SliceSource::new(octets);
+            Err(explain::<T, SliceSource<'a>>(alloc, mode, source, error))
+        }
+    }
+}
+
+/// Finds the part in which something of a source was refused.
+fn explain<T: Type + Decode<S>, S: Source + Drop>(
+    alloc: Global,
+    mode: Mode,
+    source: S,
+    error: DecodeError<Infallible>,
+) -> TypeError
+    ensures { result.error ≡ error }
+{
+    let mut path = Path::new(alloc, T::name());
+    if !error.is_memory() {
+        let is_known = match trace_all::<T, S>(alloc, mode, source, &mut path) {
+            Ok(_) => false,
+            Err(again) => !again.is_memory(),
+        };
+        path.settle(is_known);
+    }
+    TypeError { error, path }
 }

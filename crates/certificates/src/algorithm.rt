@@ -26,6 +26,10 @@ pub struct AlgorithmIdentifier {
 impl Definition for AlgorithmIdentifier {
     type As = Sequence<(ObjectIdentifier, Option<Any>)>;
 
+    const NAME: &'static str = "AlgorithmIdentifier";
+
+    const PARTS: &'static [&'static str] = &["algorithm", "parameters"];
+
     ghost parts = { λ x. (x.algorithm, x.parameters) };
 
     fn from_parts(value: Sequence<(ObjectIdentifier, Option<Any>)>) -> AlgorithmIdentifier {
@@ -74,6 +78,10 @@ pub struct SubjectPublicKeyInfo {
 
 impl Definition for SubjectPublicKeyInfo {
     type As = Sequence<(AlgorithmIdentifier, BitString)>;
+
+    const NAME: &'static str = "SubjectPublicKeyInfo";
+
+    const PARTS: &'static [&'static str] = &["algorithm", "subject_public_key"];
 
     ghost parts = { λ x. (x.algorithm, x.subject_public_key) };
 

@@ -27,6 +27,8 @@ pub struct Name {
 impl Definition for Name {
     type As = SequenceOf<RelativeDistinguishedName>;
 
+    const NAME: &'static str = "Name";
+
     ghost parts = { λ x. x.rdn_sequence };
 
     fn from_parts(value: SequenceOf<RelativeDistinguishedName>) -> Name {
@@ -65,6 +67,10 @@ pub struct AttributeTypeAndValue {
 
 impl Definition for AttributeTypeAndValue {
     type As = Sequence<(ObjectIdentifier, Any)>;
+
+    const NAME: &'static str = "AttributeTypeAndValue";
+
+    const PARTS: &'static [&'static str] = &["attribute_type", "value"];
 
     ghost parts = { λ x. (x.attribute_type, x.value) };
 

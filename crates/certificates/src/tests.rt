@@ -1,6 +1,6 @@
 //! Tests. The key is that of RFC 8410, section 10.1; the others are put together by hand.
 use crate::{Name, SubjectPublicKeyInfo, Validity};
-use asn1::{decode, encode};
+use asn1::{decode, decode_octets, encode};
 use bcder::Mode;
 
 /// `C = US, O = A`.
@@ -55,5 +55,35 @@ fn times_are_read_and_written(rt: HostRuntime) {
             Err(_) => panic!(rt; "not written"),
         },
         Err(_) => panic!(rt; "refused"),
+    }
+}
+
+/// Octets that are no `Validity`, and the error.
+const REFUSED: [(&[u8], &str); 3] = [
+    (
+        b"\x30\x12\x17\x0D261128000000Z\x02\x01\x05",
+        "Validity.not_after at octet 2: expected UTCTime or GeneralizedTime",
+    ),
+    (
+        b"\x30\x20\x17\x0D26112800000AZ\x18\x0F21261128000000Z",
+        "Validity.not_before.utc_time at octet 4: invalid contents octets",
+    ),
+    (
+        b"\x30\x0F\x17\x0D261128000000Z",
+        "Validity.not_after at octet 2: expected UTCTime or GeneralizedTime",
+    ),
+];
+
+#[test]
+fn errors_name_the_field(rt: HostRuntime) {
+    let alloc = rt.alloc();
+    for (octets, wanted) in REFUSED.iter() {
+        match decode_octets::<Validity>(alloc, Mode::Der, octets) {
+            Ok(_) => panic!(rt; "read"),
+            Err(error) => match format!(in alloc; "{error}") {
+                Ok(text) => assert_eq!(rt; text.as_str(), *wanted),
+                Err(_) => panic!(rt; "no memory"),
+            },
+        }
     }
 }

@@ -29,6 +29,10 @@ pub struct Validity {
 impl Definition for Validity {
     type As = Sequence<(Time, Time)>;
 
+    const NAME: &'static str = "Validity";
+
+    const PARTS: &'static [&'static str] = &["not_before", "not_after"];
+
     ghost parts = { λ x. (x.not_before, x.not_after) };
 
     fn from_parts(value: Sequence<(Time, Time)>) -> Validity {
@@ -81,6 +85,10 @@ ghost use Rattle.certificates.specs.declared.validity.Time.TheVariants.{UtcTime,
 
 impl Definition for Time {
     type As = Choice2<Leaf<UtcTime>, Leaf<GeneralizedTime>>;
+
+    const NAME: &'static str = "Time";
+
+    const PARTS: &'static [&'static str] = &["utc_time", "general_time"];
 
     ghost parts = { elim [ UtcTime t ↦ One t | GeneralTime t ↦ Two t ] };
 

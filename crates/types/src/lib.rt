@@ -13,9 +13,13 @@ mod boxed;
 #[cfg(test)]
 mod choices;
 #[cfg(test)]
+mod clear;
+#[cfg(test)]
 mod defaults;
 #[cfg(test)]
 mod definitions;
+#[cfg(test)]
+mod errors;
 #[cfg(test)]
 mod explicit;
 #[cfg(test)]
@@ -26,10 +30,13 @@ mod leaf;
 mod lent;
 #[cfg(test)]
 mod lists;
+mod members;
 #[cfg(test)]
 mod numbers;
 #[cfg(test)]
 mod plain;
+#[cfg(test)]
+mod recursion;
 #[cfg(test)]
 mod rows;
 #[cfg(test)]

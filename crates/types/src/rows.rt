@@ -1,5 +1,5 @@
 //! Rows of data, and the loops over them.
-use asn1::{Decode, Encode, decode, encode};
+use asn1::{Decode, Encode, decode, decode_octets, encode};
 use bcder::Mode;
 use bcder::decode::{DecodeError, SliceSource, Source};
 use std::alloc::Global;
@@ -48,6 +48,17 @@ pub fn reads<'a, T: Decode<SliceSource<'a>> + Debug>(
     for (mode, octets, wanted) in rows {
         let value = decode::<T, &'a [u8]>(alloc, *mode, octets).ok();
         let found = shown(rt, alloc, value, "refused");
+        is_shown(rt, *mode, octets, found.as_str(), wanted);
+    }
+}
+
+/// Asserts that the octets of each row are refused with an error that shows itself so, or `read`.
+pub fn explains<'a, T: Decode<SliceSource<'a>>>(rt: &impl Abort, alloc: Global, rows: &[Read<'a>]) {
+    for (mode, octets, wanted) in rows {
+        let found = match decode_octets::<T>(alloc, *mode, octets) {
+            Ok(_) => done(rt, format!(in alloc; "read")),
+            Err(error) => done(rt, format!(in alloc; "{error}")),
+        };
         is_shown(rt, *mode, octets, found.as_str(), wanted);
     }
 }

@@ -1,14 +1,17 @@
-//! SET OF, written (X.690, 8.12, 11.6).
-ghost use Rattle.std.specs.Prelude.{◌≡◌, ◌≢◌, ◌<◌, ◌≤◌, true, false, ◌⊎◌, All, Any, IfOk, length};
+//! SET and SET OF, written (X.690, 8.11, 8.12, 11.6).
+ghost use Rattle.std.specs.Prelude.{◌≡◌, ◌≢◌, ◌<◌, ◌≤◌, true, false, ◌⊎◌, All, Any, Ok, IfOk};
+ghost use Rattle.std.specs.Prelude.{length};
 ghost use Rattle.bcder.specs.declared.mode.Mode.TheVariants.{Ber};
-ghost use Rattle.bcder.specs.calls.Meaning.{ValueMeans, constructed_meaning};
+ghost use Rattle.bcder.specs.x690.Tree.{no_trees};
+ghost use Rattle.bcder.specs.calls.Meaning.{Encoded, ValueMeans, constructed_meaning};
 ghost use Rattle.bcder.specs.calls.Encoders.{WritesValues};
 ghost use Rattle.bcder.specs.laws.Meanings.{constructed_lawful};
 ghost use Rattle.asn1.specs.SetsWritten.{WritesSetOf, AreKeptInOrder, MayLackForSet};
 ghost use Rattle.asn1.specs.SetsLaws.{set_lawful};
+ghost use Rattle.asn1.specs.Sets.{Rise, each, tag_place};
 
 use crate::writers::{ByRef, Encode, EncodeFields};
-use crate::{SetOf, Type};
+use crate::{Set, SetOf, Type};
 use bcder::encode::{EncodeError, Values, WriteError, sequence_as};
 use bcder::{Captured, Mode, Tag};
 use std::alloc::Global;
@@ -117,4 +120,34 @@ impl<T: Encode> Encode for SetOf<T> {
 
     ghost lawful = { λ tag x mode. constructed_lawful tag (set_lawful
         (λ v. T.writes T.TAG v mode) (λ v. T.lawful T.TAG v mode) x.items) };
+}
+
+/// A SET of fields, in their order. It is read back if that is the order of their tags.
+impl<F: EncodeFields> Encode for Set<F> {
+    ghost writes = { λ tag x mode.
+        ValueMeans tag (constructed_meaning tag mode) (F.lays x mode) };
+
+    ghost may_lack = { λ x mode. F.may_lack x mode };
+
+    ghost is_clear = { λ x mode. F.is_clear x mode × F.may_precede x mode no_trees
+        × ((e : Encoded) → F.lays x mode (Ok e) → Rise tag_place (each e.values)) };
+
+    fn encoded_len_as(&self, tag: Tag, mode: Mode) -> Result<usize, EncodeError> {
+        sequence_as(tag, ByRef(&self.0)).encoded_len(mode)
+    }
+
+    fn write_encoded_as<W: io::Write>(
+        &self,
+        tag: Tag,
+        mode: Mode,
+        target: &mut W,
+    ) -> Result<(), WriteError> {
+        sequence_as(tag, ByRef(&self.0)).write_encoded(mode, target)
+    }
+
+    fn is_read_back(_tag: Tag, mode: Mode) {
+        F::are_read_back(mode);
+    }
+
+    ghost lawful = { λ tag x mode. constructed_lawful tag (F.lawful x mode) };
 }

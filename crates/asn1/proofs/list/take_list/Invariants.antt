@@ -1,7 +1,7 @@
 use Rattle.std.proofs.Common.{length}
 use Rattle.bcder.specs.calls.Views.{of_constructed}
 use Rattle.asn1.proofs.Lists.{Runs}
-use Rattle.asn1.proofs.list.VecDecodeFields.take_fields.Given as goal
+use Rattle.asn1.proofs.list.take_list.Given as goal
 
 abbrev pub invariant-loop-value : goal.invariant-loop-value
 invariant-loop-value g l =

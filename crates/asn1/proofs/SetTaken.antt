@@ -1,0 +1,244 @@
+-- A SET, read: all values are kept, put in the order of their tags, and read as fields.
+use Rattle.std.proofs.Common.{◌≡◌, ◌≢◌, ℕ, Bool, true, false, List, [], ◌∷◌, ◌++◌, length, refl, ap, sym, ◌∙◌, subst, inl, inr}
+use Rattle.std.specs.Prelude.{Ok, Err, Option, Some, None}
+use Rattle.std.specs.declared.convert.Infallible.{Infallible}
+use Rattle.bcder.specs.declared.mode.Mode.{Mode}
+use Rattle.bcder.specs.declared.mode.Mode.TheVariants.{Ber}
+use Rattle.bcder.specs.declared.decode.error.DecodeError.{DecodeError}
+use Rattle.bcder.specs.x690.Identifier.{Tag}
+use Rattle.bcder.specs.x690.Tree.{Tree, primitive, constructed, Trees, no_trees, ◌∷ₜ◌, ◌+++◌}
+use Rattle.bcder.specs.x690.Encoding.{IsHeader, Header, IsEncoding, AreEncodings}
+use Rattle.bcder.specs.calls.Captured.{Kept}
+use Rattle.bcder.specs.calls.Cause.{cause_of, IsOfContent, IsRefusal}
+use Rattle.bcder.specs.calls.Content.{Reading}
+use Rattle.bcder.specs.calls.ContentsLen.{length_of}
+use Rattle.bcder.specs.calls.Meaning.{Encoded, Meaning}
+use Rattle.bcder.specs.calls.Joined.{EachOf, Joined}
+use Rattle.bcder.specs.calls.Gathered.{KeptMeans, HoldsMeant}
+use Rattle.bcder.specs.calls.Stream.{Stream}
+use Rattle.bcder.specs.calls.Valued.{HoldsValues, tag_of}
+use Rattle.bcder.specs.laws.Complete.{one_header, one_list}
+use Rattle.asn1.specs.Types.{AreInside, Only, AreList, TakesFields, HoldsNoFields, RefusesFields, ReadsFields}
+use Rattle.asn1.specs.Types as types
+use Rattle.asn1.specs.Anything.{Every, IsOneValue, KeepsValue}
+use Rattle.asn1.specs.Decoded.{AreFields, RefusesFieldsOf}
+use Rattle.asn1.specs.Decoded as decoded
+use Rattle.asn1.specs.Keys.{MeansOne, IsMeantOnce, TakeOne, AreTakenOnce}
+use Rattle.asn1.specs.SetsWritten.{flat, octets_of_each}
+use Rattle.asn1.specs.Sets.{Rise, each, tag_place, place, place_of_value, kept_place, AreOrdered, AreSet, AreKeptByTag, RefusesMembers}
+use Rattle.asn1.specs.Writing.{AreTaken, AreReadAs}
+use Rattle.std.proofs.lemmas.List.Sorted.{IsPermutation-refl}
+use Rattle.asn1.proofs.Kept.{value_kept}
+use Rattle.asn1.proofs.Reading.{encoded_tag, held_once}
+use Rattle.asn1.proofs.ReadingBack.{and_none}
+use Rattle.asn1.proofs.SetsRead.{never_of_source}
+use Rattle.asn1.proofs.SetsSorted.{flat_of}
+use Rattle.asn1.proofs.ByTag.{one_order, AreKept, as_kept, kept_encode, ordered_trees, ordered_kept}
+
+-- ---- the tag of a kept value
+
+record Begins (mode : Mode) (t : Tree) (w : List ℕ) : Type 0 where
+  form : Bool
+  len : Option ℕ
+  header : List ℕ
+  rest : List ℕ
+  is_header : IsHeader mode (tag_of t) form (length_of len) header
+  is : w ≡ header ++ rest
+
+begins : (mode : Mode) (t : Tree) (w : List ℕ) → IsEncoding mode t w → Begins mode t w
+begins mode (primitive t v) w e =
+    record { form = false; len = Some (length v); header = e.1.header; rest = v; is_header = e.1.is_header; is = e.1.is }
+begins mode (constructed t ts) w (v, e, inl d) =
+    record { form = true; len = Some (length v); header = d.header; rest = v; is_header = d.is_header; is = d.is }
+begins mode (constructed t ts) w (v, e, inr d) =
+    record { form = true; len = None; header = d.header; rest = v ++ d.end; is_header = d.is_header; is = d.is }
+
+-- the tag of its header is that of the value
+pub place_found : (k : Kept) → IsOneValue k → (t : Tag) (form : Bool) (len : Option ℕ) (w rest : List ℕ) → IsHeader k.mode t form (length_of len) w
+    → k.octets ≡ w ++ rest → kept_place k ≡ place t
+place_found k o t form len w rest h q =
+    let b = begins k.mode o.tree k.octets o.encodes in
+    let s = one_header k.mode (tag_of o.tree) t b.form form (length_of b.len) (length_of len) b.header w b.rest rest b.is_header h (sym b.is ∙ q) in
+    ap place_of_value (value_kept k o.tree o.encodes) ∙ ap (λ (z : Header). place z.tag) s.0
+
+-- and a kept value has one
+pub has_header : (k : Kept) → IsOneValue k
+    → ((t : Tag) (form : Bool) (len : Option ℕ) (w x : List ℕ) → IsHeader k.mode t form (length_of len) w → k.octets ≡ w ++ x → ⊥) → ⊥
+has_header k o n = (let b = begins k.mode o.tree k.octets o.encodes in n (tag_of o.tree) b.form b.len b.header b.rest b.is_header b.is)
+
+-- ---- all values of content
+
+encoding_held : (c : Reading) (ts : Trees) → HoldsValues c ts → (w : List ℕ) × AreEncodings c.mode ts w
+encoding_held c ts (inl h) = (h.values.all, subst (λ z. AreEncodings c.mode z h.values.all) h.are h.values.encode)
+encoding_held c ts (inr h) = ([], subst (λ z. AreEncodings c.mode z []) (sym h.1) refl)
+
+module _ (mode : Mode) (asked : Tag) where
+  keep_each : (ts : Trees) (w : List ℕ) → AreEncodings mode ts w → (ks : List Kept) × AreList (Every asked) (KeepsValue mode) ts ks no_trees
+  keep_each no_trees w e = ([], (tt, refl))
+  keep_each (t ∷ₜ ts) w (v, x, e, es, q) =
+      let k : Kept = record { mode = mode; octets = v; start = 0 } in
+      let r = keep_each ts x es in (
+        k ∷ r.0,
+        (
+          ts,
+          record { tree = t; are = refl; tagged = encoded_tag mode t v e; means = record { rules = refl; encodes = e } },
+          r.1,
+        ),
+      )
+
+module _ {T : Type 0} (asked : Tag) (Takes : Trees → T → Trees → Type 0) (c d : Reading) where
+  -- all values can be kept
+  can_keep : (ts : Trees) → HoldsValues c ts → (ks : List Kept) × AreList (Every asked) (KeepsValue c.mode) ts ks no_trees
+  can_keep ts h = (let e = encoding_held c ts h in keep_each c.mode asked ts e.0 e.1)
+
+  list_refused : {X : Type 0} (e : DecodeError X) → RefusesFields (AreList (Every asked) (KeepsValue c.mode)) c e d
+      → RefusesFields (AreSet c.mode Takes) c e d
+  list_refused e (types.RefusesFields.source s g) = types.RefusesFields.source s g
+  list_refused e (types.RefusesFields.memory s) = types.RefusesFields.memory s
+  list_refused e (types.RefusesFields.broken n a) =
+      types.RefusesFields.broken (λ ts us y h g. (let k = can_keep ts h in n ts no_trees k.0 h k.1)) a
+
+  module _ (xs : List Kept) (f : TakesFields (AreList (Every asked) (KeepsValue c.mode)) c xs d) where
+    nothing_left : (ts : Trees) → HoldsValues c ts → HoldsValues d no_trees
+    nothing_left ts h = (let k = can_keep ts h in f.behind ts no_trees k.0 h k.1)
+
+    all_kept : (ts : Trees) → HoldsValues c ts → AreKept c.mode ts xs
+    all_kept ts h =
+        let b = f.before no_trees (nothing_left ts h) in
+        as_kept c.mode asked ts xs (subst (λ z. AreList (Every asked) (KeepsValue c.mode) z xs no_trees) (held_once c b.0 ts b.1 h) b.2)
+
+    not_in_order : ((ks : List Kept) → AreKeptByTag c.mode xs ks → ⊥) → HoldsNoFields (AreSet c.mode Takes) c
+    not_in_order n ts us y h g = (let k = ordered_kept c.mode ts g.ordered xs (all_kept ts h) g.order in n k.0 k.1)
+
+    module _ (ys : List Kept) (o : AreKeptByTag c.mode xs ys) where
+      set_taken : (x : T) → AreFields c.mode Takes (flat (octets_of_each ys)) x → TakesFields (AreSet c.mode Takes) c x d
+      set_taken x a = record {
+        before = λ us h.
+            let b = f.before us h in
+            let t = ordered_trees c.mode b.0 xs ys (all_kept b.0 b.1) o in
+            let e = one_list c.mode a.trees t.trees (flat (octets_of_each ys)) a.encode (kept_encode c.mode t.trees ys t.kept) in (
+              b.0,
+              b.1,
+              record {
+                ordered = t.trees;
+                order = t.order;
+                taken = subst (λ z. Takes z x no_trees) e a.taken;
+                none_left = held_once d us no_trees h (nothing_left b.0 b.1);
+              },
+            );
+        behind = λ ts us y h g. subst (HoldsValues d) (sym g.none_left) (nothing_left ts h);
+      }
+
+      no_set : ((x : T) → AreFields c.mode Takes (flat (octets_of_each ys)) x → ⊥) → HoldsNoFields (AreSet c.mode Takes) c
+      no_set n ts us y h g =
+          let t = ordered_trees c.mode ts xs ys (all_kept ts h) o in
+          let q = one_order c.mode ts g.ordered t.trees g.order t.order in
+          n y (record { trees = t.trees; encode = kept_encode c.mode t.trees ys t.kept; taken = subst (λ z. Takes z y no_trees) q g.taken })
+
+-- ---- what the reader says
+
+abbrev Kepts : Tag → Mode → Trees → List Kept → Trees → Type 0
+Kepts asked mode = AreList (Every asked) (KeepsValue mode)
+
+abbrev IsSet : {T : Type 0} → (Mode → Trees → T → Trees → Type 0) → Mode → Trees → T → Trees → Type 0
+IsSet Takes mode = AreSet mode (Takes mode)
+
+module _ {T X : Type 0} (asked : Tag) (Takes : Mode → Trees → T → Trees → Type 0) (c d : Reading) where
+  pub keeps_none : (e : DecodeError X) → ReadsFields (Kepts asked c.mode) c (Err e) d → ReadsFields (IsSet Takes c.mode) c (Err e) d
+  keeps_none e r = record {
+    value = tt;
+    no_fault = tt;
+    refused = list_refused asked (Takes c.mode) c d e r.refused;
+    mode = r.mode;
+    marked = r.marked;
+  }
+
+  module _ (xs : List Kept) (r : ReadsFields (Kepts asked c.mode) {X = X} c (Ok xs) d) (m : Mode) (q : m ≡ d.mode) where
+    in_mode : m ≡ c.mode
+    in_mode = q ∙ r.mode
+
+    stops : (e : DecodeError X) → RefusesFields (IsSet Takes c.mode) c e d → ReadsFields (IsSet Takes c.mode) c (Err e) d
+    stops e f = record { value = tt; no_fault = tt; refused = f; mode = r.mode; marked = r.marked }
+
+    pub refuses_order : (e : DecodeError X) → ((ks : List Kept) → AreKeptByTag m xs ks → ⊥) → IsRefusal e → ReadsFields (IsSet Takes c.mode) c (Err e) d
+    refuses_order e n a =
+        stops e
+        (types.RefusesFields.broken
+        (not_in_order asked (Takes c.mode) c d xs r.value (λ ks o. n ks (subst (λ z. AreKeptByTag z xs ks) (sym in_mode) o))) a)
+
+    module _ (ys : List Kept) (o : AreKeptByTag m xs ys) where
+      ordered : AreKeptByTag c.mode xs ys
+      ordered = subst (λ z. AreKeptByTag z xs ys) in_mode o
+
+      pub reads_set : (x : T) → AreFields m (Takes m) (flat (octets_of_each ys)) x → ReadsFields (IsSet Takes c.mode) {X = X} c (Ok x) d
+      reads_set x a = record {
+        value =
+            set_taken asked (Takes c.mode) c d xs r.value ys ordered x
+            (subst (λ z. AreFields z (Takes z) (flat (octets_of_each ys)) x) in_mode a);
+        no_fault = r.no_fault;
+        refused = tt;
+        mode = r.mode;
+        marked = r.marked;
+      }
+
+      members_refused : (e : DecodeError X) → RefusesMembers m (Takes m) (flat (octets_of_each ys)) e → RefusesFields (IsSet Takes c.mode) c e d
+      members_refused e (inl a) = types.RefusesFields.memory a
+      members_refused e (inr a) =
+          types.RefusesFields.broken
+          (no_set asked (Takes c.mode) c d xs r.value ys ordered
+          (λ x b. a.0 x (subst (λ z. AreFields z (Takes z) (flat (octets_of_each ys)) x) (sym in_mode) b))) a.1
+
+      pub refuses_members : (e : DecodeError X) → RefusesMembers m (Takes m) (flat (octets_of_each ys)) e → ReadsFields (IsSet Takes c.mode) c (Err e) d
+      refuses_members e a = stops e (members_refused e a)
+
+-- ---- kept values, joined
+
+pub joined_octets : (mode : Mode) (ks : List Kept) (k : Kept) → HoldsMeant (Joined (EachOf (λ (c : Kept). KeptMeans c mode) ks)) mode k
+    → k.octets ≡ flat (octets_of_each ks)
+joined_octets mode ks k h = ap (λ (z : Kept). z.octets) h.holds ∙ flat_of mode ks h.what h.meant.0
+
+-- the same error of another source
+pub members_converted : {T X : Type 0} (mode : Mode) (Takes : Trees → T → Trees → Type 0) (s : Stream) (e : DecodeError Infallible) (f : DecodeError X)
+    → cause_of f ≡ cause_of e → RefusesFieldsOf mode Takes s e → RefusesMembers mode Takes s.rest f
+members_converted mode Takes s e f q (decoded.RefusesFieldsOf.source later c g) = absurd (never_of_source e c)
+members_converted mode Takes s e f q (decoded.RefusesFieldsOf.memory c) = inl (q ∙ c)
+members_converted mode Takes s e f q (decoded.RefusesFieldsOf.broken n a) = inr (n, subst IsOfContent (sym q) a)
+
+-- ---- what sets are told apart by
+
+module _ {T K : Type 0} (mode : Mode) (Takes : Trees → T → Trees → Type 0) (keys : T → K) where
+  pub one_set : TakeOne Takes keys → MeansOne (AreInside (AreSet mode Takes)) keys
+  one_set one (primitive t w) x y h k = absurd h
+  one_set one (constructed t ts) x y h k =
+      let q = one_order mode ts h.ordered k.ordered h.order k.order in
+      (one k.ordered no_trees no_trees x y (subst (λ z. Takes z x no_trees) q h.taken) k.taken).0
+
+  pub set_once : mode ≢ Ber → AreTakenOnce mode Takes keys → IsMeantOnce mode Only (AreInside (AreSet mode Takes)) keys
+  set_once ne once asked (primitive t b) u x y v w d e g h i k q = absurd i
+  set_once ne once asked (constructed t ts) (primitive u b) x y v w d e g h i k q = absurd k
+  set_once ne once asked (constructed t ts) (constructed u us) x y v w d e g h i k q =
+      let a = subst (λ z. Takes z x no_trees) (i.order.in_place ne) i.taken in
+      let b = subst (λ z. Takes z y no_trees) (k.order.in_place ne) k.taken in
+      rw (g ∙ sym h, once ts us no_trees x y d.0 e.0 d.1 e.1 a b q) refl
+
+  -- ---- what is written
+
+  -- fields that are written in the order of their tags are read back as a set
+  pub set_back : (x : T) (May : Trees → Type 0) (W : Meaning → Type 0) → May no_trees
+      → ((e : Encoded) → W (Ok e) → Rise tag_place (each e.values)) → AreReadAs Takes keys May x W
+      → AreReadAs (AreSet mode Takes) keys (λ us. us ≡ no_trees) x W
+  set_back x May W may rise back e w us n =
+      let t = back e w no_trees may in
+      let r : Rise tag_place (each (e.values +++ no_trees)) = subst (λ z. Rise tag_place (each z)) (sym (and_none e.values)) (rise e w) in
+      let o : AreOrdered mode (e.values +++ no_trees) (e.values +++ no_trees) =
+      record { rearranged = IsPermutation-refl (each (e.values +++ no_trees)); rise = r; in_place = λ ne. refl } in
+      subst (λ z. AreTaken (AreSet mode Takes) keys (keys x) (e.values +++ z) z) (sym n)
+      (record {
+        some = t.some;
+        taken = record { ordered = e.values +++ no_trees; order = o; taken = t.taken; none_left = refl };
+        only = λ y vs h. (
+          (t.only y no_trees
+              (subst (λ z. Takes z y no_trees) (one_order mode (e.values +++ no_trees) h.ordered (e.values +++ no_trees) h.order o) h.taken)).0,
+          h.none_left,
+        );
+      })

@@ -1,0 +1,9 @@
+use Rattle.asn1.specs.TagSets.{no_tag}
+use Rattle.asn1.proofs.ToldApart.{nothing_begin, none_with_every}
+use Rattle.asn1.proofs.clear.fields.ExtensionAdditionsClearFields.are_told_apart.Goals as goal
+
+pub returns-clause-begin : goal.returns-clause-begin
+returns-clause-begin c = λ d x k e m. nothing_begin no_tag e m
+
+pub returns-clause-follow : goal.returns-clause-follow
+returns-clause-follow c = λ d x k us b. none_with_every us b

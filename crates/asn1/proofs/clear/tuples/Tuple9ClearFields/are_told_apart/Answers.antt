@@ -1,0 +1,9 @@
+use Rattle.asn1.specs.Tuples.{first_of_9}
+use Rattle.asn1.proofs.Rows.{behind_as_last}
+use Rattle.asn1.proofs.clear.tuples.Tuple9ClearFields.are_told_apart.Goals as goal
+
+pub returns-clause-begin : goal.returns-clause-begin
+returns-clause-begin g c = λ d x k e m. c.are_told_apart.ensures.begin d (first_of_9 x) k e (behind_as_last _ _ e m)
+
+pub returns-clause-follow : goal.returns-clause-follow
+returns-clause-follow g c = λ d x k us b. c.are_told_apart.ensures.follow d (first_of_9 x) k us b

@@ -1,0 +1,227 @@
+//! Where in a value of a type something was refused.
+use bcder::Tag;
+use bytes::ByteStr;
+use std::alloc::Global;
+use std::fmt;
+
+/// A step from a value to a part of it.
+#[derive(Debug, Drop)]
+enum Step {
+    /// To the field or alternative with this name.
+    Named(ByteStr),
+    /// To this field, from 0.
+    Field(usize),
+    /// To this value of a list, from 0.
+    Item(usize),
+    /// To the first type of a CHOICE of two.
+    First,
+    /// To the second type of a CHOICE of two.
+    Second,
+}
+
+/// Where in a value of a type something was refused, as `Certificate.tbs.validity.not_after`.
+///
+/// Fields without names are shown by their number, from 0, as `.2`, and values of a list as `[5]`.
+#[derive(Debug, Drop)]
+pub struct Path {
+    name: ByteStr,
+    /// From the innermost step outwards.
+    steps: Vec<Step>,
+    /// The tags of which one was expected.
+    expected: Vec<Tag>,
+    /// Whether a value of any type was expected.
+    any_expected: bool,
+    /// How many fields of the innermost value have begun.
+    begun: usize,
+    /// Whether memory ran out for a step.
+    is_cut: bool,
+}
+
+impl Path {
+    /// The path to a whole value of the type with this name.
+    pub(crate) fn new(alloc: Global, name: &'static str) -> Path {
+        Path {
+            name: ByteStr::from_static(name),
+            steps: Vec::new(alloc),
+            expected: Vec::new(alloc),
+            any_expected: false,
+            begun: 0,
+            is_cut: false,
+        }
+    }
+
+    /// Returns whether it shows nothing: neither a type nor a part.
+    pub(crate) fn is_empty(&self) -> bool {
+        self.name.is_empty() && !self.steps.iter().any(|step| is_shown(step))
+    }
+
+    /// Enters a value, whose fields are counted from 0. Returns how many had begun around it.
+    pub(crate) fn enter(&mut self) -> usize {
+        let outer = self.begun;
+        self.begun = 0;
+        outer
+    }
+
+    /// Leaves a value. If a field of it was refused, the path leads to that.
+    pub(crate) fn leave(&mut self, outer: usize, in_field: bool) {
+        if in_field {
+            self.step(Step::Field(self.begun.saturating_sub(1)));
+        }
+        self.begun = outer;
+    }
+
+    /// Counts a field that begins.
+    pub(crate) fn next_field(&mut self) {
+        self.begun = self.begun.saturating_add(1);
+    }
+
+    /// Leads to a value of a list.
+    pub(crate) fn at_item(&mut self, index: usize) {
+        self.step(Step::Item(index));
+    }
+
+    /// Leads to the first type of a CHOICE of two.
+    pub(crate) fn at_first(&mut self) {
+        self.step(Step::First);
+    }
+
+    /// Leads to the second type of a CHOICE of two.
+    pub(crate) fn at_second(&mut self) {
+        self.step(Step::Second);
+    }
+
+    /// Adds the step to the part, from the value that holds it.
+    fn step(&mut self, step: Step) {
+        if self.steps.push(step).is_err() {
+            self.is_cut = true;
+        }
+    }
+
+    /// Names the outermost step, if it leads to a part that has a name.
+    pub(crate) fn name_part(&mut self, names: &'static [&'static str]) {
+        if let Some(index) = self.last_field() {
+            self.rename(names, index);
+        } else if self.is_in_choice() {
+            self.name_choice(names);
+        }
+    }
+
+    /// Returns the field to which the outermost step leads, if it has no name.
+    fn last_field(&self) -> Option<usize> {
+        match self.steps.last() {
+            Some(Step::Field(index)) => Some(*index),
+            _ => None,
+        }
+    }
+
+    /// Returns whether the outermost step leads to an alternative.
+    fn is_in_choice(&self) -> bool {
+        match self.steps.last() {
+            Some(step) => !is_shown(step),
+            None => false,
+        }
+    }
+
+    /// Returns whether the outermost step leads to the second type of a CHOICE of two.
+    fn is_in_second(&self) -> bool {
+        match self.steps.last() {
+            Some(Step::Second) => true,
+            _ => false,
+        }
+    }
+
+    /// Names the alternative of a CHOICE that has as many as there are names.
+    fn name_choice(&mut self, names: &'static [&'static str]) {
+        let mut index: usize = 0;
+        for _ in 1..names.len() {
+            if self.is_in_second() {
+                let _ = self.steps.pop();
+                index = index.saturating_add(1);
+            }
+        }
+        if index.saturating_add(1) < names.len() {
+            let _ = self.steps.pop();
+        }
+        if index < names.len() {
+            self.step(Step::Named(ByteStr::from_static(names[index])));
+        }
+    }
+
+    /// Puts a name in the place of the outermost step, if there is one.
+    fn rename(&mut self, names: &'static [&'static str], index: usize) {
+        if index < names.len() {
+            let _ = self.steps.pop();
+            self.step(Step::Named(ByteStr::from_static(names[index])));
+        }
+    }
+
+    /// Notes that a value with this tag was expected.
+    pub(crate) fn expect(&mut self, tag: Tag) {
+        if self.expected.push(tag).is_err() {
+            self.is_cut = true;
+        }
+    }
+
+    /// Notes that a value of any type was expected.
+    pub(crate) fn expect_any(&mut self) {
+        self.any_expected = true;
+    }
+
+    /// Forgets all but the name, if memory ran out while the part was looked for.
+    pub(crate) fn settle(&mut self, is_known: bool) {
+        if self.is_cut || !is_known {
+            self.steps.clear();
+            self.expected.clear();
+            self.any_expected = false;
+        }
+    }
+
+    /// Returns whether it is known what was expected.
+    pub(crate) fn has_expected(&self) -> bool {
+        self.any_expected || !self.expected.is_empty()
+    }
+
+    /// Writes `INTEGER`, `INTEGER or NULL`, or `INTEGER, NULL or [0]`.
+    pub(crate) fn write_expected<W: fmt::Write>(&self, f: &mut fmt::Formatter<W>) -> fmt::Result {
+        if self.any_expected {
+            return write!(f, "a value");
+        }
+        let count = self.expected.len();
+        for (index, tag) in self.expected.iter().enumerate() {
+            if index > 0 {
+                write!(f, "{}", if index + 1 == count { " or " } else { ", " })?;
+            }
+            write!(f, "{tag}")?;
+        }
+        Ok(())
+    }
+}
+
+/// Returns whether a step is written. That to an alternative without a name isn't.
+fn is_shown(step: &Step) -> bool {
+    match step {
+        Step::First | Step::Second => false,
+        _ => true,
+    }
+}
+
+/// Writes one step.
+fn write_step<W: fmt::Write>(step: &Step, f: &mut fmt::Formatter<W>) -> fmt::Result {
+    match step {
+        Step::Named(name) => write!(f, ".{}", name.as_str()),
+        Step::Field(index) => write!(f, ".{index}"),
+        Step::Item(index) => write!(f, "[{index}]"),
+        Step::First | Step::Second => Ok(()),
+    }
+}
+
+/// Writes the name of the type, and then the steps from it to the part.
+impl fmt::Display for Path {
+    fn fmt<W: fmt::Write>(&self, f: &mut fmt::Formatter<W>) -> fmt::Result {
+        write!(f, "{}", self.name.as_str())?;
+        for step in self.steps.iter().rev() {
+            write_step(step, f)?;
+        }
+        Ok(())
+    }
+}

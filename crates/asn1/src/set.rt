@@ -1,0 +1,213 @@
+//! SET: values that are told apart by their tags (X.680, 27; X.690, 8.11, 9.3, 10.3).
+ghost use Rattle.std.specs.Prelude.{◌≡◌, ◌≢◌, true, false, refl, IfOk, IfErr};
+ghost use Rattle.std.specs.Prelude.{List, IsPermutation};
+ghost use Rattle.bcder.specs.declared.mode.Mode.TheVariants.{Ber};
+ghost use Rattle.bcder.specs.x690.Identifier.{set_tag};
+ghost use Rattle.bcder.specs.calls.Captured.{Kept};
+ghost use Rattle.bcder.specs.calls.Views.{Moved};
+ghost use Rattle.asn1.specs.Types.{AreInside, Only, TookFields, TookNextTyped};
+ghost use Rattle.asn1.specs.Tags.{set_tagged, only_tagged};
+ghost use Rattle.asn1.specs.Markers.{only_fixed};
+ghost use Rattle.asn1.specs.Decoded.{AreFields};
+ghost use Rattle.asn1.specs.SetsWritten.{flat, octets_of_each};
+ghost use Rattle.asn1.specs.Sorting.{Ascend};
+ghost use Rattle.asn1.specs.Sets.{place as place_in_order, kept_place, Rise, AreSet};
+ghost use Rattle.asn1.specs.Sets.{AreKeptByTag, IsUpTo, RefusesMembers};
+
+use crate::list::take_list;
+use crate::whole::decode_fields;
+use crate::writers::ByRef;
+use crate::{Any, Decode, DecodeFields, Fields, FixedTag, Type};
+use bcder::decode::{BytesSource, Constructed, ContentError, DecodeError, IntoSource, Source};
+use bcder::plain::front_at;
+use bcder::{Captured, Mode, Tag};
+use std::alloc::Global;
+use std::marker::Model;
+
+/// A SET of fields, whose values stand in any order in BER (X.680, 27; X.690, 8.11).
+///
+/// The fields have to be declared in ascending order of their tags: universal, application,
+/// context-specific, private, and then by number (X.680, 8.6). In CER and DER the values have to
+/// stand in this order (X.690, 9.3, 10.3). In BER they are put in it. Values of the same tag are
+/// refused. Each value is captured, so the fields are read from memory.
+#[derive(Clone, Copy, Debug, PartialEq, Eq, Drop)]
+pub struct Set<F>(pub F);
+
+impl<F> Model for Set<F> {
+    ghost Value = { F };
+
+    ghost view = { λ s. s.0 };
+
+    ghost inverse = { λ f. record { 0 = f } };
+}
+
+impl<F: Fields> Type for Set<F> {
+    ghost TAG = { set_tag };
+
+    #[inline(always)]
+    fn tag() -> Tag {
+        Tag::SET
+    }
+
+    ghost tags = { Only };
+
+    ghost Key = { F.Keys };
+
+    ghost key = { λ x. F.keys x };
+
+    ghost means = { λ mode t x. AreInside (AreSet mode (F.takes mode)) t x };
+
+    ghost keeps_all = { F.keep_all };
+
+    fn values_are_one() {
+        F::fields_are_one();
+    }
+
+    ghost tagged = { refl };
+
+    ghost value_tags = { only_tagged set_tagged };
+}
+
+impl<F: Fields> FixedTag for Set<F> {
+    ghost fixed = { only_fixed };
+}
+
+/// The place of a tag in the order of tags: by class, and then by number (X.680, 8.6).
+fn place(tag: Tag) -> u32
+    ensures { result ≡ place_in_order tag }
+{
+    let class = if tag.is_universal() {
+        0
+    } else if tag.is_application() {
+        1
+    } else if tag.is_context_specific() {
+        2
+    } else {
+        3
+    };
+    class * 2_097_152 + tag.number()
+}
+
+/// The place of a value's tag.
+fn place_of(value: &Any) -> u32
+    ensures { result ≡ kept_place value.now }
+{
+    match front_at(value.mode(), value.as_slice()) {
+        Some(front) => place(front.tag),
+        None => 0,
+    }
+}
+
+/// Whether each value's tag comes before that of the next one.
+fn ascend(values: &[Any]) -> bool
+    ensures yes { result ≡ true → Rise kept_place values.now }
+    ensures no { result ≡ false → Rise kept_place values.now → ⊥ }
+{
+    let mut index = 1;
+    while index < values.len() {
+        if place_of(&values[index - 1]) >= place_of(&values[index]) {
+            return false;
+        }
+        index += 1;
+    }
+    true
+}
+
+/// Puts values that may stand in any order in that of their tags.
+fn sort(mode: Mode, values: &mut Vec<Any>)
+    ensures rearranged { IsPermutation values.old.items values.new.items }
+    ensures in_place { mode ≢ Ber → values.new.items ≡ values.old.items }
+    ensures sorted { mode ≡ Ber → Ascend (IsUpTo kept_place) values.new.items }
+{
+    if mode.is_ber() {
+        values.sort_unstable_by_key(|value| place_of(value));
+    }
+}
+
+/// Puts values in ascending order of their tags, if they may stand in another one. Returns whether
+/// they ascend then, each tag once.
+fn put_in_order(mode: Mode, values: &mut Vec<Any>) -> bool
+    ensures yes { result ≡ true → AreKeptByTag mode values.old.items values.new.items }
+    ensures no { result ≡ false
+        → (ks : List Kept) → AreKeptByTag mode values.old.items ks → ⊥ }
+{
+    sort(mode, values);
+    ascend(values.as_slice())
+}
+
+/// Reads the fields that values are.
+fn read_members<F: DecodeFields<BytesSource>, E>(
+    alloc: Global,
+    mode: Mode,
+    values: &Vec<Any>,
+) -> Result<F, DecodeError<E>>
+    ensures value { IfOk result (λ x.
+        AreFields mode (F.takes mode) (flat (octets_of_each values.now.items)) x) }
+    ensures refused { IfErr result (λ e.
+        RefusesMembers mode (F.takes mode) (flat (octets_of_each values.now.items)) e) }
+{
+    let Ok(joined) = Captured::from_values(alloc, mode, ByRef(values)) else {
+        return Err(DecodeError::no_memory());
+    };
+    match decode_fields::<F, BytesSource>(alloc, mode, joined.into_source()) {
+        Ok(fields) => Ok(fields),
+        Err(error) => Err(error.convert()),
+    }
+}
+
+/// Takes all values up to the end of content.
+fn take_members<S: Source, F: DecodeFields<BytesSource>>(
+    alloc: Global,
+    cons: &mut Constructed<'_, S>,
+) -> Result<F, DecodeError<S::Error>>
+    ensures moves { Moved S.stream cons }
+    ensures took { TookFields S.stream cons (λ mode. AreSet mode (F.takes mode)) result }
+{
+    let mut values = match take_list::<S, Any>(alloc, cons) {
+        Ok(values) => values,
+        Err(error) => return Err(error),
+    };
+    let mode = cons.mode();
+    if !put_in_order(mode, &mut values) {
+        let error = ContentError::from_static("values of a set are out of order");
+        return Err(cons.content_err(error));
+    }
+    match read_members(alloc, mode, &values) {
+        Ok(fields) => Ok(fields),
+        Err(error) => Err(error),
+    }
+}
+
+/// Takes the next value if it has this tag. It then has to be constructed of the fields.
+fn take_set<S: Source, F: DecodeFields<BytesSource>>(
+    alloc: Global,
+    cons: &mut Constructed<'_, S>,
+    tag: Tag,
+) -> Result<Option<F>, DecodeError<S::Error>>
+    ensures moves { Moved S.stream cons }
+    ensures took { TookNextTyped S.stream cons (Only tag)
+        (λ mode. AreInside (AreSet mode (F.takes mode))) result }
+{
+    cons.take_opt_constructed_if(
+        tag,
+        |cons|
+            ensures moves { Moved S.stream cons }
+            ensures took { TookFields S.stream cons (λ mode. AreSet mode (F.takes mode)) result }
+        { take_members(alloc, cons) },
+    )
+}
+
+impl<S: Source, F: DecodeFields<BytesSource>> Decode<S> for Set<F> {
+    #[inline(always)]
+    fn take_opt_if(
+        alloc: Global,
+        cons: &mut Constructed<'_, S>,
+        tag: Tag,
+    ) -> Result<Option<Set<F>>, DecodeError<S::Error>> {
+        match take_set(alloc, cons, tag) {
+            Ok(Some(fields)) => Ok(Some(Set(fields))),
+            Ok(None) => Ok(None),
+            Err(error) => Err(error),
+        }
+    }
+}

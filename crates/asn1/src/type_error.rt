@@ -1,0 +1,54 @@
+//! Why octets are not one value of a type.
+ghost use Rattle.std.specs.Prelude.{◌≡◌};
+ghost use Rattle.bcder.specs.calls.Cause.{position_of};
+
+use crate::Path;
+use bcder::decode::{DecodeError, Pos};
+use std::convert::Infallible;
+use std::error::Error;
+use std::fmt;
+
+/// Why octets are not one value of a type, and in which part of it.
+#[derive(Debug, Drop)]
+pub struct TypeError {
+    /// The error, as [`decode`](crate::decode) returns it.
+    pub error: DecodeError<Infallible>,
+
+    /// In which part of the value something was refused.
+    pub path: Path,
+}
+
+impl TypeError {
+    /// Returns the position of what was refused, or `None` if memory ran out.
+    pub fn position(&self) -> Option<Pos>
+        ensures { result ≡ position_of self.now.error }
+    {
+        match &self.error {
+            DecodeError::Content { pos, .. } => Some(*pos),
+            _ => None,
+        }
+    }
+}
+
+/// Writes `PATH at octet N: expected TYPE`, `PATH at octet N: TEXT`, or `out of memory`.
+impl fmt::Display for TypeError {
+    fn fmt<W: fmt::Write>(&self, f: &mut fmt::Formatter<W>) -> fmt::Result {
+        match &self.error {
+            DecodeError::Content { error, pos } => {
+                if !self.path.is_empty() {
+                    write!(f, "{} ", self.path)?;
+                }
+                write!(f, "at octet {pos}: ")?;
+                if self.path.has_expected() {
+                    write!(f, "expected ")?;
+                    self.path.write_expected(f)
+                } else {
+                    write!(f, "{error}")
+                }
+            }
+            error => write!(f, "{error}"),
+        }
+    }
+}
+
+impl Error for TypeError {}

@@ -1,0 +1,458 @@
+//! Errors that say in which part of a value something was refused.
+//!
+//! Positions are counted by hand. A header is refused where it begins; one of the wrong form, and a
+//! value behind the last field, behind the header; contents octets at the first of them. What is
+//! missing, out of order, or a default, is refused where the content around it begins.
+ghost use Rattle.std.specs.Prelude.{false};
+ghost use Rattle.asn1.specs.declared.choice.Choice2.TheVariants.{One, Two};
+
+use crate::rows::{Read, explains};
+use asn1::{
+    Any, Choice2, Choice3, Context, DecodeDefinition, DefaultValue, Definition, Explicit,
+    ExtensionAdditions, Implicit, OrDefault, Sequence, SequenceOf, SetOf, TypeError, Utf8StringRef,
+    decode_octets,
+};
+use bcder::decode::Source;
+use bcder::{Mode, NoMemory};
+use std::alloc::Global;
+
+/// `Range ::= SEQUENCE { from INTEGER (0..255), until INTEGER (0..255) OPTIONAL }`.
+#[derive(Debug, Drop)]
+struct Range {
+    from: u8,
+    until: Option<u8>,
+}
+
+impl Definition for Range {
+    type As = Sequence<(u8, Option<u8>)>;
+
+    const NAME: &'static str = "Range";
+
+    const PARTS: &'static [&'static str] = &["from", "until"];
+
+    ghost parts = { λ x. (x.from, x.until) };
+
+    fn from_parts(value: Sequence<(u8, Option<u8>)>) -> Range {
+        let Sequence((from, until)) = value;
+        Range { from, until }
+    }
+}
+
+impl<S: Source> DecodeDefinition<S> for Range {}
+
+/// `Answer ::= CHOICE { yes BOOLEAN, many Range }`.
+#[derive(Debug, Drop)]
+enum Answer {
+    Yes(bool),
+    Many(Range),
+}
+
+ghost use Rattle.types.specs.declared.errors.Answer.TheVariants.{Yes, Many};
+
+impl Definition for Answer {
+    type As = Choice2<bool, Range>;
+
+    const NAME: &'static str = "Answer";
+
+    const PARTS: &'static [&'static str] = &["yes", "many"];
+
+    ghost parts = { elim [ Yes b ↦ One b | Many r ↦ Two r ] };
+
+    fn from_parts(value: Choice2<bool, Range>) -> Answer {
+        match value {
+            Choice2::One(yes) => Answer::Yes(yes),
+            Choice2::Two(many) => Answer::Many(many),
+        }
+    }
+}
+
+impl<S: Source> DecodeDefinition<S> for Answer {}
+
+/// `FALSE`.
+#[derive(Clone, Copy, Debug, PartialEq, Eq)]
+struct No;
+
+impl DefaultValue<bool> for No {
+    ghost default = { false };
+
+    fn is_default(value: &bool) -> bool {
+        !*value
+    }
+
+    fn make(_alloc: Global) -> Result<bool, NoMemory> {
+        Ok(false)
+    }
+}
+
+/// The parts of a `Report`.
+type ReportParts = Sequence<
+    (
+        Range,
+        OrDefault<bool, No>,
+        SequenceOf<Range>,
+        Explicit<Context<0>, Answer>,
+        Option<Implicit<Context<1>, Range>>,
+    ),
+>;
+
+/// `Report ::= SEQUENCE { range Range, exact BOOLEAN DEFAULT FALSE, others SEQUENCE OF Range,
+/// answer [0] EXPLICIT Answer, last [1] IMPLICIT Range OPTIONAL }`.
+#[derive(Debug, Drop)]
+struct Report {
+    range: Range,
+    exact: OrDefault<bool, No>,
+    others: SequenceOf<Range>,
+    answer: Explicit<Context<0>, Answer>,
+    last: Option<Implicit<Context<1>, Range>>,
+}
+
+impl Definition for Report {
+    type As = ReportParts;
+
+    const NAME: &'static str = "Report";
+
+    const PARTS: &'static [&'static str] = &["range", "exact", "others", "answer", "last"];
+
+    ghost parts = { λ x. (x.range, x.exact, x.others, x.answer, x.last) };
+
+    fn from_parts(value: ReportParts) -> Report {
+        let Sequence((range, exact, others, answer, last)) = value;
+        Report {
+            range,
+            exact,
+            others,
+            answer,
+            last,
+        }
+    }
+}
+
+impl<S: Source> DecodeDefinition<S> for Report {}
+
+/// `Unnamed ::= SEQUENCE { range Range, flag BOOLEAN }`, without names.
+#[derive(Debug, Drop)]
+struct Unnamed {
+    range: Range,
+    flag: bool,
+}
+
+impl Definition for Unnamed {
+    type As = Sequence<(Range, bool)>;
+
+    ghost parts = { λ x. (x.range, x.flag) };
+
+    fn from_parts(value: Sequence<(Range, bool)>) -> Unnamed {
+        let Sequence((range, flag)) = value;
+        Unnamed { range, flag }
+    }
+}
+
+impl<S: Source> DecodeDefinition<S> for Unnamed {}
+
+/// Rows for `Range`.
+const RANGES: [Read<'static>; 14] = [
+    // no value, and one of another type
+    (Mode::Der, &[], "Range at octet 0: expected SEQUENCE"),
+    (
+        Mode::Der,
+        &[0x31, 0x00],
+        "Range at octet 0: expected SEQUENCE",
+    ),
+    // no field, a field of another type, and one that is constructed
+    (
+        Mode::Der,
+        &[0x30, 0x00],
+        "Range.from at octet 2: expected INTEGER",
+    ),
+    (
+        Mode::Der,
+        &[0x30, 0x03, 0x01, 0x01, 0xFF],
+        "Range.from at octet 2: expected INTEGER",
+    ),
+    (
+        Mode::Der,
+        &[0x30, 0x02, 0x22, 0x00],
+        "Range.from at octet 4: expected a primitive value",
+    ),
+    // 256, and -1 in the second field
+    (
+        Mode::Der,
+        &[0x30, 0x04, 0x02, 0x02, 0x01, 0x00],
+        "Range.from at octet 4: no integer of this type",
+    ),
+    (
+        Mode::Der,
+        &[0x30, 0x06, 0x02, 0x01, 0x01, 0x02, 0x01, 0xFF],
+        "Range.until at octet 7: no integer of this type",
+    ),
+    // a header in the place of the second field, with a length not in the fewest octets
+    (
+        Mode::Der,
+        &[0x30, 0x07, 0x02, 0x01, 0x01, 0x02, 0x81, 0x01, 0x02],
+        "Range.until at octet 5: length not in the fewest octets",
+    ),
+    // a third value
+    (
+        Mode::Der,
+        &[
+            0x30, 0x09, 0x02, 0x01, 0x01, 0x02, 0x01, 0x02, 0x02, 0x01, 0x03,
+        ],
+        "Range at octet 10: values left in a constructed value",
+    ),
+    // octets behind the value
+    (
+        Mode::Der,
+        &[0x30, 0x03, 0x02, 0x01, 0x01, 0x00],
+        "Range at octet 5: trailing data",
+    ),
+    // octets that end inside the first field
+    (
+        Mode::Der,
+        &[0x30, 0x03, 0x02, 0x01],
+        "Range.from at octet 4: unexpected end of data",
+    ),
+    // an indefinite length, which BER allows
+    (
+        Mode::Der,
+        &[0x30, 0x80, 0x02, 0x01, 0x01, 0x00, 0x00],
+        "Range at octet 0: indefinite length in DER",
+    ),
+    (
+        Mode::Ber,
+        &[0x30, 0x80, 0x02, 0x01, 0x01, 0x00, 0x00],
+        "read",
+    ),
+    (
+        Mode::Ber,
+        &[0x30, 0x80, 0x01, 0x01, 0xFF, 0x00, 0x00],
+        "Range.from at octet 2: expected INTEGER",
+    ),
+];
+
+#[test]
+fn fields_are_named(rt: HostRuntime) {
+    explains::<Range>(&rt, rt.alloc(), &RANGES);
+}
+
+/// Rows for `Report`.
+const REPORTS: [Read<'static>; 13] = [
+    (
+        Mode::Der,
+        &[
+            0x30, 0x14, 0x30, 0x03, 0x02, 0x01, 0x01, 0x01, 0x01, 0xFF, 0x30, 0x00, 0xA0, 0x03,
+            0x01, 0x01, 0xFF, 0xA1, 0x03, 0x02, 0x01, 0x09,
+        ],
+        "read",
+    ),
+    // a value behind the last field
+    (
+        Mode::Der,
+        &[
+            0x30, 0x0E, 0x30, 0x03, 0x02, 0x01, 0x01, 0x30, 0x00, 0xA0, 0x03, 0x01, 0x01, 0xFF,
+            0x05, 0x00,
+        ],
+        "Report at octet 16: values left in a constructed value",
+    ),
+    // a field of a field
+    (
+        Mode::Der,
+        &[0x30, 0x02, 0x30, 0x00],
+        "Report.range.from at octet 4: expected INTEGER",
+    ),
+    // a default value, which BER allows; then the list is missing
+    (
+        Mode::Der,
+        &[0x30, 0x08, 0x30, 0x03, 0x02, 0x01, 0x01, 0x01, 0x01, 0x00],
+        "Report.exact at octet 2: a default value is encoded",
+    ),
+    (
+        Mode::Ber,
+        &[0x30, 0x08, 0x30, 0x03, 0x02, 0x01, 0x01, 0x01, 0x01, 0x00],
+        "Report.others at octet 2: expected SEQUENCE",
+    ),
+    // 02 is no BOOLEAN of DER
+    (
+        Mode::Der,
+        &[0x30, 0x08, 0x30, 0x03, 0x02, 0x01, 0x01, 0x01, 0x01, 0x02],
+        "Report.exact at octet 9: no boolean",
+    ),
+    // the third value of the list has no field; the second one is a BOOLEAN
+    (
+        Mode::Der,
+        &[
+            0x30, 0x13, 0x30, 0x03, 0x02, 0x01, 0x01, 0x30, 0x0C, 0x30, 0x03, 0x02, 0x01, 0x02,
+            0x30, 0x03, 0x02, 0x01, 0x03, 0x30, 0x00,
+        ],
+        "Report.others[2].from at octet 21: expected INTEGER",
+    ),
+    (
+        Mode::Der,
+        &[
+            0x30, 0x0F, 0x30, 0x03, 0x02, 0x01, 0x01, 0x30, 0x08, 0x30, 0x03, 0x02, 0x01, 0x02,
+            0x01, 0x01, 0xFF,
+        ],
+        "Report.others at octet 16: values left in a constructed value",
+    ),
+    // no explicit tag; nothing inside it; a NULL inside it
+    (
+        Mode::Der,
+        &[0x30, 0x07, 0x30, 0x03, 0x02, 0x01, 0x01, 0x30, 0x00],
+        "Report.answer at octet 2: expected [0]",
+    ),
+    (
+        Mode::Der,
+        &[
+            0x30, 0x09, 0x30, 0x03, 0x02, 0x01, 0x01, 0x30, 0x00, 0xA0, 0x00,
+        ],
+        "Report.answer at octet 11: expected BOOLEAN or SEQUENCE",
+    ),
+    (
+        Mode::Der,
+        &[
+            0x30, 0x0B, 0x30, 0x03, 0x02, 0x01, 0x01, 0x30, 0x00, 0xA0, 0x02, 0x05, 0x00,
+        ],
+        "Report.answer at octet 11: expected BOOLEAN or SEQUENCE",
+    ),
+    // a field of the second alternative
+    (
+        Mode::Der,
+        &[
+            0x30, 0x0B, 0x30, 0x03, 0x02, 0x01, 0x01, 0x30, 0x00, 0xA0, 0x02, 0x30, 0x00,
+        ],
+        "Report.answer.many.from at octet 13: expected INTEGER",
+    ),
+    // a field of the last field, which is optional and has an implicit tag
+    (
+        Mode::Der,
+        &[
+            0x30, 0x0E, 0x30, 0x03, 0x02, 0x01, 0x01, 0x30, 0x00, 0xA0, 0x03, 0x01, 0x01, 0xFF,
+            0xA1, 0x00,
+        ],
+        "Report.last.from at octet 16: expected INTEGER",
+    ),
+];
+
+#[test]
+fn parts_of_parts_are_named(rt: HostRuntime) {
+    explains::<Report>(&rt, rt.alloc(), &REPORTS);
+}
+
+/// Rows for `Answer`.
+const ANSWERS: [Read<'static>; 2] = [
+    (
+        Mode::Der,
+        &[0x01, 0x00],
+        "Answer.yes at octet 2: no boolean",
+    ),
+    (
+        Mode::Der,
+        &[0x05, 0x00],
+        "Answer at octet 0: expected BOOLEAN or SEQUENCE",
+    ),
+];
+
+/// Rows for `Unnamed`.
+const UNNAMED: [Read<'static>; 2] = [
+    (
+        Mode::Der,
+        &[0x30, 0x05, 0x30, 0x03, 0x02, 0x01, 0x01],
+        ".1 at octet 2: expected BOOLEAN",
+    ),
+    (
+        Mode::Der,
+        &[0x30, 0x02, 0x30, 0x00],
+        ".0.from at octet 4: expected INTEGER",
+    ),
+];
+
+#[test]
+fn names_may_be_left_out(rt: HostRuntime) {
+    explains::<Answer>(&rt, rt.alloc(), &ANSWERS);
+    explains::<Unnamed>(&rt, rt.alloc(), &UNNAMED);
+}
+
+/// A CHOICE of three, with no names.
+type Third = Choice3<bool, (), Sequence<(u8, Utf8StringRef<&'static [u8]>)>>;
+
+/// Rows for `Third`.
+const THIRDS: [Read<'static>; 3] = [
+    (
+        Mode::Der,
+        &[0x05, 0x01, 0x00],
+        "at octet 2: octets in a null",
+    ),
+    (
+        Mode::Der,
+        &[0x02, 0x00],
+        "at octet 0: expected BOOLEAN, NULL or SEQUENCE",
+    ),
+    (
+        Mode::Der,
+        &[0x30, 0x06, 0x02, 0x01, 0x01, 0x0C, 0x01, 0xFF],
+        ".1 at octet 7: invalid character",
+    ),
+];
+
+/// Rows for `SET OF SEQUENCE { BOOLEAN, ANY, .. }`.
+const SETS: [Read<'static>; 4] = [
+    (
+        Mode::Der,
+        &[0x31, 0x04, 0x30, 0x02, 0x05, 0x00],
+        "[0].0 at octet 4: expected BOOLEAN",
+    ),
+    (
+        Mode::Der,
+        &[0x31, 0x05, 0x30, 0x03, 0x01, 0x01, 0xFF],
+        "[0].1 at octet 4: expected a value",
+    ),
+    // two values, the second of which comes before the first
+    (
+        Mode::Der,
+        &[
+            0x31, 0x0E, 0x30, 0x05, 0x01, 0x01, 0xFF, 0x05, 0x00, 0x30, 0x05, 0x01, 0x01, 0x00,
+            0x05, 0x00,
+        ],
+        "[1] at octet 2: values of a set are out of order",
+    ),
+    (Mode::Der, &[0x30, 0x00], "at octet 0: expected SET"),
+];
+
+/// Rows for a list of pairs, the second of which is boxed.
+const PAIRS: [Read<'static>; 2] = [
+    (
+        Mode::Der,
+        &[0x30, 0x05, 0x30, 0x03, 0x02, 0x01, 0x01],
+        "[0].1 at octet 4: expected BOOLEAN",
+    ),
+    (
+        Mode::Der,
+        &[
+            0x30, 0x08, 0x30, 0x06, 0x02, 0x01, 0x01, 0x01, 0x01, 0xFF, 0x05,
+        ],
+        "at octet 10: trailing data",
+    ),
+];
+
+#[test]
+fn types_need_no_names(rt: HostRuntime) {
+    let alloc = rt.alloc();
+    explains::<Third>(&rt, alloc, &THIRDS);
+    explains::<SetOf<Sequence<(bool, Any, ExtensionAdditions)>>>(&rt, alloc, &SETS);
+    explains::<SequenceOf<Sequence<(u8, Box<bool>)>>>(&rt, alloc, &PAIRS);
+}
+
+#[test]
+fn an_error_has_a_position(rt: HostRuntime) {
+    let octets: &[u8] = &[0x30, 0x04, 0x02, 0x02, 0x01, 0x00];
+    let read: Result<Range, TypeError> = decode_octets(rt.alloc(), Mode::Der, octets);
+    match read {
+        Ok(_) => panic!(rt; "read"),
+        Err(error) => {
+            match error.position() {
+                Some(position) => assert_eq!(rt; usize::from(position), 4),
+                None => panic!(rt; "no position"),
+            }
+            assert!(rt; error.error.content_error().is_some());
+        }
+    }
+}

@@ -1,0 +1,175 @@
+//! A type that holds itself: a value inside is an `Any`, and each level is decoded by a call.
+//! Expected values are worked by hand from X.690, 8.12 to 8.14.
+ghost use Rattle.asn1.specs.declared.choice.Choice4.TheVariants.{One, Two, Three, Four};
+
+use asn1::{
+    Any, Choice4, Context, DecodeDefinition, Definition, Explicit, Implicit, SetOf, decode,
+};
+use bcder::decode::{DecodeError, Source};
+use bcder::{Mode, OctetString};
+use std::alloc::Global;
+use std::convert::Infallible;
+use std::process::Abort;
+
+/// One level of a filter of LDAP, in part (RFC 4511, section 4.5.1.7).
+///
+///     Filter ::= CHOICE {
+///         and      [0] SET OF Filter,
+///         or       [1] SET OF Filter,
+///         not      [2] Filter,
+///         present  [7] OCTET STRING }
+#[derive(Debug, Drop)]
+enum Level {
+    And(SetOf<Any>),
+    Or(SetOf<Any>),
+    Not(Any),
+    Present(OctetString),
+}
+
+ghost use Rattle.types.specs.declared.recursion.Level.TheVariants.{And, Or, Not, Present};
+
+impl Definition for Level {
+    type As = Choice4<
+        Implicit<Context<0>, SetOf<Any>>,
+        Implicit<Context<1>, SetOf<Any>>,
+        Explicit<Context<2>, Any>,
+        Implicit<Context<7>, OctetString>,
+    >;
+
+    ghost parts = { elim [
+      | And xs ↦ One xs
+      | Or xs ↦ Two xs
+      | Not x ↦ Three x
+      | Present x ↦ Four x
+    ] };
+
+    fn from_parts(
+        value: Choice4<
+            Implicit<Context<0>, SetOf<Any>>,
+            Implicit<Context<1>, SetOf<Any>>,
+            Explicit<Context<2>, Any>,
+            Implicit<Context<7>, OctetString>,
+        >,
+    ) -> Level {
+        match value {
+            Choice4::One(all) => Level::And(all.value),
+            Choice4::Two(some) => Level::Or(some.value),
+            Choice4::Three(part) => Level::Not(part.value),
+            Choice4::Four(name) => Level::Present(name.value),
+        }
+    }
+}
+
+impl<S: Source> DecodeDefinition<S> for Level {}
+
+/// A filter with all its levels.
+#[derive(Debug, Drop)]
+enum Filter {
+    And(Vec<Filter>),
+    Or(Vec<Filter>),
+    Not(Box<Filter>),
+    Present(OctetString),
+}
+
+/// Why there is no filter.
+#[derive(Debug, Drop)]
+enum NoFilter {
+    Octets(DecodeError<Infallible>),
+    TooDeep,
+    NoMemory,
+}
+
+/// Reads a filter of at most this many levels.
+#[cycle(filter)]
+fn filter_of(alloc: Global, value: Any, levels: u32) -> Result<Filter, NoFilter> {
+    if levels == 0 {
+        return Err(NoFilter::TooDeep);
+    }
+    match value.decode_as::<Level>(alloc) {
+        Ok(Level::And(parts)) => match filters_of(alloc, parts, levels - 1) {
+            Ok(filters) => Ok(Filter::And(filters)),
+            Err(error) => Err(error),
+        },
+        Ok(Level::Or(parts)) => match filters_of(alloc, parts, levels - 1) {
+            Ok(filters) => Ok(Filter::Or(filters)),
+            Err(error) => Err(error),
+        },
+        Ok(Level::Not(part)) => match filter_of(alloc, part, levels - 1) {
+            Ok(filter) => match Box::new(alloc, filter) {
+                Ok(filter) => Ok(Filter::Not(filter)),
+                Err(_) => Err(NoFilter::NoMemory),
+            },
+            Err(error) => Err(error),
+        },
+        Ok(Level::Present(name)) => Ok(Filter::Present(name)),
+        Err(error) => Err(NoFilter::Octets(error)),
+    }
+}
+
+/// Reads the filters of a SET OF.
+#[cycle(filter)]
+fn filters_of(alloc: Global, parts: SetOf<Any>, levels: u32) -> Result<Vec<Filter>, NoFilter> {
+    let mut filters = Vec::new(alloc);
+    for part in parts.0 {
+        match filter_of(alloc, part, levels) {
+            Ok(filter) => match filters.push(filter) {
+                Ok(()) => {}
+                Err(_) => return Err(NoFilter::NoMemory),
+            },
+            Err(error) => return Err(error),
+        }
+    }
+    Ok(filters)
+}
+
+/// Octets, and the filter of at most three levels that they are.
+const FILTERS: [(&[u8], &str); 8] = [
+    (&[0x87, 0x02, 0x63, 0x6E], "Present(\"cn\")"),
+    // not of not, and one more
+    (
+        &[0xA2, 0x06, 0xA2, 0x04, 0x87, 0x02, 0x63, 0x6E],
+        "Not(Not(Present(\"cn\")))",
+    ),
+    (
+        &[0xA2, 0x08, 0xA2, 0x06, 0xA2, 0x04, 0x87, 0x02, 0x63, 0x6E],
+        "TooDeep",
+    ),
+    // all of two, and any of none
+    (
+        &[
+            0xA0, 0x0A, 0x87, 0x01, 0x61, 0xA2, 0x03, 0x87, 0x01, 0x62, 0xA1, 0x00,
+        ],
+        "And([Present(\"a\"), Not(Present(\"b\")), Or([])])",
+    ),
+    // no filter has the tag [3], nor does one inside
+    (&[0x83, 0x00], "refused"),
+    (&[0xA1, 0x02, 0x83, 0x00], "refused"),
+    // two filters behind one explicit tag, and octets that are cut
+    (&[0xA2, 0x04, 0x87, 0x00, 0x87, 0x00], "refused"),
+    (&[0xA0, 0x03, 0x87, 0x02, 0x63], "refused"),
+];
+
+/// Returns how what was read is shown, with octets alone for a string.
+fn shown(rt: &impl Abort, alloc: Global, octets: &[u8]) -> String {
+    let text = match decode::<Any, &[u8]>(alloc, Mode::Ber, octets) {
+        Ok(value) => match filter_of(alloc, value, 3) {
+            Ok(filter) => format!(in alloc; "{filter:?}"),
+            Err(NoFilter::Octets(_)) => format!(in alloc; "refused"),
+            Err(error) => format!(in alloc; "{error:?}"),
+        },
+        Err(_) => format!(in alloc; "refused"),
+    };
+    let text = text.expect(rt, "no memory");
+    let text = text
+        .replace(alloc, "OctetString { octets: Whole(b", "")
+        .expect(rt, "no memory");
+    text.replace(alloc, ") }", "").expect(rt, "no memory")
+}
+
+#[test]
+fn filters_hold_filters(rt: HostRuntime) {
+    for (octets, wanted) in &FILTERS {
+        let found = shown(&rt, rt.alloc(), octets);
+        assert_eq!(rt; found.as_str(), *wanted, "{octets:?}");
+    }
+}
