@@ -2,7 +2,7 @@
 ghost use Rattle.bcder.specs.calls.Views.{Moved};
 ghost use Rattle.asn1.specs.Types.{TookFields, AreAll};
 
-use crate::{DecodeFields, Fields};
+use crate::{DecodeFields, Fields, Part, Trace};
 use bcder::decode::{Constructed, DecodeError, Source};
 use std::alloc::Global;
 
@@ -27,17 +27,24 @@ impl Fields for ExtensionAdditions {
 }
 
 impl<S: Source> DecodeFields<S> for ExtensionAdditions {
-    fn take_fields(
+    fn trace_fields<P: Trace>(
         alloc: Global,
         cons: &mut Constructed<'_, S>,
+        path: &mut P,
     ) -> Result<ExtensionAdditions, DecodeError<S::Error>> {
         match cons.skip_one(alloc) {
             Ok(Some(())) => match cons.skip_all(alloc) {
                 Ok(()) => Ok(ExtensionAdditions),
-                Err(error) => Err(error),
+                Err(error) => {
+                    path.note(Part::Field);
+                    Err(error)
+                }
             },
             Ok(None) => Ok(ExtensionAdditions),
-            Err(error) => Err(error),
+            Err(error) => {
+                path.note(Part::Field);
+                Err(error)
+            }
         }
     }
 }

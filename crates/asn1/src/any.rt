@@ -11,7 +11,7 @@ ghost use Rattle.asn1.specs.Anything.{Every, IsOneValue, KeepsValue, kept_value}
 ghost use Rattle.asn1.specs.Decoded.{IsValueOf, RefusesAll};
 ghost use Rattle.asn1.specs.Tags.{null_tagged};
 
-use crate::{Decode, Encode, Path, Type, decode};
+use crate::{Decode, Encode, Part, Trace, Type, decode};
 use bcder::decode::{BytesSource, Constructed, DecodeError, Source};
 use bcder::encode::{EncodeError, Values, WriteError};
 use bcder::{Captured, Mode, Tag};
@@ -148,8 +148,8 @@ impl Type for Any {
         Tag::NULL
     }
 
-    fn expect(path: &mut Path) {
-        path.expect_any();
+    fn expect<P: Trace>(path: &mut P) {
+        path.note(Part::AnyExpected);
     }
 
     ghost tags = { Every };
@@ -169,10 +169,11 @@ impl Type for Any {
 
 impl<S: Source> Decode<S> for Any {
     #[inline(always)]
-    fn take_opt_if(
+    fn trace_opt_if<P: Trace>(
         alloc: Global,
         cons: &mut Constructed<'_, S>,
         _tag: Tag,
+        _path: &mut P,
     ) -> Result<Option<Any>, DecodeError<S::Error>> {
         Any::take_opt(alloc, cons)
     }

@@ -2,7 +2,7 @@
 ghost use Rattle.bcder.specs.calls.Views.{Moved};
 ghost use Rattle.asn1.specs.Types.{TookFields};
 
-use crate::{DecodeFields, Fields, Path};
+use crate::{DecodeFields, Fields, Trace};
 use bcder::decode::{Constructed, DecodeError, Source};
 use std::alloc::Global;
 
@@ -16,33 +16,24 @@ impl<F: Fields> Fields for Box<F> {
 
     ghost keep_all = { F.keep_all };
 
+    fn count() -> usize {
+        F::count()
+    }
+
     fn fields_are_one() {
         F::fields_are_one();
     }
 }
 
 impl<S: Source, F: DecodeFields<S>> DecodeFields<S> for Box<F> {
-    fn take_fields(
+    fn trace_fields<P: Trace>(
         alloc: Global,
         cons: &mut Constructed<'_, S>,
-    ) -> Result<Box<F>, DecodeError<S::Error>> {
-        match F::take_fields(alloc, cons) {
-            Ok(fields) => match Box::new(alloc, fields) {
-                Ok(boxed) => Ok(boxed),
-                Err(_) => Err(DecodeError::no_memory()),
-            },
-            Err(error) => Err(error),
-        }
-    }
-
-    fn trace_fields(
-        alloc: Global,
-        cons: &mut Constructed<'_, S>,
-        path: &mut Path,
+        path: &mut P,
     ) -> Result<Box<F>, DecodeError<S::Error>> {
         match F::trace_fields(alloc, cons, path) {
             Ok(fields) => match Box::new(alloc, fields) {
-                Ok(held) => Ok(held),
+                Ok(boxed) => Ok(boxed),
                 Err(_) => Err(DecodeError::no_memory()),
             },
             Err(error) => Err(error),

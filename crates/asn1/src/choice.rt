@@ -6,7 +6,7 @@ ghost use Rattle.asn1.specs.Choices.{EitherTag, IsChoice, choice_key, either_tag
 ghost use Rattle.asn1.specs.Choices.{three_in_two, four_in_two};
 ghost use Rattle.asn1.specs.declared.choice.Choice2.{Choice2 as ChoiceOfKeys};
 
-use crate::{Decode, DecodeDefinition, Definition, Path, Type};
+use crate::{Decode, DecodeDefinition, Definition, Part, Trace, Type};
 use bcder::Tag;
 use bcder::decode::{Constructed, DecodeError, Source};
 use std::alloc::Global;
@@ -31,7 +31,7 @@ impl<A: Type, B: Type> Type for Choice2<A, B> {
         A::tag()
     }
 
-    fn expect(path: &mut Path) {
+    fn expect<P: Trace>(path: &mut P) {
         A::expect(path);
         B::expect(path);
     }
@@ -58,33 +58,17 @@ impl<A: Type, B: Type> Type for Choice2<A, B> {
 
 impl<S: Source, A: Decode<S>, B: Decode<S>> Decode<S> for Choice2<A, B> {
     #[inline(always)]
-    fn take_opt_if(
+    fn trace_opt_if<P: Trace>(
         alloc: Global,
         cons: &mut Constructed<'_, S>,
         _tag: Tag,
-    ) -> Result<Option<Choice2<A, B>>, DecodeError<S::Error>> {
-        match A::take_opt_from(alloc, cons) {
-            Ok(Some(one)) => Ok(Some(Choice2::One(one))),
-            Ok(None) => match B::take_opt_from(alloc, cons) {
-                Ok(Some(two)) => Ok(Some(Choice2::Two(two))),
-                Ok(None) => Ok(None),
-                Err(error) => Err(error),
-            },
-            Err(error) => Err(error),
-        }
-    }
-
-    fn trace_opt_if(
-        alloc: Global,
-        cons: &mut Constructed<'_, S>,
-        _tag: Tag,
-        path: &mut Path,
+        path: &mut P,
     ) -> Result<Option<Choice2<A, B>>, DecodeError<S::Error>> {
         match A::trace_opt_from(alloc, cons, path) {
             Ok(Some(one)) => return Ok(Some(Choice2::One(one))),
             Ok(None) => {}
             Err(error) => {
-                path.at_first();
+                path.note(Part::First);
                 return Err(error);
             }
         }
@@ -92,7 +76,7 @@ impl<S: Source, A: Decode<S>, B: Decode<S>> Decode<S> for Choice2<A, B> {
             Ok(Some(two)) => Ok(Some(Choice2::Two(two))),
             Ok(None) => Ok(None),
             Err(error) => {
-                path.at_second();
+                path.note(Part::Second);
                 Err(error)
             }
         }

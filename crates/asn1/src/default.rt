@@ -5,7 +5,7 @@ ghost use Rattle.bcder.specs.calls.Views.{Moved};
 ghost use Rattle.asn1.specs.Types.{TookFields};
 ghost use Rattle.asn1.specs.Defaults.{IsDefaulted};
 
-use crate::{Decode, DecodeFields, Fields, Path, Type};
+use crate::{Decode, DecodeFields, Fields, Part, Trace, Type};
 use bcder::decode::{Constructed, ContentError, DecodeError, Source};
 use bcder::{Mode, NoMemory};
 use std::alloc::Global;
@@ -92,49 +92,22 @@ impl<T: Type, D: DefaultValue<T>> Fields for OrDefault<T, D> {
 
 impl<S: Source, T: Decode<S>, D: DefaultValue<T>> DecodeFields<S> for OrDefault<T, D> {
     #[inline(always)]
-    fn take_fields(
+    fn trace_fields<P: Trace>(
         alloc: Global,
         cons: &mut Constructed<'_, S>,
-    ) -> Result<OrDefault<T, D>, DecodeError<S::Error>> {
-        T::values_are_one();
-        match <Option<T>>::take_fields(alloc, cons) {
-            Ok(Some(value)) => {
-                let mode = cons.mode();
-                if is_left_out::<T, D>(mode, &value) {
-                    let error = ContentError::from_static("a default value is encoded");
-                    return Err(cons.content_err(error));
-                }
-                Ok(OrDefault {
-                    value,
-                    mark: PhantomData,
-                })
-            }
-            Ok(None) => match D::make(alloc) {
-                Ok(value) => Ok(OrDefault {
-                    value,
-                    mark: PhantomData,
-                }),
-                Err(_) => Err(DecodeError::no_memory()),
-            },
-            Err(error) => Err(error),
-        }
-    }
-
-    fn trace_fields(
-        alloc: Global,
-        cons: &mut Constructed<'_, S>,
-        path: &mut Path,
+        path: &mut P,
     ) -> Result<OrDefault<T, D>, DecodeError<S::Error>> {
         T::values_are_one();
         match <Option<T>>::trace_fields(alloc, cons, path) {
-            Ok(Some(given)) => {
+            Ok(Some(value)) => {
                 let mode = cons.mode();
-                if is_left_out::<T, D>(mode, &given) {
+                if is_left_out::<T, D>(mode, &value) {
+                    path.note(Part::Field);
                     let error = ContentError::from_static("a default value is encoded");
                     return Err(cons.content_err(error));
                 }
                 Ok(OrDefault {
-                    value: given,
+                    value,
                     mark: PhantomData,
                 })
             }

@@ -1,7 +1,7 @@
 //! A user's own type, defined by another (X.680, 16.1).
 ghost use Rattle.std.specs.Prelude.{◌≡◌};
 
-use crate::{Decode, Path, Type};
+use crate::{Decode, Part, Trace, Type};
 use bcder::Tag;
 use bcder::decode::{Constructed, DecodeError, Source};
 use std::alloc::Global;
@@ -41,7 +41,7 @@ impl<D: Definition> Type for D {
         D::NAME
     }
 
-    fn expect(path: &mut Path) {
+    fn expect<P: Trace>(path: &mut P) {
         <D::As>::expect(path);
     }
 
@@ -72,29 +72,17 @@ pub trait DecodeDefinition<S: Source>: Definition<As: Decode<S>> {}
 
 impl<S: Source, D: Definition + DecodeDefinition<S>> Decode<S> for D {
     #[inline(always)]
-    fn take_opt_if(
+    fn trace_opt_if<P: Trace>(
         alloc: Global,
         cons: &mut Constructed<'_, S>,
         tag: Tag,
-    ) -> Result<Option<D>, DecodeError<S::Error>> {
-        match <D::As>::take_opt_if(alloc, cons, tag) {
-            Ok(Some(parts)) => Ok(Some(D::from_parts(parts))),
-            Ok(None) => Ok(None),
-            Err(error) => Err(error),
-        }
-    }
-
-    fn trace_opt_if(
-        alloc: Global,
-        cons: &mut Constructed<'_, S>,
-        tag: Tag,
-        path: &mut Path,
+        path: &mut P,
     ) -> Result<Option<D>, DecodeError<S::Error>> {
         match <D::As>::trace_opt_if(alloc, cons, tag, path) {
             Ok(Some(parts)) => Ok(Some(D::from_parts(parts))),
             Ok(None) => Ok(None),
             Err(error) => {
-                path.name_part(D::PARTS);
+                path.note(Part::Named(D::PARTS));
                 Err(error)
             }
         }

@@ -7,7 +7,7 @@ ghost use Rattle.bcder.specs.declared.mode.Mode.TheVariants.{Ber};
 ghost use Rattle.asn1.specs.Types.{TookFields, IsMember, IsOptional, AreBoth};
 ghost use Rattle.asn1.specs.Keys.{TakeOne, LeaveEncodings, AreTakenOnce, option_key};
 
-use crate::{Decode, Path, Type};
+use crate::{Decode, Part, Trace, Type};
 use bcder::decode::{Constructed, ContentError, DecodeError, Source};
 use std::alloc::Global;
 
@@ -25,6 +25,11 @@ pub trait Fields: Drop + Sized {
     /// When they keep all that is encoded. By default they do.
     ghost keep_all: { Type 0 } = { ⊤ };
 
+    /// How many fields they are, for errors. By default they are one.
+    fn count() -> usize {
+        1
+    }
+
     /// A law: they take one thing at most, and leave one; and in CER and DER fields that are told
     /// apart by the same, with the same behind them, are the same values, if all is kept.
     fn fields_are_one()
@@ -41,30 +46,30 @@ pub trait DecodeFields<S: Source>: Fields {
     /// # Errors
     ///
     /// Returns an error if they do not stand in front of values up to the end of the content; if
-    /// an earlier value was refused; if the source fails; if memory runs out.
-    fn take_fields(
+    /// an earlier value was refused; if the source fails; if memory runs out. Which field it was,
+    /// and in which part of it, is noted in the path.
+    fn trace_fields<P: Trace>(
         alloc: Global,
         cons: &mut Constructed<'_, S>,
+        path: &mut P,
     ) -> Result<Self, DecodeError<S::Error>>
         ensures moves { Moved S.stream cons }
         ensures took { TookFields S.stream cons Self.takes result };
 
-    /// Does what [`take_fields`](Self::take_fields) does, and notes which field was refused. By
-    /// default they are one.
+    /// Takes them, as [`trace_fields`](Self::trace_fields) does.
     ///
     /// # Errors
     ///
-    /// Those of `take_fields`.
-    fn trace_fields(
+    /// Those of `trace_fields`. Nothing is noted.
+    #[inline(always)]
+    final fn take_fields(
         alloc: Global,
         cons: &mut Constructed<'_, S>,
-        path: &mut Path,
     ) -> Result<Self, DecodeError<S::Error>>
         ensures moves { Moved S.stream cons }
         ensures took { TookFields S.stream cons Self.takes result }
     {
-        path.next_field();
-        Self::take_fields(alloc, cons)
+        Self::trace_fields(alloc, cons, &mut ())
     }
 }
 
@@ -85,30 +90,22 @@ impl<T: Type> Fields for T {
 
 impl<S: Source, T: Type + Decode<S>> DecodeFields<S> for T {
     #[inline(always)]
-    fn take_fields(
+    fn trace_fields<P: Trace>(
         alloc: Global,
         cons: &mut Constructed<'_, S>,
+        path: &mut P,
     ) -> Result<T, DecodeError<S::Error>> {
-        match T::take_opt_from(alloc, cons) {
-            Ok(Some(value)) => Ok(value),
-            Ok(None) => Err(cons.content_err(ContentError::from_static("a value is missing"))),
-            Err(error) => Err(error),
-        }
-    }
-
-    fn trace_fields(
-        alloc: Global,
-        cons: &mut Constructed<'_, S>,
-        path: &mut Path,
-    ) -> Result<T, DecodeError<S::Error>> {
-        path.next_field();
         match T::trace_opt_from(alloc, cons, path) {
             Ok(Some(value)) => Ok(value),
             Ok(None) => {
                 T::expect(path);
+                path.note(Part::Field);
                 Err(cons.content_err(ContentError::from_static("a value is missing")))
             }
-            Err(error) => Err(error),
+            Err(error) => {
+                path.note(Part::Field);
+                Err(error)
+            }
         }
     }
 }
@@ -130,20 +127,16 @@ impl<T: Type> Fields for Option<T> {
 
 impl<S: Source, T: Decode<S>> DecodeFields<S> for Option<T> {
     #[inline(always)]
-    fn take_fields(
+    fn trace_fields<P: Trace>(
         alloc: Global,
         cons: &mut Constructed<'_, S>,
+        path: &mut P,
     ) -> Result<Option<T>, DecodeError<S::Error>> {
-        T::take_opt_from(alloc, cons)
-    }
-
-    fn trace_fields(
-        alloc: Global,
-        cons: &mut Constructed<'_, S>,
-        path: &mut Path,
-    ) -> Result<Option<T>, DecodeError<S::Error>> {
-        path.next_field();
-        T::trace_opt_from(alloc, cons, path)
+        let value = T::trace_opt_from(alloc, cons, path);
+        if value.is_err() {
+            path.note(Part::Field);
+        }
+        value
     }
 }
 
@@ -157,6 +150,10 @@ impl<A: Fields, B: Fields> Fields for (A, B) {
 
     ghost keep_all = { A.keep_all × B.keep_all };
 
+    fn count() -> usize {
+        A::count().saturating_add(B::count())
+    }
+
     fn fields_are_one() {
         A::fields_are_one();
         B::fields_are_one();
@@ -165,24 +162,10 @@ impl<A: Fields, B: Fields> Fields for (A, B) {
 
 impl<S: Source, A: DecodeFields<S>, B: DecodeFields<S>> DecodeFields<S> for (A, B) {
     #[inline(always)]
-    fn take_fields(
+    fn trace_fields<P: Trace>(
         alloc: Global,
         cons: &mut Constructed<'_, S>,
-    ) -> Result<(A, B), DecodeError<S::Error>> {
-        let first = match A::take_fields(alloc, cons) {
-            Ok(first) => first,
-            Err(error) => return Err(error),
-        };
-        match B::take_fields(alloc, cons) {
-            Ok(second) => Ok((first, second)),
-            Err(error) => Err(error),
-        }
-    }
-
-    fn trace_fields(
-        alloc: Global,
-        cons: &mut Constructed<'_, S>,
-        path: &mut Path,
+        path: &mut P,
     ) -> Result<(A, B), DecodeError<S::Error>> {
         let first = match A::trace_fields(alloc, cons, path) {
             Ok(first) => first,
@@ -190,7 +173,10 @@ impl<S: Source, A: DecodeFields<S>, B: DecodeFields<S>> DecodeFields<S> for (A, 
         };
         match B::trace_fields(alloc, cons, path) {
             Ok(second) => Ok((first, second)),
-            Err(error) => Err(error),
+            Err(error) => {
+                path.note(Part::Behind(A::count()));
+                Err(error)
+            }
         }
     }
 }

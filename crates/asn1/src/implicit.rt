@@ -7,8 +7,8 @@ ghost use Rattle.asn1.specs.Tags.{only_tagged};
 ghost use Rattle.asn1.specs.Markers.{IsFixed, only_fixed};
 
 use crate::{
-    Decode, Definition, Explicit, Fields, FromContents, Leaf, OctetStringRef, Path,
-    RestrictedStringRef, Sequence, TagMarker, TaggedCharSet, Type,
+    Decode, Definition, Explicit, Fields, FromContents, Leaf, OctetStringRef, RestrictedStringRef,
+    Sequence, TagMarker, TaggedCharSet, Trace, Type,
 };
 use bcder::decode::{Constructed, DecodeError, Source};
 use bcder::string::RestrictedString;
@@ -189,23 +189,11 @@ impl<M: TagMarker, T: FixedTag> Type for Implicit<M, T> {
 
 impl<S: Source, M: TagMarker, T: FixedTag + Decode<S>> Decode<S> for Implicit<M, T> {
     #[inline(always)]
-    fn take_opt_if(
+    fn trace_opt_if<P: Trace>(
         alloc: Global,
         cons: &mut Constructed<'_, S>,
         tag: Tag,
-    ) -> Result<Option<Implicit<M, T>>, DecodeError<S::Error>> {
-        match T::take_opt_if(alloc, cons, tag) {
-            Ok(Some(value)) => Ok(Some(Implicit::new(value))),
-            Ok(None) => Ok(None),
-            Err(error) => Err(error),
-        }
-    }
-
-    fn trace_opt_if(
-        alloc: Global,
-        cons: &mut Constructed<'_, S>,
-        tag: Tag,
-        path: &mut Path,
+        path: &mut P,
     ) -> Result<Option<Implicit<M, T>>, DecodeError<S::Error>> {
         match T::trace_opt_if(alloc, cons, tag, path) {
             Ok(Some(value)) => Ok(Some(Implicit::new(value))),

@@ -10,7 +10,7 @@ ghost use Rattle.asn1.specs.Types.{IsLeaf, Only, TookNextTyped};
 ghost use Rattle.asn1.specs.Told.{MeansOrNothing};
 ghost use Rattle.asn1.specs.Tags.{only_tagged};
 
-use crate::{Decode, Type};
+use crate::{Decode, Trace, Type};
 use bcder::decode::{Constructed, ContentError, DecodeError, Primitive, Source};
 use bcder::{Mode, Tag};
 use std::alloc::Global;
@@ -119,10 +119,11 @@ impl<V: FromContents> Type for Leaf<V> {
 
 impl<S: Source, V: FromContents> Decode<S> for Leaf<V> {
     #[inline(always)]
-    fn take_opt_if(
+    fn trace_opt_if<P: Trace>(
         _alloc: Global,
         cons: &mut Constructed<'_, S>,
         tag: Tag,
+        _path: &mut P,
     ) -> Result<Option<Leaf<V>>, DecodeError<S::Error>> {
         match take_contents_if(cons, tag) {
             Ok(Some(value)) => Ok(Some(Leaf(value))),

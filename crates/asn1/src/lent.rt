@@ -10,7 +10,7 @@ ghost use Rattle.asn1.specs.Tags.{octet_string_tagged, only_tagged};
 
 mod characters;
 
-use crate::{Decode, Type};
+use crate::{Decode, Trace, Type};
 use bcder::decode::{Constructed, ContentError, DecodeError, LendingSource, Primitive};
 use bcder::{Mode, Tag};
 pub use characters::{
@@ -115,10 +115,11 @@ fn take_lent_if<S: LendingSource>(
 
 impl<S: LendingSource> Decode<S> for OctetStringRef<S::Lent> {
     #[inline(always)]
-    fn take_opt_if(
+    fn trace_opt_if<P: Trace>(
         _alloc: Global,
         cons: &mut Constructed<'_, S>,
         tag: Tag,
+        _path: &mut P,
     ) -> Result<Option<OctetStringRef<S::Lent>>, DecodeError<S::Error>> {
         match take_lent_if(cons, tag) {
             Ok(Some(octets)) => Ok(Some(OctetStringRef(octets))),

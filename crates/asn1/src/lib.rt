@@ -27,6 +27,7 @@ mod sequence;
 mod set;
 mod set_of;
 mod tagged;
+mod trace;
 mod tuples;
 mod type_error;
 mod types;
@@ -58,6 +59,8 @@ pub use sequence::Sequence;
 pub use set::Set;
 pub use set_of::SetOf;
 pub use tagged::{Application, Context, Explicit, Private, TagMarker};
+#[doc(hidden)]
+pub use trace::{Part, Trace};
 pub use type_error::TypeError;
 pub use types::{Decode, Type};
 pub use whole::{decode, decode_octets};

@@ -8,8 +8,8 @@ ghost use Rattle.asn1.specs.Keys.{list_key};
 ghost use Rattle.asn1.specs.Tags.{sequence_tagged, only_tagged};
 ghost use Rattle.asn1.specs.Markers.{only_fixed};
 
-use crate::sequence::trace_inside;
-use crate::{Decode, DecodeFields, Fields, FixedTag, Path, Sequence, Type};
+use crate::sequence::take_inside;
+use crate::{Decode, DecodeFields, Fields, FixedTag, Part, Sequence, Trace, Type};
 use bcder::Tag;
 use bcder::decode::{Constructed, DecodeError, Source};
 use std::alloc::Global;
@@ -69,31 +69,19 @@ impl<T: Type> FixedTag for SequenceOf<T> {
 
 impl<S: Source, T: Decode<S>> Decode<S> for SequenceOf<T> {
     #[inline(always)]
-    fn take_opt_if(
+    fn trace_opt_if<P: Trace>(
         alloc: Global,
         cons: &mut Constructed<'_, S>,
         tag: Tag,
+        path: &mut P,
     ) -> Result<Option<SequenceOf<T>>, DecodeError<S::Error>> {
-        match <Sequence<Vec<T>>>::take_opt_if(alloc, cons, tag) {
-            Ok(Some(values)) => {
-                let Sequence(values) = values;
-                Ok(Some(SequenceOf(values)))
-            }
-            Ok(None) => Ok(None),
-            Err(error) => Err(error),
-        }
-    }
-
-    fn trace_opt_if(
-        alloc: Global,
-        cons: &mut Constructed<'_, S>,
-        tag: Tag,
-        path: &mut Path,
-    ) -> Result<Option<SequenceOf<T>>, DecodeError<S::Error>> {
-        match trace_inside::<S, Vec<T>>(alloc, cons, tag, false, path) {
+        match take_inside::<S, Vec<T>, P>(alloc, cons, tag, path) {
             Ok(Some(values)) => Ok(Some(SequenceOf(values))),
             Ok(None) => Ok(None),
-            Err(error) => Err(error),
+            Err(error) => {
+                path.note(Part::Only);
+                Err(error)
+            }
         }
     }
 }
@@ -115,56 +103,39 @@ impl<T: Type> Fields for Vec<T> {
 
 impl<S: Source, T: Decode<S>> DecodeFields<S> for Vec<T> {
     #[inline(always)]
-    fn take_fields(
+    fn trace_fields<P: Trace>(
         alloc: Global,
         cons: &mut Constructed<'_, S>,
+        path: &mut P,
     ) -> Result<Vec<T>, DecodeError<S::Error>> {
-        take_list(alloc, cons)
-    }
-
-    fn trace_fields(
-        alloc: Global,
-        cons: &mut Constructed<'_, S>,
-        path: &mut Path,
-    ) -> Result<Vec<T>, DecodeError<S::Error>> {
-        path.next_field();
-        let mut list = Vec::new(alloc);
-        loop {
-            match T::trace_opt_from(alloc, cons, path) {
-                Ok(Some(value)) => {
-                    if list.push(value).is_err() {
-                        return Err(DecodeError::no_memory());
-                    }
-                }
-                Ok(None) => return Ok(list),
-                Err(error) => {
-                    path.at_item(list.len());
-                    return Err(error);
-                }
-            }
-        }
+        take_list(alloc, cons, path)
     }
 }
 
 /// Takes as many values as have one of the type's tags.
 #[inline(always)]
-pub(crate) fn take_list<S: Source, T: Decode<S>>(
+pub(crate) fn take_list<S: Source, T: Decode<S>, P: Trace>(
     alloc: Global,
     cons: &mut Constructed<'_, S>,
+    path: &mut P,
 ) -> Result<Vec<T>, DecodeError<S::Error>>
     ensures moves { Moved S.stream cons }
     ensures took { TookList S.stream cons (T.tags T.TAG) T.means result }
 {
     let mut all = Vec::new(alloc);
     loop {
-        match T::take_opt_from(alloc, cons) {
+        match T::trace_opt_from(alloc, cons, path) {
             Ok(Some(value)) => {
                 if all.push(value).is_err() {
                     return Err(DecodeError::no_memory());
                 }
             }
             Ok(None) => return Ok(all),
-            Err(error) => return Err(error),
+            Err(error) => {
+                path.note(Part::Item(all.len()));
+                path.note(Part::Field);
+                return Err(error);
+            }
         }
     }
 }

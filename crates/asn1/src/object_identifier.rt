@@ -8,7 +8,7 @@ ghost use Rattle.asn1.specs.Tags.{identifier_tagged, only_tagged};
 ghost use Rattle.asn1.specs.Markers.{only_fixed};
 
 use crate::writers::Encode;
-use crate::{Decode, FixedTag, Type};
+use crate::{Decode, FixedTag, Trace, Type};
 use bcder::decode::{Constructed, DecodeError, Source};
 use bcder::encode::{EncodeError, WriteError};
 use bcder::{Mode, Oid, Tag};
@@ -67,12 +67,13 @@ impl FixedTag for ObjectIdentifier {
 
 impl<S: Source> Decode<S> for ObjectIdentifier {
     #[inline(always)]
-    fn take_opt_if(
+    fn trace_opt_if<P: Trace>(
         alloc: Global,
         cons: &mut Constructed<'_, S>,
         tag: Tag,
+        path: &mut P,
     ) -> Result<Option<ObjectIdentifier>, DecodeError<S::Error>> {
-        match <Oid<Bytes>>::take_opt_if(alloc, cons, tag) {
+        match <Oid<Bytes>>::trace_opt_if(alloc, cons, tag, path) {
             Ok(Some(oid)) => Ok(Some(ObjectIdentifier(oid))),
             Ok(None) => Ok(None),
             Err(error) => Err(error),

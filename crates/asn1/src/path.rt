@@ -31,8 +31,6 @@ pub struct Path {
     expected: Vec<Tag>,
     /// Whether a value of any type was expected.
     any_expected: bool,
-    /// How many fields of the innermost value have begun.
-    begun: usize,
     /// Whether memory ran out for a step.
     is_cut: bool,
 }
@@ -45,7 +43,6 @@ impl Path {
             steps: Vec::new(alloc),
             expected: Vec::new(alloc),
             any_expected: false,
-            begun: 0,
             is_cut: false,
         }
     }
@@ -55,24 +52,24 @@ impl Path {
         self.name.is_empty() && !self.steps.iter().any(|step| is_shown(step))
     }
 
-    /// Enters a value, whose fields are counted from 0. Returns how many had begun around it.
-    pub(crate) fn enter(&mut self) -> usize {
-        let outer = self.begun;
-        self.begun = 0;
-        outer
+    /// Leads to a field, the first of those it was read with.
+    pub(crate) fn at_field(&mut self) {
+        self.step(Step::Field(0));
     }
 
-    /// Leaves a value. If a field of it was refused, the path leads to that.
-    pub(crate) fn leave(&mut self, outer: usize, in_field: bool) {
-        if in_field {
-            self.step(Step::Field(self.begun.saturating_sub(1)));
+    /// Counts so many fields in front of that to which it leads.
+    pub(crate) fn pass_fields(&mut self, count: usize) {
+        if let Some(index) = self.last_field() {
+            let _ = self.steps.pop();
+            self.step(Step::Field(index.saturating_add(count)));
         }
-        self.begun = outer;
     }
 
-    /// Counts a field that begins.
-    pub(crate) fn next_field(&mut self) {
-        self.begun = self.begun.saturating_add(1);
+    /// Leads to the value itself, if it led to its only field.
+    pub(crate) fn drop_field(&mut self) {
+        if self.last_field().is_some() {
+            let _ = self.steps.pop();
+        }
     }
 
     /// Leads to a value of a list.

@@ -5,7 +5,7 @@ ghost use Rattle.bcder.specs.calls.Views.{Moved};
 ghost use Rattle.asn1.specs.Types.{AreInside, Only, TookFields, TookNextTyped};
 ghost use Rattle.asn1.specs.Tags.{sequence_tagged, only_tagged};
 
-use crate::{Decode, DecodeFields, Fields, Path, Type};
+use crate::{Decode, DecodeFields, Fields, Trace, Type};
 use bcder::Tag;
 use bcder::decode::{Constructed, DecodeError, Source};
 use std::alloc::Global;
@@ -13,47 +13,17 @@ use std::marker::Model;
 
 /// Takes the next value if it has this tag. It then has to be constructed of the fields.
 #[inline(always)]
-pub(crate) fn take_inside<S: Source, F: DecodeFields<S>>(
+pub(crate) fn take_inside<S: Source, F: DecodeFields<S>, P: Trace>(
     alloc: Global,
     cons: &mut Constructed<'_, S>,
     tag: Tag,
+    path: &mut P,
 ) -> Result<Option<F>, DecodeError<S::Error>>
     ensures moves { Moved S.stream cons }
     ensures took { TookNextTyped S.stream cons (Only tag)
         (λ mode. AreInside (F.takes mode)) result }
 {
-    cons.take_opt_constructed_if(tag, |cons| F::take_fields(alloc, cons))
-}
-
-/// Takes fields from the first on, and notes the one that was refused, if they are numbered.
-fn trace_all<S: Source, F: DecodeFields<S>>(
-    alloc: Global,
-    cons: &mut Constructed<'_, S>,
-    numbered: bool,
-    path: &mut Path,
-) -> Result<F, DecodeError<S::Error>>
-    ensures moves { Moved S.stream cons }
-    ensures took { TookFields S.stream cons F.takes result }
-{
-    let outer = path.enter();
-    let fields = F::trace_fields(alloc, cons, path);
-    path.leave(outer, numbered && fields.is_err());
-    fields
-}
-
-/// Does what [`take_inside`] does, and notes in which part of the value something was refused.
-pub(crate) fn trace_inside<S: Source, F: DecodeFields<S>>(
-    alloc: Global,
-    cons: &mut Constructed<'_, S>,
-    tag: Tag,
-    numbered: bool,
-    path: &mut Path,
-) -> Result<Option<F>, DecodeError<S::Error>>
-    ensures moves { Moved S.stream cons }
-    ensures took { TookNextTyped S.stream cons (Only tag)
-        (λ mode. AreInside (F.takes mode)) result }
-{
-    cons.take_opt_constructed_if(tag, |cons| trace_all::<S, F>(alloc, cons, numbered, path))
+    cons.take_opt_constructed_if(tag, |cons| F::trace_fields(alloc, cons, path))
 }
 
 /// A SEQUENCE of fields.
@@ -97,25 +67,13 @@ impl<F: Fields> Type for Sequence<F> {
 
 impl<S: Source, F: DecodeFields<S>> Decode<S> for Sequence<F> {
     #[inline(always)]
-    fn take_opt_if(
+    fn trace_opt_if<P: Trace>(
         alloc: Global,
         cons: &mut Constructed<'_, S>,
         tag: Tag,
+        path: &mut P,
     ) -> Result<Option<Sequence<F>>, DecodeError<S::Error>> {
-        match take_inside(alloc, cons, tag) {
-            Ok(Some(fields)) => Ok(Some(Sequence(fields))),
-            Ok(None) => Ok(None),
-            Err(error) => Err(error),
-        }
-    }
-
-    fn trace_opt_if(
-        alloc: Global,
-        cons: &mut Constructed<'_, S>,
-        tag: Tag,
-        path: &mut Path,
-    ) -> Result<Option<Sequence<F>>, DecodeError<S::Error>> {
-        match trace_inside(alloc, cons, tag, true, path) {
+        match take_inside(alloc, cons, tag, path) {
             Ok(Some(fields)) => Ok(Some(Sequence(fields))),
             Ok(None) => Ok(None),
             Err(error) => Err(error),

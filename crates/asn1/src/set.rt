@@ -17,7 +17,7 @@ ghost use Rattle.asn1.specs.Sets.{AreKeptByTag, IsUpTo, RefusesMembers};
 use crate::list::take_list;
 use crate::whole::decode_fields;
 use crate::writers::ByRef;
-use crate::{Any, Decode, DecodeFields, Fields, FixedTag, Type};
+use crate::{Any, Decode, DecodeFields, Fields, FixedTag, Trace, Type};
 use bcder::decode::{BytesSource, Constructed, ContentError, DecodeError, IntoSource, Source};
 use bcder::plain::front_at;
 use bcder::{Captured, Mode, Tag};
@@ -136,10 +136,11 @@ fn put_in_order(mode: Mode, values: &mut Vec<Any>) -> bool
 }
 
 /// Reads the fields that values are.
-fn read_members<F: DecodeFields<BytesSource>, E>(
+fn read_members<F: DecodeFields<BytesSource>, E, P: Trace>(
     alloc: Global,
     mode: Mode,
     values: &Vec<Any>,
+    path: &mut P,
 ) -> Result<F, DecodeError<E>>
     ensures value { IfOk result (λ x.
         AreFields mode (F.takes mode) (flat (octets_of_each values.now.items)) x) }
@@ -149,21 +150,22 @@ fn read_members<F: DecodeFields<BytesSource>, E>(
     let Ok(joined) = Captured::from_values(alloc, mode, ByRef(values)) else {
         return Err(DecodeError::no_memory());
     };
-    match decode_fields::<F, BytesSource>(alloc, mode, joined.into_source()) {
+    match decode_fields::<F, BytesSource, P>(alloc, mode, joined.into_source(), path) {
         Ok(fields) => Ok(fields),
         Err(error) => Err(error.convert()),
     }
 }
 
 /// Takes all values up to the end of content.
-fn take_members<S: Source, F: DecodeFields<BytesSource>>(
+fn take_members<S: Source, F: DecodeFields<BytesSource>, P: Trace>(
     alloc: Global,
     cons: &mut Constructed<'_, S>,
+    path: &mut P,
 ) -> Result<F, DecodeError<S::Error>>
     ensures moves { Moved S.stream cons }
     ensures took { TookFields S.stream cons (λ mode. AreSet mode (F.takes mode)) result }
 {
-    let mut values = match take_list::<S, Any>(alloc, cons) {
+    let mut values = match take_list::<S, Any, ()>(alloc, cons, &mut ()) {
         Ok(values) => values,
         Err(error) => return Err(error),
     };
@@ -172,17 +174,18 @@ fn take_members<S: Source, F: DecodeFields<BytesSource>>(
         let error = ContentError::from_static("values of a set are out of order");
         return Err(cons.content_err(error));
     }
-    match read_members(alloc, mode, &values) {
+    match read_members(alloc, mode, &values, path) {
         Ok(fields) => Ok(fields),
         Err(error) => Err(error),
     }
 }
 
 /// Takes the next value if it has this tag. It then has to be constructed of the fields.
-fn take_set<S: Source, F: DecodeFields<BytesSource>>(
+fn take_set<S: Source, F: DecodeFields<BytesSource>, P: Trace>(
     alloc: Global,
     cons: &mut Constructed<'_, S>,
     tag: Tag,
+    path: &mut P,
 ) -> Result<Option<F>, DecodeError<S::Error>>
     ensures moves { Moved S.stream cons }
     ensures took { TookNextTyped S.stream cons (Only tag)
@@ -193,18 +196,19 @@ fn take_set<S: Source, F: DecodeFields<BytesSource>>(
         |cons|
             ensures moves { Moved S.stream cons }
             ensures took { TookFields S.stream cons (λ mode. AreSet mode (F.takes mode)) result }
-        { take_members(alloc, cons) },
+        { take_members(alloc, cons, path) },
     )
 }
 
 impl<S: Source, F: DecodeFields<BytesSource>> Decode<S> for Set<F> {
     #[inline(always)]
-    fn take_opt_if(
+    fn trace_opt_if<P: Trace>(
         alloc: Global,
         cons: &mut Constructed<'_, S>,
         tag: Tag,
+        path: &mut P,
     ) -> Result<Option<Set<F>>, DecodeError<S::Error>> {
-        match take_set(alloc, cons, tag) {
+        match take_set(alloc, cons, tag, path) {
             Ok(Some(fields)) => Ok(Some(Set(fields))),
             Ok(None) => Ok(None),
             Err(error) => Err(error),

@@ -10,8 +10,8 @@ ghost use Rattle.asn1.specs.Markers.{only_fixed};
 ghost use Rattle.asn1.specs.Decoded.{IsValueOf};
 ghost use Rattle.asn1.specs.SetsOf.{IsNotAfter, AreSetOf, AnyOrder, in_any_order, RefusesOctets};
 
-use crate::whole::trace;
-use crate::{Decode, FixedTag, Path, Type, decode};
+use crate::whole::decode_traced;
+use crate::{Decode, FixedTag, Part, Trace, Type};
 use bcder::decode::{BytesSource, Constructed, ContentError, DecodeError, Source};
 use bcder::{Captured, Mode, Tag};
 use bytes::Bytes;
@@ -101,17 +101,18 @@ fn may_follow(mode: Mode, last: &[u8], octets: &[u8]) -> bool
 }
 
 /// The value that captured octets encode.
-fn read_value<T: Decode<BytesSource>, E>(
+fn read_value<T: Decode<BytesSource>, E, P: Trace>(
     alloc: Global,
     mode: Mode,
     captured: Captured,
+    path: &mut P,
 ) -> Result<T, DecodeError<E>>
     ensures value { IfOk result (λ x.
         IsValueOf mode (T.tags T.TAG) (T.means mode) captured.octets x) }
     ensures refused { IfErr result (λ e.
         RefusesOctets mode (T.tags T.TAG) (T.means mode) captured.octets e) }
 {
-    match decode::<T, Captured>(alloc, mode, captured) {
+    match decode_traced::<T, Captured, P>(alloc, mode, captured, path) {
         Ok(value) => Ok(value),
         Err(error) => Err(error.convert()),
     }
@@ -120,9 +121,10 @@ fn read_value<T: Decode<BytesSource>, E>(
 /// Takes all values up to the end of content.
 ///
 /// Each is captured, since its octets are compared with those of the one before.
-fn take_values<S: Source, T: Decode<BytesSource>>(
+fn take_values<S: Source, T: Decode<BytesSource>, P: Trace>(
     alloc: Global,
     cons: &mut Constructed<'_, S>,
+    path: &mut P,
 ) -> Result<Vec<T>, DecodeError<S::Error>>
     ensures moves { Moved S.stream cons }
     ensures took { TookFields S.stream cons (λ mode ts x us.
@@ -138,119 +140,38 @@ fn take_values<S: Source, T: Decode<BytesSource>>(
                     return Err(DecodeError::no_memory());
                 };
                 if !may_follow(mode, last.as_slice(), octets.as_slice()) {
+                    path.note(Part::Item(all.len()));
                     let error = ContentError::from_static("values of a set are out of order");
                     return Err(cons.content_err(error));
                 }
-                match read_value::<T, S::Error>(alloc, mode, captured) {
+                match read_value::<T, S::Error, P>(alloc, mode, captured, path) {
                     Ok(value) => {
                         if all.push(value).is_err() {
                             return Err(DecodeError::no_memory());
                         }
                     }
-                    Err(error) => return Err(error),
-                }
-                last = octets;
-            }
-            Ok(None) => return Ok(all),
-            Err(error) => return Err(error),
-        }
-    }
-}
-
-/// Takes the next value if it has this tag. It then has to be constructed of the values.
-fn take_set_of<S: Source, T: Decode<BytesSource>>(
-    alloc: Global,
-    cons: &mut Constructed<'_, S>,
-    tag: Tag,
-) -> Result<Option<Vec<T>>, DecodeError<S::Error>>
-    ensures moves { Moved S.stream cons }
-    ensures took { TookNextTyped S.stream cons (Only tag) (λ mode t x.
-        AreInside (λ ts y us. AreSetOf mode (T.tags T.TAG) (T.means mode) ts y.items us) t x)
-        result }
-{
-    cons.take_opt_constructed_if(
-        tag,
-        |cons|
-            ensures moves { Moved S.stream cons }
-            ensures took { TookFields S.stream cons (λ mode ts x us.
-                AreSetOf mode (T.tags T.TAG) (T.means mode) ts x.items us) result }
-        { take_values(alloc, cons) },
-    )
-}
-
-/// Does what [`read_value`] does, and notes in which part of the value something was refused.
-fn trace_value<T: Decode<BytesSource>, E>(
-    alloc: Global,
-    mode: Mode,
-    captured: Captured,
-    path: &mut Path,
-) -> Result<T, DecodeError<E>>
-    ensures value { IfOk result (λ x.
-        IsValueOf mode (T.tags T.TAG) (T.means mode) captured.octets x) }
-    ensures refused { IfErr result (λ e.
-        RefusesOctets mode (T.tags T.TAG) (T.means mode) captured.octets e) }
-{
-    let outer = path.enter();
-    let read = trace::<T, Captured>(alloc, mode, captured, path);
-    path.leave(outer, false);
-    match read {
-        Ok(value) => Ok(value),
-        Err(error) => Err(error.convert()),
-    }
-}
-
-/// Does what [`take_values`] does, and notes in which value something was refused.
-fn trace_values<S: Source, T: Decode<BytesSource>>(
-    alloc: Global,
-    cons: &mut Constructed<'_, S>,
-    path: &mut Path,
-) -> Result<Vec<T>, DecodeError<S::Error>>
-    ensures moves { Moved S.stream cons }
-    ensures took { TookFields S.stream cons (λ mode ts x us.
-        AreSetOf mode (T.tags T.TAG) (T.means mode) ts x.items us) result }
-{
-    let mode = cons.mode();
-    let mut list = Vec::new(alloc);
-    let mut last = Bytes::new();
-    loop {
-        match cons.capture_opt_one(alloc) {
-            Ok(Some(captured)) => {
-                let Ok(octets) = captured.bytes() else {
-                    return Err(DecodeError::no_memory());
-                };
-                if !may_follow(mode, last.as_slice(), octets.as_slice()) {
-                    path.at_item(list.len());
-                    let error = ContentError::from_static("values of a set are out of order");
-                    return Err(cons.content_err(error));
-                }
-                match trace_value::<T, S::Error>(alloc, mode, captured, path) {
-                    Ok(value) => {
-                        if list.push(value).is_err() {
-                            return Err(DecodeError::no_memory());
-                        }
-                    }
                     Err(error) => {
-                        path.at_item(list.len());
+                        path.note(Part::Item(all.len()));
                         return Err(error);
                     }
                 }
                 last = octets;
             }
-            Ok(None) => return Ok(list),
+            Ok(None) => return Ok(all),
             Err(error) => {
-                path.at_item(list.len());
+                path.note(Part::Item(all.len()));
                 return Err(error);
             }
         }
     }
 }
 
-/// Does what [`take_set_of`] does, and notes in which value something was refused.
-fn trace_set_of<S: Source, T: Decode<BytesSource>>(
+/// Takes the next value if it has this tag. It then has to be constructed of the values.
+fn take_set_of<S: Source, T: Decode<BytesSource>, P: Trace>(
     alloc: Global,
     cons: &mut Constructed<'_, S>,
     tag: Tag,
-    path: &mut Path,
+    path: &mut P,
 ) -> Result<Option<Vec<T>>, DecodeError<S::Error>>
     ensures moves { Moved S.stream cons }
     ensures took { TookNextTyped S.stream cons (Only tag) (λ mode t x.
@@ -263,31 +184,19 @@ fn trace_set_of<S: Source, T: Decode<BytesSource>>(
             ensures moves { Moved S.stream cons }
             ensures took { TookFields S.stream cons (λ mode ts x us.
                 AreSetOf mode (T.tags T.TAG) (T.means mode) ts x.items us) result }
-        { trace_values(alloc, cons, path) },
+        { take_values(alloc, cons, path) },
     )
 }
 
 impl<S: Source, T: Decode<BytesSource>> Decode<S> for SetOf<T> {
     #[inline(always)]
-    fn take_opt_if(
+    fn trace_opt_if<P: Trace>(
         alloc: Global,
         cons: &mut Constructed<'_, S>,
         tag: Tag,
+        path: &mut P,
     ) -> Result<Option<SetOf<T>>, DecodeError<S::Error>> {
-        match take_set_of(alloc, cons, tag) {
-            Ok(Some(values)) => Ok(Some(SetOf(values))),
-            Ok(None) => Ok(None),
-            Err(error) => Err(error),
-        }
-    }
-
-    fn trace_opt_if(
-        alloc: Global,
-        cons: &mut Constructed<'_, S>,
-        tag: Tag,
-        path: &mut Path,
-    ) -> Result<Option<SetOf<T>>, DecodeError<S::Error>> {
-        match trace_set_of(alloc, cons, tag, path) {
+        match take_set_of(alloc, cons, tag, path) {
             Ok(Some(values)) => Ok(Some(SetOf(values))),
             Ok(None) => Ok(None),
             Err(error) => Err(error),

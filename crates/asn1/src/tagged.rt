@@ -10,8 +10,8 @@ ghost use Rattle.asn1.specs.Types.{AreInside, IsMember, Only, TookNextTyped};
 ghost use Rattle.asn1.specs.Tags.{only_tagged};
 ghost use Rattle.asn1.specs.Markers.{application_tagged, context_tagged, private_tagged};
 
-use crate::sequence::{take_inside, trace_inside};
-use crate::{Decode, Fields, Path, Type};
+use crate::sequence::take_inside;
+use crate::{Decode, Fields, Part, Trace, Type};
 use bcder::Tag;
 use bcder::decode::{Constructed, DecodeError, Source};
 use std::alloc::Global;
@@ -139,28 +139,19 @@ impl<M: TagMarker, T: Type> Type for Explicit<M, T> {
 
 impl<S: Source, M: TagMarker, T: Decode<S>> Decode<S> for Explicit<M, T> {
     #[inline(always)]
-    fn take_opt_if(
+    fn trace_opt_if<P: Trace>(
         alloc: Global,
         cons: &mut Constructed<'_, S>,
         tag: Tag,
+        path: &mut P,
     ) -> Result<Option<Explicit<M, T>>, DecodeError<S::Error>> {
-        match take_inside::<S, T>(alloc, cons, tag) {
+        match take_inside::<S, T, P>(alloc, cons, tag, path) {
             Ok(Some(value)) => Ok(Some(Explicit::new(value))),
             Ok(None) => Ok(None),
-            Err(error) => Err(error),
-        }
-    }
-
-    fn trace_opt_if(
-        alloc: Global,
-        cons: &mut Constructed<'_, S>,
-        tag: Tag,
-        path: &mut Path,
-    ) -> Result<Option<Explicit<M, T>>, DecodeError<S::Error>> {
-        match trace_inside::<S, T>(alloc, cons, tag, false, path) {
-            Ok(Some(value)) => Ok(Some(Explicit::new(value))),
-            Ok(None) => Ok(None),
-            Err(error) => Err(error),
+            Err(error) => {
+                path.note(Part::Only);
+                Err(error)
+            }
         }
     }
 }

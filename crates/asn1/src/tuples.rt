@@ -5,7 +5,7 @@ ghost use Rattle.asn1.specs.Tuples.{SeenAs, first_of_3, first_of_4, first_of_5, 
 ghost use Rattle.asn1.specs.Tuples.{first_of_7, first_of_8, first_of_9, first_of_10, first_of_11};
 ghost use Rattle.asn1.specs.Tuples.{first_of_12};
 
-use crate::{DecodeFields, Fields, Path};
+use crate::{DecodeFields, Fields, Trace};
 use bcder::decode::{Constructed, DecodeError, Source};
 use std::alloc::Global;
 
@@ -19,6 +19,10 @@ impl<A: Fields, B: Fields, C: Fields> Fields for (A, B, C) {
 
     ghost keep_all = { ⟦<(A, (B, C)) as Fields>⟧.keep_all };
 
+    fn count() -> usize {
+        <(A, (B, C))>::count()
+    }
+
     fn fields_are_one() {
         <(A, (B, C))>::fields_are_one();
     }
@@ -27,23 +31,10 @@ impl<A: Fields, B: Fields, C: Fields> Fields for (A, B, C) {
 impl<S: Source, A: DecodeFields<S>, B: DecodeFields<S>, C: DecodeFields<S>> DecodeFields<S>
     for (A, B, C) {
     #[inline(always)]
-    fn take_fields(
+    fn trace_fields<P: Trace>(
         alloc: Global,
         cons: &mut Constructed<'_, S>,
-    ) -> Result<(A, B, C), DecodeError<S::Error>> {
-        match <(A, (B, C))>::take_fields(alloc, cons) {
-            Ok(fields) => {
-                let (a, (b, c)) = fields;
-                Ok((a, b, c))
-            }
-            Err(error) => Err(error),
-        }
-    }
-
-    fn trace_fields(
-        alloc: Global,
-        cons: &mut Constructed<'_, S>,
-        path: &mut Path,
+        path: &mut P,
     ) -> Result<(A, B, C), DecodeError<S::Error>> {
         match <(A, (B, C))>::trace_fields(alloc, cons, path) {
             Ok(fields) => {
@@ -65,6 +56,10 @@ impl<A: Fields, B: Fields, C: Fields, D: Fields> Fields for (A, B, C, D) {
 
     ghost keep_all = { ⟦<(A, (B, C, D)) as Fields>⟧.keep_all };
 
+    fn count() -> usize {
+        <(A, (B, C, D))>::count()
+    }
+
     fn fields_are_one() {
         <(A, (B, C, D))>::fields_are_one();
     }
@@ -78,23 +73,10 @@ impl<
     D: DecodeFields<S>,
 > DecodeFields<S> for (A, B, C, D) {
     #[inline(always)]
-    fn take_fields(
+    fn trace_fields<P: Trace>(
         alloc: Global,
         cons: &mut Constructed<'_, S>,
-    ) -> Result<(A, B, C, D), DecodeError<S::Error>> {
-        match <(A, (B, C, D))>::take_fields(alloc, cons) {
-            Ok(fields) => {
-                let (a, (b, c, d)) = fields;
-                Ok((a, b, c, d))
-            }
-            Err(error) => Err(error),
-        }
-    }
-
-    fn trace_fields(
-        alloc: Global,
-        cons: &mut Constructed<'_, S>,
-        path: &mut Path,
+        path: &mut P,
     ) -> Result<(A, B, C, D), DecodeError<S::Error>> {
         match <(A, (B, C, D))>::trace_fields(alloc, cons, path) {
             Ok(fields) => {
@@ -116,6 +98,10 @@ impl<A: Fields, B: Fields, C: Fields, D: Fields, E: Fields> Fields for (A, B, C,
 
     ghost keep_all = { ⟦<(A, (B, C, D, E)) as Fields>⟧.keep_all };
 
+    fn count() -> usize {
+        <(A, (B, C, D, E))>::count()
+    }
+
     fn fields_are_one() {
         <(A, (B, C, D, E))>::fields_are_one();
     }
@@ -130,23 +116,10 @@ impl<
     E: DecodeFields<S>,
 > DecodeFields<S> for (A, B, C, D, E) {
     #[inline(always)]
-    fn take_fields(
+    fn trace_fields<P: Trace>(
         alloc: Global,
         cons: &mut Constructed<'_, S>,
-    ) -> Result<(A, B, C, D, E), DecodeError<S::Error>> {
-        match <(A, (B, C, D, E))>::take_fields(alloc, cons) {
-            Ok(fields) => {
-                let (a, (b, c, d, e)) = fields;
-                Ok((a, b, c, d, e))
-            }
-            Err(error) => Err(error),
-        }
-    }
-
-    fn trace_fields(
-        alloc: Global,
-        cons: &mut Constructed<'_, S>,
-        path: &mut Path,
+        path: &mut P,
     ) -> Result<(A, B, C, D, E), DecodeError<S::Error>> {
         match <(A, (B, C, D, E))>::trace_fields(alloc, cons, path) {
             Ok(fields) => {
@@ -169,6 +142,10 @@ impl<A: Fields, B: Fields, C: Fields, D: Fields, E: Fields, F: Fields> Fields
 
     ghost keep_all = { ⟦<(A, (B, C, D, E, F)) as Fields>⟧.keep_all };
 
+    fn count() -> usize {
+        <(A, (B, C, D, E, F))>::count()
+    }
+
     fn fields_are_one() {
         <(A, (B, C, D, E, F))>::fields_are_one();
     }
@@ -184,23 +161,10 @@ impl<
     F: DecodeFields<S>,
 > DecodeFields<S> for (A, B, C, D, E, F) {
     #[inline(always)]
-    fn take_fields(
+    fn trace_fields<P: Trace>(
         alloc: Global,
         cons: &mut Constructed<'_, S>,
-    ) -> Result<(A, B, C, D, E, F), DecodeError<S::Error>> {
-        match <(A, (B, C, D, E, F))>::take_fields(alloc, cons) {
-            Ok(fields) => {
-                let (a, (b, c, d, e, f)) = fields;
-                Ok((a, b, c, d, e, f))
-            }
-            Err(error) => Err(error),
-        }
-    }
-
-    fn trace_fields(
-        alloc: Global,
-        cons: &mut Constructed<'_, S>,
-        path: &mut Path,
+        path: &mut P,
     ) -> Result<(A, B, C, D, E, F), DecodeError<S::Error>> {
         match <(A, (B, C, D, E, F))>::trace_fields(alloc, cons, path) {
             Ok(fields) => {
@@ -223,6 +187,10 @@ impl<A: Fields, B: Fields, C: Fields, D: Fields, E: Fields, F: Fields, G: Fields
 
     ghost keep_all = { ⟦<(A, (B, C, D, E, F, G)) as Fields>⟧.keep_all };
 
+    fn count() -> usize {
+        <(A, (B, C, D, E, F, G))>::count()
+    }
+
     fn fields_are_one() {
         <(A, (B, C, D, E, F, G))>::fields_are_one();
     }
@@ -239,23 +207,10 @@ impl<
     G: DecodeFields<S>,
 > DecodeFields<S> for (A, B, C, D, E, F, G) {
     #[inline(always)]
-    fn take_fields(
+    fn trace_fields<P: Trace>(
         alloc: Global,
         cons: &mut Constructed<'_, S>,
-    ) -> Result<(A, B, C, D, E, F, G), DecodeError<S::Error>> {
-        match <(A, (B, C, D, E, F, G))>::take_fields(alloc, cons) {
-            Ok(fields) => {
-                let (a, (b, c, d, e, f, g)) = fields;
-                Ok((a, b, c, d, e, f, g))
-            }
-            Err(error) => Err(error),
-        }
-    }
-
-    fn trace_fields(
-        alloc: Global,
-        cons: &mut Constructed<'_, S>,
-        path: &mut Path,
+        path: &mut P,
     ) -> Result<(A, B, C, D, E, F, G), DecodeError<S::Error>> {
         match <(A, (B, C, D, E, F, G))>::trace_fields(alloc, cons, path) {
             Ok(fields) => {
@@ -278,6 +233,10 @@ impl<A: Fields, B: Fields, C: Fields, D: Fields, E: Fields, F: Fields, G: Fields
 
     ghost keep_all = { ⟦<(A, (B, C, D, E, F, G, H)) as Fields>⟧.keep_all };
 
+    fn count() -> usize {
+        <(A, (B, C, D, E, F, G, H))>::count()
+    }
+
     fn fields_are_one() {
         <(A, (B, C, D, E, F, G, H))>::fields_are_one();
     }
@@ -295,23 +254,10 @@ impl<
     H: DecodeFields<S>,
 > DecodeFields<S> for (A, B, C, D, E, F, G, H) {
     #[inline(always)]
-    fn take_fields(
+    fn trace_fields<P: Trace>(
         alloc: Global,
         cons: &mut Constructed<'_, S>,
-    ) -> Result<(A, B, C, D, E, F, G, H), DecodeError<S::Error>> {
-        match <(A, (B, C, D, E, F, G, H))>::take_fields(alloc, cons) {
-            Ok(fields) => {
-                let (a, (b, c, d, e, f, g, h)) = fields;
-                Ok((a, b, c, d, e, f, g, h))
-            }
-            Err(error) => Err(error),
-        }
-    }
-
-    fn trace_fields(
-        alloc: Global,
-        cons: &mut Constructed<'_, S>,
-        path: &mut Path,
+        path: &mut P,
     ) -> Result<(A, B, C, D, E, F, G, H), DecodeError<S::Error>> {
         match <(A, (B, C, D, E, F, G, H))>::trace_fields(alloc, cons, path) {
             Ok(fields) => {
@@ -343,6 +289,10 @@ impl<
 
     ghost keep_all = { ⟦<(A, (B, C, D, E, F, G, H, I)) as Fields>⟧.keep_all };
 
+    fn count() -> usize {
+        <(A, (B, C, D, E, F, G, H, I))>::count()
+    }
+
     fn fields_are_one() {
         <(A, (B, C, D, E, F, G, H, I))>::fields_are_one();
     }
@@ -361,23 +311,10 @@ impl<
     I: DecodeFields<S>,
 > DecodeFields<S> for (A, B, C, D, E, F, G, H, I) {
     #[inline(always)]
-    fn take_fields(
+    fn trace_fields<P: Trace>(
         alloc: Global,
         cons: &mut Constructed<'_, S>,
-    ) -> Result<(A, B, C, D, E, F, G, H, I), DecodeError<S::Error>> {
-        match <(A, (B, C, D, E, F, G, H, I))>::take_fields(alloc, cons) {
-            Ok(fields) => {
-                let (a, (b, c, d, e, f, g, h, i)) = fields;
-                Ok((a, b, c, d, e, f, g, h, i))
-            }
-            Err(error) => Err(error),
-        }
-    }
-
-    fn trace_fields(
-        alloc: Global,
-        cons: &mut Constructed<'_, S>,
-        path: &mut Path,
+        path: &mut P,
     ) -> Result<(A, B, C, D, E, F, G, H, I), DecodeError<S::Error>> {
         match <(A, (B, C, D, E, F, G, H, I))>::trace_fields(alloc, cons, path) {
             Ok(fields) => {
@@ -410,6 +347,10 @@ impl<
 
     ghost keep_all = { ⟦<(A, (B, C, D, E, F, G, H, I, J)) as Fields>⟧.keep_all };
 
+    fn count() -> usize {
+        <(A, (B, C, D, E, F, G, H, I, J))>::count()
+    }
+
     fn fields_are_one() {
         <(A, (B, C, D, E, F, G, H, I, J))>::fields_are_one();
     }
@@ -429,23 +370,10 @@ impl<
     J: DecodeFields<S>,
 > DecodeFields<S> for (A, B, C, D, E, F, G, H, I, J) {
     #[inline(always)]
-    fn take_fields(
+    fn trace_fields<P: Trace>(
         alloc: Global,
         cons: &mut Constructed<'_, S>,
-    ) -> Result<(A, B, C, D, E, F, G, H, I, J), DecodeError<S::Error>> {
-        match <(A, (B, C, D, E, F, G, H, I, J))>::take_fields(alloc, cons) {
-            Ok(fields) => {
-                let (a, (b, c, d, e, f, g, h, i, j)) = fields;
-                Ok((a, b, c, d, e, f, g, h, i, j))
-            }
-            Err(error) => Err(error),
-        }
-    }
-
-    fn trace_fields(
-        alloc: Global,
-        cons: &mut Constructed<'_, S>,
-        path: &mut Path,
+        path: &mut P,
     ) -> Result<(A, B, C, D, E, F, G, H, I, J), DecodeError<S::Error>> {
         match <(A, (B, C, D, E, F, G, H, I, J))>::trace_fields(alloc, cons, path) {
             Ok(fields) => {
@@ -479,6 +407,10 @@ impl<
 
     ghost keep_all = { ⟦<(A, (B, C, D, E, F, G, H, I, J, K)) as Fields>⟧.keep_all };
 
+    fn count() -> usize {
+        <(A, (B, C, D, E, F, G, H, I, J, K))>::count()
+    }
+
     fn fields_are_one() {
         <(A, (B, C, D, E, F, G, H, I, J, K))>::fields_are_one();
     }
@@ -499,23 +431,10 @@ impl<
     K: DecodeFields<S>,
 > DecodeFields<S> for (A, B, C, D, E, F, G, H, I, J, K) {
     #[inline(always)]
-    fn take_fields(
+    fn trace_fields<P: Trace>(
         alloc: Global,
         cons: &mut Constructed<'_, S>,
-    ) -> Result<(A, B, C, D, E, F, G, H, I, J, K), DecodeError<S::Error>> {
-        match <(A, (B, C, D, E, F, G, H, I, J, K))>::take_fields(alloc, cons) {
-            Ok(fields) => {
-                let (a, (b, c, d, e, f, g, h, i, j, k)) = fields;
-                Ok((a, b, c, d, e, f, g, h, i, j, k))
-            }
-            Err(error) => Err(error),
-        }
-    }
-
-    fn trace_fields(
-        alloc: Global,
-        cons: &mut Constructed<'_, S>,
-        path: &mut Path,
+        path: &mut P,
     ) -> Result<(A, B, C, D, E, F, G, H, I, J, K), DecodeError<S::Error>> {
         match <(A, (B, C, D, E, F, G, H, I, J, K))>::trace_fields(alloc, cons, path) {
             Ok(fields) => {
@@ -550,6 +469,10 @@ impl<
 
     ghost keep_all = { ⟦<(A, (B, C, D, E, F, G, H, I, J, K, L)) as Fields>⟧.keep_all };
 
+    fn count() -> usize {
+        <(A, (B, C, D, E, F, G, H, I, J, K, L))>::count()
+    }
+
     fn fields_are_one() {
         <(A, (B, C, D, E, F, G, H, I, J, K, L))>::fields_are_one();
     }
@@ -571,23 +494,10 @@ impl<
     L: DecodeFields<S>,
 > DecodeFields<S> for (A, B, C, D, E, F, G, H, I, J, K, L) {
     #[inline(always)]
-    fn take_fields(
+    fn trace_fields<P: Trace>(
         alloc: Global,
         cons: &mut Constructed<'_, S>,
-    ) -> Result<(A, B, C, D, E, F, G, H, I, J, K, L), DecodeError<S::Error>> {
-        match <(A, (B, C, D, E, F, G, H, I, J, K, L))>::take_fields(alloc, cons) {
-            Ok(fields) => {
-                let (a, (b, c, d, e, f, g, h, i, j, k, l)) = fields;
-                Ok((a, b, c, d, e, f, g, h, i, j, k, l))
-            }
-            Err(error) => Err(error),
-        }
-    }
-
-    fn trace_fields(
-        alloc: Global,
-        cons: &mut Constructed<'_, S>,
-        path: &mut Path,
+        path: &mut P,
     ) -> Result<(A, B, C, D, E, F, G, H, I, J, K, L), DecodeError<S::Error>> {
         match <(A, (B, C, D, E, F, G, H, I, J, K, L))>::trace_fields(alloc, cons, path) {
             Ok(fields) => {

@@ -8,7 +8,7 @@ ghost use Rattle.bcder.specs.declared.mode.Mode.TheVariants.{Ber};
 ghost use Rattle.asn1.specs.Types.{TookNextTyped};
 ghost use Rattle.asn1.specs.Keys.{MeansOne, IsMeantOnce};
 
-use crate::Path;
+use crate::{Part, Trace};
 use bcder::Tag;
 use bcder::decode::{Constructed, DecodeError, Source};
 use std::alloc::Global;
@@ -29,8 +29,8 @@ pub trait Type: Drop + Sized {
     }
 
     /// Notes that a value of the type was expected.
-    fn expect(path: &mut Path) {
-        path.expect(Self::tag());
+    fn expect<P: Trace>(path: &mut P) {
+        path.note(Part::Expected(Self::tag()));
     }
 
     /// The tags that its values have if this one is asked for. That is this one, but a CHOICE,
@@ -72,14 +72,52 @@ pub trait Decode<S: Source>: Type {
     /// # Errors
     ///
     /// Returns an error if a value of the tag comes next that means nothing, or octets that are no
-    /// value; if an earlier value was refused; if the source fails; if memory runs out.
-    fn take_opt_if(
+    /// value; if an earlier value was refused; if the source fails; if memory runs out. In which
+    /// part of the value it was is noted in the path.
+    fn trace_opt_if<P: Trace>(
+        alloc: Global,
+        cons: &mut Constructed<'_, S>,
+        tag: Tag,
+        path: &mut P,
+    ) -> Result<Option<Self>, DecodeError<S::Error>>
+        ensures moves { Moved S.stream cons }
+        ensures took { TookNextTyped S.stream cons (Self.tags tag) Self.means result };
+
+    /// Takes the next value of the type, with the type's own tag, as
+    /// [`trace_opt_if`](Self::trace_opt_if) does.
+    ///
+    /// # Errors
+    ///
+    /// Those of `trace_opt_if`.
+    #[inline(always)]
+    final fn trace_opt_from<P: Trace>(
+        alloc: Global,
+        cons: &mut Constructed<'_, S>,
+        path: &mut P,
+    ) -> Result<Option<Self>, DecodeError<S::Error>>
+        ensures moves { Moved S.stream cons }
+        ensures took { TookNextTyped S.stream cons (Self.tags Self.TAG) Self.means result }
+    {
+        Self::trace_opt_if(alloc, cons, Self::tag(), path)
+    }
+
+    /// Takes the next value if it has this tag, or returns `None` at the end and at a value of
+    /// another tag, which stays.
+    ///
+    /// # Errors
+    ///
+    /// Those of [`trace_opt_if`](Self::trace_opt_if). Nothing is noted.
+    #[inline(always)]
+    final fn take_opt_if(
         alloc: Global,
         cons: &mut Constructed<'_, S>,
         tag: Tag,
     ) -> Result<Option<Self>, DecodeError<S::Error>>
         ensures moves { Moved S.stream cons }
-        ensures took { TookNextTyped S.stream cons (Self.tags tag) Self.means result };
+        ensures took { TookNextTyped S.stream cons (Self.tags tag) Self.means result }
+    {
+        Self::trace_opt_if(alloc, cons, tag, &mut ())
+    }
 
     /// Takes the next value of the type, with the type's own tag.
     ///
@@ -95,40 +133,5 @@ pub trait Decode<S: Source>: Type {
         ensures took { TookNextTyped S.stream cons (Self.tags Self.TAG) Self.means result }
     {
         Self::take_opt_if(alloc, cons, Self::tag())
-    }
-
-    /// Does what [`take_opt_if`](Self::take_opt_if) does, and notes in which part of the value
-    /// something was refused. By default it notes none.
-    ///
-    /// # Errors
-    ///
-    /// Those of `take_opt_if`.
-    fn trace_opt_if(
-        alloc: Global,
-        cons: &mut Constructed<'_, S>,
-        tag: Tag,
-        _path: &mut Path,
-    ) -> Result<Option<Self>, DecodeError<S::Error>>
-        ensures moves { Moved S.stream cons }
-        ensures took { TookNextTyped S.stream cons (Self.tags tag) Self.means result }
-    {
-        Self::take_opt_if(alloc, cons, tag)
-    }
-
-    /// Does what [`take_opt_from`](Self::take_opt_from) does, and notes in which part of the value
-    /// something was refused.
-    ///
-    /// # Errors
-    ///
-    /// Those of `take_opt_from`.
-    final fn trace_opt_from(
-        alloc: Global,
-        cons: &mut Constructed<'_, S>,
-        path: &mut Path,
-    ) -> Result<Option<Self>, DecodeError<S::Error>>
-        ensures moves { Moved S.stream cons }
-        ensures took { TookNextTyped S.stream cons (Self.tags Self.TAG) Self.means result }
-    {
-        Self::trace_opt_if(alloc, cons, Self::tag(), path)
     }
 }

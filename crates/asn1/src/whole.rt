@@ -5,11 +5,10 @@ ghost use Rattle.bcder.specs.calls.Views.{Moved};
 ghost use Rattle.asn1.specs.Types.{TookFields};
 ghost use Rattle.asn1.specs.Decoded.{IsValueOf, RefusesAll, AreFields, RefusesFieldsOf};
 
-use crate::{Decode, DecodeFields, Path, Type, TypeError};
+use crate::{Decode, DecodeFields, Part, Path, Trace, Type, TypeError};
 use bcder::Mode;
 use bcder::decode::{Constructed, DecodeError, IntoSource, SliceSource, Source};
 use std::alloc::Global;
-use std::convert::Infallible;
 
 /// Decodes a source that is one value of a type, with nothing behind it.
 ///
@@ -17,6 +16,7 @@ use std::convert::Infallible;
 ///
 /// Returns an error if the octets are not one value of the type in this mode; if the source fails;
 /// if memory runs out.
+#[inline(always)]
 pub fn decode<T, I: IntoSource>(
     alloc: Global,
     mode: Mode,
@@ -30,36 +30,38 @@ where
     ensures refused { IfErr result (λ e.
         RefusesAll mode (T.tags T.TAG) (T.means mode) (I.gives source) e) }
 {
-    decode_fields::<T, I::Source>(alloc, mode, source.into_source())
+    decode_traced::<T, I, ()>(alloc, mode, source, &mut ())
 }
 
-/// Decodes a source that is fields, with nothing behind them.
-#[inline(always)]
-pub(crate) fn decode_fields<F: DecodeFields<S>, S: Source + Drop>(
+/// Does what [`decode`] does, and notes in which part of the value something was refused.
+pub(crate) fn decode_traced<T, I: IntoSource, P: Trace>(
     alloc: Global,
     mode: Mode,
-    source: S,
-) -> Result<F, DecodeError<S::Error>>
+    source: I,
+    path: &mut P,
+) -> Result<T, DecodeError<<I::Source as Source>::Error>>
+where
+    T: Type + Decode<I::Source>,
+    I::Source: Drop,
     ensures value { IfOk result (λ x.
-        AreFields mode (F.takes mode) (S.stream source).rest x) }
+        IsValueOf mode (T.tags T.TAG) (T.means mode) (I.gives source).rest x) }
     ensures refused { IfErr result (λ e.
-        RefusesFieldsOf mode (F.takes mode) (S.stream source) e) }
+        RefusesAll mode (T.tags T.TAG) (T.means mode) (I.gives source) e) }
 {
-    mode.decode_all(
-        source,
-        |cons|
-            ensures moves { Moved S.stream cons }
-            ensures took { TookFields S.stream cons F.takes result }
-        { F::take_fields(alloc, cons) },
-    )
+    let value = decode_fields::<T, I::Source, P>(alloc, mode, source.into_source(), path);
+    if value.is_err() {
+        path.note(Part::Only);
+    }
+    value
 }
 
-/// Does what [`decode_fields`] does, and notes in which part of them something was refused.
-fn trace_all<F: DecodeFields<S>, S: Source + Drop>(
+/// Decodes a source that is fields, with nothing behind them, and notes which of them was refused.
+#[inline(always)]
+pub(crate) fn decode_fields<F: DecodeFields<S>, S: Source + Drop, P: Trace>(
     alloc: Global,
     mode: Mode,
     source: S,
-    path: &mut Path,
+    path: &mut P,
 ) -> Result<F, DecodeError<S::Error>>
     ensures value { IfOk result (λ x.
         AreFields mode (F.takes mode) (S.stream source).rest x) }
@@ -75,29 +77,8 @@ fn trace_all<F: DecodeFields<S>, S: Source + Drop>(
     )
 }
 
-/// Does what [`decode`] does, and notes in which part of the value something was refused.
-pub(crate) fn trace<T, I: IntoSource>(
-    alloc: Global,
-    mode: Mode,
-    source: I,
-    path: &mut Path,
-) -> Result<T, DecodeError<<I::Source as Source>::Error>>
-where
-    T: Type + Decode<I::Source>,
-    I::Source: Drop,
-    ensures value { IfOk result (λ x.
-        IsValueOf mode (T.tags T.TAG) (T.means mode) (I.gives source).rest x) }
-    ensures refused { IfErr result (λ e.
-        RefusesAll mode (T.tags T.TAG) (T.means mode) (I.gives source) e) }
-{
-    trace_all::<T, I::Source>(alloc, mode, source.into_source(), path)
-}
-
 /// Decodes octets that are one value of a type, with nothing behind it. The error says in which
 /// part of the value something was refused.
-///
-/// Unless something is refused, it is [`decode`]. Else the octets are read again, and the parts are
-/// noted on the way.
 ///
 /// # Errors
 ///
@@ -114,31 +95,12 @@ pub fn decode_octets<'a, T: Type + Decode<SliceSource<'a>>>(
     ensures refused { IfErr result (λ e.
         RefusesAll mode (T.tags T.TAG) (T.means mode) (at_hand octets.now) e.error) }
 {
-    match decode::<T, &'a [u8]>(alloc, mode, octets) {
+    let mut path = Path::new(alloc, T::name());
+    match decode_traced::<T, &'a [u8], Path>(alloc, mode, octets, &mut path) {
         Ok(value) => Ok(value),
         Err(error) => {
-            let source = SliceSource::new(octets);
-            Err(explain::<T, SliceSource<'a>>(alloc, mode, source, error))
+            path.settle(!error.is_memory());
+            Err(TypeError { error, path })
         }
     }
-}
-
-/// Finds the part in which something of a source was refused.
-fn explain<T: Type + Decode<S>, S: Source + Drop>(
-    alloc: Global,
-    mode: Mode,
-    source: S,
-    error: DecodeError<Infallible>,
-) -> TypeError
-    ensures { result.error ≡ error }
-{
-    let mut path = Path::new(alloc, T::name());
-    if !error.is_memory() {
-        let is_known = match trace_all::<T, S>(alloc, mode, source, &mut path) {
-            Ok(_) => false,
-            Err(again) => !again.is_memory(),
-        };
-        path.settle(is_known);
-    }
-    TypeError { error, path }
 }

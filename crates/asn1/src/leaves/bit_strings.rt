@@ -4,7 +4,7 @@ ghost use Rattle.bcder.specs.x690.BitString.{bit_string_tag, Bits, IsBitString};
 ghost use Rattle.asn1.specs.Types.{IsLeaf, Only};
 ghost use Rattle.asn1.specs.Tags.{bit_string_tagged, only_tagged};
 
-use crate::{Decode, Type};
+use crate::{Decode, Trace, Type};
 use bcder::decode::{Constructed, DecodeError, Source};
 use bcder::{BitString, Tag};
 use std::alloc::Global;
@@ -36,10 +36,11 @@ impl Type for BitString {
 
 impl<S: Source> Decode<S> for BitString {
     #[inline(always)]
-    fn take_opt_if(
+    fn trace_opt_if<P: Trace>(
         alloc: Global,
         cons: &mut Constructed<'_, S>,
         tag: Tag,
+        _path: &mut P,
     ) -> Result<Option<BitString>, DecodeError<S::Error>> {
         cons.take_opt_value_if(tag, |content| BitString::from_content(alloc, content))
     }

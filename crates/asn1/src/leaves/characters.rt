@@ -8,7 +8,7 @@ ghost use Rattle.asn1.specs.Types.{Only, TookNextTyped};
 ghost use Rattle.asn1.specs.Tags.{utf8_string_tagged, numeric_string_tagged, only_tagged};
 ghost use Rattle.asn1.specs.Tags.{printable_string_tagged, ia5_string_tagged};
 
-use crate::{Decode, Type};
+use crate::{Decode, Trace, Type};
 use bcder::Tag;
 use bcder::decode::{Constructed, DecodeError, Source};
 use bcder::string::{
@@ -93,10 +93,11 @@ fn take_tagged<S: Source, L: TaggedCharSet>(
 
 impl<S: Source, L: TaggedCharSet> Decode<S> for RestrictedString<L> {
     #[inline(always)]
-    fn take_opt_if(
+    fn trace_opt_if<P: Trace>(
         alloc: Global,
         cons: &mut Constructed<'_, S>,
         tag: Tag,
+        _path: &mut P,
     ) -> Result<Option<RestrictedString<L>>, DecodeError<S::Error>> {
         if tag == L::TAG {
             take_own(alloc, cons)

@@ -4,7 +4,7 @@ ghost use Rattle.bcder.specs.x690.ObjectIdentifier.{identifier_tag, IsComplete};
 ghost use Rattle.asn1.specs.Types.{IsLeaf, Only};
 ghost use Rattle.asn1.specs.Tags.{identifier_tagged, only_tagged};
 
-use crate::{Decode, Type};
+use crate::{Decode, Trace, Type};
 use bcder::decode::{Constructed, DecodeError, Source};
 use bcder::{Oid, Tag};
 use bytes::Bytes;
@@ -37,10 +37,11 @@ impl<T: AsSlice<u8> + Drop> Type for Oid<T> {
 
 impl<S: Source> Decode<S> for Oid<Bytes> {
     #[inline(always)]
-    fn take_opt_if(
+    fn trace_opt_if<P: Trace>(
         alloc: Global,
         cons: &mut Constructed<'_, S>,
         tag: Tag,
+        _path: &mut P,
     ) -> Result<Option<Oid<Bytes>>, DecodeError<S::Error>> {
         cons.take_opt_primitive_if(tag, |octets| Oid::from_primitive(alloc, octets))
     }

@@ -5,7 +5,7 @@ ghost use Rattle.bcder.specs.x690.Integer.{AreInteger};
 ghost use Rattle.asn1.specs.Types.{IsLeaf, Only};
 ghost use Rattle.asn1.specs.Tags.{integer_tagged, only_tagged};
 
-use crate::{Decode, Type};
+use crate::{Decode, Trace, Type};
 use bcder::decode::{Constructed, DecodeError, Source};
 use bcder::{Integer, Tag, Unsigned};
 use std::alloc::Global;
@@ -36,10 +36,11 @@ impl Type for Integer {
 
 impl<S: Source> Decode<S> for Integer {
     #[inline(always)]
-    fn take_opt_if(
+    fn trace_opt_if<P: Trace>(
         alloc: Global,
         cons: &mut Constructed<'_, S>,
         tag: Tag,
+        _path: &mut P,
     ) -> Result<Option<Integer>, DecodeError<S::Error>> {
         cons.take_opt_primitive_if(tag, |octets| Integer::from_primitive(alloc, octets))
     }
@@ -71,10 +72,11 @@ impl Type for Unsigned {
 
 impl<S: Source> Decode<S> for Unsigned {
     #[inline(always)]
-    fn take_opt_if(
+    fn trace_opt_if<P: Trace>(
         alloc: Global,
         cons: &mut Constructed<'_, S>,
         tag: Tag,
+        _path: &mut P,
     ) -> Result<Option<Unsigned>, DecodeError<S::Error>> {
         cons.take_opt_primitive_if(tag, |octets| Unsigned::from_primitive(alloc, octets))
     }

@@ -8,7 +8,7 @@ ghost use Rattle.bcder.specs.x690.Identifier.{integer_tag};
 ghost use Rattle.asn1.specs.Types.{IsLeaf, Only};
 ghost use Rattle.asn1.specs.Tags.{integer_tagged, only_tagged};
 
-use crate::{Decode, Type};
+use crate::{Decode, Trace, Type};
 use bcder::Tag;
 use bcder::decode::{Constructed, DecodeError, Source};
 use std::alloc::Global;
@@ -38,10 +38,11 @@ impl Type for u8 {
 
 impl<S: Source> Decode<S> for u8 {
     #[inline(always)]
-    fn take_opt_if(
+    fn trace_opt_if<P: Trace>(
         _alloc: Global,
         cons: &mut Constructed<'_, S>,
         tag: Tag,
+        _path: &mut P,
     ) -> Result<Option<u8>, DecodeError<S::Error>> {
         cons.take_opt_primitive_if(tag, |octets| octets.to_u8())
     }
@@ -72,10 +73,11 @@ impl Type for u16 {
 
 impl<S: Source> Decode<S> for u16 {
     #[inline(always)]
-    fn take_opt_if(
+    fn trace_opt_if<P: Trace>(
         _alloc: Global,
         cons: &mut Constructed<'_, S>,
         tag: Tag,
+        _path: &mut P,
     ) -> Result<Option<u16>, DecodeError<S::Error>> {
         cons.take_opt_primitive_if(tag, |octets| octets.to_u16())
     }
@@ -106,10 +108,11 @@ impl Type for u32 {
 
 impl<S: Source> Decode<S> for u32 {
     #[inline(always)]
-    fn take_opt_if(
+    fn trace_opt_if<P: Trace>(
         _alloc: Global,
         cons: &mut Constructed<'_, S>,
         tag: Tag,
+        _path: &mut P,
     ) -> Result<Option<u32>, DecodeError<S::Error>> {
         cons.take_opt_primitive_if(tag, |octets| octets.to_u32())
     }
@@ -140,10 +143,11 @@ impl Type for u64 {
 
 impl<S: Source> Decode<S> for u64 {
     #[inline(always)]
-    fn take_opt_if(
+    fn trace_opt_if<P: Trace>(
         _alloc: Global,
         cons: &mut Constructed<'_, S>,
         tag: Tag,
+        _path: &mut P,
     ) -> Result<Option<u64>, DecodeError<S::Error>> {
         cons.take_opt_primitive_if(tag, |octets| octets.to_u64())
     }
@@ -174,10 +178,11 @@ impl Type for u128 {
 
 impl<S: Source> Decode<S> for u128 {
     #[inline(always)]
-    fn take_opt_if(
+    fn trace_opt_if<P: Trace>(
         _alloc: Global,
         cons: &mut Constructed<'_, S>,
         tag: Tag,
+        _path: &mut P,
     ) -> Result<Option<u128>, DecodeError<S::Error>> {
         cons.take_opt_primitive_if(tag, |octets| octets.to_u128())
     }
@@ -208,10 +213,11 @@ impl Type for i8 {
 
 impl<S: Source> Decode<S> for i8 {
     #[inline(always)]
-    fn take_opt_if(
+    fn trace_opt_if<P: Trace>(
         _alloc: Global,
         cons: &mut Constructed<'_, S>,
         tag: Tag,
+        _path: &mut P,
     ) -> Result<Option<i8>, DecodeError<S::Error>> {
         cons.take_opt_primitive_if(tag, |octets| octets.to_i8())
     }
@@ -242,10 +248,11 @@ impl Type for i16 {
 
 impl<S: Source> Decode<S> for i16 {
     #[inline(always)]
-    fn take_opt_if(
+    fn trace_opt_if<P: Trace>(
         _alloc: Global,
         cons: &mut Constructed<'_, S>,
         tag: Tag,
+        _path: &mut P,
     ) -> Result<Option<i16>, DecodeError<S::Error>> {
         cons.take_opt_primitive_if(tag, |octets| octets.to_i16())
     }
@@ -276,10 +283,11 @@ impl Type for i32 {
 
 impl<S: Source> Decode<S> for i32 {
     #[inline(always)]
-    fn take_opt_if(
+    fn trace_opt_if<P: Trace>(
         _alloc: Global,
         cons: &mut Constructed<'_, S>,
         tag: Tag,
+        _path: &mut P,
     ) -> Result<Option<i32>, DecodeError<S::Error>> {
         cons.take_opt_primitive_if(tag, |octets| octets.to_i32())
     }
@@ -310,10 +318,11 @@ impl Type for i64 {
 
 impl<S: Source> Decode<S> for i64 {
     #[inline(always)]
-    fn take_opt_if(
+    fn trace_opt_if<P: Trace>(
         _alloc: Global,
         cons: &mut Constructed<'_, S>,
         tag: Tag,
+        _path: &mut P,
     ) -> Result<Option<i64>, DecodeError<S::Error>> {
         cons.take_opt_primitive_if(tag, |octets| octets.to_i64())
     }
@@ -344,10 +353,11 @@ impl Type for i128 {
 
 impl<S: Source> Decode<S> for i128 {
     #[inline(always)]
-    fn take_opt_if(
+    fn trace_opt_if<P: Trace>(
         _alloc: Global,
         cons: &mut Constructed<'_, S>,
         tag: Tag,
+        _path: &mut P,
     ) -> Result<Option<i128>, DecodeError<S::Error>> {
         cons.take_opt_primitive_if(tag, |octets| octets.to_i128())
     }

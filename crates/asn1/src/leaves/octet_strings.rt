@@ -5,7 +5,7 @@ ghost use Rattle.bcder.specs.x690.OctetString.{octet_string_tag};
 ghost use Rattle.asn1.specs.Types.{Only};
 ghost use Rattle.asn1.specs.Tags.{octet_string_tagged, only_tagged};
 
-use crate::{Decode, Type};
+use crate::{Decode, Trace, Type};
 use bcder::decode::{Constructed, DecodeError, Source};
 use bcder::{OctetString, Tag};
 use std::alloc::Global;
@@ -37,10 +37,11 @@ impl Type for OctetString {
 
 impl<S: Source> Decode<S> for OctetString {
     #[inline(always)]
-    fn take_opt_if(
+    fn trace_opt_if<P: Trace>(
         alloc: Global,
         cons: &mut Constructed<'_, S>,
         tag: Tag,
+        _path: &mut P,
     ) -> Result<Option<OctetString>, DecodeError<S::Error>> {
         OctetString::take_opt_if(alloc, cons, tag)
     }

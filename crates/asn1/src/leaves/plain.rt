@@ -5,7 +5,7 @@ ghost use Rattle.bcder.specs.x690.Identifier.{boolean_tag, null_tag};
 ghost use Rattle.asn1.specs.Types.{IsLeaf, Only};
 ghost use Rattle.asn1.specs.Tags.{boolean_tagged, null_tagged, only_tagged};
 
-use crate::{Decode, Type};
+use crate::{Decode, Trace, Type};
 use bcder::Tag;
 use bcder::decode::{Constructed, DecodeError, Source};
 use std::alloc::Global;
@@ -36,10 +36,11 @@ impl Type for bool {
 
 impl<S: Source> Decode<S> for bool {
     #[inline(always)]
-    fn take_opt_if(
+    fn trace_opt_if<P: Trace>(
         _alloc: Global,
         cons: &mut Constructed<'_, S>,
         tag: Tag,
+        _path: &mut P,
     ) -> Result<Option<bool>, DecodeError<S::Error>> {
         cons.take_opt_primitive_if(tag, |octets| octets.to_bool())
     }
@@ -71,10 +72,11 @@ impl Type for () {
 
 impl<S: Source> Decode<S> for () {
     #[inline(always)]
-    fn take_opt_if(
+    fn trace_opt_if<P: Trace>(
         _alloc: Global,
         cons: &mut Constructed<'_, S>,
         tag: Tag,
+        _path: &mut P,
     ) -> Result<Option<()>, DecodeError<S::Error>> {
         cons.take_opt_primitive_if(tag, |octets| octets.to_null())
     }

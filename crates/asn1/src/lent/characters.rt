@@ -9,7 +9,7 @@ ghost use Rattle.asn1.specs.Types.{IsLeaf, Only, TookNextTyped};
 ghost use Rattle.asn1.specs.Tags.{only_tagged};
 
 use super::is_piece;
-use crate::{Decode, TaggedCharSet, Type};
+use crate::{Decode, TaggedCharSet, Trace, Type};
 use bcder::decode::{Constructed, ContentError, DecodeError, LendingSource, Primitive};
 use bcder::string::{
     CharSetError, Ia5CharSet, NumericCharSet, OctetStringOctets, PrintableCharSet, TextCharSet,
@@ -160,10 +160,11 @@ fn take_characters_if<S: LendingSource, C: TaggedCharSet>(
 
 impl<S: LendingSource, C: TaggedCharSet> Decode<S> for RestrictedStringRef<C, S::Lent> {
     #[inline(always)]
-    fn take_opt_if(
+    fn trace_opt_if<P: Trace>(
         _alloc: Global,
         cons: &mut Constructed<'_, S>,
         tag: Tag,
+        _path: &mut P,
     ) -> Result<Option<RestrictedStringRef<C, S::Lent>>, DecodeError<S::Error>> {
         take_characters_if(cons, tag)
     }

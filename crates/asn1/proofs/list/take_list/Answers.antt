@@ -19,10 +19,10 @@ loop-value-preserved g c =
     let Tags = g.T.Type.tags g.T.Type.TAG in
     let i = of_constructed g.S.Source.stream c.args.cons.now in
     let d = of_constructed g.S.Source.stream c.loop-value.cons in
-    let e = of_constructed g.S.Source.stream c.take_opt_from.new.cons in
+    let e = of_constructed g.S.Source.stream c.trace_opt_from.new.cons in
     let r : Runs Tags (g.T.Type.means i.mode) i c.loop-value.all.items d = c.loop-value.invariant in
     let w = constructed_is_within_owed g.S.Source.stream g.met.S.Source.sound c.loop-value.cons in
-    let m = c.take_opt_from.ensures.moves d (untouched_is_moved d) in
+    let m = c.trace_opt_from.ensures.moves d (untouched_is_moved d) in
     let n : TakesNextTyped Tags (g.T.Type.means d.mode) {X = g.row.S-Error.Denot} d (Ok (Some c.in-Ok-Some.value)) e =
     rw c.in-Ok-Some.field-0-is at c.in-Ok-Some.ensures.took in
     let q : c.push.new.self.items ≡ c.loop-value.all.items ++ (c.in-Ok-Some.value ∷ []) = search rules in
@@ -33,10 +33,10 @@ loop-value-smaller g c =
     let Tags = g.T.Type.tags g.T.Type.TAG in
     let i = of_constructed g.S.Source.stream c.args.cons.now in
     let d = of_constructed g.S.Source.stream c.loop-value.cons in
-    let e = of_constructed g.S.Source.stream c.take_opt_from.new.cons in
+    let e = of_constructed g.S.Source.stream c.trace_opt_from.new.cons in
     let r : Runs Tags (g.T.Type.means i.mode) i c.loop-value.all.items d = c.loop-value.invariant in
     let w = constructed_is_within_owed g.S.Source.stream g.met.S.Source.sound c.loop-value.cons in
-    let m = c.take_opt_from.ensures.moves d (untouched_is_moved d) in
+    let m = c.trace_opt_from.ensures.moves d (untouched_is_moved d) in
     let n : TakesNextTyped Tags (g.T.Type.means d.mode) {X = g.row.S-Error.Denot} d (Ok (Some c.in-Ok-Some.value)) e =
     rw c.in-Ok-Some.field-0-is at c.in-Ok-Some.ensures.took in
     let h = shorter_list Tags g.T.Type.means i c.loop-value.all.items d e r w m c.in-Ok-Some.value n in
@@ -45,17 +45,17 @@ loop-value-smaller g c =
 pub returns-in-Ok-None-clause-moves : goal.returns-in-Ok-None-clause-moves
 returns-in-Ok-None-clause-moves g c =
     let d = of_constructed g.S.Source.stream c.loop-value.cons in
-    moved_carries _ _ (moved_twice_is_moved _ _ _ c.loop-value.invariant.moves (c.take_opt_from.ensures.moves d (untouched_is_moved d)))
+    moved_carries _ _ (moved_twice_is_moved _ _ _ c.loop-value.invariant.moves (c.trace_opt_from.ensures.moves d (untouched_is_moved d)))
 
 pub returns-in-Ok-None-clause-took : goal.returns-in-Ok-None-clause-took
 returns-in-Ok-None-clause-took g c =
     let Tags = g.T.Type.tags g.T.Type.TAG in
     let i = of_constructed g.S.Source.stream c.args.cons.now in
     let d = of_constructed g.S.Source.stream c.loop-value.cons in
-    let e = of_constructed g.S.Source.stream c.take_opt_from.new.cons in
+    let e = of_constructed g.S.Source.stream c.trace_opt_from.new.cons in
     let r : Runs Tags (g.T.Type.means i.mode) i c.loop-value.all.items d = c.loop-value.invariant in
     let w = constructed_is_within_owed g.S.Source.stream g.met.S.Source.sound c.loop-value.cons in
-    let m = c.take_opt_from.ensures.moves d (untouched_is_moved d) in
+    let m = c.trace_opt_from.ensures.moves d (untouched_is_moved d) in
     let v : AreTags Tags = record { own = g.T.Type.TAG; is_own = g.met.T.Type.tagged; value_tags = g.met.T.Type.value_tags } in
     let n : TakesNextTyped Tags (g.T.Type.means d.mode) {X = g.row.S-Error.Denot} d (Ok None) e = rw c.in-Ok-None.field-0-is at c.in-Ok-None.ensures.took in
     reads_list Tags g.T.Type.means i c.loop-value.all.items d e r w m v n
@@ -63,34 +63,34 @@ returns-in-Ok-None-clause-took g c =
 pub returns-in-Err-clause-moves : goal.returns-in-Err-clause-moves
 returns-in-Err-clause-moves g c =
     let d = of_constructed g.S.Source.stream c.loop-value.cons in
-    moved_carries _ _ (moved_twice_is_moved _ _ _ c.loop-value.invariant.moves (c.take_opt_from.ensures.moves d (untouched_is_moved d)))
+    moved_carries _ _ (moved_twice_is_moved _ _ _ c.loop-value.invariant.moves (c.trace_opt_from.ensures.moves d (untouched_is_moved d)))
 
 pub returns-in-Err-clause-took : goal.returns-in-Err-clause-took
 returns-in-Err-clause-took g c =
     let Tags = g.T.Type.tags g.T.Type.TAG in
     let i = of_constructed g.S.Source.stream c.args.cons.now in
     let d = of_constructed g.S.Source.stream c.loop-value.cons in
-    let e = of_constructed g.S.Source.stream c.take_opt_from.new.cons in
+    let e = of_constructed g.S.Source.stream c.trace_opt_from.new.cons in
     let r : Runs Tags (g.T.Type.means i.mode) i c.loop-value.all.items d = c.loop-value.invariant in
     let w = constructed_is_within_owed g.S.Source.stream g.met.S.Source.sound c.loop-value.cons in
-    let m = c.take_opt_from.ensures.moves d (untouched_is_moved d) in
+    let m = c.trace_opt_from.ensures.moves d (untouched_is_moved d) in
     let v : AreTags Tags = record { own = g.T.Type.TAG; is_own = g.met.T.Type.tagged; value_tags = g.met.T.Type.value_tags } in
     refuses_list Tags g.T.Type.means i c.loop-value.all.items d e r w m v c.in-Err.error c.in-Err.ensures.took
 
 pub returns-then-is_err-clause-moves : goal.returns-then-is_err-clause-moves
 returns-then-is_err-clause-moves g c =
     let d = of_constructed g.S.Source.stream c.loop-value.cons in
-    moved_carries _ _ (moved_twice_is_moved _ _ _ c.loop-value.invariant.moves (c.take_opt_from.ensures.moves d (untouched_is_moved d)))
+    moved_carries _ _ (moved_twice_is_moved _ _ _ c.loop-value.invariant.moves (c.trace_opt_from.ensures.moves d (untouched_is_moved d)))
 
 pub returns-then-is_err-clause-took : goal.returns-then-is_err-clause-took
 returns-then-is_err-clause-took g c =
     let Tags = g.T.Type.tags g.T.Type.TAG in
     let i = of_constructed g.S.Source.stream c.args.cons.now in
     let d = of_constructed g.S.Source.stream c.loop-value.cons in
-    let e = of_constructed g.S.Source.stream c.take_opt_from.new.cons in
+    let e = of_constructed g.S.Source.stream c.trace_opt_from.new.cons in
     let r : Runs Tags (g.T.Type.means i.mode) i c.loop-value.all.items d = c.loop-value.invariant in
     let w = constructed_is_within_owed g.S.Source.stream g.met.S.Source.sound c.loop-value.cons in
-    let m = c.take_opt_from.ensures.moves d (untouched_is_moved d) in
+    let m = c.trace_opt_from.ensures.moves d (untouched_is_moved d) in
     let n : TakesNextTyped Tags (g.T.Type.means d.mode) {X = g.row.S-Error.Denot} d (Ok (Some c.in-Ok-Some.value)) e =
     rw c.in-Ok-Some.field-0-is at c.in-Ok-Some.ensures.took in
     keeps_no_list Tags g.T.Type.means i c.loop-value.all.items d e r w m c.no_memory.result c.no_memory.ensures c.in-Ok-Some.value n

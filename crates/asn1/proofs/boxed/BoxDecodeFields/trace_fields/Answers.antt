@@ -11,4 +11,4 @@ returns-in-Ok-new-clause-took g c =
     let j = of_constructed g.S.Source.stream c.trace_fields.new.cons in
     let Takes = g.F.Fields.takes i.mode in
     let read = subst (λ x. ReadsFields Takes {X = g.row.S-Error.Denot} i (Ok x) j) (sym c.in-Ok-new.ensures.ok) c.in-Ok.ensures.took in
-    reads_seen Takes (λ (b : Box g.row.F.Denot Global). b.value) i j c.in-Ok-new.held read
+    reads_seen Takes (λ (b : Box g.row.F.Denot Global). b.value) i j c.in-Ok-new.boxed read

@@ -12,20 +12,20 @@ returns-then-is_left_out-clause-took g c =
     let Tags = g.T.Type.tags g.T.Type.TAG in
     let i = of_constructed g.S.Source.stream c.args.cons.now in
     let d = of_constructed g.S.Source.stream c.trace_fields.new.cons in
-    let r : ReadsFields (IsOptional Tags (g.T.Type.means i.mode)) {X = g.row.S-Error.Denot} i (Ok (Some c.in-Ok-Some.given)) d =
+    let r : ReadsFields (IsOptional Tags (g.T.Type.means i.mode)) {X = g.row.S-Error.Denot} i (Ok (Some c.in-Ok-Some.value)) d =
     rw c.in-Ok-Some.field-0-is at c.in-Ok-Some.ensures.took in
     let yes = c.is_left_out.ensures.yes c.if-is_left_out.true in
     let ne : i.mode ≢ Ber = subst (λ z. z ≢ Ber) (c.mode-mode.ensures ∙ r.mode) yes.0 in
     let refusal : IsRefusal c.content_err.result = search rules in
     refuses_default i.mode Tags (g.T.Type.means i.mode) g.T.Type.key (g.T.Type.key g.D.DefaultValue.default) (λ x. x) i d (c.values_are_one.ensures.one i.mode)
-    ne c.in-Ok-Some.given r yes.1 _ refusal
+    ne c.in-Ok-Some.value r yes.1 _ refusal
 
 pub returns-else-is_left_out-clause-took : goal.returns-else-is_left_out-clause-took
 returns-else-is_left_out-clause-took g c =
     let Tags = g.T.Type.tags g.T.Type.TAG in
     let i = of_constructed g.S.Source.stream c.args.cons.now in
     let d = of_constructed g.S.Source.stream c.trace_fields.new.cons in
-    let r : ReadsFields (IsOptional Tags (g.T.Type.means i.mode)) {X = g.row.S-Error.Denot} i (Ok (Some c.in-Ok-Some.given)) d =
+    let r : ReadsFields (IsOptional Tags (g.T.Type.means i.mode)) {X = g.row.S-Error.Denot} i (Ok (Some c.in-Ok-Some.value)) d =
     rw c.in-Ok-Some.field-0-is at c.in-Ok-Some.ensures.took in
     let no = c.is_left_out.ensures.no c.if-is_left_out.false in
     reads_given i.mode Tags (g.T.Type.means i.mode) g.T.Type.key (g.T.Type.key g.D.DefaultValue.default) (λ x. x) i d _ r

@@ -1,0 +1,12 @@
+use Rattle.bcder.specs.calls.StringOctets.{MeansString}
+use Rattle.bcder.specs.calls.Views.{of_constructed}
+use Rattle.bcder.proofs.Lemmas.{constructed_is_within_owed}
+use Rattle.asn1.proofs.Typed.{next_typed}
+use Rattle.asn1.proofs.leaves.octet_strings.OctetStringDecode.trace_opt_if.Goals as goal
+
+pub returns-clause-took : goal.returns-clause-took
+returns-clause-took g c =
+    let i = of_constructed g.S.Source.stream c.args.cons.now in
+    let j = of_constructed g.S.Source.stream c.take_opt_if.new.cons in
+    let w = constructed_is_within_owed g.S.Source.stream g.met.S.Source.sound c.args.cons.now in
+    next_typed c.args.tag (MeansString i.mode) i j w c.take_opt_if.result c.take_opt_if.ensures.took

@@ -1,0 +1,58 @@
+//! What notes in which part of a value something was refused.
+use crate::Path;
+use bcder::Tag;
+
+/// What an error passes on its way outwards, or what was expected where it began.
+#[derive(Clone, Copy)]
+pub enum Part {
+    /// A value with this tag was expected.
+    Expected(Tag),
+    /// A value of any type was expected.
+    AnyExpected,
+    /// A field.
+    Field,
+    /// Fields that stand behind so many others.
+    Behind(usize),
+    /// A value of which that field is the only one, so it has no number.
+    Only,
+    /// This value of a list, from 0.
+    Item(usize),
+    /// The first type of a CHOICE of two.
+    First,
+    /// The second type of a CHOICE of two.
+    Second,
+    /// A value of a type whose fields or alternatives have these names.
+    Named(&'static [&'static str]),
+}
+
+/// What notes in which part of a value something was refused: a [`Path`], or `()`, which notes
+/// nothing.
+///
+/// A reader calls it only if something is refused, so it costs nothing where nothing is.
+pub trait Trace {
+    /// Notes what an error passes.
+    fn note(&mut self, part: Part);
+}
+
+impl Trace for () {
+    #[inline(always)]
+    fn note(&mut self, _part: Part) {}
+}
+
+impl Trace for Path {
+    #[cold]
+    #[inline(never)]
+    fn note(&mut self, part: Part) {
+        match part {
+            Part::Expected(tag) => self.expect(tag),
+            Part::AnyExpected => self.expect_any(),
+            Part::Field => self.at_field(),
+            Part::Behind(count) => self.pass_fields(count),
+            Part::Only => self.drop_field(),
+            Part::Item(index) => self.at_item(index),
+            Part::First => self.at_first(),
+            Part::Second => self.at_second(),
+            Part::Named(names) => self.name_part(names),
+        }
+    }
+}
