@@ -1,4 +1,5 @@
 //! Where in a value of a type something was refused.
+use crate::{Part, Trace};
 use bcder::Tag;
 use bytes::ByteStr;
 use std::alloc::Global;
@@ -52,39 +53,18 @@ impl Path {
         self.name.is_empty() && !self.steps.iter().any(|step| is_shown(step))
     }
 
-    /// Leads to a field, the first of those it was read with.
-    pub(crate) fn at_field(&mut self) {
-        self.step(Step::Field(0));
-    }
-
     /// Counts so many fields in front of that to which it leads.
-    pub(crate) fn pass_fields(&mut self, count: usize) {
-        if let Some(index) = self.last_field() {
-            let _ = self.steps.pop();
-            self.step(Step::Field(index.saturating_add(count)));
+    fn pass_fields(&mut self, count: usize) {
+        if let Some(Step::Field(index)) = self.steps.last_mut() {
+            *index = index.saturating_add(count);
         }
     }
 
     /// Leads to the value itself, if it led to its only field.
-    pub(crate) fn drop_field(&mut self) {
+    fn drop_field(&mut self) {
         if self.last_field().is_some() {
             let _ = self.steps.pop();
         }
-    }
-
-    /// Leads to a value of a list.
-    pub(crate) fn at_item(&mut self, index: usize) {
-        self.step(Step::Item(index));
-    }
-
-    /// Leads to the first type of a CHOICE of two.
-    pub(crate) fn at_first(&mut self) {
-        self.step(Step::First);
-    }
-
-    /// Leads to the second type of a CHOICE of two.
-    pub(crate) fn at_second(&mut self) {
-        self.step(Step::Second);
     }
 
     /// Adds the step to the part, from the value that holds it.
@@ -95,7 +75,7 @@ impl Path {
     }
 
     /// Names the outermost step, if it leads to a part that has a name.
-    pub(crate) fn name_part(&mut self, names: &'static [&'static str]) {
+    fn name_part(&mut self, names: &'static [&'static str]) {
         if let Some(index) = self.last_field() {
             self.rename(names, index);
         } else if self.is_in_choice() {
@@ -153,15 +133,10 @@ impl Path {
     }
 
     /// Notes that a value with this tag was expected.
-    pub(crate) fn expect(&mut self, tag: Tag) {
+    fn expect(&mut self, tag: Tag) {
         if self.expected.push(tag).is_err() {
             self.is_cut = true;
         }
-    }
-
-    /// Notes that a value of any type was expected.
-    pub(crate) fn expect_any(&mut self) {
-        self.any_expected = true;
     }
 
     /// Forgets all but the name, if memory ran out while the part was looked for.
@@ -191,6 +166,25 @@ impl Path {
             write!(f, "{tag}")?;
         }
         Ok(())
+    }
+}
+
+/// Adds steps to the path, from the innermost one outwards.
+impl Trace for Path {
+    #[cold]
+    #[inline(never)]
+    fn note(&mut self, part: Part) {
+        match part {
+            Part::Expected(tag) => self.expect(tag),
+            Part::AnyExpected => self.any_expected = true,
+            Part::Field => self.step(Step::Field(0)),
+            Part::Behind(count) => self.pass_fields(count),
+            Part::Only => self.drop_field(),
+            Part::Item(index) => self.step(Step::Item(index)),
+            Part::First => self.step(Step::First),
+            Part::Second => self.step(Step::Second),
+            Part::Named(names) => self.name_part(names),
+        }
     }
 }
 

@@ -1,5 +1,4 @@
 //! What notes in which part of a value something was refused.
-use crate::Path;
 use bcder::Tag;
 
 /// What an error passes on its way outwards, or what was expected where it began.
@@ -25,10 +24,10 @@ pub enum Part {
     Named(&'static [&'static str]),
 }
 
-/// What notes in which part of a value something was refused: a [`Path`], or `()`, which notes
-/// nothing.
+/// What notes in which part of a value something was refused: a [`Path`](crate::Path), or `()`,
+/// which notes nothing.
 ///
-/// A reader calls it only if something is refused, so it costs nothing where nothing is.
+/// A reader calls it only if something is refused.
 pub trait Trace {
     /// Notes what an error passes.
     fn note(&mut self, part: Part);
@@ -37,22 +36,4 @@ pub trait Trace {
 impl Trace for () {
     #[inline(always)]
     fn note(&mut self, _part: Part) {}
-}
-
-impl Trace for Path {
-    #[cold]
-    #[inline(never)]
-    fn note(&mut self, part: Part) {
-        match part {
-            Part::Expected(tag) => self.expect(tag),
-            Part::AnyExpected => self.expect_any(),
-            Part::Field => self.at_field(),
-            Part::Behind(count) => self.pass_fields(count),
-            Part::Only => self.drop_field(),
-            Part::Item(index) => self.at_item(index),
-            Part::First => self.at_first(),
-            Part::Second => self.at_second(),
-            Part::Named(names) => self.name_part(names),
-        }
-    }
 }

@@ -9,8 +9,8 @@ ghost use Rattle.asn1.specs.declared.choice.Choice2.TheVariants.{One, Two};
 use crate::rows::{Read, explains};
 use asn1::{
     Any, Choice2, Choice3, Context, DecodeDefinition, DefaultValue, Definition, Explicit,
-    ExtensionAdditions, Implicit, OrDefault, Sequence, SequenceOf, SetOf, TypeError, Utf8StringRef,
-    decode_octets,
+    ExtensionAdditions, Implicit, OrDefault, Sequence, SequenceOf, Set, SetOf, TypeError,
+    Utf8StringRef, decode_octets,
 };
 use bcder::decode::Source;
 use bcder::{Mode, NoMemory};
@@ -432,6 +432,82 @@ const PAIRS: [Read<'static>; 2] = [
         "at octet 10: trailing data",
     ),
 ];
+
+/// Rows for fields within fields, which are counted through.
+const FIVE: [Read<'static>; 4] = [
+    (
+        Mode::Der,
+        &[
+            0x30, 0x0F, 0x02, 0x01, 0x01, 0x01, 0x01, 0xFF, 0x02, 0x01, 0x01, 0x01, 0x01, 0xFF,
+            0x02, 0x01, 0x01,
+        ],
+        "read",
+    ),
+    (
+        Mode::Der,
+        &[0x30, 0x03, 0x02, 0x01, 0x01],
+        ".1 at octet 2: expected BOOLEAN",
+    ),
+    (
+        Mode::Der,
+        &[
+            0x30, 0x09, 0x02, 0x01, 0x01, 0x01, 0x01, 0xFF, 0x02, 0x01, 0x01,
+        ],
+        ".3 at octet 2: expected BOOLEAN",
+    ),
+    (
+        Mode::Der,
+        &[
+            0x30, 0x0C, 0x02, 0x01, 0x01, 0x01, 0x01, 0xFF, 0x02, 0x01, 0x01, 0x01, 0x01, 0xFF,
+        ],
+        ".4 at octet 2: expected INTEGER",
+    ),
+];
+
+/// Rows for a list of lists, each in an explicit tag.
+const LISTS: [Read<'static>; 2] = [
+    // nothing in the second tag; then 256 is the first value of its list
+    (
+        Mode::Der,
+        &[0x30, 0x06, 0xA0, 0x02, 0x30, 0x00, 0xA0, 0x00],
+        "[1] at octet 8: expected SEQUENCE",
+    ),
+    (
+        Mode::Der,
+        &[
+            0x30, 0x0C, 0xA0, 0x02, 0x30, 0x00, 0xA0, 0x06, 0x30, 0x04, 0x02, 0x02, 0x01, 0x00,
+        ],
+        "[1][0] at octet 12: no integer of this type",
+    ),
+];
+
+/// Rows for `SET { BOOLEAN, INTEGER (0..255) }`. Positions count from its first value, in order.
+const MEMBERS: [Read<'static>; 3] = [
+    (
+        Mode::Der,
+        &[0x31, 0x03, 0x01, 0x01, 0xFF],
+        ".1 at octet 0: expected INTEGER",
+    ),
+    (
+        Mode::Ber,
+        &[0x31, 0x07, 0x02, 0x02, 0x01, 0x00, 0x01, 0x01, 0xFF],
+        ".1 at octet 5: no integer of this type",
+    ),
+    // out of order
+    (
+        Mode::Der,
+        &[0x31, 0x06, 0x02, 0x01, 0x01, 0x01, 0x01, 0xFF],
+        "at octet 2: values of a set are out of order",
+    ),
+];
+
+#[test]
+fn fields_within_fields_are_counted(rt: HostRuntime) {
+    let alloc = rt.alloc();
+    explains::<Sequence<((u8, bool), Box<(u8, bool)>, u8)>>(&rt, alloc, &FIVE);
+    explains::<SequenceOf<Explicit<Context<0>, SequenceOf<u8>>>>(&rt, alloc, &LISTS);
+    explains::<Set<(bool, u8)>>(&rt, alloc, &MEMBERS);
+}
 
 #[test]
 fn types_need_no_names(rt: HostRuntime) {
