@@ -1,7 +1,7 @@
 //! A user's own type, defined by another (X.680, 16.1).
 ghost use Rattle.std.specs.Prelude.{◌≡◌};
 
-use crate::{Decode, Part, Trace, Type};
+use crate::{Decode, Trace, Type};
 use bcder::Tag;
 use bcder::decode::{Constructed, DecodeError, Source};
 use std::alloc::Global;
@@ -82,7 +82,7 @@ impl<S: Source, D: Definition + DecodeDefinition<S>> Decode<S> for D {
             Ok(Some(parts)) => Ok(Some(D::from_parts(parts))),
             Ok(None) => Ok(None),
             Err(error) => {
-                path.note(Part::Named(D::PARTS));
+                path.name_part(D::PARTS);
                 Err(error)
             }
         }

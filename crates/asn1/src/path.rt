@@ -74,15 +74,6 @@ impl Path {
         }
     }
 
-    /// Names the outermost step, if it leads to a part that has a name.
-    fn name_part(&mut self, names: &'static [&'static str]) {
-        if let Some(index) = self.last_field() {
-            self.rename(names, index);
-        } else if self.is_in_choice() {
-            self.name_choice(names);
-        }
-    }
-
     /// Returns the field to which the outermost step leads, if it has no name.
     fn last_field(&self) -> Option<usize> {
         match self.steps.last() {
@@ -183,7 +174,16 @@ impl Trace for Path {
             Part::Item(index) => self.step(Step::Item(index)),
             Part::First => self.step(Step::First),
             Part::Second => self.step(Step::Second),
-            Part::Named(names) => self.name_part(names),
+        }
+    }
+
+    #[cold]
+    #[inline(never)]
+    fn name_part(&mut self, names: &'static [&'static str]) {
+        if let Some(index) = self.last_field() {
+            self.rename(names, index);
+        } else if self.is_in_choice() {
+            self.name_choice(names);
         }
     }
 }

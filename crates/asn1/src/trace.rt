@@ -20,8 +20,6 @@ pub enum Part {
     First,
     /// The second type of a CHOICE of two.
     Second,
-    /// A value of a type whose fields or alternatives have these names.
-    Named(&'static [&'static str]),
 }
 
 /// What notes in which part of a value something was refused: a [`Path`](crate::Path), or `()`,
@@ -31,9 +29,15 @@ pub enum Part {
 pub trait Trace {
     /// Notes what an error passes.
     fn note(&mut self, part: Part);
+
+    /// Names the part that it passed last: these are the names of all fields or alternatives.
+    fn name_part(&mut self, names: &'static [&'static str]);
 }
 
 impl Trace for () {
     #[inline(always)]
     fn note(&mut self, _part: Part) {}
+
+    #[inline(always)]
+    fn name_part(&mut self, _names: &'static [&'static str]) {}
 }
