@@ -133,9 +133,7 @@ impl<S: Source, T: Decode<S>> DecodeFields<S> for Option<T> {
         path: &mut P,
     ) -> Result<Option<T>, DecodeError<S::Error>> {
         let value = T::trace_opt_from(alloc, cons, path);
-        if value.is_err() {
-            path.note(Part::Field);
-        }
+        path.note_if(value.is_err(), Part::Field);
         value
     }
 }

@@ -30,6 +30,14 @@ pub trait Trace {
     /// Notes what an error passes.
     fn note(&mut self, part: Part);
 
+    /// Notes what an error passes, if there is one.
+    #[inline(always)]
+    final fn note_if(&mut self, is_refused: bool, part: Part) {
+        if is_refused {
+            self.note(part);
+        }
+    }
+
     /// Names the part that it passed last: these are the names of all fields or alternatives.
     fn name_part(&mut self, names: &'static [&'static str]);
 }

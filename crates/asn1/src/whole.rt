@@ -49,9 +49,7 @@ where
         RefusesAll mode (T.tags T.TAG) (T.means mode) (I.gives source) e) }
 {
     let value = decode_fields::<T, I::Source, P>(alloc, mode, source.into_source(), path);
-    if value.is_err() {
-        path.note(Part::Only);
-    }
+    path.note_if(value.is_err(), Part::Only);
     value
 }
 
