@@ -9,6 +9,7 @@ use crate::{Decode, DecodeFields, Part, Path, Trace, Type, TypeError};
 use bcder::Mode;
 use bcder::decode::{Constructed, DecodeError, IntoSource, SliceSource, Source};
 use std::alloc::Global;
+use std::convert::Infallible;
 
 /// Decodes a source that is one value of a type, with nothing behind it.
 ///
@@ -78,6 +79,9 @@ pub(crate) fn decode_fields<F: DecodeFields<S>, S: Source + Drop, P: Trace>(
 /// Decodes octets that are one value of a type, with nothing behind it. The error says in which
 /// part of the value something was refused.
 ///
+/// Unless something is refused, it is [`decode`]. Else the octets are read once more, and the
+/// reader notes the part.
+///
 /// # Errors
 ///
 /// Returns an error if the octets are not one value of the type in this mode, or if memory runs
@@ -93,12 +97,31 @@ pub fn decode_octets<'a, T: Type + Decode<SliceSource<'a>>>(
     ensures refused { IfErr result (λ e.
         RefusesAll mode (T.tags T.TAG) (T.means mode) (at_hand octets.now) e.error) }
 {
-    let mut path = Path::new(alloc, T::name());
-    match decode_traced::<T, &'a [u8], Path>(alloc, mode, octets, &mut path) {
+    match decode::<T, &'a [u8]>(alloc, mode, octets) {
         Ok(value) => Ok(value),
         Err(error) => {
-            path.settle(!error.is_memory());
-            Err(TypeError { error, path })
+            let source = SliceSource::new(octets);
+            Err(explain::<T, SliceSource<'a>>(alloc, mode, source, error))
         }
     }
+}
+
+/// Finds the part in which something of a source was refused.
+fn explain<T: Type + Decode<S>, S: Source + Drop>(
+    alloc: Global,
+    mode: Mode,
+    source: S,
+    error: DecodeError<Infallible>,
+) -> TypeError
+    ensures { result.error ≡ error }
+{
+    let mut path = Path::new(alloc, T::name());
+    if !error.is_memory() {
+        let is_known = match decode_traced::<T, S, Path>(alloc, mode, source, &mut path) {
+            Ok(_) => false,
+            Err(again) => !again.is_memory(),
+        };
+        path.settle(is_known);
+    }
+    TypeError { error, path }
 }
