@@ -30,12 +30,12 @@ mod leaf;
 mod lent;
 #[cfg(test)]
 mod lists;
+#[cfg(test)]
 mod members;
 #[cfg(test)]
 mod numbers;
 #[cfg(test)]
 mod plain;
-#[cfg(test)]
 mod recursion;
 #[cfg(test)]
 mod rows;
