@@ -12,7 +12,6 @@ mod any;
 mod boxed;
 #[cfg(test)]
 mod choices;
-#[cfg(test)]
 mod clear;
 #[cfg(test)]
 mod defaults;
@@ -30,6 +29,7 @@ mod leaf;
 mod lent;
 #[cfg(test)]
 mod lists;
+#[cfg(test)]
 mod members;
 #[cfg(test)]
 mod numbers;
