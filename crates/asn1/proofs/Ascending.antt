@@ -1,5 +1,5 @@
 -- Values whose tags are in a set, and ascend.
-use Rattle.std.proofs.Common.{◌≡◌, ◌<◌, ℕ, Bool, true, false, ◌&&◌, List, [], ◌∷◌, Option, Some, None, refl, sym, ◌∙◌, ap, subst, inl, inr, ltb-true}
+use Rattle.std.proofs.Common.{◌≡◌, ◌<◌, Bool, true, List, [], ◌∷◌, Option, Some, None, sym, ◌∙◌, ap, subst, inl, inr, ltb-true}
 use Rattle.std.specs.Prelude.{Ok, Decides, MatchOption}
 use Rattle.bcder.specs.x690.Identifier.{Tag}
 use Rattle.bcder.specs.x690.Tree.{Tree, Trees, no_trees, ◌∷ₜ◌, ◌+++◌}

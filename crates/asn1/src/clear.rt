@@ -37,8 +37,9 @@ pub trait Clear: Encode {
     ghost tag_set: { TagSet };
 
     /// Whether tags are distinct where a value could be taken for another: those of the
-    /// alternatives of a CHOICE (X.680, 29.3), and those of a field that may be left out and of
-    /// what can follow it (X.680, 25.6). By default they are.
+    /// alternatives of a CHOICE (X.680, 29.3), those of a field that may be left out and of what
+    /// can follow it (25.6), and those of the fields of a SET (27), which have to ascend too. By
+    /// default they are.
     ghost distinct: { Bool } = { true };
 
     /// Whether each value is read back in a mode. By default it is, in each mode.

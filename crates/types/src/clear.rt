@@ -137,8 +137,8 @@ fn one_of_four_again(alloc: Global, mode: Mode, x: &OneOfFour) -> Result<OneOfFo
     round_trip(alloc, mode, x)
 }
 
-/// `SET { one CHOICE { yes BOOLEAN, many INTEGER }, name OCTET STRING OPTIONAL, last [0] INTEGER }`:
-/// the tags are distinct, and ascend.
+/// A SET of a CHOICE of a BOOLEAN and an INTEGER, an OCTET STRING that may be left out, and an
+/// INTEGER with the tag `[0]`: the tags are distinct, and ascend.
 type Ascending = Set<
     (
         Choice2<bool, u32>,
@@ -152,6 +152,11 @@ fn set_again(alloc: Global, mode: Mode, x: &Ascending) -> Result<Ascending, Enco
     ensures { IfOk result (λ y. ⟦<Ascending as Type>⟧.key y ≡ ⟦<Ascending as Type>⟧.key x.now) }
 {
     round_trip(alloc, mode, x)
+}
+
+/// A SET comes back if its fields are in ascending order of their tags.
+fn ascending_fields_come_back() {
+    each_value_is_decoded(&Set((true, 7u32)), Mode::Der);
 }
 
 /// Encodes a SET OF and decodes it: the values are the same, in some order.

@@ -4,7 +4,6 @@ use Rattle.bcder.specs.x690.Tree.{no_trees}
 use Rattle.asn1.specs.Keys.{list_key}
 use Rattle.asn1.specs.TagSets.{IsIn}
 use Rattle.asn1.proofs.ToldApart.{list_begin, without}
-use Rattle.std.proofs.Common.{false}
 use Rattle.asn1.proofs.Ascending.{any_in}
 use Rattle.asn1.proofs.clear.lists.VecClearFields.are_told_apart.Goals as goal
 
