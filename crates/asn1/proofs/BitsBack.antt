@@ -5,7 +5,7 @@ use Rattle.bcder.specs.declared.mode.Mode.{Mode}
 use Rattle.bcder.specs.declared.mode.Mode.TheVariants.{Ber, Cer, Der}
 use Rattle.bcder.specs.declared.encode.error.EncodeError.{EncodeError}
 use Rattle.bcder.specs.x690.Identifier.{Tag}
-use Rattle.bcder.specs.x690.BitString.{Bits, IsBits, MayHave, IsBitString, contents_octets, as_written}
+use Rattle.bcder.specs.x690.BitString.{Bits, IsBits, MayHave, IsBitString, BitShape, contents_octets, as_written}
 use Rattle.bcder.specs.calls.Meaning.{ContentsMeaning, BitsMean, ValueMeans, primitive_meaning, fits_primitive}
 use Rattle.asn1.specs.Types.{Only, IsLeaf}
 use Rattle.asn1.specs.Writing.{IsReadAs}
@@ -39,3 +39,7 @@ bits_read_back refusal tag mode x k =
   where
     read : (w : List ℕ) → contents_octets x ≡ w → IsBitString mode w x × ((y : Bits) → IsBitString mode w y → y ≡ x)
     read w q = subst (λ v. IsBitString mode v x × ((y : Bits) → IsBitString mode v y → y ≡ x)) q ((refl, k), λ y h. same_bits x y h.0)
+
+-- a bit string whose contents octets are told is one
+pub told_bits : (x : Bits) (w : List ℕ) → IsBitString Ber w x → IsBits x
+told_bits x w h = (subst (BitShape Ber) (sym h.0) h.1).0

@@ -34,4 +34,5 @@ pub mod SetsBack
 pub mod ByTag
 pub mod SetTaken
 pub mod ToldApart
+pub mod Ascending
 pub mod DecodedBack

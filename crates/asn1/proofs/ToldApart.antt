@@ -57,7 +57,7 @@ none_among t (v ∷ ts) us e (inl p) k =
     not_among v us (both_true (is_not_among v us) (are_not_among ts us) e).0 (subst (λ z. IsAmong z us) p k)
 none_among t (v ∷ ts) us e (inr h) k = none_among t ts us (both_true (is_not_among v us) (are_not_among ts us) e).1 h k
 
-among_none : (t : Tag) (ts : List Tag) → is_none ts ≡ true → IsAmong t ts → ⊥
+pub among_none : (t : Tag) (ts : List Tag) → is_none ts ≡ true → IsAmong t ts → ⊥
 among_none t [] e k = absurd k
 among_none t (u ∷ ts) e k = cc
 

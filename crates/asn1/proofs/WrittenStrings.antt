@@ -1,21 +1,29 @@
 -- What is written of an octet string is read back as its octets.
-use Rattle.std.proofs.Common.{◌≡◌, ℕ, false, List, length, refl, sym, ◌∙◌, subst, inl, inr}
+use Rattle.std.proofs.Common.{◌≡◌, ℕ, false, List, length, refl, ap, sym, ◌∙◌, subst, inl, inr}
 use Rattle.std.specs.Prelude.{Ok, Err}
 use Rattle.bcder.specs.declared.mode.Mode.{Mode}
+use Rattle.bcder.specs.declared.mode.Mode.TheVariants.{Ber, Cer, Der}
 use Rattle.bcder.specs.x690.Identifier.{Tag}
-use Rattle.bcder.specs.x690.Tree.{Tree, primitive, constructed}
-use Rattle.bcder.specs.x690.Encoding.{IsEncoding}
-use Rattle.bcder.specs.x690.OctetString.{segments_of}
+use Rattle.bcder.specs.x690.Tree.{Tree, primitive, constructed, no_trees, ◌∷ₜ◌}
+use Rattle.bcder.specs.x690.Encoding.{IsEncoding, AreEncodings}
+use Rattle.bcder.specs.x690.OctetString.{octet_string_tag, segments_of, flat, IsOctetString}
 use Rattle.bcder.specs.x690.CharSet.{Step, IsOfSet}
-use Rattle.bcder.specs.calls.Meaning.{Encoded, Meaning, ContentsMeaning, ExactlyOctets, ValueMeans, primitive_meaning}
+use Rattle.bcder.specs.calls.Gathered.{KeptMeans}
+use Rattle.bcder.specs.calls.Meaning.{Encoded, Meaning, ContentsMeaning, ExactlyOctets, ValueMeans, primitive_meaning, constructed_encoded}
 use Rattle.bcder.specs.calls.RestrictedString.{MeansRestricted}
-use Rattle.bcder.specs.calls.StringMeaning.{OctetsMean, is_cut, string_meaning}
+use Rattle.bcder.specs.calls.StringMeaning.{OctetsMean, StringMeans, is_cut, string_meaning}
 use Rattle.bcder.specs.calls.StringOctets.{StringOctets, whole, cut, octets_of, IsStringOf, MeansString}
-use Rattle.bcder.specs.calls.WrittenStrings.{IsWrittenString}
+use Rattle.bcder.specs.calls.WrittenStrings.{IsWrittenString, WritesString}
+use Rattle.bcder.specs.laws.StringMeanings.{StringMeans_lawful, octet_string_value}
+use Rattle.bcder.proofs.Enclosing.{inside_of, constructed_given}
 use Rattle.bcder.proofs.Lemmas.{means_flat}
+use Rattle.bcder.proofs.WrittenStrings.{octets_written}
+use Rattle.bcder.proofs.Writes.{one_of}
 use Rattle.asn1.specs.Lent.{IsPiece, IsLent, IsLentOfSet}
+use Rattle.asn1.specs.Strings.{IsWrittenAsString}
 use Rattle.asn1.specs.Types.{Only, IsLeaf}
 use Rattle.asn1.specs.Writing.{IsWritten, IsReadAs}
+use Rattle.asn1.proofs.Members.{cons_first}
 use Rattle.asn1.proofs.ReadingBack.{leaf_back}
 
 -- what a value means as a string, of those that have encodings
@@ -84,3 +92,33 @@ module _ {L : Type 0} (items : L → List ℕ) (tag : Tag) (mode : Mode) (x : L)
       read : (w : List ℕ) → ExactlyOctets (items x) (Ok w)
           → IsLentOfSet items step mode w x × ((y : L) → IsLentOfSet items step mode w y → items y ≡ items x)
       read w k = let same = exactly w k.0 in ((lent w same, subst (IsOfSet step) (sym same) s), λ y h. h.0.0 ∙ same)
+
+-- ---- with whatever tag
+
+-- what is written of a string with one tag is an octet string, and so it is with each
+pub with_each_tag : (mode : Mode) (s : StringOctets) → WritesString octet_string_tag mode (octets_of s) (StringMeans octet_string_tag s mode)
+    → IsWrittenAsString mode s
+with_each_tag Ber (whole w) h t e m = octets_written t Ber w e m
+with_each_tag Cer (whole w) h t e m = octets_written t Cer w e m
+with_each_tag Der (whole w) h t e m = octets_written t Der w e m
+with_each_tag Cer (cut kept ps) h t e m = octets_written t Cer (octets_of (cut kept ps)) e m
+with_each_tag Der (cut kept ps) h t e m = octets_written t Der (octets_of (cut kept ps)) e m
+with_each_tag Ber (cut kept ps) h t e m =
+    let M = KeptMeans kept Ber in
+    let inside = inside_of t Ber M e m in
+    let own = constructed_encoded Ber octet_string_tag inside.values in
+    let w = h own (constructed_given octet_string_tag Ber M inside.values inside.meant inside.fits octet_string_value) in
+    let old = constructed octet_string_tag inside.values.values in
+    let new = constructed t inside.values.values in
+    let is : old ≡ w.value = cons_first old w.value no_trees no_trees w.alone in
+    let alone : e.values ≡ new ∷ₜ no_trees = ap (λ (x : Encoded). x.values) inside.is in
+    let encodes = (StringMeans_lawful t (cut kept ps) Ber).encodes e m in
+    let shape : IsOctetString Ber old = subst (IsOctetString Ber) (sym is) w.shape in
+    record {
+      value = new;
+      alone = alone;
+      encodes = one_of Ber new e.octets (subst (λ vs. AreEncodings Ber vs e.octets) alone encodes);
+      tag = refl;
+      shape = shape;
+      octets = ap flat is ∙ w.octets;
+    }

@@ -20,3 +20,4 @@ pub mod Sorting
 pub mod Rearranging
 pub mod SetsLaws
 pub mod Sets
+pub mod Strings

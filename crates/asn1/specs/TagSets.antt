@@ -1,11 +1,14 @@
 -- Sets of tags, by which the values of a type are told from those of others (X.680, 25.6, 29.3).
 use Rattle.std.proofs.Common.{inl, inr}
-use Rattle.std.specs.Prelude.{◌≡◌, ◌⊎◌, Bool, true, false, not, ◌&&◌, List, [], ◌∷◌, ◌++◌, IsTrue, nat_eq}
+use Rattle.std.specs.Prelude.{◌≡◌, ◌⊎◌, Bool, true, false, not, ◌&&◌, List, [], ◌∷◌, ◌++◌, IsTrue, nat_eq, nat_lt}
+use Rattle.bcder.specs.declared.mode.Mode.{Mode}
+use Rattle.bcder.specs.declared.mode.Mode.TheVariants.{Ber, Cer}
 use Rattle.bcder.specs.x690.Identifier.{Tag, Class, universal, application, context_specific, private}
 use Rattle.bcder.specs.x690.Tree.{Trees, no_trees, ◌∷ₜ◌}
 use Rattle.bcder.specs.calls.Valued.{tag_of}
 use Rattle.asn1.specs.Types.{Only}
 use Rattle.asn1.specs.Choices.{EitherTag}
+use Rattle.asn1.specs.Sets.{place}
 
 -- every tag, or those in a list
 pub data TagSet : Type 0 where
@@ -25,6 +28,18 @@ IsAmong t (u ∷ us) = (t ≡ u) ⊎ IsAmong t us
 abbrev pub IsIn : TagSet → Tag → Type 0
 IsIn every_tag t = Unit {0}
 IsIn (these_tags ts) t = IsAmong t ts
+
+-- ---- modes
+
+-- BER
+abbrev pub is_basic : Mode → Bool
+is_basic Ber = true
+is_basic mode = false
+
+-- BER or DER, which leave a string in one piece, whatever its length (X.690, 9.2)
+abbrev pub is_not_cer : Mode → Bool
+is_not_cer Cer = false
+is_not_cer mode = true
 
 -- ---- more sets
 
@@ -68,12 +83,34 @@ are_distinct every_tag (these_tags us) = is_none us
 are_distinct (these_tags ts) every_tag = is_none ts
 are_distinct (these_tags ts) (these_tags us) = are_not_among ts us
 
+-- ---- sets of which one comes before the other (X.680, 8.6)
+
+abbrev pub is_before_each : Tag → List Tag → Bool
+is_before_each t [] = true
+is_before_each t (u ∷ us) = nat_lt (place t) (place u) && is_before_each t us
+
+abbrev pub are_before_each : List Tag → List Tag → Bool
+are_before_each [] us = true
+are_before_each (t ∷ ts) us = is_before_each t us && are_before_each ts us
+
+-- each tag of the first set comes before each of the second
+abbrev pub are_before : TagSet → TagSet → Bool
+are_before every_tag every_tag = false
+are_before every_tag (these_tags us) = is_none us
+are_before (these_tags ts) every_tag = is_none ts
+are_before (these_tags ts) (these_tags us) = are_before_each ts us
+
 -- ---- values that begin with a tag of a set
 
 -- the first has a tag of the set; there is none only if b holds
 abbrev pub BeginIn : TagSet → Bool → Trees → Type 0
 BeginIn s b no_trees = IsTrue b
 BeginIn s b (t ∷ₜ ts) = IsIn s (tag_of t)
+
+-- each value has a tag of the set
+abbrev pub AreIn : TagSet → Trees → Type 0
+AreIn s no_trees = Unit {0}
+AreIn s (t ∷ₜ ts) = IsIn s (tag_of t) × AreIn s ts
 
 -- ---- which tags types have
 

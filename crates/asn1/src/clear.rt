@@ -1,23 +1,33 @@
 //! Types whose values are read back as they were written.
 ghost use Rattle.std.specs.Prelude.{Bool, true, false, Decides, IsTrue, Ok};
+ghost use Rattle.bcder.specs.declared.mode.Mode.{Mode as Rules};
 ghost use Rattle.bcder.specs.x690.Identifier.{Tag as TagValue};
 ghost use Rattle.bcder.specs.x690.Tree.{Trees};
 ghost use Rattle.bcder.specs.calls.Meaning.{Encoded};
 ghost use Rattle.asn1.specs.Types.{BeginWithout};
-ghost use Rattle.asn1.specs.TagSets.{TagSet, IsIn, BeginIn, no_tag};
+ghost use Rattle.asn1.specs.Sets.{Rise, each, tag_place};
+ghost use Rattle.asn1.specs.TagSets.{TagSet, IsIn, AreIn, BeginIn, no_tag, every_tag};
 
+mod any;
+mod bit_strings;
 mod choice;
 mod definition;
 mod fields;
+mod identifiers;
+mod leaf;
+mod lent;
 mod lists;
 mod numbers;
 mod plain;
+mod sets;
+mod strings;
 mod tagged;
 mod tuples;
 
 use crate::writers::{Encode, EncodeFields};
 use bcder::Mode;
 pub use definition::ClearDefinition;
+pub use leaf::ClearContents;
 
 /// A type whose values are read back as they were written, if its tags are distinct.
 ///
@@ -27,17 +37,18 @@ pub trait Clear: Encode {
     ghost tag_set: { TagSet };
 
     /// Whether tags are distinct where a value could be taken for another: those of the
-    /// alternatives of a CHOICE (X.680, 29.3), and those of a field that may be left out and of
-    /// what can follow it (X.680, 25.6). By default they are.
+    /// alternatives of a CHOICE (X.680, 29.3), those of a field that may be left out and of what
+    /// can follow it (25.6), and those of the fields of a SET (27), which have to ascend too. By
+    /// default they are.
     ghost distinct: { Bool } = { true };
 
-    /// Whether each value is read back, whatever the mode. By default it is.
-    ghost always_clear: { Bool } = { true };
+    /// Whether each value is read back in a mode. By default it is, in each mode.
+    ghost always_clear: { Rules → Bool } = { λ _. true };
 
     /// Returns whether the value is read back in a mode.
     fn is_clear_in(&self, mode: Mode) -> bool
         ensures exact { IsTrue distinct → Decides result (Self.is_clear self.now mode) }
-        ensures always { IsTrue distinct → IsTrue always_clear → IsTrue result };
+        ensures always { IsTrue distinct → IsTrue (always_clear mode) → IsTrue result };
 
     /// Its values have no other tags.
     ghost in_set: { (t : TagValue) → Self.tags Self.TAG t → IsIn tag_set t };
@@ -54,22 +65,34 @@ pub trait ClearFields: EncodeFields {
     /// The tags that the next value behind them must not have. By default it may have any.
     ghost barred_tags: { TagSet } = { no_tag };
 
+    /// The tags of all values that are written of them. By default they may be any.
+    ghost tag_set: { TagSet } = { every_tag };
+
+    /// Whether the tags of these values ascend, as those of a SET have to (X.690, 9.3, 10.3). By
+    /// default nothing is known of it.
+    ghost ascend: { Bool } = { false };
+
     /// Whether tags are distinct where a value could be taken for another. By default they are.
     ghost distinct: { Bool } = { true };
 
-    /// Whether all are read back, whatever the mode. By default they are.
-    ghost always_clear: { Bool } = { true };
+    /// Whether all are read back in a mode. By default they are, in each mode.
+    ghost always_clear: { Rules → Bool } = { λ _. true };
 
     /// Returns whether they are read back in a mode.
     fn are_clear_in(&self, mode: Mode) -> bool
         ensures exact { IsTrue distinct → Decides result (Self.is_clear self.now mode) }
-        ensures always { IsTrue distinct → IsTrue always_clear → IsTrue result };
+        ensures always { IsTrue distinct → IsTrue (always_clear mode) → IsTrue result };
 
-    /// A law: what is written of them begins with one of the tags, and they are read back in front
-    /// of values that have none of the barred tags.
+    /// A law: what is written of them begins with one of the first tags, and they are read back in
+    /// front of values that have none of the barred tags. All tags are in the set, and ascend if
+    /// they are said to.
     fn are_told_apart(mode: Mode)
         ensures begin { IsTrue distinct → (x : Self) → Self.is_clear x mode → (e : Encoded)
             → Self.lays x mode (Ok e) → BeginIn first_tags may_be_none e.values }
         ensures follow { IsTrue distinct → (x : Self) → Self.is_clear x mode → (us : Trees)
-            → BeginWithout (IsIn barred_tags) us → Self.may_precede x mode us };
+            → BeginWithout (IsIn barred_tags) us → Self.may_precede x mode us }
+        ensures within { IsTrue distinct → (x : Self) → Self.is_clear x mode → (e : Encoded)
+            → Self.lays x mode (Ok e) → AreIn tag_set e.values }
+        ensures rise { IsTrue distinct → IsTrue ascend → (x : Self) → Self.is_clear x mode
+            → (e : Encoded) → Self.lays x mode (Ok e) → Rise tag_place (each e.values) };
 }

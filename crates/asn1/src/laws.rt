@@ -40,26 +40,27 @@ pub fn values_are_their_encodings<T: Encode>(tag: Tag, mode: Mode)
     T::is_read_back(tag, mode);
 }
 
-/// For a type with distinct tags, all of whose values are clear: what is written of a value is
-/// taken back, as [`what_is_written_is_taken_back`] says.
+/// For a type with distinct tags, all of whose values are clear in the mode: what is written of a
+/// value is taken back, as [`what_is_written_is_taken_back`] says.
 ///
 /// The checker finds out by itself whether a type is one. For one that isn't, it says that
 /// `IsTrue false` is not proved.
 pub fn each_value_is_taken_back<T: Clear, E>(x: &T, tag: Tag, mode: Mode)
     requires distinct { IsTrue T.distinct }
-    requires always { IsTrue T.always_clear }
+    requires always { IsTrue (T.always_clear mode) }
     ensures { IsTakenBack E (T.tags tag) (T.means mode) T.key mode (T.writes tag x.now mode) x.now }
 {
     let _clear = x.is_clear_in(mode);
     what_is_written_is_taken_back::<T, E>(x, tag, mode);
 }
 
-/// For a type with distinct tags, all of whose values are clear: what is encoded of a value is
-/// decoded as the value, and as no other.
+/// For a type with distinct tags, all of whose values are clear in the mode: what is encoded of a
+/// value is decoded as the value, and as no other.
 pub fn each_value_is_decoded<T: Clear>(x: &T, mode: Mode)
     requires distinct { IsTrue T.distinct }
-    requires always { IsTrue T.always_clear }
-    ensures { IsDecodedBack mode (T.tags T.TAG) (T.means mode) T.key (T.writes T.TAG x.now mode) x.now }
+    requires always { IsTrue (T.always_clear mode) }
+    ensures { IsDecodedBack mode (T.tags T.TAG) (T.means mode) T.key
+        (T.writes T.TAG x.now mode) x.now }
 {
     let _clear = x.is_clear_in(mode);
     T::is_read_back(T::tag(), mode);
@@ -88,7 +89,7 @@ pub fn round_trip<T: Clear + Decode<BytesSource>>(
     value: &T,
 ) -> Result<T, EncodeError>
     requires distinct { IsTrue T.distinct }
-    requires always { IsTrue T.always_clear }
+    requires always { IsTrue (T.always_clear mode) }
     ensures same { IfOk result (λ y. T.key y ≡ T.key value.now) }
     ensures written { OnOk result (HasEncoding (T.writes T.TAG value.now mode)) }
     ensures refused { IfErr result (λ e.

@@ -61,7 +61,7 @@ impl<L: AsSlice<u8> + Copy + Drop> Type for OctetStringRef<L> {
 /// Returns whether a string of this many octets is in one piece in a mode: in CER it has 1000 at
 /// most (X.690, 9.2).
 #[inline(always)]
-fn is_piece(mode: Mode, len: usize) -> bool
+pub(crate) fn is_piece(mode: Mode, len: usize) -> bool
     ensures { result ≡ not (is_cut mode len) }
 {
     match mode {

@@ -12,7 +12,6 @@ mod any;
 mod boxed;
 #[cfg(test)]
 mod choices;
-#[cfg(test)]
 mod clear;
 #[cfg(test)]
 mod defaults;

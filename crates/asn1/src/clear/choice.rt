@@ -2,8 +2,8 @@
 ghost use Rattle.std.specs.Prelude.{◌&&◌};
 ghost use Rattle.asn1.specs.TagSets.{both_sets, are_distinct, either_in};
 
-use crate::Choice2;
-use crate::clear::Clear;
+use crate::clear::{Clear, ClearDefinition};
+use crate::{Choice2, Choice3, Choice4};
 use bcder::Mode;
 
 impl<A: Clear, B: Clear> Clear for Choice2<A, B> {
@@ -11,7 +11,7 @@ impl<A: Clear, B: Clear> Clear for Choice2<A, B> {
 
     ghost distinct = { A.distinct && (B.distinct && are_distinct A.tag_set B.tag_set) };
 
-    ghost always_clear = { A.always_clear && B.always_clear };
+    ghost always_clear = { λ mode. A.always_clear mode && B.always_clear mode };
 
     fn is_clear_in(&self, mode: Mode) -> bool {
         match self {
@@ -21,4 +21,25 @@ impl<A: Clear, B: Clear> Clear for Choice2<A, B> {
     }
 
     ghost in_set = { either_in A.tag_set B.tag_set A.in_set B.in_set };
+}
+
+impl<A: Clear, B: Clear, C: Clear> ClearDefinition for Choice3<A, B, C> {
+    fn parts_are_clear_in(&self, mode: Mode) -> bool {
+        match self {
+            Choice3::One(one) => one.is_clear_in(mode),
+            Choice3::Two(two) => two.is_clear_in(mode),
+            Choice3::Three(three) => three.is_clear_in(mode),
+        }
+    }
+}
+
+impl<A: Clear, B: Clear, C: Clear, D: Clear> ClearDefinition for Choice4<A, B, C, D> {
+    fn parts_are_clear_in(&self, mode: Mode) -> bool {
+        match self {
+            Choice4::One(one) => one.is_clear_in(mode),
+            Choice4::Two(two) => two.is_clear_in(mode),
+            Choice4::Three(three) => three.is_clear_in(mode),
+            Choice4::Four(four) => four.is_clear_in(mode),
+        }
+    }
 }

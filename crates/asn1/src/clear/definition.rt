@@ -11,7 +11,7 @@ pub trait ClearDefinition: EncodeDefinition + Definition<As: Clear> {
     fn parts_are_clear_in(&self, mode: Mode) -> bool
         ensures exact { IsTrue Self.As.distinct
             → Decides result (Self.As.is_clear (Self.parts self.now) mode) }
-        ensures always { IsTrue Self.As.distinct → IsTrue Self.As.always_clear
+        ensures always { IsTrue Self.As.distinct → IsTrue (Self.As.always_clear mode)
             → IsTrue result };
 }
 

@@ -1,7 +1,8 @@
 //! Fields of a SEQUENCE (X.680, 25).
 ghost use Rattle.std.specs.Prelude.{true, ◌&&◌};
 ghost use Rattle.bcder.specs.x690.Identifier.{sequence_tag};
-ghost use Rattle.asn1.specs.TagSets.{both_sets, set_if, are_distinct, every_tag, no_tag};
+ghost use Rattle.asn1.specs.TagSets.{both_sets, set_if, are_distinct, are_before};
+ghost use Rattle.asn1.specs.TagSets.{every_tag, no_tag};
 ghost use Rattle.asn1.specs.TagSets.{one_tag, only_in};
 
 use crate::clear::{Clear, ClearFields};
@@ -28,6 +29,10 @@ impl<F: ClearFields> Clear for Sequence<F> {
 impl<T: Clear> ClearFields for T {
     ghost first_tags = { T.tag_set };
 
+    ghost tag_set = { T.tag_set };
+
+    ghost ascend = { true };
+
     ghost distinct = { T.distinct };
 
     ghost always_clear = { T.always_clear };
@@ -48,6 +53,10 @@ impl<T: Clear> ClearFields for Option<T> {
     ghost may_be_none = { true };
 
     ghost barred_tags = { T.tag_set };
+
+    ghost tag_set = { T.tag_set };
+
+    ghost ascend = { true };
 
     ghost distinct = { T.distinct };
 
@@ -73,6 +82,10 @@ impl<T: Clear, D: DefaultValue<T>> ClearFields for OrDefault<T, D> {
 
     ghost barred_tags = { T.tag_set };
 
+    ghost tag_set = { T.tag_set };
+
+    ghost ascend = { true };
+
     ghost distinct = { T.distinct };
 
     ghost always_clear = { T.always_clear };
@@ -94,6 +107,10 @@ impl ClearFields for ExtensionAdditions {
 
     ghost barred_tags = { every_tag };
 
+    ghost tag_set = { no_tag };
+
+    ghost ascend = { true };
+
     fn are_clear_in(&self, _mode: Mode) -> bool {
         true
     }
@@ -111,9 +128,13 @@ impl<A: ClearFields, B: ClearFields> ClearFields for (A, B) {
 
     ghost barred_tags = { both_sets B.barred_tags (set_if B.may_be_none A.barred_tags) };
 
+    ghost tag_set = { both_sets A.tag_set B.tag_set };
+
+    ghost ascend = { A.ascend && (B.ascend && are_before A.tag_set B.tag_set) };
+
     ghost distinct = { A.distinct && (B.distinct && are_distinct A.barred_tags B.first_tags) };
 
-    ghost always_clear = { A.always_clear && B.always_clear };
+    ghost always_clear = { λ mode. A.always_clear mode && B.always_clear mode };
 
     fn are_clear_in(&self, mode: Mode) -> bool {
         self.0.are_clear_in(mode) && self.1.are_clear_in(mode)
@@ -132,6 +153,10 @@ impl<F: ClearFields> ClearFields for ByRef<'_, F> {
     ghost may_be_none = { F.may_be_none };
 
     ghost barred_tags = { F.barred_tags };
+
+    ghost tag_set = { F.tag_set };
+
+    ghost ascend = { F.ascend };
 
     ghost distinct = { F.distinct };
 
@@ -153,6 +178,10 @@ impl<F: ClearFields> ClearFields for Box<F> {
     ghost may_be_none = { F.may_be_none };
 
     ghost barred_tags = { F.barred_tags };
+
+    ghost tag_set = { F.tag_set };
+
+    ghost ascend = { F.ascend };
 
     ghost distinct = { F.distinct };
 

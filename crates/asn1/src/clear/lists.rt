@@ -12,7 +12,7 @@ use bcder::Mode;
 fn all_clear<T: Clear>(items: &[T], mode: Mode) -> bool
     ensures exact { IsTrue T.distinct
         → Decides result (All (λ v. T.is_clear v mode) items.now) }
-    ensures always { IsTrue T.distinct → IsTrue T.always_clear → IsTrue result }
+    ensures always { IsTrue T.distinct → IsTrue (T.always_clear mode) → IsTrue result }
 {
     for item in items {
         if !item.is_clear_in(mode) {

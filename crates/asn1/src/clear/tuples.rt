@@ -16,6 +16,10 @@ impl<A: ClearFields, B: ClearFields, C: ClearFields> ClearFields for (A, B, C) {
 
     ghost barred_tags = { ⟦<(A, (B, C)) as ClearFields>⟧.barred_tags };
 
+    ghost tag_set = { ⟦<(A, (B, C)) as ClearFields>⟧.tag_set };
+
+    ghost ascend = { ⟦<(A, (B, C)) as ClearFields>⟧.ascend };
+
     ghost distinct = { ⟦<(A, (B, C)) as ClearFields>⟧.distinct };
 
     ghost always_clear = { ⟦<(A, (B, C)) as ClearFields>⟧.always_clear };
@@ -37,6 +41,10 @@ impl<A: ClearFields, B: ClearFields, C: ClearFields, D: ClearFields> ClearFields
     ghost may_be_none = { ⟦<(A, (B, C, D)) as ClearFields>⟧.may_be_none };
 
     ghost barred_tags = { ⟦<(A, (B, C, D)) as ClearFields>⟧.barred_tags };
+
+    ghost tag_set = { ⟦<(A, (B, C, D)) as ClearFields>⟧.tag_set };
+
+    ghost ascend = { ⟦<(A, (B, C, D)) as ClearFields>⟧.ascend };
 
     ghost distinct = { ⟦<(A, (B, C, D)) as ClearFields>⟧.distinct };
 
@@ -60,6 +68,10 @@ impl<A: ClearFields, B: ClearFields, C: ClearFields, D: ClearFields, E: ClearFie
     ghost may_be_none = { ⟦<(A, (B, C, D, E)) as ClearFields>⟧.may_be_none };
 
     ghost barred_tags = { ⟦<(A, (B, C, D, E)) as ClearFields>⟧.barred_tags };
+
+    ghost tag_set = { ⟦<(A, (B, C, D, E)) as ClearFields>⟧.tag_set };
+
+    ghost ascend = { ⟦<(A, (B, C, D, E)) as ClearFields>⟧.ascend };
 
     ghost distinct = { ⟦<(A, (B, C, D, E)) as ClearFields>⟧.distinct };
 
@@ -89,6 +101,10 @@ impl<
     ghost may_be_none = { ⟦<(A, (B, C, D, E, F)) as ClearFields>⟧.may_be_none };
 
     ghost barred_tags = { ⟦<(A, (B, C, D, E, F)) as ClearFields>⟧.barred_tags };
+
+    ghost tag_set = { ⟦<(A, (B, C, D, E, F)) as ClearFields>⟧.tag_set };
+
+    ghost ascend = { ⟦<(A, (B, C, D, E, F)) as ClearFields>⟧.ascend };
 
     ghost distinct = { ⟦<(A, (B, C, D, E, F)) as ClearFields>⟧.distinct };
 
@@ -120,6 +136,10 @@ impl<
 
     ghost barred_tags = { ⟦<(A, (B, C, D, E, F, G)) as ClearFields>⟧.barred_tags };
 
+    ghost tag_set = { ⟦<(A, (B, C, D, E, F, G)) as ClearFields>⟧.tag_set };
+
+    ghost ascend = { ⟦<(A, (B, C, D, E, F, G)) as ClearFields>⟧.ascend };
+
     ghost distinct = { ⟦<(A, (B, C, D, E, F, G)) as ClearFields>⟧.distinct };
 
     ghost always_clear = { ⟦<(A, (B, C, D, E, F, G)) as ClearFields>⟧.always_clear };
@@ -150,6 +170,10 @@ impl<
     ghost may_be_none = { ⟦<(A, (B, C, D, E, F, G, H)) as ClearFields>⟧.may_be_none };
 
     ghost barred_tags = { ⟦<(A, (B, C, D, E, F, G, H)) as ClearFields>⟧.barred_tags };
+
+    ghost tag_set = { ⟦<(A, (B, C, D, E, F, G, H)) as ClearFields>⟧.tag_set };
+
+    ghost ascend = { ⟦<(A, (B, C, D, E, F, G, H)) as ClearFields>⟧.ascend };
 
     ghost distinct = { ⟦<(A, (B, C, D, E, F, G, H)) as ClearFields>⟧.distinct };
 
@@ -183,6 +207,10 @@ impl<
 
     ghost barred_tags = { ⟦<(A, (B, C, D, E, F, G, H, I)) as ClearFields>⟧.barred_tags };
 
+    ghost tag_set = { ⟦<(A, (B, C, D, E, F, G, H, I)) as ClearFields>⟧.tag_set };
+
+    ghost ascend = { ⟦<(A, (B, C, D, E, F, G, H, I)) as ClearFields>⟧.ascend };
+
     ghost distinct = { ⟦<(A, (B, C, D, E, F, G, H, I)) as ClearFields>⟧.distinct };
 
     ghost always_clear = { ⟦<(A, (B, C, D, E, F, G, H, I)) as ClearFields>⟧.always_clear };
@@ -215,6 +243,10 @@ impl<
     ghost may_be_none = { ⟦<(A, (B, C, D, E, F, G, H, I, J)) as ClearFields>⟧.may_be_none };
 
     ghost barred_tags = { ⟦<(A, (B, C, D, E, F, G, H, I, J)) as ClearFields>⟧.barred_tags };
+
+    ghost tag_set = { ⟦<(A, (B, C, D, E, F, G, H, I, J)) as ClearFields>⟧.tag_set };
+
+    ghost ascend = { ⟦<(A, (B, C, D, E, F, G, H, I, J)) as ClearFields>⟧.ascend };
 
     ghost distinct = { ⟦<(A, (B, C, D, E, F, G, H, I, J)) as ClearFields>⟧.distinct };
 
@@ -250,6 +282,10 @@ impl<
 
     ghost barred_tags = { ⟦<(A, (B, C, D, E, F, G, H, I, J, K)) as ClearFields>⟧.barred_tags };
 
+    ghost tag_set = { ⟦<(A, (B, C, D, E, F, G, H, I, J, K)) as ClearFields>⟧.tag_set };
+
+    ghost ascend = { ⟦<(A, (B, C, D, E, F, G, H, I, J, K)) as ClearFields>⟧.ascend };
+
     ghost distinct = { ⟦<(A, (B, C, D, E, F, G, H, I, J, K)) as ClearFields>⟧.distinct };
 
     ghost always_clear = { ⟦<(A, (B, C, D, E, F, G, H, I, J, K)) as ClearFields>⟧.always_clear };
@@ -284,6 +320,10 @@ impl<
     ghost may_be_none = { ⟦<(A, (B, C, D, E, F, G, H, I, J, K, L)) as ClearFields>⟧.may_be_none };
 
     ghost barred_tags = { ⟦<(A, (B, C, D, E, F, G, H, I, J, K, L)) as ClearFields>⟧.barred_tags };
+
+    ghost tag_set = { ⟦<(A, (B, C, D, E, F, G, H, I, J, K, L)) as ClearFields>⟧.tag_set };
+
+    ghost ascend = { ⟦<(A, (B, C, D, E, F, G, H, I, J, K, L)) as ClearFields>⟧.ascend };
 
     ghost distinct = { ⟦<(A, (B, C, D, E, F, G, H, I, J, K, L)) as ClearFields>⟧.distinct };
 

@@ -1,10 +1,10 @@
 //! OCTET STRING and restricted character strings, written (X.690, 8.7, 8.23, 9.2, 10.2).
 ghost use Rattle.bcder.specs.calls.StringMeaning.{OctetsMean, StringMeans};
 ghost use Rattle.bcder.specs.calls.StringOctets.{octets_of};
-ghost use Rattle.bcder.specs.calls.WrittenStrings.{IsMadeUp};
 ghost use Rattle.bcder.specs.laws.StringMeanings.{OctetsMean_lawful, StringMeans_lawful};
 ghost use Rattle.bcder.specs.x690.CharSet.{IsOfSet};
 ghost use Rattle.asn1.specs.Lent.{IsPiece};
+ghost use Rattle.asn1.specs.Strings.{IsWrittenAsString};
 
 use crate::writers::Encode;
 use crate::{OctetStringRef, RestrictedStringRef, TaggedCharSet};
@@ -18,7 +18,7 @@ use std::io;
 impl Encode for OctetString {
     ghost writes = { StringMeans };
 
-    ghost is_clear = { λ x _. IsMadeUp x };
+    ghost is_clear = { λ x mode. IsWrittenAsString mode x };
 
     fn encoded_len_as(&self, tag: Tag, mode: Mode) -> Result<usize, EncodeError> {
         self.encode_ref_as(tag).encoded_len(mode)
@@ -44,7 +44,7 @@ impl Encode for OctetString {
 impl<L: TaggedCharSet> Encode for RestrictedString<L> {
     ghost writes = { λ tag x mode. StringMeans tag x mode };
 
-    ghost is_clear = { λ x _. IsMadeUp x × IsOfSet L.step (octets_of x) };
+    ghost is_clear = { λ x mode. IsWrittenAsString mode x × IsOfSet L.step (octets_of x) };
 
     fn encoded_len_as(&self, tag: Tag, mode: Mode) -> Result<usize, EncodeError> {
         self.encode_ref_as(tag).encoded_len(mode)

@@ -1,6 +1,7 @@
 use Rattle.std.proofs.Common.{◌≡◌, subst}
 use Rattle.asn1.specs.Writing.{IsReadAs}
 use Rattle.asn1.specs.TagSets.{IsIn}
+use Rattle.asn1.proofs.Ascending.{default_in_order}
 use Rattle.asn1.proofs.ToldApart.{default_begin, without}
 use Rattle.asn1.proofs.clear.fields.OrDefaultClearFields.are_told_apart.Goals as goal
 
@@ -18,3 +19,27 @@ returns-clause-begin g c = λ d x k.
 
 pub returns-clause-follow : goal.returns-clause-follow
 returns-clause-follow g c = λ d x k us b same. without (IsIn g.T.Clear.tag_set) (g.T.Type.tags g.T.Type.TAG) g.met.T.Clear.in_set us b
+
+pub returns-clause-within : goal.returns-clause-within
+returns-clause-within g c = λ d x k e m.
+    let mode = c.args.mode in
+    let Tags = g.T.Type.tags g.T.Type.TAG in
+    let Means = g.T.Type.means mode in
+    let Clear = λ (v : g.row.T.Denot). g.T.Encode.is_clear v mode in
+    let one =
+    subst (λ t. (x : g.row.T.Denot) → Clear x → IsReadAs (g.T.Type.tags t) Means g.T.Type.key x (g.T.Encode.writes t x mode)) c.tag.ensures
+    c.is_read_back.ensures in
+    (default_in_order Tags Means g.T.Clear.tag_set g.met.T.Clear.in_set g.T.Type.key (g.T.Type.key x) (g.T.Type.key x ≡ g.T.Type.key g.D.DefaultValue.default)
+    (g.T.Encode.writes g.T.Type.TAG x mode) (one x k) e m).within
+
+pub returns-clause-rise : goal.returns-clause-rise
+returns-clause-rise g c = λ d a x k e m.
+    let mode = c.args.mode in
+    let Tags = g.T.Type.tags g.T.Type.TAG in
+    let Means = g.T.Type.means mode in
+    let Clear = λ (v : g.row.T.Denot). g.T.Encode.is_clear v mode in
+    let one =
+    subst (λ t. (x : g.row.T.Denot) → Clear x → IsReadAs (g.T.Type.tags t) Means g.T.Type.key x (g.T.Encode.writes t x mode)) c.tag.ensures
+    c.is_read_back.ensures in
+    (default_in_order Tags Means g.T.Clear.tag_set g.met.T.Clear.in_set g.T.Type.key (g.T.Type.key x) (g.T.Type.key x ≡ g.T.Type.key g.D.DefaultValue.default)
+    (g.T.Encode.writes g.T.Type.TAG x mode) (one x k) e m).rise

@@ -4,6 +4,7 @@ use Rattle.bcder.specs.x690.Tree.{no_trees}
 use Rattle.asn1.specs.Keys.{list_key}
 use Rattle.asn1.specs.TagSets.{IsIn}
 use Rattle.asn1.proofs.ToldApart.{list_begin, without}
+use Rattle.asn1.proofs.Ascending.{any_in}
 use Rattle.asn1.proofs.clear.lists.VecClearFields.are_told_apart.Goals as goal
 
 pub returns-clause-begin : goal.returns-clause-begin
@@ -15,3 +16,9 @@ returns-clause-begin g c = λ d x k e m.
 
 pub returns-clause-follow : goal.returns-clause-follow
 returns-clause-follow g c = λ d x k us b. without (IsIn g.T.Clear.tag_set) (g.T.Type.tags g.T.Type.TAG) g.met.T.Clear.in_set us b
+
+pub returns-clause-within : goal.returns-clause-within
+returns-clause-within g c = λ d x k e m. any_in e.values
+
+pub returns-clause-rise : goal.returns-clause-rise
+returns-clause-rise g c = λ d a x k e m. cc

@@ -7,3 +7,9 @@ returns-clause-begin g c = λ d x k e m. c.are_told_apart.ensures.begin d (first
 
 pub returns-clause-follow : goal.returns-clause-follow
 returns-clause-follow g c = λ d x k us b. c.are_told_apart.ensures.follow d (first_of_10 x) k us b
+
+pub returns-clause-within : goal.returns-clause-within
+returns-clause-within g c = λ d x k e m. c.are_told_apart.ensures.within d (first_of_10 x) k e (behind_as_last _ _ e m)
+
+pub returns-clause-rise : goal.returns-clause-rise
+returns-clause-rise g c = λ d a x k e m. c.are_told_apart.ensures.rise d a (first_of_10 x) k e (behind_as_last _ _ e m)

@@ -1,6 +1,5 @@
 use Rattle.asn1.proofs.WrittenStrings.{string_read_back}
 use Rattle.asn1.proofs.written.strings.OctetStringEncode.is_read_back.Goals as goal
-use Rattle.bcder.proofs.Lemmas.{string_written}
 
 pub returns : goal.returns
-returns c = λ x k e m. string_read_back c.args._tag c.args._mode x e (string_written c.args._tag c.args._mode x k e m)
+returns c = λ x k e m. string_read_back c.args._tag c.args._mode x e (k c.args._tag e m)
