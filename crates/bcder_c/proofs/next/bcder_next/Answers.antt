@@ -11,9 +11,11 @@ returns-then-not-may_stand-clause-advances c =
 pub returns-then-walk-eq0-clause-advances : goal.returns-then-walk-eq0-clause-advances
 returns-then-walk-eq0-clause-advances c =
     let more : c.args.walk.now.at < c.args.walk.now.end = search rules in
-    λ m r os x s. advances_from m _ _ _ _ _ _ _ _ _ (c.in-Some.ensures.known.1 m r) refl c.enter.ensures.entered os x s (due_outermost _ _ _ _ os x s (search rules) more)
+    λ m r os x s. advances_from m _ _ _ _ _ _ _ _ _ (c.in-Some.ensures.known.1 m r) refl c.enter.ensures.entered os x s
+    (due_outermost _ _ _ _ os x s (search rules) more)
 
 pub returns-clause-advances : goal.returns-clause-advances
 returns-clause-advances c =
     let unmoved = c.if-leave.ensures.kept refl in
-    λ m r os x s. advances_from m _ _ _ _ _ _ _ _ _ (c.in-Some.ensures.known.1 m r) unmoved.0 c.enter-2.ensures.entered os x s (c.if-leave.ensures.due refl os x s)
+    λ m r os x s. advances_from m _ _ _ _ _ _ _ _ _ (c.in-Some.ensures.known.1 m r) unmoved.0 c.enter-2.ensures.entered os x s
+    (c.if-leave.ensures.due refl os x s)
