@@ -8,3 +8,7 @@ pub mod Spelling
 pub mod Unused
 pub mod Stepping
 pub mod WholeSteps
+pub mod Standing
+pub mod Refusing
+pub mod Magnitudes
+pub mod Strings

@@ -79,7 +79,7 @@ definite_goes_on mode os behind (b ∷ x) o e = rw (read_list_step mode false (b
 -- ---- the header of the next value
 
 -- octets that begin with no header begin with no value
-no_encoding : (mode : Mode) (t : Tree) (w v x : List ℕ) → HasNoHeader mode w → IsEncoding mode t v → w ≡ v ++ x → ⊥
+pub no_encoding : (mode : Mode) (t : Tree) (w v x : List ℕ) → HasNoHeader mode w → IsEncoding mode t v → w ≡ v ++ x → ⊥
 no_encoding mode (primitive t contents) w v x none h is =
     none t false (Some (length contents)) h.1.header (contents ++ x) h.1.is_header (is ∙ ap (λ y. y ++ x) h.1.is ∙ append_assoc h.1.header contents x)
 no_encoding mode (constructed t ts) w v x none h is = framed h.2

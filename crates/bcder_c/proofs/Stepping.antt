@@ -4,11 +4,12 @@ use Rattle.std.proofs.Common.{slice_range, slice_set, Option, Some, None, refl, 
 use Rattle.std.proofs.lemmas.List.{length-append, length-drop, length-take-le, length-set, length-reverse, take-append-drop, take_more, take_more_set}
 use Rattle.std.proofs.lemmas.List.{reverse-append, drop-drop, take-take, drop_at}
 use Rattle.std.proofs.lemmas.Slice.{between_is}
+use Rattle.std.proofs.lemmas.Bool.Decides.{nat_tests}
+use Rattle.std.specs.Prelude.{nat_eq}
 use Rattle.bcder.specs.declared.mode.Mode.{Mode}
 use Rattle.bcder.specs.x690.Identifier.{Tag}
 use Rattle.bcder.specs.x690.Length.{IsEndOfContents}
 use Rattle.bcder.specs.x690.Encoding.{IsHeader}
-use Rattle.bcder.specs.x690.Preorder.{Heading}
 use Rattle.bcder.specs.calls.ContentsLen.{length_of}
 use Rattle.bcder_c.specs.declared.heading.Heading.{Heading as HeadingTold}
 use Rattle.bcder_c.specs.declared.next.Event.{Event}
@@ -16,8 +17,8 @@ use Rattle.bcder_c.specs.declared.next.Walk.{Walk}
 use Rattle.bcder_c.specs.Headings.{Tells}
 use Rattle.bcder_c.specs.Open.{Open, HasNoHeader, no_octets, no_header, goes_beyond, Step, of_primitive, into_definite, into_indefinite}
 use Rattle.bcder_c.specs.Open.{out_of_definite, out_of_indefinite, heading_of}
-use Rattle.bcder_c.specs.Next.{no_offset, kept, AreKept, StandsFor, MayBeKept, MayStand, kind_of, an_end, end_told, TellsStep, of_value, of_end}
-use Rattle.bcder_c.specs.Next.{Advanced, IsDue, Advances, goes_on, ends, stops, is_full}
+use Rattle.bcder_c.specs.Next.{no_offset, kept, AreKept, StandsFor, around, EndsInside, MayStand, kind_of, an_end, end_told, TellsStep, of_value, of_end}
+use Rattle.bcder_c.specs.Next.{Advanced, IsDue, Advances, goes_on, stops, is_full}
 use Rattle.bcder_c.proofs.Walking.{must_be}
 
 -- ---- parts of the octets
@@ -63,7 +64,7 @@ as_many w end (n ∷ ns) (Some b ∷ os) k = ap suc (as_many w n ns os k.3)
 pushed : (stack : List ℕ) (d n : ℕ) → d < length stack → kept (set stack d n) (d + 1) ≡ n ∷ kept stack d
 pushed stack d n l = ap reverse (take_more_set stack d n l) ∙ reverse-append (take d stack) (n ∷ [])
 
-popped : (stack : List ℕ) (d : ℕ) → d < length stack → kept stack (d + 1) ≡ get_or stack d 0 ∷ kept stack d
+pub popped : (stack : List ℕ) (d : ℕ) → d < length stack → kept stack (d + 1) ≡ get_or stack d 0 ∷ kept stack d
 popped stack d l = ap reverse (take_more stack d 0 l) ∙ reverse-append (take d stack) (get_or stack d 0 ∷ [])
 
 open_indefinite : (w : List ℕ) (end n : ℕ) (ns : List ℕ) (os : List Open) → AreKept w end (n ∷ ns) os → n ≡ no_offset
@@ -78,15 +79,29 @@ open_definite w end n ns [] k e = absurd k
 open_definite w end n ns (None ∷ os) k e = absurd (e k.0)
 open_definite w end n ns (Some b ∷ os) k e = (b, os, refl, k.1, k.2, k.3)
 
-kept_inside : (w : List ℕ) (end n : ℕ) (ns : List ℕ) (os : List Open) → AreKept w end (n ∷ ns) os → MayBeKept w end n
-kept_inside w end n ns [] k = absurd k
-kept_inside w end n ns (None ∷ os) k = inl k.0
-kept_inside w end n ns (Some b ∷ os) k = inr (k.1, ends_inside w n ns os k.3)
-
 none_kept : (w : List ℕ) (end : ℕ) (ns : List ℕ) (os : List Open) → AreKept w end ns os → length ns ≡ 0 → (end ≡ length w) × (os ≡ [])
 none_kept w end [] [] k l = (k, refl)
 none_kept w end [] (o ∷ os) k l = absurd k
 none_kept w end (n ∷ ns) os k l = absurd (omega (arith, l))
+
+unmarked : (n : ℕ) → n < no_offset → nat_eq n no_offset ≡ false
+unmarked n l = grind (arith, nat_tests)
+
+ends_in : (w : List ℕ) (end n depth : ℕ) (ns : List ℕ) (os : List Open) → AreKept w end (n ∷ ns) os → depth ≡ suc (length ns)
+    → EndsInside w end depth (around end n)
+ends_in w end n depth ns [] k l = absurd k
+ends_in w end n depth ns (None ∷ os) k l =
+    rw k.0 (record {
+      order = omega arith;
+      inside = ends_inside w end ns os k.1;
+      outermost = λ one. (none_kept w end ns os k.1 (omega (arith, one, l))).0;
+    })
+ends_in w end n depth ns (Some b ∷ os) k l =
+    rw (unmarked n k.0) (record {
+      order = k.1;
+      inside = ends_inside w n ns os k.3;
+      outermost = λ one. (none_kept w n ns os k.3 (omega (arith, one, l))).0;
+    })
 
 module _ (mode : Mode) (octets stack : List ℕ) (old : Walk) (os : List Open) (x : List ℕ) (s : StandsFor octets stack old os x) where
   inside : old.end ≤ length octets
@@ -106,13 +121,18 @@ module _ (mode : Mode) (octets stack : List ℕ) (old : Walk) (os : List Open) (
       let same : old.depth ≡ old.depth - 1 + 1 = omega arith in
       subst (λ ns. AreKept octets old.end ns os) (ap (kept stack) same ∙ popped stack (old.depth - 1) (omega (arith, s.room))) s.numbers
 
+  outer_count : 0 < old.depth → old.depth ≡ suc (length (kept stack (old.depth - 1)))
+  outer_count l =
+      omega (arith, l, length-reverse (take (old.depth - 1) stack), length-take-le (old.depth - 1) stack (omega (arith, s.room)))
+
   pub may_stand : MayStand octets stack old
   may_stand = record {
     order = s.order;
     inside = inside;
     room = s.room;
     outermost = λ z. (outermost z).0;
-    innermost = λ l. kept_inside octets old.end (get_or stack (old.depth - 1) 0) (kept stack (old.depth - 1)) os (innermost l);
+    innermost = λ l.
+        ends_in octets old.end (get_or stack (old.depth - 1) 0) old.depth (kept stack (old.depth - 1)) os (innermost l) (outer_count l);
   }
 
   pub due_outermost : old.depth ≡ 0 → old.at < old.end → IsDue mode os x
@@ -333,9 +353,9 @@ module _ (mode : Mode) (octets stack : List ℕ) (old : Walk) (os : List Open) (
           }))
 
 -- the same step, told of the state before a call that changed nothing
-pub advances_from : (m mode : Mode) (octets stack after : List ℕ) (mid old new : Walk) (e : Event) (status : ℕ) → m ≡ mode → mid ≡ old
+pub advances_from : (mode : Mode) (octets stack after : List ℕ) (mid old new : Walk) (e : Event) (status : ℕ) → mid ≡ old
     → ((os : List Open) (x : List ℕ) → StandsFor octets stack mid os x → IsDue mode os x → Advances mode octets os x stack after mid new e status)
-    → (os : List Open) (x : List ℕ) → StandsFor octets stack old os x → IsDue mode os x → Advances m octets os x stack after old new e status
-advances_from m mode octets stack after mid old new e status same unmoved entered os x s due =
-    subst (λ k. Advances k octets os x stack after old new e status) (sym same)
-    (subst (λ w. Advances mode octets os x stack after w new e status) unmoved (entered os x (subst (λ w. StandsFor octets stack w os x) (sym unmoved) s) due))
+    → (os : List Open) (x : List ℕ) → StandsFor octets stack old os x → IsDue mode os x → Advances mode octets os x stack after old new e status
+advances_from mode octets stack after mid old new e status unmoved entered os x s due =
+    subst (λ w. Advances mode octets os x stack after w new e status) unmoved
+    (entered os x (subst (λ w. StandsFor octets stack w os x) (sym unmoved) s) due)

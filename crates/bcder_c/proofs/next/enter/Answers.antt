@@ -1,5 +1,5 @@
-use Rattle.std.proofs.Common.{◌<◌, length, refl, ap, arith, rules}
-use Rattle.bcder_c.specs.Next.{no_offset, kind_of}
+use Rattle.std.proofs.Common.{◌<◌, length, refl, ap, rules}
+use Rattle.bcder_c.specs.Next.{no_offset}
 use Rattle.bcder_c.proofs.Stepping.{stops_without_header, enters_primitive, enters_definite, enters_indefinite, full_definite, full_indefinite}
 use Rattle.bcder_c.proofs.next.enter.Goals as goal
 
