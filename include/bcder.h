@@ -103,10 +103,13 @@ uint8_t bcder_u64(const uint8_t *data, size_t len, uint64_t *number);           
 uint8_t bcder_integer(const uint8_t *data, size_t len, bool *negative); /* INTEGER of any size: the
         octets are the number in two's complement, the most significant first, in the fewest */
 uint8_t bcder_magnitude(const uint8_t *data, size_t len, uint8_t *out, size_t room, size_t *size); /* INTEGER
-        of any size: the octets of the number without its sign, the most significant first, none for 0 */
+        of any size: the octets of the number without its sign, the most significant first, none for 0.
+        They are never more than `len` */
 uint8_t bcder_bits(uint8_t rules, const uint8_t *data, size_t len, uint8_t *unused); /* BIT STRING: the
         bits are in the octets after the first, but for `unused` of the last */
 uint8_t bcder_oid(const uint8_t *data, size_t len);                       /* OBJECT IDENTIFIER */
+uint8_t bcder_oid_text(const uint8_t *data, size_t len, char *out, size_t room, size_t *size); /* the same, as
+        its components in decimal, joined by dots, with no zero behind them; each is below 2^128 */
 uint8_t bcder_utf8(const uint8_t *data, size_t len);                      /* UTF8String */
 uint8_t bcder_numeric(const uint8_t *data, size_t len);                   /* NumericString */
 uint8_t bcder_printable(const uint8_t *data, size_t len);                 /* PrintableString */
@@ -116,7 +119,7 @@ uint8_t bcder_ia5(const uint8_t *data, size_t len);                       /* IA5
  * value is constructed, of the segments that they are. They are never more than `len`. ABSENT: the rules
  * allow no such string. Memory, by malloc, only for segments that are constructed.
  *
- * This and bcder_magnitude store octets at `out`, which has room for `room` of them and must not overlap
+ * This, bcder_magnitude and bcder_oid_text store octets at `out`, which has room for `room` of them and must not overlap
  * `data`; with no room it may be NULL. `size` is their number. TOO_SMALL: there is no room for all of
  * them, `size` says how much is needed, and `out` is as it was. */
 uint8_t bcder_string(uint8_t rules, bool constructed, const uint8_t *data, size_t len, uint8_t *out, size_t room,

@@ -106,7 +106,7 @@ static size_t ref_magnitude(const uint8_t *p, size_t n, uint8_t *out) {
 /* What is stored in a buffer with just enough room, with more, and with too little. */
 static void stores(const char *what, int mode, const uint8_t *p, size_t n, bool is, const uint8_t *wanted, size_t count,
                    uint8_t (*call)(int, const uint8_t *, size_t, uint8_t *, size_t, size_t *)) {
-  uint8_t out[1300];
+  static uint8_t out[5100];
   size_t size = 12345;
   if (!is) {
     out[0] = 0xA5;
@@ -149,6 +149,61 @@ static void strings(const uint8_t *p, size_t n) {
   }
 }
 
+/* The text of identifiers by decimal digits, the last first: each octet of a subidentifier multiplies by 128. */
+static size_t ref_oid_text(const uint8_t *p, size_t n, uint8_t *out) {
+  uint8_t digits[400] = {0};
+  size_t count = 1, size = 0;
+  bool first = true;
+  for (size_t i = 0; i < n; i++) {
+    unsigned carry = p[i] & 0x7F;
+    for (size_t j = 0; j < count; j++) { carry += digits[j] * 128u; digits[j] = (uint8_t)(carry % 10); carry /= 10; }
+    for (; carry > 0; carry /= 10) digits[count++] = (uint8_t)(carry % 10);
+    if (p[i] & 0x80) continue;
+    if (first) { /* 8.19.4: 40 times the first component is in it, or 80 at most */
+      unsigned tens = count > 2 ? 8 : digits[1], root = tens >= 8 ? 2 : tens >= 4 ? 1 : 0;
+      out[size++] = (uint8_t)('0' + root);
+      unsigned less = 4 * root;
+      if (digits[1] >= less) digits[1] = (uint8_t)(digits[1] - less);
+      else {
+        size_t j = 2;
+        digits[1] = (uint8_t)(digits[1] + 10 - less);
+        while (digits[j] == 0) digits[j++] = 9;
+        digits[j]--;
+      }
+      while (count > 1 && digits[count - 1] == 0) count--;
+    }
+    out[size++] = '.';
+    for (size_t j = count; j-- > 0;) out[size++] = (uint8_t)('0' + digits[j]);
+    memset(digits, 0, count);
+    count = 1; first = false;
+  }
+  return size;
+}
+
+static uint8_t call_oid_text(int mode, const uint8_t *p, size_t n, uint8_t *out, size_t room, size_t *size) {
+  (void)mode;
+  return bcder_oid_text(p, n, (char *)out, room, size);
+}
+
+/* Whether each subidentifier is below 2^128: its digits in base 128, without leading zeros, are at most 18, or 19 and at most
+ * 3 in the first. */
+static bool ref_below(const uint8_t *p, size_t n) {
+  size_t count = 0;
+  uint8_t lead = 0;
+  for (size_t i = 0; i < n; i++) {
+    if (count > 0 || (p[i] & 0x7F) != 0) { if (count++ == 0) lead = p[i] & 0x7F; }
+    if (count > 19 || (count == 19 && lead > 3)) return false;
+    if (!(p[i] & 0x80)) count = 0;
+  }
+  return true;
+}
+
+static void identifier_text(const uint8_t *p, size_t n) {
+  static uint8_t out[5000];
+  bool is = n > 0 && p[n - 1] < 0x80 && ref_below(p, n);
+  stores("the text of an identifier", 0, p, n, is, out, is ? ref_oid_text(p, n, out) : 0, call_oid_text);
+}
+
 static void contents(const uint8_t *p, size_t n) {
   static uint8_t digits_out[1300];
   static const char digits[] = "0123456789 ";
@@ -180,6 +235,7 @@ static void contents(const uint8_t *p, size_t n) {
   if (bcder_u64(p, n, &u64) != (fits ? BCDER_OK : BCDER_ABSENT) || u64 != (fits ? (uint64_t)z : 77)) differs("a uint64_t", 0, p, n);
   if (bcder_null(p, n) != (n == 0 ? BCDER_OK : BCDER_ABSENT)) differs("a null", 0, p, n);
   if (bcder_oid(p, n) != (n > 0 && p[n - 1] < 0x80 ? BCDER_OK : BCDER_ABSENT)) differs("an identifier", 0, p, n);
+  identifier_text(p, n);
   if (bcder_utf8(p, n) != (ref_utf8(p, n) ? BCDER_OK : BCDER_ABSENT)) differs("UTF-8", 0, p, n);
   if (bcder_numeric(p, n) != (all_in(digits, sizeof digits - 1, p, n) ? BCDER_OK : BCDER_ABSENT)) differs("a NumericString", 0, p, n);
   if (bcder_printable(p, n) != (all_in(printable, sizeof printable - 1, p, n) ? BCDER_OK : BCDER_ABSENT)) differs("a PrintableString", 0, p, n);
@@ -359,6 +415,27 @@ static void strings_by_hand(void) {
     CHECK(bcder_string((uint8_t)rules, false, other, 6, out, sizeof out, &size) == BCDER_UNKNOWN_RULES && size == 77);
     CHECK(bcder_string((uint8_t)rules, true, other, 6, out, sizeof out, &size) == BCDER_UNKNOWN_RULES && size == 77);
   }
+  /* 2.999 of X.690, 8.19.5; the least and the greatest of each first component; a UUID of 2.25 */
+  static const struct { uint8_t octets[24]; size_t n; const char *text; } rows[] = {
+    {{0x88, 0x37, 0x03}, 3, "2.999.3"}, {{0x00}, 1, "0.0"}, {{0x27}, 1, "0.39"}, {{0x28}, 1, "1.0"}, {{0x4F}, 1, "1.39"},
+    {{0x50}, 1, "2.0"}, {{0x55, 0x04, 0x03}, 3, "2.5.4.3"}, {{0x2A, 0x86, 0x48, 0x86, 0xF7, 0x0D}, 6, "1.2.840.113549"},
+    {{0x2A, 0x80, 0x01}, 3, "1.2.1"},
+    {{0x69, 0x83, 0xFF, 0xFF, 0xFF, 0xFF, 0xFF, 0xFF, 0xFF, 0xFF, 0xFF, 0xFF, 0xFF, 0xFF, 0xFF, 0xFF, 0xFF, 0xFF, 0xFF, 0x7F}, 20,
+     "2.25.340282366920938463463374607431768211455"},
+    {{0x83, 0xFF, 0xFF, 0xFF, 0xFF, 0xFF, 0xFF, 0xFF, 0xFF, 0xFF, 0xFF, 0xFF, 0xFF, 0xFF, 0xFF, 0xFF, 0xFF, 0xFF, 0x7F}, 19,
+     "2.340282366920938463463374607431768211375"},
+  };
+  char text[64];
+  for (size_t i = 0; i < sizeof rows / sizeof *rows; i++) {
+    size_t length = strlen(rows[i].text);
+    CHECK(bcder_oid_text(rows[i].octets, rows[i].n, text, sizeof text, &size) == BCDER_OK && size == length);
+    CHECK(memcmp(text, rows[i].text, length) == 0);
+    identifier_text(rows[i].octets, rows[i].n);
+  }
+  static const uint8_t large[] = {0x69, 0x84, 0x80, 0x80, 0x80, 0x80, 0x80, 0x80, 0x80, 0x80, 0x80, 0x80, 0x80, 0x80, 0x80, 0x80, 0x80, 0x80, 0x80, 0x80, 0x00};
+  CHECK(bcder_oid_text(large, sizeof large, text, sizeof text, &size) == BCDER_ABSENT && bcder_oid(large, sizeof large) == BCDER_OK);
+  CHECK(bcder_oid_text(NULL, 0, text, sizeof text, &size) == BCDER_ABSENT);
+
   static const uint8_t zero[] = {0x00}, least[] = {0x80, 0x00};
   CHECK(bcder_magnitude(zero, 1, NULL, 0, &size) == BCDER_OK && size == 0);
   CHECK(bcder_magnitude(least, 2, out, sizeof out, &size) == BCDER_OK && size == 2 && out[0] == 0x80 && out[1] == 0x00);

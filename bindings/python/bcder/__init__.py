@@ -166,6 +166,7 @@ _integer = _call("bcder_integer", *_SPAN, ctypes.POINTER(ctypes.c_bool))
 _magnitude = _call("bcder_magnitude", *_SPAN, *_SPAN, ctypes.POINTER(ctypes.c_size_t))
 _bits = _call("bcder_bits", ctypes.c_uint8, *_SPAN, ctypes.POINTER(ctypes.c_uint8))
 _oid = _call("bcder_oid", *_SPAN)
+_oid_text = _call("bcder_oid_text", *_SPAN, *_SPAN, ctypes.POINTER(ctypes.c_size_t))
 _string = _call(
     "bcder_string", ctypes.c_uint8, ctypes.c_bool, *_SPAN, *_SPAN, ctypes.POINTER(ctypes.c_size_t)
 )
@@ -358,17 +359,14 @@ class Value:
             raise self._refused()
 
     def oid(self) -> str:
-        """Returns an OBJECT IDENTIFIER as its components, joined by dots (8.19)."""
-        if _oid(*self._primitive(6)):
+        """Returns an OBJECT IDENTIFIER as its components, joined by dots (8.19). Each is below
+        2^128."""
+        span, size = self._primitive(6), ctypes.c_size_t()
+        if _oid_text(*span, None, 0, ctypes.byref(size)) != 9:
             raise self._refused()
-        numbers, number = [], 0
-        for octet in self.contents:
-            number = number << 7 | octet & 0x7F
-            if not octet & 0x80:
-                numbers.append(number)
-                number = 0
-        first = min(numbers[0] // 40, 2)
-        return ".".join(map(str, [first, numbers[0] - 40 * first, *numbers[1:]]))
+        text = ctypes.create_string_buffer(size.value)
+        _oid_text(*span, ctypes.addressof(text), size.value, ctypes.byref(size))
+        return text.raw.decode()
 
     def bits(self) -> Tuple[bytes, builtins.int]:
         """Returns the octets of a BIT STRING in one piece, and how many bits of the last are

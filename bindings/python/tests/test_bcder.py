@@ -124,7 +124,10 @@ class Values(unittest.TestCase):
         self.assertEqual(one("0603883703").oid(), "2.999.3")
         self.assertEqual(one("060127").oid(), "0.39")
         self.assertEqual(one("060b 6982 8080 8080 8080 8080 00").oid(), f"2.25.{2**64}")
-        for text in ("0600", "060180", "06022a80"):
+        self.assertEqual(one("0614 69 83" + "ff" * 17 + "7f").oid(), f"2.25.{2**128 - 1}")
+        self.assertEqual(one("060128").oid(), "1.0")
+        self.assertEqual(one("06028837").oid(), "2.999")
+        for text in ("0600", "060180", "06022a80", "0615 69 84" + "80" * 18 + "00"):
             with self.assertRaises(bcder.Error):
                 one(text).oid()
 

@@ -79,6 +79,13 @@ mod ffi {
         ) -> u8;
         pub fn bcder_bits(rules: u8, data: *const u8, len: usize, unused: &mut u8) -> u8;
         pub fn bcder_oid(data: *const u8, len: usize) -> u8;
+        pub fn bcder_oid_text(
+            data: *const u8,
+            len: usize,
+            buffer: *mut u8,
+            room: usize,
+            size: &mut usize,
+        ) -> u8;
         pub fn bcder_utf8(data: *const u8, len: usize) -> u8;
         pub fn bcder_numeric(data: *const u8, len: usize) -> u8;
         pub fn bcder_printable(data: *const u8, len: usize) -> u8;
@@ -776,6 +783,28 @@ impl<'a> Oid<'a> {
     /// Its contents octets.
     pub fn as_slice(&self) -> &'a [u8] {
         self.0
+    }
+
+    /// Stores its components in decimal, joined by dots, and returns this text.
+    ///
+    /// Returns `None` if the buffer has no room for it, or a component is 2^128 or more.
+    pub fn text<'b>(&self, buffer: &'b mut [u8]) -> Option<&'b str> {
+        let mut size = 0;
+        // SAFETY: as in `magnitude`.
+        let status = unsafe {
+            ffi::bcder_oid_text(
+                self.0.as_ptr(),
+                self.0.len(),
+                buffer.as_mut_ptr(),
+                buffer.len(),
+                &mut size,
+            )
+        };
+        if status == 0 {
+            core::str::from_utf8(&buffer[..size]).ok()
+        } else {
+            None
+        }
     }
 
     /// Its components; `None` for one of 2^64 or more.

@@ -120,6 +120,16 @@ fn identifiers_are_shown() {
     let largest = [6, 11, 0x69, 0x81, 0xFF, 0xFF, 0xFF, 0xFF, 0xFF, 0xFF, 0xFF, 0xFF, 0x7F];
     let numbers = contents(Rules::Der, &largest, |it| it.oid().map(|it| it.components().collect::<Vec<_>>()));
     assert_eq!(numbers, Ok(vec![Some(2), Some(25), Some(u64::MAX)]));
+    let mut uuid = vec![6, 20, 0x69, 0x83];
+    uuid.extend([0xFF; 17]);
+    uuid.push(0x7F);
+    let text = |data: &[u8], room: usize| {
+        contents(Rules::Der, data, |it| Ok(it.oid()?.text(&mut vec![0; room]).map(str::to_owned)))
+    };
+    let wanted = "2.25.340282366920938463463374607431768211455".to_owned();
+    assert_eq!(text(&uuid, wanted.len()), Ok(Some(wanted.clone())));
+    assert_eq!(text(&uuid, wanted.len() - 1), Ok(None));
+    assert_eq!(text(&[6, 3, 0x2A, 0x86, 0x48], 9), Ok(Some("1.2.840".to_owned())));
     let larger = [6, 11, 0x69, 0x82, 0x80, 0x80, 0x80, 0x80, 0x80, 0x80, 0x80, 0x80, 0x00];
     let text = contents(Rules::Der, &larger, |it| it.oid().map(|it| it.to_string()));
     assert_eq!(text, Ok("2.25.(2^64 or more)".to_owned()));

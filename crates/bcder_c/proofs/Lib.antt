@@ -11,4 +11,6 @@ pub mod WholeSteps
 pub mod Standing
 pub mod Refusing
 pub mod Magnitudes
+pub mod Storing
 pub mod Strings
+pub mod Identifiers

@@ -1,6 +1,6 @@
 -- Octet strings that are cut into segments, and passed piece by piece.
 use Rattle.std.proofs.Common.{◌≡◌, ℕ, ◌+◌, ◌<◌, ◌≤◌, Bool, true, false, List, [], ◌∷◌, ◌++◌, length, take, drop, Option, Some, None, option_map}
-use Rattle.std.proofs.Common.{inl, refl, sym, ap, ap₂, subst, ◌∙◌, append_assoc, append-nil, take-append-drop, arith}
+use Rattle.std.proofs.Common.{refl, sym, ap, ap₂, subst, ◌∙◌, append_assoc, append-nil, take-append-drop, arith}
 use Rattle.std.specs.Prelude.{nat_eq}
 use Rattle.std.specs.List.{concat}
 use Rattle.std.proofs.lemmas.Bool.{lt-ltb, le-ltb}
@@ -23,7 +23,7 @@ use Rattle.bcder.proofs.Headers.{end_no_header}
 use Rattle.bcder.proofs.Segments.{Items, no_items, value, closing, before, AreItems, parts_of, Turn, passes, goes, stops, turn, all_items, all_parts, none_left}
 use Rattle.bcder.proofs.Segments.{Counts, counts_all, counts_shorter, counts_piece, counts_goes, counts_none, counts_cut}
 use Rattle.bcder.proofs.Segments.{Pieces, pieces_shorter, pieces_more, pieces_cut, pieces_few, pieces_other, pieces_nested, pieces_unread}
-use Rattle.bcder_c.specs.Buffers.{IsAtFront, Stores, stored}
+use Rattle.bcder_c.specs.Buffers.{IsAtFront}
 use Rattle.bcder_c.specs.Contents.{HoldsString}
 use Rattle.bcder_c.specs.Open.{HasNoHeader, NotAtEnd}
 use Rattle.bcder_c.specs.Strings.{PassesPiece, HasNoPiece, other, nothing}
@@ -298,18 +298,7 @@ module _ (w rest first now : List ℕ) (at count : ℕ) (full : Bool) (i : InFul
 
 -- ---- the whole string
 
-one_string : (mode : Mode) (w s t : List ℕ) → HoldsString mode true w s → HoldsString mode true w t → s ≡ t
+pub one_string : (mode : Mode) (w s t : List ℕ) → HoldsString mode true w s → HoldsString mode true w t → s ≡ t
 one_string mode w s t h k =
     let same : h.1.values ≡ k.1.values = one_list mode h.1.values k.1.values w h.1.encode k.1.encode in
     h.2 ∙ ap concat (sym h.1.hold ∙ ap segments_of same ∙ k.1.hold) ∙ sym k.2
-
--- what was counted is stored, where there is room
-pub string_stored : (mode : Mode) (w first then old new : List ℕ) (n m before : ℕ)
-    → (s : List ℕ) × HoldsString mode true w s × IsAtFront s first then n
-    → (s : List ℕ) × HoldsString mode true w s × IsAtFront s old new m
-    → n ≤ length old → Stores (HoldsString mode true w) 0 old new before n
-string_stored mode w first then old new n m before a b room =
-    let same : a.0 ≡ b.0 = one_string mode w a.0 b.0 a.1 b.1 in
-    let size : n ≡ length b.0 = a.2.count ∙ ap length same in
-    let fits : length b.0 ≤ length old = omega (arith, size, room) in
-    inl (b.0, b.1, stored refl fits (b.2.front fits) size)

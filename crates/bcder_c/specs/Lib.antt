@@ -7,6 +7,7 @@ pub mod Values
 pub mod Next
 pub mod Buffers
 pub mod Contents
+pub mod Identifiers
 pub mod Negated
 pub mod Strings
 pub mod Text

@@ -6,8 +6,9 @@ ghost use Rattle.bcder_c.specs.Buffers.{IsAtFront};
 /// number of octets that were to be stored until now.
 pub(crate) fn append(buffer: &mut [u8], at: &mut usize, octets: &[u8])
     requires { at.old + length octets.now < 2 ^ 64 }
-    ensures { (first w : List ℕ) → IsAtFront w first buffer.old at.old
+    ensures stored { (first w : List ℕ) → IsAtFront w first buffer.old at.old
         → IsAtFront (w ++ octets.now) first buffer.new at.new }
+    ensures at { at.new ≡ at.old + length octets.now }
 {
     let start = *at;
     let end = start + octets.len();

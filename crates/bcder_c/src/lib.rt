@@ -10,6 +10,7 @@ mod buffer;
 mod checked;
 mod contents;
 mod heading;
+mod identifier;
 mod magnitude;
 mod next;
 mod rules;

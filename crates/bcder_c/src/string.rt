@@ -1,6 +1,6 @@
 //! Octet strings, in one piece or cut into segments.
-ghost use Rattle.std.specs.Prelude.{◌≡◌, ◌≢◌, ℕ, true, false, List, IfSome, IfNone, MatchOption, option_map};
-ghost use Rattle.std.specs.Prelude.{◌↔◌, IsTrue, length};
+ghost use Rattle.std.specs.Prelude.{◌≡◌, ◌≢◌, ◌↔◌, ℕ, true, false, IsTrue, List, length};
+ghost use Rattle.std.specs.Prelude.{IfSome, IfNone, MatchOption, option_map};
 ghost use Rattle.std.specs.List.{concat};
 ghost use Rattle.bcder.specs.declared.mode.Mode.{Mode as ModeValue};
 ghost use Rattle.bcder.specs.declared.mode.Mode.TheVariants.{Ber, Cer};

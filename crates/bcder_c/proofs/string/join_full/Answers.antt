@@ -29,7 +29,7 @@ loop-rest-preserved c =
     c.in-Some.ensures.passed in
     let full : c.loop-rest.full ≡ true = search rules in
     let last : IsLast (length c.in-Some-segment.segment.now) = search rules in
-    full_piece _ _ _ _ _ _ _ c.loop-rest.invariant some _ _ _ _ q full last.0 last.1 c.append.ensures
+    full_piece _ _ _ _ _ _ _ c.loop-rest.invariant some _ _ _ _ q full last.0 last.1 c.append.ensures.stored
 
 pub returns-in-None-segment : goal.returns-in-None-segment
 returns-in-None-segment c =

@@ -18,7 +18,7 @@ loop-rest-preserved-in-Some-segment c =
     let q : PassesPiece Ber c.loop-rest.rest.now (Some c.in-Some-segment.segment.now) c.in-Some.piece.rest.now =
     subst (λ s. PassesPiece Ber c.loop-rest.rest.now s c.in-Some.piece.rest.now) (ap (option_map (λ s. s.now)) c.in-Some-segment.is)
     c.in-Some.ensures.passed in
-    nested_piece _ _ _ _ _ c.loop-rest.invariant some _ _ _ _ q c.append.ensures
+    nested_piece _ _ _ _ _ c.loop-rest.invariant some _ _ _ _ q c.append.ensures.stored
 
 pub loop-rest-smaller : goal.loop-rest-smaller
 loop-rest-smaller c =
