@@ -116,6 +116,7 @@ fn close(walk: &mut Walk, event: &mut Event, size: usize, end: usize)
 }
 
 /// Goes past the end of the innermost open value if that comes next, and returns whether it does.
+#[inline(always)]
 fn leave(mode: Mode, octets: &[u8], stack: &[usize], walk: &mut Walk, event: &mut Event) -> bool
     requires stands { MayStand octets.now stack.now walk.old }
     requires opened { 0 < walk.old.depth }
@@ -159,6 +160,7 @@ fn open(stack: &mut [usize], walk: &mut Walk, kept: usize, at: usize, end: usize
 
 /// Goes past the header of the next value, and the contents if the value is primitive, and tells
 /// it.
+#[inline(always)]
 fn enter(mode: Mode, octets: &[u8], stack: &mut [usize], walk: &mut Walk, event: &mut Event) -> u8
     requires { MayStand octets.now stack.old walk.old }
     ensures entered { (os : _) (x : _) → StandsFor octets.now stack.old walk.old os x
