@@ -2,7 +2,7 @@
  *
  * Every function stores its result where it returns BCDER_OK. bcder_value, bcder_check and
  * bcder_check_within store what was passed in every case but BCDER_UNKNOWN_RULES; all others store
- * nothing unless they return BCDER_OK. No octet outside (data, len) is read and each call ends. Nothing is
+ * nothing unless they return BCDER_OK, or store `size` alone where they return BCDER_TOO_SMALL. No octet outside (data, len) is read and each call ends. Nothing is
  * kept between calls, so any number of threads may call. NULL with length 0 is no octets; no other
  * pointer may be NULL. Where a result is stored must not overlap the octets. docs/C.md says more. */
 #ifndef BCDER_H
@@ -27,7 +27,8 @@ enum {
   BCDER_ENDED = 5,         /* the octets end where a value or its end has to follow */
   BCDER_TOO_DEEP = 6,      /* a value is inside more others than were allowed */
   BCDER_FINISHED = 7,      /* all octets were passed */
-  BCDER_MISUSED = 8        /* the state is none of a walk over these octets */
+  BCDER_MISUSED = 8,       /* the state is none of a walk over these octets */
+  BCDER_TOO_SMALL = 9      /* the buffer has no room for what is to be stored */
 };
 
 /* the header of a value: its identifier octets and length octets */
@@ -88,11 +89,11 @@ uint8_t bcder_check_within(uint8_t rules, const uint8_t *data, size_t len, size_
 /* Goes to the next value or end, and stores it. `stack` has room for `room` open values, and belongs
  * to the walk until its end, as `walk` does; with no room it may be NULL. FINISHED: all octets were
  * passed, and are values. ABSENT, BEYOND, ENDED: at `walk->at` no value begins, as bcder_check says,
- * and none ends. TOO_DEEP: a constructed value begins, and the stack has no room for it. MISUSED: the
- * numbers read aren't those of a walk. Except for OK, nothing is changed. No memory is allocated. */
+ * and none ends, so they are no values. TOO_DEEP: a constructed value begins, and the stack has no room
+ * for it. MISUSED: exactly if no walk gives `walk`, `room` and the number of the innermost open value.
+ * Except for OK, nothing is changed. No memory is allocated. */
 uint8_t bcder_next(uint8_t rules, const uint8_t *data, size_t len, size_t *stack, size_t room,
                    bcder_walk_t *walk, bcder_event_t *event);
-#define BCDER_NEXT 1
 
 /* Contents octets of primitive values. ABSENT: they are not those of such a value. */
 uint8_t bcder_bool(uint8_t rules, const uint8_t *data, size_t len, bool *truth);     /* BOOLEAN */
@@ -101,13 +102,28 @@ uint8_t bcder_i64(const uint8_t *data, size_t len, int64_t *number);            
 uint8_t bcder_u64(const uint8_t *data, size_t len, uint64_t *number);                /* INTEGER */
 uint8_t bcder_integer(const uint8_t *data, size_t len, bool *negative); /* INTEGER of any size: the
         octets are the number in two's complement, the most significant first, in the fewest */
+uint8_t bcder_magnitude(const uint8_t *data, size_t len, uint8_t *out, size_t room, size_t *size); /* INTEGER
+        of any size: the octets of the number without its sign, the most significant first, none for 0.
+        They are never more than `len` */
 uint8_t bcder_bits(uint8_t rules, const uint8_t *data, size_t len, uint8_t *unused); /* BIT STRING: the
         bits are in the octets after the first, but for `unused` of the last */
 uint8_t bcder_oid(const uint8_t *data, size_t len);                       /* OBJECT IDENTIFIER */
+uint8_t bcder_oid_text(const uint8_t *data, size_t len, char *out, size_t room, size_t *size); /* the same, as
+        its components in decimal, joined by dots, with no zero behind them; each is below 2^128 */
 uint8_t bcder_utf8(const uint8_t *data, size_t len);                      /* UTF8String */
 uint8_t bcder_numeric(const uint8_t *data, size_t len);                   /* NumericString */
 uint8_t bcder_printable(const uint8_t *data, size_t len);                 /* PrintableString */
 uint8_t bcder_ia5(const uint8_t *data, size_t len);                       /* IA5String */
+
+/* The octets of an OCTET STRING, or of a type that is encoded as one: of its contents octets, or, if the
+ * value is constructed, of the segments that they are. They are never more than `len`. ABSENT: the rules
+ * allow no such string. Memory, by malloc, only for segments that are constructed.
+ *
+ * This, bcder_magnitude and bcder_oid_text store octets at `out`, which has room for `room` of them and must not overlap
+ * `data`; with no room it may be NULL. `size` is their number. TOO_SMALL: there is no room for all of
+ * them, `size` says how much is needed, and `out` is as it was. */
+uint8_t bcder_string(uint8_t rules, bool constructed, const uint8_t *data, size_t len, uint8_t *out, size_t room,
+                     size_t *size);
 
 /* ---- Readers, over the functions above. They are not proved. ----
  *
@@ -138,6 +154,7 @@ static inline const char *bcder_error_text(uint8_t status) {
   case BCDER_TOO_DEEP: return "a value inside more others than are allowed";
   case BCDER_FINISHED: return "all octets were passed";
   case BCDER_MISUSED: return "the state is none of a walk over these octets";
+  case BCDER_TOO_SMALL: return "the buffer has no room for what is to be stored";
   default: return "no such status";
   }
 }

@@ -6,15 +6,6 @@
 #include <stdlib.h>
 #include <string.h>
 
-#ifndef BCDER_NEXT /* bcder.h before it declares bcder_next */
-enum { BCDER_FINISHED = 7, BCDER_MISUSED = 8 };
-typedef struct { size_t at, end, depth; } bcder_walk_t;
-enum { BCDER_PRIMITIVE = 0, BCDER_BEGIN = 1, BCDER_END = 2 };
-typedef struct { bcder_heading_t heading; size_t at, depth; uint8_t kind; } bcder_event_t;
-uint8_t bcder_next(uint8_t rules, const uint8_t *data, size_t len, size_t *stack, size_t room,
-                   bcder_walk_t *walk, bcder_event_t *event);
-#endif
-
 #define CHECK(fact) do { if (!(fact)) { printf("%s:%d: not so: %s\n", __FILE__, __LINE__, #fact); exit(1); } } while (0)
 enum { MOST = 32 };
 
@@ -116,11 +107,18 @@ static void by_hand(void) {
   bcder_walk_t empty = {0, 0, 0};
   CHECK(bcder_next(BCDER_DER, NULL, 0, NULL, 0, &empty, &e) == BCDER_FINISHED);
 
-  const bcder_walk_t wrong[] = {{5, 4, 0}, {0, 5, 0}, {0, 3, 0}, {0, 4, 5}, {3, 2, 0}};
+  /* no walk gives these: with one value open, all octets are around it */
+  const bcder_walk_t wrong[] = {{5, 4, 0}, {0, 5, 0}, {0, 3, 0}, {0, 4, 5}, {3, 2, 0}, {0, 2, 1}, {2, 4, 2}};
+  stack[0] = 3, stack[1] = 3;
   for (size_t i = 0; i < sizeof wrong / sizeof *wrong; i++) {
     bcder_walk_t x = wrong[i];
     CHECK(bcder_next(BCDER_DER, flat, 4, stack, 4, &x, &e) == BCDER_MISUSED && memcmp(&x, &wrong[i], sizeof x) == 0);
   }
+  bcder_walk_t marked = {0, 3, 1};
+  stack[0] = SIZE_MAX;                                                  /* of indefinite length, in all octets */
+  CHECK(bcder_next(BCDER_BER, flat, 4, stack, 4, &marked, &e) == BCDER_MISUSED);
+  marked.end = 4;
+  CHECK(bcder_next(BCDER_BER, flat, 4, stack, 4, &marked, &e) == BCDER_OK);
   bcder_walk_t saved = {4, 4, 1};
   stack[0] = 3;
   CHECK(bcder_next(BCDER_DER, flat, 4, stack, 4, &saved, &e) == BCDER_MISUSED);

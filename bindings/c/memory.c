@@ -44,6 +44,17 @@ int main(void) {
     if (held != 0) { printf("with %ld allocations: %ld blocks are leaked\n", refused, held); return 1; }
   }
   if (held != 0) { printf("%ld blocks are leaked\n", held); return 1; }
+  /* a string of nested segments: the same, and then nothing is stored */
+  for (size_t i = 0; i < LEVELS; i++) w[2 * i] = 0x24;
+  long of_string = 0;
+  for (;; of_string++) {
+    size_t size = 7;
+    left = of_string;
+    uint8_t status = bcder_string(BCDER_BER, true, w, sizeof w, NULL, 0, &size);
+    if (held != 0) { printf("with %ld allocations: %ld blocks are leaked\n", of_string, held); return 1; }
+    if (status == BCDER_OK && size == 0 && of_string > 0) break;
+    if (status != BCDER_NO_MEMORY || size != 7) { printf("a string, with %ld allocations: status %d\n", of_string, status); return 1; }
+  }
   /* a primitive value needs none */
   static const uint8_t null[] = {0x05, 0x00};
   left = 0;

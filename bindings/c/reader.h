@@ -92,4 +92,32 @@ static size_t ref_value(int mode, const uint8_t *p, size_t n, size_t depth, ref_
     q += k; m -= k;
   }
 }
+
+/* 8.7, 9.2, 10.2: the octets of an octet string, copied to out; false if the contents are none. With the
+ * tag of OCTET STRING on each segment: of any form in BER; in CER primitive ones of 1000 octets, but for
+ * the last, which has 1 to 1000, over 1000 octets in all; in DER there are no segments. */
+static inline bool ref_string(int mode, bool constructed, const uint8_t *p, size_t n, uint8_t *out, size_t *size) {
+  if (!constructed) {
+    if (mode == REF_CER && n > 1000) return false;
+    for (size_t i = 0; i < n; i++) out[(*size)++] = p[i];
+    return true;
+  }
+  if (mode == REF_DER) return false;
+  size_t last = 1000, count = 0;
+  while (n > 0) {
+    ref_header h; ref_count c = {0, 0};
+    size_t k = ref_value(mode, p, n, 0, &c), end = 0;
+    if (k == 0 || !ref_heading(mode, p, n, &h) || h.cls != 0 || h.number != 4) return false;
+    if (mode == REF_CER && (h.constructed || last != 1000 || h.len == 0 || h.len > 1000)) return false;
+    if (h.indefinite) /* the end is the last octets: its zero length is of one octet, or of more after 81 to 84 */
+      for (size_t j = 2; j <= 6 && end == 0; j++) {
+        ref_count d = {0, 0};
+        if (j + h.size <= k && ref_end(mode, p + k - j, j) == j && ref_list(mode, p + h.size, k - j - h.size, 0, &d)) end = j;
+      }
+    if (!ref_string(mode == REF_CER ? REF_BER : mode, h.constructed, p + h.size, k - h.size - end, out, size)) return false;
+    last = h.len; count++;
+    p += k; n -= k;
+  }
+  return mode != REF_CER || count > 1;
+}
 #endif

@@ -85,7 +85,7 @@ int main(void) {
   IS(bcder_take(&r, &h, &c), BCDER_OK), IS(h.number, 5), IS(bcder_is_empty(&r), 1);
 
   /* each status has a text of its own */
-  for (uint8_t s = BCDER_OK; s <= BCDER_MISUSED; s++)
+  for (uint8_t s = BCDER_OK; s <= BCDER_TOO_SMALL; s++)
     for (uint8_t t = 0; t < s; t++) IS(strcmp(bcder_error_text(s), bcder_error_text(t)) != 0, 1);
   IS(strcmp(bcder_error_text(BCDER_NO_MEMORY), "out of memory"), 0);
   IS(strcmp(bcder_error_text(77), "no such status"), 0);

@@ -46,7 +46,7 @@ static void compare(int mode, const uint8_t *p, size_t n) {
   if (list ? status != BCDER_OK || c.at != n || c.values != l.values || c.depth != l.depth
            : status < BCDER_ABSENT || status > BCDER_ENDED || c.at > n)
     differs("a list", mode, p, n);
-  for (size_t levels = 0; levels < 3; levels++) {
+  for (size_t levels = 0; levels < (n > 3 ? 3 : 2); levels++) { /* three octets are at most two levels */
     bcder_checked_t w;
     uint8_t of_all = status;
     status = bcder_check_within((uint8_t)mode, p, n, levels, &w);
@@ -87,7 +87,125 @@ static bool ref_integer(const uint8_t *p, size_t n) {
   return n == 1 || (n > 1 && !(p[0] == 0 && p[1] < 0x80) && !(p[0] == 0xFF && p[1] >= 0x80));
 }
 
+/* The octets of the number without its sign: from the last octet on, each is taken from zero if it is
+ * negative, with what the one after it borrowed; then leading zeros are left out. */
+static size_t ref_magnitude(const uint8_t *p, size_t n, uint8_t *out) {
+  uint8_t all[1200];
+  unsigned borrow = 0;
+  for (size_t i = n; i-- > 0;) {
+    int d = p[0] >= 0x80 ? -(int)p[i] - (int)borrow : p[i];
+    borrow = d < 0;
+    all[i] = (uint8_t)d;
+  }
+  size_t from = 0;
+  while (from < n && all[from] == 0) from++;
+  memcpy(out, all + from, n - from);
+  return n - from;
+}
+
+/* What is stored in a buffer with just enough room, with more, and with too little. */
+static void stores(const char *what, int mode, const uint8_t *p, size_t n, bool is, const uint8_t *wanted, size_t count,
+                   uint8_t (*call)(int, const uint8_t *, size_t, uint8_t *, size_t, size_t *)) {
+  static uint8_t out[5100];
+  size_t size = 12345;
+  if (!is) {
+    out[0] = 0xA5;
+    if (call(mode, p, n, out, sizeof out, &size) != BCDER_ABSENT || size != 12345 || out[0] != 0xA5) differs(what, mode, p, n);
+    return;
+  }
+  for (size_t room = count > 0 ? count - 1 : 0; room <= count + 1; room++) {
+    memset(out, 0xA5, count + 2);
+    size = 12345;
+    uint8_t status = call(mode, p, n, out, room, &size);
+    if (status != (room < count ? BCDER_TOO_SMALL : BCDER_OK) || size != count) differs(what, mode, p, n);
+    size_t kept = room < count ? 0 : count;
+    if (memcmp(out, wanted, kept) != 0) differs(what, mode, p, n);
+    for (size_t i = kept; i < count + 2; i++) if (out[i] != 0xA5) differs(what, mode, p, n);
+  }
+}
+
+static uint8_t call_magnitude(int mode, const uint8_t *p, size_t n, uint8_t *out, size_t room, size_t *size) {
+  (void)mode;
+  return bcder_magnitude(p, n, out, room, size);
+}
+
+static uint8_t call_whole(int mode, const uint8_t *p, size_t n, uint8_t *out, size_t room, size_t *size) {
+  return bcder_string((uint8_t)mode, false, p, n, out, room, size);
+}
+
+static uint8_t call_cut(int mode, const uint8_t *p, size_t n, uint8_t *out, size_t room, size_t *size) {
+  return bcder_string((uint8_t)mode, true, p, n, out, room, size);
+}
+
+static void strings(const uint8_t *p, size_t n) {
+  static uint8_t out[1300];
+  for (int mode = 0; mode < 3; mode++) {
+    size_t size = 0;
+    bool is = ref_string(mode, false, p, n, out, &size);
+    stores("a string in one piece", mode, p, n, is, out, size, call_whole);
+    size = 0;
+    is = ref_string(mode, true, p, n, out, &size);
+    stores("a string in segments", mode, p, n, is, out, size, call_cut);
+  }
+}
+
+/* The text of identifiers by decimal digits, the last first: each octet of a subidentifier multiplies by 128. */
+static size_t ref_oid_text(const uint8_t *p, size_t n, uint8_t *out) {
+  uint8_t digits[400] = {0};
+  size_t count = 1, size = 0;
+  bool first = true;
+  for (size_t i = 0; i < n; i++) {
+    unsigned carry = p[i] & 0x7F;
+    for (size_t j = 0; j < count; j++) { carry += digits[j] * 128u; digits[j] = (uint8_t)(carry % 10); carry /= 10; }
+    for (; carry > 0; carry /= 10) digits[count++] = (uint8_t)(carry % 10);
+    if (p[i] & 0x80) continue;
+    if (first) { /* 8.19.4: 40 times the first component is in it, or 80 at most */
+      unsigned tens = count > 2 ? 8 : digits[1], root = tens >= 8 ? 2 : tens >= 4 ? 1 : 0;
+      out[size++] = (uint8_t)('0' + root);
+      unsigned less = 4 * root;
+      if (digits[1] >= less) digits[1] = (uint8_t)(digits[1] - less);
+      else {
+        size_t j = 2;
+        digits[1] = (uint8_t)(digits[1] + 10 - less);
+        while (digits[j] == 0) digits[j++] = 9;
+        digits[j]--;
+      }
+      while (count > 1 && digits[count - 1] == 0) count--;
+    }
+    out[size++] = '.';
+    for (size_t j = count; j-- > 0;) out[size++] = (uint8_t)('0' + digits[j]);
+    memset(digits, 0, count);
+    count = 1; first = false;
+  }
+  return size;
+}
+
+static uint8_t call_oid_text(int mode, const uint8_t *p, size_t n, uint8_t *out, size_t room, size_t *size) {
+  (void)mode;
+  return bcder_oid_text(p, n, (char *)out, room, size);
+}
+
+/* Whether each subidentifier is below 2^128: its digits in base 128, without leading zeros, are at most 18, or 19 and at most
+ * 3 in the first. */
+static bool ref_below(const uint8_t *p, size_t n) {
+  size_t count = 0;
+  uint8_t lead = 0;
+  for (size_t i = 0; i < n; i++) {
+    if (count > 0 || (p[i] & 0x7F) != 0) { if (count++ == 0) lead = p[i] & 0x7F; }
+    if (count > 19 || (count == 19 && lead > 3)) return false;
+    if (!(p[i] & 0x80)) count = 0;
+  }
+  return true;
+}
+
+static void identifier_text(const uint8_t *p, size_t n) {
+  static uint8_t out[5000];
+  bool is = n > 0 && p[n - 1] < 0x80 && ref_below(p, n);
+  stores("the text of an identifier", 0, p, n, is, out, is ? ref_oid_text(p, n, out) : 0, call_oid_text);
+}
+
 static void contents(const uint8_t *p, size_t n) {
+  static uint8_t digits_out[1300];
   static const char digits[] = "0123456789 ";
   static const char printable[] = "ABCDEFGHIJKLMNOPQRSTUVWXYZabcdefghijklmnopqrstuvwxyz0123456789 '()+,-./:=?";
   for (int mode = 0; mode < 3; mode++) {
@@ -104,6 +222,7 @@ static void contents(const uint8_t *p, size_t n) {
   bool integer = ref_integer(p, n), minus = false;
   if (bcder_integer(p, n, &minus) != (integer ? BCDER_OK : BCDER_ABSENT) || minus != (integer && p[0] >= 0x80))
     differs("an integer", 0, p, n);
+  stores("a magnitude", 0, p, n, integer, digits_out, integer ? ref_magnitude(p, n, digits_out) : 0, call_magnitude);
   /* the number as an __int128, which has room for all that is asked */
   __int128 z = 0; int64_t i64 = 77; uint64_t u64 = 77;
   if (integer && n <= 9) {
@@ -116,6 +235,7 @@ static void contents(const uint8_t *p, size_t n) {
   if (bcder_u64(p, n, &u64) != (fits ? BCDER_OK : BCDER_ABSENT) || u64 != (fits ? (uint64_t)z : 77)) differs("a uint64_t", 0, p, n);
   if (bcder_null(p, n) != (n == 0 ? BCDER_OK : BCDER_ABSENT)) differs("a null", 0, p, n);
   if (bcder_oid(p, n) != (n > 0 && p[n - 1] < 0x80 ? BCDER_OK : BCDER_ABSENT)) differs("an identifier", 0, p, n);
+  identifier_text(p, n);
   if (bcder_utf8(p, n) != (ref_utf8(p, n) ? BCDER_OK : BCDER_ABSENT)) differs("UTF-8", 0, p, n);
   if (bcder_numeric(p, n) != (all_in(digits, sizeof digits - 1, p, n) ? BCDER_OK : BCDER_ABSENT)) differs("a NumericString", 0, p, n);
   if (bcder_printable(p, n) != (all_in(printable, sizeof printable - 1, p, n) ? BCDER_OK : BCDER_ABSENT)) differs("a PrintableString", 0, p, n);
@@ -133,14 +253,16 @@ enum { SHORT = 3, LONGER = 6 };
 #endif
 
 static void short_lists(void) {
+  unsigned long before = compared;
   uint8_t w[SHORT];
   for (size_t n = 0; n <= SHORT; n++)
     for (unsigned long v = 0; v < 1ul << (8 * n); v++) {
       for (size_t i = 0; i < n; i++) w[i] = (uint8_t)(v >> (8 * i));
       for (int mode = 0; mode < 3; mode++) compare(mode, w, n);
       contents(w, n);
+      if (n < 3 || (w[0] & 0xDF) == 4) strings(w, n);
     }
-  printf("lists of up to %d octets: %lu comparisons\n", SHORT, compared);
+  printf("lists of up to %d octets: %lu comparisons\n", SHORT, compared - before);
 }
 
 static void longer_lists(void) {
@@ -156,6 +278,7 @@ static void longer_lists(void) {
       for (size_t i = 0; i < n; i++, x /= LETTERS) w[i] = letters[x % LETTERS];
       for (int mode = 0; mode < 3; mode++) compare(mode, w, n);
       contents(w, n);
+      strings(w, n);
     }
   }
   printf("lists of 4 to %d octets over %d letters: %lu comparisons\n", LONGER, LETTERS, compared - before);
@@ -233,6 +356,93 @@ static void longer_contents(void) {
   printf("longer contents octets: as X.690 says\n");
 }
 
+/* ---- strings that are cut into segments, by X.690, 8.7, 9.2 and 10.2 */
+
+enum { FULL = 1000 };
+
+/* Appends a segment of so many octets, of which each is its place in the string. */
+static size_t segment(uint8_t *w, size_t at, size_t count, size_t *place) {
+  w[at++] = 0x04;
+  if (count < 0x80) w[at++] = (uint8_t)count;
+  else if (count < 0x100) { w[at++] = 0x81; w[at++] = (uint8_t)count; }
+  else { w[at++] = 0x82; w[at++] = (uint8_t)(count >> 8); w[at++] = (uint8_t)count; }
+  for (size_t i = 0; i < count; i++) w[at++] = (uint8_t)((*place)++ * 7);
+  return at;
+}
+
+static void of_segments(const size_t *counts, size_t n, bool in_cer) {
+  static uint8_t w[5 * FULL + 100], out[5 * FULL];
+  size_t at = 0, place = 0, size = 12345;
+  for (size_t i = 0; i < n; i++) at = segment(w, at, counts[i], &place);
+  for (int mode = 0; mode < 3; mode++) {
+    bool is = mode == REF_BER || (mode == REF_CER && in_cer);
+    uint8_t status = bcder_string((uint8_t)mode, true, w, at, out, sizeof out, &size);
+    CHECK(status == (is ? BCDER_OK : BCDER_ABSENT));
+    if (!is) continue;
+    CHECK(size == place);
+    for (size_t i = 0; i < place; i++) CHECK(out[i] == (uint8_t)(i * 7));
+    if (place > 0) CHECK(bcder_string((uint8_t)mode, true, w, at, NULL, 0, &size) == BCDER_TOO_SMALL && size == place);
+  }
+}
+
+static void strings_by_hand(void) {
+  of_segments((size_t[]){FULL, 1}, 2, true);
+  of_segments((size_t[]){FULL, FULL}, 2, true);
+  of_segments((size_t[]){FULL, FULL, 999}, 3, true);
+  of_segments((size_t[]){FULL, FULL, FULL, FULL}, 4, true);
+  of_segments((size_t[]){0}, 0, false);
+  of_segments((size_t[]){FULL}, 1, false);               /* 9.2: it has to be in one piece */
+  of_segments((size_t[]){FULL, 0}, 2, false);
+  of_segments((size_t[]){999, 1}, 2, false);
+  of_segments((size_t[]){FULL, 999, FULL}, 3, false);
+  of_segments((size_t[]){FULL, 1001}, 2, false);
+  of_segments((size_t[]){1001, 1}, 2, false);
+  of_segments((size_t[]){0, 3, 0, 2}, 4, false);
+
+  static const uint8_t nested[] = {0x24, 0x80, 0x04, 0x01, 'a', 0x24, 0x03, 0x04, 0x01, 'b', 0x00, 0x00, 0x04, 0x01, 'c'};
+  static const uint8_t other[] = {0x04, 0x01, 'a', 0x0C, 0x01, 'b'}, open[] = {0x24, 0x80, 0x04, 0x01, 'a'};
+  uint8_t out[8];
+  size_t size = 77;
+  CHECK(bcder_string(BCDER_BER, true, nested, sizeof nested, out, sizeof out, &size) == BCDER_OK && size == 3);
+  CHECK(memcmp(out, "abc", 3) == 0);
+  CHECK(bcder_string(BCDER_CER, true, nested, sizeof nested, out, sizeof out, &size) == BCDER_ABSENT && size == 3);
+  CHECK(bcder_string(BCDER_BER, true, other, sizeof other, out, sizeof out, &size) == BCDER_ABSENT);
+  CHECK(bcder_string(BCDER_BER, true, open, sizeof open, out, sizeof out, &size) == BCDER_ABSENT);
+  CHECK(bcder_string(BCDER_BER, true, NULL, 0, NULL, 0, &size) == BCDER_OK && size == 0);
+  CHECK(bcder_string(BCDER_DER, false, NULL, 0, NULL, 0, &size) == BCDER_OK && size == 0);
+  for (unsigned rules = 3; rules < 256; rules++) {
+    size = 77;
+    CHECK(bcder_string((uint8_t)rules, false, other, 6, out, sizeof out, &size) == BCDER_UNKNOWN_RULES && size == 77);
+    CHECK(bcder_string((uint8_t)rules, true, other, 6, out, sizeof out, &size) == BCDER_UNKNOWN_RULES && size == 77);
+  }
+  /* 2.999 of X.690, 8.19.5; the least and the greatest of each first component; a UUID of 2.25 */
+  static const struct { uint8_t octets[24]; size_t n; const char *text; } rows[] = {
+    {{0x88, 0x37, 0x03}, 3, "2.999.3"}, {{0x00}, 1, "0.0"}, {{0x27}, 1, "0.39"}, {{0x28}, 1, "1.0"}, {{0x4F}, 1, "1.39"},
+    {{0x50}, 1, "2.0"}, {{0x55, 0x04, 0x03}, 3, "2.5.4.3"}, {{0x2A, 0x86, 0x48, 0x86, 0xF7, 0x0D}, 6, "1.2.840.113549"},
+    {{0x2A, 0x80, 0x01}, 3, "1.2.1"},
+    {{0x69, 0x83, 0xFF, 0xFF, 0xFF, 0xFF, 0xFF, 0xFF, 0xFF, 0xFF, 0xFF, 0xFF, 0xFF, 0xFF, 0xFF, 0xFF, 0xFF, 0xFF, 0xFF, 0x7F}, 20,
+     "2.25.340282366920938463463374607431768211455"},
+    {{0x83, 0xFF, 0xFF, 0xFF, 0xFF, 0xFF, 0xFF, 0xFF, 0xFF, 0xFF, 0xFF, 0xFF, 0xFF, 0xFF, 0xFF, 0xFF, 0xFF, 0xFF, 0x7F}, 19,
+     "2.340282366920938463463374607431768211375"},
+  };
+  char text[64];
+  for (size_t i = 0; i < sizeof rows / sizeof *rows; i++) {
+    size_t length = strlen(rows[i].text);
+    CHECK(bcder_oid_text(rows[i].octets, rows[i].n, text, sizeof text, &size) == BCDER_OK && size == length);
+    CHECK(memcmp(text, rows[i].text, length) == 0);
+    identifier_text(rows[i].octets, rows[i].n);
+  }
+  static const uint8_t large[] = {0x69, 0x84, 0x80, 0x80, 0x80, 0x80, 0x80, 0x80, 0x80, 0x80, 0x80, 0x80, 0x80, 0x80, 0x80, 0x80, 0x80, 0x80, 0x80, 0x80, 0x00};
+  CHECK(bcder_oid_text(large, sizeof large, text, sizeof text, &size) == BCDER_ABSENT && bcder_oid(large, sizeof large) == BCDER_OK);
+  CHECK(bcder_oid_text(NULL, 0, text, sizeof text, &size) == BCDER_ABSENT);
+
+  static const uint8_t zero[] = {0x00}, least[] = {0x80, 0x00};
+  CHECK(bcder_magnitude(zero, 1, NULL, 0, &size) == BCDER_OK && size == 0);
+  CHECK(bcder_magnitude(least, 2, out, sizeof out, &size) == BCDER_OK && size == 2 && out[0] == 0x80 && out[1] == 0x00);
+  CHECK(bcder_magnitude(NULL, 0, out, sizeof out, &size) == BCDER_ABSENT && size == 2);
+  printf("strings: as X.690 says\n");
+}
+
 /* ---- deep values */
 
 enum { LEVELS = 1000000 };
@@ -282,8 +492,9 @@ int main(void) {
   statuses();
   longer_contents();
   deep();
-  short_lists();
+  strings_by_hand();
   longer_lists();
+  short_lists();
   printf("all as it should be\n");
   return 0;
 }

@@ -163,8 +163,13 @@ _check_within = _call(
 _bool = _call("bcder_bool", ctypes.c_uint8, *_SPAN, ctypes.POINTER(ctypes.c_bool))
 _null = _call("bcder_null", *_SPAN)
 _integer = _call("bcder_integer", *_SPAN, ctypes.POINTER(ctypes.c_bool))
+_magnitude = _call("bcder_magnitude", *_SPAN, *_SPAN, ctypes.POINTER(ctypes.c_size_t))
 _bits = _call("bcder_bits", ctypes.c_uint8, *_SPAN, ctypes.POINTER(ctypes.c_uint8))
 _oid = _call("bcder_oid", *_SPAN)
+_oid_text = _call("bcder_oid_text", *_SPAN, *_SPAN, ctypes.POINTER(ctypes.c_size_t))
+_string = _call(
+    "bcder_string", ctypes.c_uint8, ctypes.c_bool, *_SPAN, *_SPAN, ctypes.POINTER(ctypes.c_size_t)
+)
 _SETS = {
     12: _call("bcder_utf8", *_SPAN),
     18: _call("bcder_numeric", *_SPAN),
@@ -340,10 +345,13 @@ class Value:
 
     def int(self) -> builtins.int:
         """Returns an INTEGER of any size (8.3)."""
-        negative = ctypes.c_bool()
-        if _integer(*self._primitive(2), ctypes.byref(negative)):
+        span, negative, size = self._primitive(2), ctypes.c_bool(), ctypes.c_size_t()
+        octets = ctypes.create_string_buffer(span[1] or 1)
+        stored = (ctypes.addressof(octets), span[1], ctypes.byref(size))
+        if _integer(*span, ctypes.byref(negative)) or _magnitude(*span, *stored):
             raise self._refused()
-        return int.from_bytes(self.contents, "big", signed=True)
+        magnitude = int.from_bytes(octets.raw[:size.value], "big")
+        return -magnitude if negative.value else magnitude
 
     def null(self) -> None:
         """Checks that it is a NULL (8.8)."""
@@ -351,17 +359,14 @@ class Value:
             raise self._refused()
 
     def oid(self) -> str:
-        """Returns an OBJECT IDENTIFIER as its components, joined by dots (8.19)."""
-        if _oid(*self._primitive(6)):
+        """Returns an OBJECT IDENTIFIER as its components, joined by dots (8.19). Each is below
+        2^128."""
+        span, size = self._primitive(6), ctypes.c_size_t()
+        if _oid_text(*span, None, 0, ctypes.byref(size)) != 9:
             raise self._refused()
-        numbers, number = [], 0
-        for octet in self.contents:
-            number = number << 7 | octet & 0x7F
-            if not octet & 0x80:
-                numbers.append(number)
-                number = 0
-        first = min(numbers[0] // 40, 2)
-        return ".".join(map(str, [first, numbers[0] - 40 * first, *numbers[1:]]))
+        text = ctypes.create_string_buffer(size.value)
+        _oid_text(*span, ctypes.addressof(text), size.value, ctypes.byref(size))
+        return text.raw.decode()
 
     def bits(self) -> Tuple[bytes, builtins.int]:
         """Returns the octets of a BIT STRING in one piece, and how many bits of the last are
@@ -393,28 +398,15 @@ class Value:
         return octets.decode()
 
     def _joined(self) -> bytes:
-        if self.constructed and self.rules is DER:
-            raise Error(Kind.CONTENTS, self.offset, "a string in DER is primitive")
-        if not self.constructed:
-            if self.rules is CER and self._end - self._start > 1000:
-                raise Error(Kind.CONTENTS, self.offset, "a string over 1000 octets in CER is cut")
-            return bytes(self.contents)
-        parts, left = [], [self.children]
-        while left:
-            part = next(left[-1], None)
-            if part is None:
-                left.pop()
-                continue
-            if part.tag != (Class.UNIVERSAL, 4):
-                raise Error(Kind.CONTENTS, part.offset, "a segment that is no OCTET STRING")
-            if part.constructed:
-                if self.rules is CER:
-                    raise Error(Kind.CONTENTS, part.offset, "a segment in CER is primitive")
-                left.append(part.children)
-            else:
-                parts.append(part)
-        if self.rules is CER:
-            sizes = [part._end - part._start for part in parts]
-            if len(sizes) < 2 or any(it != 1000 for it in sizes[:-1]) or not 0 < sizes[-1] <= 1000:
-                raise Error(Kind.CONTENTS, self._start, "segments in CER have 1000 octets")
-        return b"".join(part.contents for part in parts)
+        stop = self._contents_end()
+        room, size = stop - self._start, ctypes.c_size_t()
+        octets = ctypes.create_string_buffer(room or 1)
+        status = _string(
+            self.rules, self.constructed, *self._span.part(self._start, stop),
+            ctypes.addressof(octets), room, ctypes.byref(size),
+        )
+        if status == 2:
+            raise _error(status, self.offset)
+        if status:
+            raise self._refused()
+        return octets.raw[:size.value]

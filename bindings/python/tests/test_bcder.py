@@ -100,7 +100,9 @@ class Values(unittest.TestCase):
 
     def test_numbers(self):
         for text, number in (("020100", 0), ("0201ff", -1), ("02020080", 128), ("0201 80", -128),
-                             ("0211 00" + "ff" * 16, 2**128 - 1)):
+                             ("0211 00" + "ff" * 16, 2**128 - 1), ("0202 ff7f", -129),
+                             ("0211 ff" + "00" * 15 + "01", 1 - 2**128), ("0203 ff0000", -65536),
+                             ("0210 80" + "00" * 15, -2**127), ("0201 7f", 127)):
             self.assertEqual(one(text).int(), number)
         for text in ("0200", "02020005", "0202ff80"):
             with self.assertRaises(bcder.Error):
@@ -122,7 +124,10 @@ class Values(unittest.TestCase):
         self.assertEqual(one("0603883703").oid(), "2.999.3")
         self.assertEqual(one("060127").oid(), "0.39")
         self.assertEqual(one("060b 6982 8080 8080 8080 8080 00").oid(), f"2.25.{2**64}")
-        for text in ("0600", "060180", "06022a80"):
+        self.assertEqual(one("0614 69 83" + "ff" * 17 + "7f").oid(), f"2.25.{2**128 - 1}")
+        self.assertEqual(one("060128").oid(), "1.0")
+        self.assertEqual(one("06028837").oid(), "2.999")
+        for text in ("0600", "060180", "06022a80", "0615 69 84" + "80" * 18 + "00"):
             with self.assertRaises(bcder.Error):
                 one(text).oid()
 
@@ -137,7 +142,10 @@ class Values(unittest.TestCase):
     def test_octets(self):
         self.assertEqual(one("0402 6162").octets(), b"ab")
         self.assertEqual(one("2480 040161 2403 040162 0400 0000", BER).octets(), b"ab")
-        for text, rules in (("2403 040161", DER), ("2403 020161", BER), ("2480 040161 0000", CER)):
+        self.assertEqual(one("2480 2480 040161 0000 2403 040162 0000", BER).octets(), b"ab")
+        self.assertEqual(one("a003 040161", BER).octets(), b"a")
+        for text, rules in (("2403 040161", DER), ("2403 020161", BER), ("2480 040161 0000", CER),
+                            ("2402 2400", DER), ("2480 0403616263 040161 0000", CER)):
             with self.assertRaises(bcder.Error):
                 one(text, rules).octets()
         long = b"\x24\x80\x04\x82\x03\xe8" + b"a" * 1000 + b"\x04\x01b\x00\x00"

@@ -61,8 +61,31 @@ mod ffi {
         pub fn bcder_i64(data: *const u8, len: usize, number: &mut i64) -> u8;
         pub fn bcder_u64(data: *const u8, len: usize, number: &mut u64) -> u8;
         pub fn bcder_integer(data: *const u8, len: usize, negative: &mut bool) -> u8;
+        pub fn bcder_magnitude(
+            data: *const u8,
+            len: usize,
+            buffer: *mut u8,
+            room: usize,
+            size: &mut usize,
+        ) -> u8;
+        pub fn bcder_string(
+            rules: u8,
+            constructed: bool,
+            data: *const u8,
+            len: usize,
+            buffer: *mut u8,
+            room: usize,
+            size: &mut usize,
+        ) -> u8;
         pub fn bcder_bits(rules: u8, data: *const u8, len: usize, unused: &mut u8) -> u8;
         pub fn bcder_oid(data: *const u8, len: usize) -> u8;
+        pub fn bcder_oid_text(
+            data: *const u8,
+            len: usize,
+            buffer: *mut u8,
+            room: usize,
+            size: &mut usize,
+        ) -> u8;
         pub fn bcder_utf8(data: *const u8, len: usize) -> u8;
         pub fn bcder_numeric(data: *const u8, len: usize) -> u8;
         pub fn bcder_printable(data: *const u8, len: usize) -> u8;
@@ -162,6 +185,8 @@ pub enum ErrorKind {
     Contents,
     /// Values are left that nobody read.
     Left,
+    /// The buffer has no room for what is to be stored.
+    TooSmall,
 }
 
 /// Why octets were refused, and where.
@@ -184,6 +209,7 @@ impl fmt::Display for Error {
             ErrorKind::OtherTag => "a value of another type",
             ErrorKind::Contents => "contents octets that the type does not allow",
             ErrorKind::Left => "values that nobody read",
+            ErrorKind::TooSmall => "more octets than the buffer has room for",
         };
         write!(f, "octet {}: {text}", self.offset)
     }
@@ -203,6 +229,9 @@ fn passed(status: u8, offset: usize) -> Result<(), Error> {
     };
     Err(Error { kind, offset })
 }
+
+/// The status of a call whose buffer has no room for what is to be stored.
+const TOO_SMALL: u8 = 9;
 
 /// How many values octets encode.
 #[derive(Clone, Copy, Debug, PartialEq, Eq)]
@@ -595,6 +624,83 @@ impl<'a> Value<'a> {
         Ok(octets)
     }
 
+    /// Stores its contents octets as the magnitude of an integer of any size (8.3), and returns it:
+    /// the octets of the number without its sign, the most significant first, none for 0. Also
+    /// returns whether the number is negative.
+    ///
+    /// # Errors
+    ///
+    /// Those of [`integer`](Value::integer), and [`ErrorKind::TooSmall`]. As many octets as it has
+    /// contents octets are always enough.
+    pub fn magnitude<'b>(&self, buffer: &'b mut [u8]) -> Result<(bool, &'b [u8]), Error> {
+        let (octets, mut size) = (self.integer()?, 0);
+        // SAFETY: as in `check`; octets are stored in an exclusive slice alone.
+        let status = unsafe {
+            ffi::bcder_magnitude(
+                octets.as_ptr(),
+                octets.len(),
+                buffer.as_mut_ptr(),
+                buffer.len(),
+                &mut size,
+            )
+        };
+        self.stored(status)?;
+        Ok((octets.first().is_some_and(|it| it & 0x80 != 0), &buffer[..size]))
+    }
+
+    /// Stores the octets of an octet string, in one piece or cut into segments, and returns them
+    /// (8.7, 9.2, 10.2).
+    ///
+    /// # Errors
+    ///
+    /// [`ErrorKind::Contents`] if the rules allow no such string, [`ErrorKind::TooSmall`], and
+    /// [`ErrorKind::NoMemory`]. As many octets as it has contents octets are always enough.
+    pub fn joined<'b>(&self, buffer: &'b mut [u8]) -> Result<&'b [u8], Error> {
+        let mut size = 0;
+        let status = self.string(buffer, &mut size);
+        self.stored(status)?;
+        Ok(&buffer[..size])
+    }
+
+    /// Returns the number of octets of an octet string, in one piece or cut into segments.
+    ///
+    /// # Errors
+    ///
+    /// Those of [`joined`](Value::joined), but for [`ErrorKind::TooSmall`].
+    pub fn joined_len(&self) -> Result<usize, Error> {
+        let mut size = 0;
+        match self.string(&mut [], &mut size) {
+            TOO_SMALL => {}
+            status => self.stored(status)?,
+        }
+        Ok(size)
+    }
+
+    fn string(&self, buffer: &mut [u8], size: &mut usize) -> u8 {
+        // SAFETY: as in `magnitude`.
+        unsafe {
+            ffi::bcder_string(
+                self.rules as u8,
+                self.constructed,
+                self.contents.as_ptr(),
+                self.contents.len(),
+                buffer.as_mut_ptr(),
+                buffer.len(),
+                size,
+            )
+        }
+    }
+
+    fn stored(&self, status: u8) -> Result<(), Error> {
+        let kind = match status {
+            0 => return Ok(()),
+            2 => ErrorKind::NoMemory,
+            TOO_SMALL => ErrorKind::TooSmall,
+            _ => ErrorKind::Contents,
+        };
+        Err(Error { kind, offset: self.start })
+    }
+
     /// Returns the octets of a bit string in one piece, and how many bits of the last are unused
     /// (8.6).
     ///
@@ -628,7 +734,7 @@ impl<'a> Value<'a> {
     ///
     /// # Errors
     ///
-    /// [`ErrorKind::OtherTag`] if it is cut into segments: [`children`](Value::children) has those.
+    /// [`ErrorKind::OtherTag`] if it is cut into segments: [`joined`](Value::joined) joins those.
     /// [`ErrorKind::Contents`] for more than 1000 octets in CER, which have to be cut (9.2).
     pub fn octets(&self) -> Result<&'a [u8], Error> {
         let octets = self.primitive()?;
@@ -677,6 +783,28 @@ impl<'a> Oid<'a> {
     /// Its contents octets.
     pub fn as_slice(&self) -> &'a [u8] {
         self.0
+    }
+
+    /// Stores its components in decimal, joined by dots, and returns this text.
+    ///
+    /// Returns `None` if the buffer has no room for it, or a component is 2^128 or more.
+    pub fn text<'b>(&self, buffer: &'b mut [u8]) -> Option<&'b str> {
+        let mut size = 0;
+        // SAFETY: as in `magnitude`.
+        let status = unsafe {
+            ffi::bcder_oid_text(
+                self.0.as_ptr(),
+                self.0.len(),
+                buffer.as_mut_ptr(),
+                buffer.len(),
+                &mut size,
+            )
+        };
+        if status == 0 {
+            core::str::from_utf8(&buffer[..size]).ok()
+        } else {
+            None
+        }
     }
 
     /// Its components; `None` for one of 2^64 or more.

@@ -120,9 +120,56 @@ fn identifiers_are_shown() {
     let largest = [6, 11, 0x69, 0x81, 0xFF, 0xFF, 0xFF, 0xFF, 0xFF, 0xFF, 0xFF, 0xFF, 0x7F];
     let numbers = contents(Rules::Der, &largest, |it| it.oid().map(|it| it.components().collect::<Vec<_>>()));
     assert_eq!(numbers, Ok(vec![Some(2), Some(25), Some(u64::MAX)]));
+    let mut uuid = vec![6, 20, 0x69, 0x83];
+    uuid.extend([0xFF; 17]);
+    uuid.push(0x7F);
+    let text = |data: &[u8], room: usize| {
+        contents(Rules::Der, data, |it| Ok(it.oid()?.text(&mut vec![0; room]).map(str::to_owned)))
+    };
+    let wanted = "2.25.340282366920938463463374607431768211455".to_owned();
+    assert_eq!(text(&uuid, wanted.len()), Ok(Some(wanted.clone())));
+    assert_eq!(text(&uuid, wanted.len() - 1), Ok(None));
+    assert_eq!(text(&[6, 3, 0x2A, 0x86, 0x48], 9), Ok(Some("1.2.840".to_owned())));
     let larger = [6, 11, 0x69, 0x82, 0x80, 0x80, 0x80, 0x80, 0x80, 0x80, 0x80, 0x80, 0x00];
     let text = contents(Rules::Der, &larger, |it| it.oid().map(|it| it.to_string()));
     assert_eq!(text, Ok("2.25.(2^64 or more)".to_owned()));
+}
+
+#[test]
+fn integers_of_any_size() {
+    let magnitude = |data: &[u8]| {
+        contents(Rules::Der, data, |it| {
+            it.magnitude(&mut [0xA5; 24]).map(|it| (it.0, it.1.to_vec()))
+        })
+    };
+    assert_eq!(magnitude(&[2, 1, 0]), Ok((false, vec![])));
+    assert_eq!(magnitude(&[2, 2, 0, 0x80]), Ok((false, vec![0x80])));
+    assert_eq!(magnitude(&[2, 1, 0xFF]), Ok((true, vec![1])));
+    assert_eq!(magnitude(&[2, 2, 0xFF, 0x7F]), Ok((true, vec![0x81])));
+    assert_eq!(magnitude(&[2, 3, 0xFF, 0, 0]), Ok((true, vec![1, 0, 0])));
+    let mut least = vec![2, 17, 0x80];
+    least.extend([0; 16]);
+    let mut wanted = vec![0x80];
+    wanted.extend([0; 16]);
+    assert_eq!(magnitude(&least), Ok((true, wanted)));
+    assert_eq!(magnitude(&[2, 2, 0, 5]).unwrap_err().kind, ErrorKind::Contents);
+    let small = contents(Rules::Der, &[2, 2, 1, 0], |it| it.magnitude(&mut [0]).map(|it| it.0));
+    assert_eq!(small.unwrap_err().kind, ErrorKind::TooSmall);
+}
+
+#[test]
+fn strings_in_segments() {
+    let joined = |rules, data: &[u8]| {
+        contents(rules, data, |it| Ok((it.joined_len()?, it.joined(&mut [0; 8])?.to_vec())))
+    };
+    assert_eq!(joined(Rules::Der, &[4, 2, 7, 8]), Ok((2, vec![7, 8])));
+    assert_eq!(joined(Rules::Der, &[4, 0]), Ok((0, vec![])));
+    let nested = [0x24, 0x80, 0x24, 3, 4, 1, 7, 4, 0, 4, 2, 8, 9, 0, 0];
+    assert_eq!(joined(Rules::Ber, &nested), Ok((3, vec![7, 8, 9])));
+    assert_eq!(joined(Rules::Cer, &[0x24, 0x80, 4, 1, 7, 0, 0]).unwrap_err().kind, ErrorKind::Contents);
+    assert_eq!(joined(Rules::Der, &[0x24, 3, 4, 1, 7]).unwrap_err().kind, ErrorKind::Contents);
+    let long = [4, 9, 1, 2, 3, 4, 5, 6, 7, 8, 9];
+    assert_eq!(joined(Rules::Der, &long).unwrap_err().kind, ErrorKind::TooSmall);
 }
 
 #[test]

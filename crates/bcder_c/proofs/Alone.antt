@@ -11,22 +11,26 @@ use Rattle.bcder.specs.calls.Alone.{RanAlone, RefusedAlone, by_closure, left_oct
 use Rattle.bcder.specs.calls.Readers.{Reads, MeanNothing, RefusesReading, missing, refused, source, few}
 
 module _ {C T X : Type 0} (view : C → Reading) (post : MutBor C → Result T (DecodeError X) → MutBor C → Type 0) (Means : Mode → List ℕ → T → Type 0)
-    (reads : (p : MutBor C) (r : Result T (DecodeError X)) (q : MutBor C) → post p r q → Reads (Means (view p.now).mode) (MeanNothing (Means (view p.now).mode)) (view p.now) r (view q.now))
+    (reads : (p : MutBor C) (r : Result T (DecodeError X)) (q : MutBor C) → post p r q
+    → Reads (Means (view p.now).mode) (MeanNothing (Means (view p.now).mode)) (view p.now) r (view q.now))
     (m : Mode) (w : List ℕ) where
   pub read_alone : (r : Result T (DecodeError X)) → RanAlone view post (at_hand w) (length w) m r → IfOk r (λ x. Means m w x)
   read_alone (Err e) ran = tt
   read_alone (Ok x) ran =
       let a = ran.answers.answered in
       let v = (reads a.handed (Ok x) a.left a.called).value in
-      let rest : (view a.handed.now).stream.rest ≡ w = ap (λ i. i.stream.rest) a.handed_is ∙ ap (λ s. s.rest) ran.over.stream ∙ take_all (length w) w (omega arith) in
+      let rest : (view a.handed.now).stream.rest ≡ w =
+      ap (λ i. i.stream.rest) a.handed_is ∙ ap (λ s. s.rest) ran.over.stream ∙ take_all (length w) w (omega arith) in
       let mode : (view a.handed.now).mode ≡ m = ap (λ i. i.mode) a.handed_is ∙ ran.over.mode in
       subst (λ k. Means k w x) mode (subst (λ k. Means (view a.handed.now).mode k x) rest v)
 
-  pub refused_alone : (r : Result T (DecodeError X)) → RanAlone view post (at_hand w) (length w) m r → IfErr r (λ e. (cause_of e ≡ of_source → ⊥) → (x : T) → Means m w x → ⊥)
+  pub refused_alone : (r : Result T (DecodeError X)) → RanAlone view post (at_hand w) (length w) m r
+      → IfErr r (λ e. (cause_of e ≡ of_source → ⊥) → (x : T) → Means m w x → ⊥)
   refused_alone (Ok x) ran = tt
   refused_alone (Err e) ran = λ own x means. go own x means ran.refuses
     where
-      inner : (cause_of e ≡ of_source → ⊥) → (x : T) → Means m w x → (p q : MutBor C) → view p.now ≡ ran.handed → RefusesReading (Means (view p.now).mode) (MeanNothing (Means (view p.now).mode)) (view p.now) e (view q.now) → ⊥
+      inner : (cause_of e ≡ of_source → ⊥) → (x : T) → Means m w x → (p q : MutBor C) → view p.now ≡ ran.handed
+          → RefusesReading (Means (view p.now).mode) (MeanNothing (Means (view p.now).mode)) (view p.now) e (view q.now) → ⊥
       inner own x means p q is (missing (source c g)) = own c
       inner own x means p q is (missing (few s k n)) =
           let rest : (view p.now).stream.rest ≡ w = ap (λ i. i.stream.rest) is ∙ ap (λ s. s.rest) ran.over.stream ∙ take_all (length w) w (omega arith) in

@@ -8,3 +8,9 @@ pub mod Spelling
 pub mod Unused
 pub mod Stepping
 pub mod WholeSteps
+pub mod Standing
+pub mod Refusing
+pub mod Magnitudes
+pub mod Storing
+pub mod Strings
+pub mod Identifiers

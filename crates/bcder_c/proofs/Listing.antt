@@ -1,5 +1,6 @@
 -- A walk over values, one after the other.
-use Rattle.std.proofs.Common.{◌^◌, max, ◌≡◌, ◌≢◌, ℕ, ◌+◌, ◌-◌, ◌<◌, ◌≤◌, List, [], ◌∷◌, ◌++◌, length, refl, sym, ap, subst, ◌∙◌, append_assoc, append-nil, inl, inr, arith}
+use Rattle.std.proofs.Common.{◌^◌, max, ◌≡◌, ◌≢◌, ℕ, ◌+◌, ◌-◌, ◌<◌, ◌≤◌, List, [], ◌∷◌, ◌++◌, length, refl, sym, ap, subst, ◌∙◌, append_assoc}
+use Rattle.std.proofs.Common.{append-nil, inl, inr, arith}
 use Rattle.std.proofs.lemmas.Bool.{cases_eq}
 use Rattle.std.proofs.lemmas.List.{length-append}
 use Rattle.bcder.specs.declared.mode.Mode.{Mode}
@@ -10,7 +11,8 @@ use Rattle.bcder.specs.laws.Complete.{one_encoding, two_octets}
 use Rattle.bcder_c.specs.declared.checked.Checked.{Checked}
 use Rattle.bcder_c.specs.Open.{Open, Tallied, Reaches, at_first, one_on}
 use Rattle.bcder_c.specs.Status.{no_memory, too_deep}
-use Rattle.bcder_c.specs.Values.{PassedValue, HasNoValue, RefusedValue, DeeperValue, AreNoValues, Passes, found, refused, lacking, PassesFirst, PassesAll, PassesWithin, within, deeper, PassesAllWithin}
+use Rattle.bcder_c.specs.Values.{PassedValue, HasNoValue, RefusedValue, DeeperValue, AreNoValues, Passes, found, refused, lacking, PassesFirst}
+use Rattle.bcder_c.specs.Values.{PassesAll, PassesWithin, within, deeper, PassesAllWithin}
 use Rattle.bcder_c.proofs.WholeWalk.{tallied_both, tallied_none}
 
 abbrev pub nothing_met : Checked
@@ -19,10 +21,20 @@ nothing_met = record { at = 0; values = 0; depth = 0 }
 pub first_passed : (mode : Mode) (w x : List ℕ) (old c : Checked) → old ≡ nothing_met → PassedValue mode w x old c → PassesFirst mode w 0 c
 first_passed mode w x old c e p =
     let t : Tallied nothing_met c (length p.value) (preorder p.tree 0) = subst (λ k. Tallied k c (length p.value) (preorder p.tree 0)) e p.tallied in
-    found refl (record { tree = p.tree; value = p.value; behind = x; encodes = p.encodes; is = p.is; at = omega (arith, t.at); values = omega (arith, t.values); depth = omega (arith, t.depth) })
+    found refl (record {
+      tree = p.tree;
+      value = p.value;
+      behind = x;
+      encodes = p.encodes;
+      is = p.is;
+      at = omega (arith, t.at);
+      values = omega (arith, t.values);
+      depth = omega (arith, t.depth);
+    })
 
 -- a refusal at a place that is counted from 0
-pub first_refused : (mode : Mode) (w : List ℕ) (old c : Checked) (status : ℕ) → old ≡ nothing_met → (status ≢ no_memory → RefusedValue mode w old c status) → PassesFirst mode w status c
+pub first_refused : (mode : Mode) (w : List ℕ) (old c : Checked) (status : ℕ) → old ≡ nothing_met
+    → (status ≢ no_memory → RefusedValue mode w old c status) → PassesFirst mode w status c
 first_refused mode w old c status e r =
     elim (cases_eq status no_memory) [
       | inl same ↦ lacking same
@@ -101,7 +113,8 @@ module _ (mode : Mode) (octets : List ℕ) (c : Checked) (rest : List ℕ) (l : 
   list_goes_on new after p v =
       let is : octets ≡ (l.front ++ p.value) ++ after = l.is ∙ ap (λ z. l.front ++ z) p.is ∙ sym (append_assoc l.front p.value after) in
       let t = tallied_both nothing_met c new (length l.front) (length p.value) (preorders l.trees 0) (preorder p.tree 0) l.tallied p.tallied in
-      let one : preorders (l.trees +++ (p.tree ∷ₜ no_trees)) 0 ≡ preorders l.trees 0 ++ preorder p.tree 0 = preorders-append l.trees (p.tree ∷ₜ no_trees) 0 ∙ ap (λ z. preorders l.trees 0 ++ z) (append-nil (preorder p.tree 0)) in
+      let one : preorders (l.trees +++ (p.tree ∷ₜ no_trees)) 0 ≡ preorders l.trees 0 ++ preorder p.tree 0 =
+      preorders-append l.trees (p.tree ∷ₜ no_trees) 0 ∙ ap (λ z. preorders l.trees 0 ++ z) (append-nil (preorder p.tree 0)) in
       let n : length (l.front ++ p.value) ≡ length l.front + length p.value = length-append l.front p.value in
       record {
         trees = l.trees +++ (p.tree ∷ₜ no_trees);
@@ -162,7 +175,9 @@ module _ (mode : Mode) (octets : List ℕ) (c : Checked) (rest : List ℕ) (l : 
             })
       ]
 
-  pub list_refused : (new : Checked) (status levels : ℕ) → 0 < length rest → c.depth ≤ levels → new.depth ≤ max c.depth levels → (status ≢ no_memory → status ≢ too_deep → RefusedValue mode rest c new status) → (status ≡ too_deep → DeeperValue mode levels rest c new) → PassesAllWithin mode levels octets status new
+  pub list_refused : (new : Checked) (status levels : ℕ) → 0 < length rest → c.depth ≤ levels → new.depth ≤ max c.depth levels
+      → (status ≢ no_memory → status ≢ too_deep → RefusedValue mode rest c new status) → (status ≡ too_deep → DeeperValue mode levels rest c new)
+      → PassesAllWithin mode levels octets status new
   list_refused new status levels some shallow deep r d =
       elim (cases_eq status too_deep) [
         | inl same ↦
@@ -185,9 +200,11 @@ module _ (mode : Mode) (octets : List ℕ) (c : Checked) (rest : List ℕ) (l : 
       ]
 
 -- no value is inside so many others as a `usize` counts at most
-pub unlimited : {F A : Type 0} (mode : Mode) (levels : ℕ) (w : List ℕ) (status : ℕ) (c : Checked) → levels ≡ 2 ^ 64 - 1 → PassesWithin F A mode levels w status c → Passes F A mode w status c
+pub unlimited : {F A : Type 0} (mode : Mode) (levels : ℕ) (w : List ℕ) (status : ℕ) (c : Checked) → levels ≡ 2 ^ 64 - 1
+    → PassesWithin F A mode levels w status c → Passes F A mode w status c
 unlimited mode levels w status c e (within p d) = p
 unlimited mode levels w status c e (deeper s g) = absurd (omega (arith, g.few))
 
-pub ends_within : (mode : Mode) (octets : List ℕ) (c : Checked) (rest : List ℕ) (levels : ℕ) → InList mode octets c rest → length rest ≡ 0 → c.depth ≤ levels → PassesAllWithin mode levels octets 0 c
+pub ends_within : (mode : Mode) (octets : List ℕ) (c : Checked) (rest : List ℕ) (levels : ℕ) → InList mode octets c rest → length rest ≡ 0
+    → c.depth ≤ levels → PassesAllWithin mode levels octets 0 c
 ends_within mode octets c rest levels l e d = within (list_ends mode octets c rest l e) d

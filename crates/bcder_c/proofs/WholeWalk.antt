@@ -1,5 +1,6 @@
 -- A walk over a value, from its first octet to its last.
-use Rattle.std.proofs.Common.{◌≡◌, ℕ, suc, ◌+◌, ◌-◌, ◌*◌, ◌^◌, ◌<◌, ◌≤◌, List, [], ◌∷◌, ◌++◌, length, take, Option, Some, None, option_map, slice_get, refl, sym, ap, subst, ◌∙◌, append_assoc, append-nil, arith}
+use Rattle.std.proofs.Common.{◌≡◌, ℕ, suc, ◌+◌, ◌-◌, ◌*◌, ◌^◌, ◌<◌, ◌≤◌, List, [], ◌∷◌, ◌++◌, length, take, Option, Some, None, option_map, slice_get}
+use Rattle.std.proofs.Common.{refl, sym, ap, subst, ◌∙◌, append_assoc, append-nil, arith}
 use Rattle.std.specs.Prelude.{max}
 use Rattle.std.proofs.lemmas.List.{length-append, append_cancel_right}
 use denote.Ref.{Bor}
@@ -12,7 +13,8 @@ use Rattle.bcder.specs.laws.Sound.{none_is, some_inj, chained}
 use Rattle.bcder.specs.laws.Stands.{tree_sound}
 use Rattle.bcder_c.specs.declared.checked.Checked.{Checked}
 use Rattle.bcder_c.specs.Depth.{deepest}
-use Rattle.bcder_c.specs.Open.{Open, open_values, after, rest_of, value_and_rest, to_come, Tallied, Begins, Closes, GoesOn, NoneBegins, HasHeader, Step, Reaches, at_first, one_on}
+use Rattle.bcder_c.specs.Open.{Open, open_values, after, rest_of, value_and_rest, to_come, Tallied, Begins, Closes, GoesOn, NoneBegins, HasHeader}
+use Rattle.bcder_c.specs.Open.{Step, Reaches, at_first, one_on}
 use Rattle.bcder_c.specs.Values.{PassedValue, HasNoValue, RefusedValue, DeeperValue}
 use Rattle.bcder_c.proofs.Reading.{after_both, last_apart}
 use Rattle.bcder_c.proofs.Walking.{open_pushed}
@@ -53,7 +55,8 @@ pub record InWalk (mode : Mode) (octets : List ℕ) (old now : Checked) (os : Li
   pub come : now.at + length (to_come os x) ≡ old.at + length octets
   pub within : now.at + length x ≤ old.at + length octets
 
-pub walk_starts : (mode : Mode) (octets : List ℕ) (old now : Checked) (os ps : List Open) (y : List ℕ) → os ≡ [] → old.values ≤ old.at → Begins mode os octets ps y old now → InWalk mode octets old now ps y
+pub walk_starts : (mode : Mode) (octets : List ℕ) (old now : Checked) (os ps : List Open) (y : List ℕ) → os ≡ [] → old.values ≤ old.at
+    → Begins mode os octets ps y old now → InWalk mode octets old now ps y
 walk_starts mode octets old now os ps y e v b =
     let is : octets ≡ b.passed ++ to_come ps y = rw e at b.is in
     let same : value_and_rest mode [] octets ≡ after (b.heading ∷ []) (rest_of mode ps y) = rw e at b.same in
@@ -73,9 +76,11 @@ walk_starts mode octets old now os ps y e v b =
     }
 
 module _ (mode : Mode) (octets : List ℕ) (old now : Checked) (o : Open) (os : List Open) (x : List ℕ) (w : InWalk mode octets old now (o ∷ os) x) where
-  pub walk_closes : (new : Checked) (y : List ℕ) (n : ℕ) → Closes mode o x y n → new.at ≡ now.at + n → new.values ≡ now.values → new.depth ≡ now.depth → InWalk mode octets old new os y
+  pub walk_closes : (new : Checked) (y : List ℕ) (n : ℕ) → Closes mode o x y n → new.at ≡ now.at + n → new.values ≡ now.values → new.depth ≡ now.depth
+      → InWalk mode octets old new os y
   walk_closes new y n c a v d =
-      let is : octets ≡ (w.passed ++ c.passed) ++ to_come os y = w.is ∙ ap (λ z. w.passed ++ z) (c.is os) ∙ sym (append_assoc w.passed c.passed (to_come os y)) in
+      let is : octets ≡ (w.passed ++ c.passed) ++ to_come os y =
+      w.is ∙ ap (λ z. w.passed ++ z) (c.is os) ∙ sym (append_assoc w.passed c.passed (to_come os y)) in
       let size = ap length is ∙ length-append (w.passed ++ c.passed) (to_come os y) in
       let front = length-append w.passed c.passed in
       let at : new.at ≡ old.at + length (w.passed ++ c.passed) = omega (arith, a, w.tallied.at, front, c.size) in
@@ -84,7 +89,8 @@ module _ (mode : Mode) (octets : List ℕ) (old now : Checked) (o : Open) (os : 
         same = w.same ∙ ap (after w.met) (c.same os);
         passed = w.passed ++ c.passed;
         is = is;
-        reaches = subst (λ k. Reaches mode octets os y (w.passed ++ c.passed) k) (append-nil w.met) (one_on (o ∷ os) os x y w.passed c.passed w.met [] w.reaches (c.step os));
+        reaches = subst (λ k. Reaches mode octets os y (w.passed ++ c.passed) k) (append-nil w.met)
+            (one_on (o ∷ os) os x y w.passed c.passed w.met [] w.reaches (c.step os));
         tallied = record { at = at; values = v ∙ w.tallied.values; depth = d ∙ w.tallied.depth };
         values = omega (arith, w.values, a, v);
         depth = omega (arith, w.depth, a);
@@ -92,7 +98,8 @@ module _ (mode : Mode) (octets : List ℕ) (old now : Checked) (o : Open) (os : 
         within = omega (arith, at, size, come_within os y);
       }
 
-  pub walk_goes_on : (mid new : Checked) (qs ps : List Open) (y : List ℕ) → GoesOn mode o x → mid.at ≡ now.at → mid.values ≡ now.values → mid.depth ≡ now.depth → qs ≡ o ∷ os → Begins mode qs x ps y mid new → InWalk mode octets old new ps y
+  pub walk_goes_on : (mid new : Checked) (qs ps : List Open) (y : List ℕ) → GoesOn mode o x → mid.at ≡ now.at → mid.values ≡ now.values
+      → mid.depth ≡ now.depth → qs ≡ o ∷ os → Begins mode qs x ps y mid new → InWalk mode octets old new ps y
   walk_goes_on mid new qs ps y g a v d q b =
       let come : to_come (o ∷ os) x ≡ b.passed ++ to_come ps y = ap (λ k. to_come k x) (sym q) ∙ b.is in
       let same : value_and_rest mode (o ∷ os) x ≡ after (b.heading ∷ []) (rest_of mode ps y) = ap (λ k. value_and_rest mode k x) (sym q) ∙ b.same in
@@ -100,14 +107,19 @@ module _ (mode : Mode) (octets : List ℕ) (old now : Checked) (o : Open) (os : 
       let is : octets ≡ (w.passed ++ b.passed) ++ to_come ps y = w.is ∙ ap (λ z. w.passed ++ z) come ∙ sym (append_assoc w.passed b.passed (to_come ps y)) in
       let size = ap length is ∙ length-append (w.passed ++ b.passed) (to_come ps y) in
       let front = length-append w.passed b.passed in
-      let t = tallied_both old mid new (length w.passed) (length b.passed) w.met (b.heading ∷ []) (record { at = a ∙ w.tallied.at; values = v ∙ w.tallied.values; depth = d ∙ w.tallied.depth }) b.tallied in
+      let t = tallied_both old mid new (length w.passed) (length b.passed) w.met (b.heading ∷ []) (record {
+        at = a ∙ w.tallied.at;
+        values = v ∙ w.tallied.values;
+        depth = d ∙ w.tallied.depth;
+      }) b.tallied in
       let at : new.at ≡ old.at + length (w.passed ++ b.passed) = t.at ∙ ap (λ k. old.at + k) (sym front) in
       record {
         met = w.met ++ b.heading ∷ [];
         same = w.same ∙ ap (after w.met) (g.same os ∙ same) ∙ after_both w.met (b.heading ∷ []) (rest_of mode ps y);
         passed = w.passed ++ b.passed;
         is = is;
-        reaches = one_on (o ∷ os) ps x y w.passed b.passed w.met (b.heading ∷ []) w.reaches (subst (λ k. Step mode k x ps y b.passed (b.heading ∷ [])) q b.step);
+        reaches = one_on (o ∷ os) ps x y w.passed b.passed w.met (b.heading ∷ []) w.reaches
+            (subst (λ k. Step mode k x ps y b.passed (b.heading ∷ [])) q b.step);
         tallied = record { at = at; values = t.values; depth = t.depth };
         values = omega (arith, w.values, a, v, b.tallied.at, b.tallied.values, b.two);
         depth = omega (arith, w.depth, a, b.tallied.at, b.two, few);
@@ -121,7 +133,8 @@ nothing_at_front mode octets e t v x h is =
     let r : value_and_rest mode [] octets ≡ Some (preorder t 0 ++ [], x) = ap (value_and_rest mode []) is ∙ rw (tree_complete mode t v x h) refl in
     none_is _ (sym e ∙ r)
 
-pub walk_refused_first : (mode : Mode) (octets : List ℕ) (old new : Checked) (status : ℕ) → value_and_rest mode [] octets ≡ None → NoneBegins mode octets status → new ≡ old → RefusedValue mode octets old new status
+pub walk_refused_first : (mode : Mode) (octets : List ℕ) (old new : Checked) (status : ℕ) → value_and_rest mode [] octets ≡ None
+    → NoneBegins mode octets status → new ≡ old → RefusedValue mode octets old new status
 walk_refused_first mode octets old new status e why a = record {
   none = nothing_at_front mode octets e;
   opened = [];
@@ -134,7 +147,9 @@ walk_refused_first mode octets old new status e why a = record {
   why = why;
 }
 
-pub walk_refused : (mode : Mode) (octets : List ℕ) (old now new : Checked) (o : Open) (os : List Open) (x : List ℕ) (status : ℕ) → InWalk mode octets old now (o ∷ os) x → GoesOn mode o x → value_and_rest mode (o ∷ os) x ≡ None → NoneBegins mode x status → new.at ≡ now.at → new.values ≡ now.values → new.depth ≡ now.depth → RefusedValue mode octets old new status
+pub walk_refused : (mode : Mode) (octets : List ℕ) (old now new : Checked) (o : Open) (os : List Open) (x : List ℕ) (status : ℕ)
+    → InWalk mode octets old now (o ∷ os) x → GoesOn mode o x → value_and_rest mode (o ∷ os) x ≡ None → NoneBegins mode x status → new.at ≡ now.at
+    → new.values ≡ now.values → new.depth ≡ now.depth → RefusedValue mode octets old new status
 walk_refused mode octets old now new o os x status w g e why a v d = record {
   none = nothing_at_front mode octets (w.same ∙ ap (after w.met) (g.same os ∙ e));
   opened = o ∷ os;
@@ -147,7 +162,8 @@ walk_refused mode octets old now new o os x status w g e why a v d = record {
   why = why;
 }
 
-pub walk_deeper_first : (mode : Mode) (octets : List ℕ) (old new : Checked) (levels : ℕ) → 0 ≡ levels → levels + 2 < 2 ^ 64 → HasHeader mode octets → new ≡ old → DeeperValue mode levels octets old new
+pub walk_deeper_first : (mode : Mode) (octets : List ℕ) (old new : Checked) (levels : ℕ) → 0 ≡ levels → levels + 2 < 2 ^ 64 → HasHeader mode octets
+    → new ≡ old → DeeperValue mode levels octets old new
 walk_deeper_first mode octets old new levels l f h a = record {
   opened = [];
   rest = octets;
@@ -160,7 +176,9 @@ walk_deeper_first mode octets old new levels l f h a = record {
   begins = h;
 }
 
-pub walk_deeper : (mode : Mode) (octets : List ℕ) (old now new : Checked) (os : List Open) (x : List ℕ) (levels : ℕ) → InWalk mode octets old now os x → length os ≡ levels → levels + 2 < 2 ^ 64 → HasHeader mode x → new.at ≡ now.at → new.values ≡ now.values → new.depth ≡ now.depth → DeeperValue mode levels octets old new
+pub walk_deeper : (mode : Mode) (octets : List ℕ) (old now new : Checked) (os : List Open) (x : List ℕ) (levels : ℕ) → InWalk mode octets old now os x
+    → length os ≡ levels → levels + 2 < 2 ^ 64 → HasHeader mode x → new.at ≡ now.at → new.values ≡ now.values → new.depth ≡ now.depth
+    → DeeperValue mode levels octets old new
 walk_deeper mode octets old now new os x levels w l f h a v d = record {
   opened = os;
   rest = x;
@@ -173,7 +191,8 @@ walk_deeper mode octets old now new os x levels w l f h a v d = record {
   begins = h;
 }
 
-pub walk_ends : (mode : Mode) (octets : List ℕ) (old now : Checked) (os : List Open) (x : List ℕ) → AreOctets octets → os ≡ [] → InWalk mode octets old now os x → PassedValue mode octets x old now
+pub walk_ends : (mode : Mode) (octets : List ℕ) (old now : Checked) (os : List Open) (x : List ℕ) → AreOctets octets → os ≡ []
+    → InWalk mode octets old now os x → PassedValue mode octets x old now
 unfolding rest_of
 walk_ends mode octets old now os x o e w =
     let same : value_and_rest mode [] octets ≡ Some (w.met ++ [], x) = rw e at w.same in
@@ -196,15 +215,18 @@ walk_ends mode octets old now os x o e w =
     }
 
 -- the innermost of the open values in memory
-pub innermost_first : (opened : List (Option (Bor (List ℕ)))) (o : Option (Bor (List ℕ))) (n : ℕ) → n ≡ length opened - 1 → slice_get opened n ≡ Some o → open_values opened ≡ option_map (λ s. s.now) o ∷ open_values (take n opened)
+pub innermost_first : (opened : List (Option (Bor (List ℕ)))) (o : Option (Bor (List ℕ))) (n : ℕ) → n ≡ length opened - 1
+    → slice_get opened n ≡ Some o → open_values opened ≡ option_map (λ s. s.now) o ∷ open_values (take n opened)
 innermost_first [] o n e g = absurd (none_is o g)
 innermost_first (a ∷ opened) o n e g =
     open_pushed (take n (a ∷ opened)) (a ∷ opened) o (last_apart (a ∷ opened) o n (omega (arith, e)) g)
 
-pub walk_at : (mode : Mode) (octets : List ℕ) (old now : Checked) (qs : List Open) (o : Open) (os : List Open) (x : List ℕ) → qs ≡ o ∷ os → InWalk mode octets old now qs x → InWalk mode octets old now (o ∷ os) x
+pub walk_at : (mode : Mode) (octets : List ℕ) (old now : Checked) (qs : List Open) (o : Open) (os : List Open) (x : List ℕ) → qs ≡ o ∷ os
+    → InWalk mode octets old now qs x → InWalk mode octets old now (o ∷ os) x
 walk_at mode octets old now qs o os x q w = subst (λ k. InWalk mode octets old now k x) q w
 
-pub closes_smaller : (mode : Mode) (qs os : List Open) (o : Open) (x y : List ℕ) (n : ℕ) → qs ≡ o ∷ os → Closes mode o x y n → length (to_come os y) * 2 + length os < length (to_come qs x) * 2 + length qs
+pub closes_smaller : (mode : Mode) (qs os : List Open) (o : Open) (x y : List ℕ) (n : ℕ) → qs ≡ o ∷ os → Closes mode o x y n
+    → length (to_come os y) * 2 + length os < length (to_come qs x) * 2 + length qs
 closes_smaller mode qs os o x y n q c =
     let is = ap length (ap (λ k. to_come k x) q ∙ c.is os) ∙ length-append c.passed (to_come os y) in
     omega (arith, is, ap length q)

@@ -5,5 +5,9 @@ pub mod Depth
 pub mod Open
 pub mod Values
 pub mod Next
+pub mod Buffers
 pub mod Contents
+pub mod Identifiers
+pub mod Negated
+pub mod Strings
 pub mod Text

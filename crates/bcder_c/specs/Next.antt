@@ -1,6 +1,6 @@
 -- A walk over values, one step a call, with numbers that the caller keeps.
-use Rattle.std.specs.Prelude.{◌≡◌, ◌⊎◌, ℕ, suc, ◌+◌, ◌-◌, ◌^◌, ◌<◌, ◌≤◌, Bool, true, false, Some, None}
-use Rattle.std.specs.Prelude.{List, [], ◌∷◌, length, take, reverse, slice_index, slice_set, slice_range}
+use Rattle.std.specs.Prelude.{◌≡◌, ◌⊎◌, ℕ, suc, ◌+◌, ◌-◌, ◌^◌, ◌<◌, ◌≤◌, Bool, true, false, Some, None, nat_eq, if◌then◌else◌}
+use Rattle.std.specs.Prelude.{List, [], ◌∷◌, ◌++◌, length, take, reverse, slice_index, slice_set, slice_range}
 use Rattle.bcder.specs.declared.mode.Mode.{Mode}
 use Rattle.bcder.specs.x690.Tree.{Trees}
 use Rattle.bcder.specs.x690.Preorder.{Heading, preorders}
@@ -10,7 +10,8 @@ use Rattle.bcder_c.specs.declared.next.Event.{Event}
 use Rattle.bcder_c.specs.declared.next.Walk.{Walk}
 use Rattle.bcder_c.specs.Headings.{BeginsWith}
 use Rattle.bcder_c.specs.Open.{Open, NoneBegins, NotAtEnd, Step, Reaches, heading_of}
-use Rattle.bcder_c.specs.Status.{done, too_deep, finished}
+use Rattle.bcder_c.specs.Status.{done, absent, beyond, ended, too_deep, finished}
+use Rattle.bcder_c.specs.Values.{AreNoValues}
 
 -- ---- the state
 
@@ -38,17 +39,34 @@ pub record StandsFor (octets stack : List ℕ) (walk : Walk) (os : List Open) (x
   pub order : walk.at ≤ walk.end
   pub rest : x ≡ slice_range octets walk.at walk.end
 
--- the number kept for the innermost open value can be that of one
-abbrev pub MayBeKept : List ℕ → ℕ → ℕ → Type 0
-MayBeKept octets end n = (n ≡ no_offset) ⊎ ((end ≤ n) × (n ≤ length octets))
+-- the numbers that a call reads of those kept: how many there can be, and that of the innermost of so many open values
+pub record SameRead (stack other : List ℕ) (depth : ℕ) : Type 0 where
+  pub room : length other ≡ length stack
+  pub innermost : 0 < depth → slice_index other (depth - 1) ≡ slice_index stack (depth - 1)
 
--- what a call can see of a state: offsets one behind the other, in the octets, and the number of the innermost open value
+-- no walk gives the numbers that a call reads: whatever the others are, they stand for no open values
+abbrev pub IsOfNoWalk : List ℕ → List ℕ → Walk → Type 0
+IsOfNoWalk octets stack walk = (other : List ℕ) (os : List Open) (x : List ℕ) → SameRead stack other walk.depth
+    → StandsFor octets other walk os x → ⊥
+
+-- where the octets around the innermost open value end, if this number is kept for it
+abbrev pub around : ℕ → ℕ → ℕ
+around end n = if nat_eq n no_offset then end else n
+
+-- what is around the innermost of so many open values ends in the octets; what is around the outermost are all octets
+pub record EndsInside (octets : List ℕ) (end depth outer : ℕ) : Type 0 where
+  pub order : end ≤ outer
+  pub inside : outer ≤ length octets
+  pub outermost : depth ≡ 1 → outer ≡ length octets
+
+-- what a call tests of a state
 pub record MayStand (octets stack : List ℕ) (walk : Walk) : Type 0 where
   pub order : walk.at ≤ walk.end
   pub inside : walk.end ≤ length octets
   pub room : walk.depth ≤ length stack
   pub outermost : walk.depth ≡ 0 → walk.end ≡ length octets
-  pub innermost : 0 < walk.depth → MayBeKept octets walk.end (slice_index stack (walk.depth - 1))
+  pub innermost : 0 < walk.depth
+      → EndsInside octets walk.end walk.depth (around walk.end (slice_index stack (walk.depth - 1)))
 
 -- ---- one step
 
@@ -127,3 +145,17 @@ pub record AreValues (mode : Mode) (w : List ℕ) (hs : List Heading) : Type 0 w
   pub trees : Trees
   pub encode : AreEncodings mode trees w
   pub headings : hs ≡ preorders trees 0
+
+-- a status that refuses octets
+abbrev pub IsRefusal : ℕ → Type 0
+IsRefusal status = (status ≡ absent) ⊎ (status ≡ beyond) ⊎ (status ≡ ended)
+
+-- what a call says where a walk from the first octet got to, which passed these octets and met values with these headings:
+-- it goes on, or the octets are values with these headings, or they are no values, or it needs more room
+pub data Decides (mode : Mode) (octets passed : List ℕ) (met : List Heading) (stack : List ℕ) (walk : Walk) (status : ℕ)
+    : Type 0 where
+  further : status ≡ done → (q : List ℕ) (ks : List Heading) → Walked mode octets stack walk (passed ++ q) (met ++ ks)
+      → Decides mode octets passed met stack walk status
+  values : status ≡ finished → AreValues mode octets met → Decides mode octets passed met stack walk status
+  no_values : IsRefusal status → AreNoValues mode octets → Decides mode octets passed met stack walk status
+  no_room : status ≡ too_deep → Decides mode octets passed met stack walk status

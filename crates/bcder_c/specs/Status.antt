@@ -37,6 +37,10 @@ finished = 7
 abbrev pub misused : ℕ
 misused = 8
 
+-- a buffer has no room for what is to be stored
+abbrev pub too_small : ℕ
+too_small = 9
+
 -- P holds of what was stored, and it was done; or P holds of nothing, and nothing was stored
 abbrev pub Found : {T : Type 0} → (T → Type 0) → ℕ → T → T → Type 0
 Found P status old new = (status ≡ done) × P new ⊎ (status ≡ absent) × ((x : _) → P x → ⊥) × (new ≡ old)

@@ -134,7 +134,7 @@ pub extern "C" fn bcder_oid(octets: &[u8]) -> u8
 }
 
 /// Returns whether the octets are those of a negative integer, if they are those of an integer.
-fn sign_of(octets: &[u8]) -> Option<bool>
+pub(crate) fn sign_of(octets: &[u8]) -> Option<bool>
     ensures { MatchOption result
         ((negative : _) → HasSign octets.now negative → ⊥)
         (λ negative. HasSign octets.now negative) }

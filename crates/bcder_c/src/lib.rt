@@ -6,12 +6,16 @@
 #![tactic(auto)]
 
 mod bits;
+mod buffer;
 mod checked;
 mod contents;
 mod heading;
+mod identifier;
+mod magnitude;
 mod next;
 mod rules;
 mod status;
+mod string;
 mod text;
 mod values;
 mod walk;

@@ -1,8 +1,10 @@
 //! Values one after the other, with a state that the caller keeps. No memory is allocated.
 ghost use Rattle.std.specs.Prelude.{◌≡◌, ◌≢◌, ◌↔◌, ◌+◌, ◌-◌, ◌^◌, ◌<◌, ◌≤◌, length, slice_set};
-ghost use Rattle.std.specs.Prelude.{IsTrue, IsFalse};
+ghost use Rattle.std.specs.Prelude.{ℕ, List, [], IsTrue, IsFalse};
 ghost use Rattle.bcder.specs.declared.mode.Mode.{Mode as ModeValue};
+ghost use Rattle.bcder.specs.x690.Preorder.{Heading as HeadingMet};
 ghost use Rattle.bcder_c.specs.Next.{Advanced, Advances, IsDue, MayStand, StandsFor};
+ghost use Rattle.bcder_c.specs.Next.{Decides, IsOfNoWalk, Walked};
 ghost use Rattle.bcder_c.specs.Next.{an_end, end_told, kind_of as kind_number};
 ghost use Rattle.bcder_c.specs.Rules.{AreRules, AreUnknown};
 ghost use Rattle.bcder_c.specs.Status.{done, misused, unknown_rules};
@@ -71,7 +73,8 @@ fn may_stand(octets: &[u8], stack: &[usize], walk: &Walk) -> bool
         return walk.end == octets.len();
     }
     let kept = stack[walk.depth - 1];
-    kept == NO_OFFSET || (walk.end <= kept && kept <= octets.len())
+    let outer = if kept == NO_OFFSET { walk.end } else { kept };
+    walk.end <= outer && outer <= octets.len() && (walk.depth > 1 || outer == octets.len())
 }
 
 /// Goes past an end of so many octets, and tells it.
@@ -113,6 +116,7 @@ fn close(walk: &mut Walk, event: &mut Event, size: usize, end: usize)
 }
 
 /// Goes past the end of the innermost open value if that comes next, and returns whether it does.
+#[inline(always)]
 fn leave(mode: Mode, octets: &[u8], stack: &[usize], walk: &mut Walk, event: &mut Event) -> bool
     requires stands { MayStand octets.now stack.now walk.old }
     requires opened { 0 < walk.old.depth }
@@ -156,6 +160,7 @@ fn open(stack: &mut [usize], walk: &mut Walk, kept: usize, at: usize, end: usize
 
 /// Goes past the header of the next value, and the contents if the value is primitive, and tells
 /// it.
+#[inline(always)]
 fn enter(mode: Mode, octets: &[u8], stack: &mut [usize], walk: &mut Walk, event: &mut Event) -> u8
     requires { MayStand octets.now stack.old walk.old }
     ensures entered { (os : _) (x : _) → StandsFor octets.now stack.old walk.old os x
@@ -209,30 +214,14 @@ fn enter(mode: Mode, octets: &[u8], stack: &mut [usize], walk: &mut Walk, event:
     }
 }
 
-/// Goes to the next value or end, and stores it (X.690, 8.1.1, 8.1.5).
-///
-/// A constructed value is an event where it begins, and one where it ends. What it contains comes
-/// between them.
-#[unsafe(no_mangle)]
-pub extern "C" fn bcder_next(
-    rules: u8,
-    octets: &[u8],
-    stack: &mut [usize],
-    walk: &mut Walk,
-    event: &mut Event,
-) -> u8
-    ensures unknown { AreUnknown rules → result ≡ unknown_rules }
-    ensures misused { result ≡ misused → MayStand octets.now stack.old walk.old → ⊥ }
-    ensures advances { (mode : ModeValue) → AreRules rules mode
-        → (os : _) (x : _) → StandsFor octets.now stack.old walk.old os x
-        → Advances mode octets.now os x stack.old stack.new
-        walk.old walk.new event.new result }
+/// Goes to the next value or end, and stores it.
+fn advance(mode: Mode, octets: &[u8], stack: &mut [usize], walk: &mut Walk, event: &mut Event) -> u8
+    ensures misused { result ≡ misused ↔ (MayStand octets.now stack.old walk.old → ⊥) }
+    ensures advances { (os : _) (x : _) → StandsFor octets.now stack.old walk.old os x
+        → Advances mode octets.now os x stack.old stack.new walk.old walk.new event.new result }
     ensures kept { result ≢ done
         → (stack.new ≡ stack.old) × (walk.new ≡ walk.old) × (event.new ≡ event.old) }
 {
-    let Some(mode) = mode_of(rules) else {
-        return UNKNOWN_RULES;
-    };
     if !may_stand(octets, stack, walk) {
         return MISUSED;
     }
@@ -246,4 +235,39 @@ pub extern "C" fn bcder_next(
         return DONE;
     }
     enter(mode, octets, stack, walk, event)
+}
+
+/// Goes to the next value or end, and stores it (X.690, 8.1.1, 8.1.5).
+///
+/// A constructed value is an event where it begins, and one where it ends. What it contains comes
+/// between them.
+#[unsafe(no_mangle)]
+pub extern "C" fn bcder_next(
+    rules: u8,
+    octets: &[u8],
+    stack: &mut [usize],
+    walk: &mut Walk,
+    event: &mut Event,
+) -> u8
+    ensures unknown { AreUnknown rules → result ≡ unknown_rules }
+    ensures misused { (mode : ModeValue) → AreRules rules mode
+        → (result ≡ misused ↔ IsOfNoWalk octets.now stack.old walk.old) }
+    ensures advances { (mode : ModeValue) → AreRules rules mode
+        → (os : _) (x : _) → StandsFor octets.now stack.old walk.old os x
+        → Advances mode octets.now os x stack.old stack.new
+        walk.old walk.new event.new result }
+    ensures start { (mode : ModeValue)
+        → walk.old ≡ record { at = 0; end = length octets.now; depth = 0 }
+        → Walked mode octets.now stack.old walk.old [] [] }
+    ensures decides { (mode : ModeValue) → AreRules rules mode
+        → (passed : List ℕ) (met : List HeadingMet)
+        → Walked mode octets.now stack.old walk.old passed met
+        → Decides mode octets.now passed met stack.new walk.new result }
+    ensures kept { result ≢ done
+        → (stack.new ≡ stack.old) × (walk.new ≡ walk.old) × (event.new ≡ event.old) }
+{
+    let Some(mode) = mode_of(rules) else {
+        return UNKNOWN_RULES;
+    };
+    advance(mode, octets, stack, walk, event)
 }

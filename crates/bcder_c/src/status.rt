@@ -26,3 +26,6 @@ pub(crate) const FINISHED: u8 = 7;
 
 /// The state is none of a walk over these octets.
 pub(crate) const MISUSED: u8 = 8;
+
+/// The buffer has no room for what is to be stored.
+pub(crate) const TOO_SMALL: u8 = 9;

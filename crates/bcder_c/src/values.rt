@@ -1,8 +1,10 @@
 //! Whole values: the first of octets, or all that they are.
-ghost use Rattle.std.specs.Prelude.{◌≡◌};
+ghost use Rattle.std.specs.Prelude.{◌≡◌, ◌≢◌};
+ghost use Rattle.bcder.specs.calls.Captured.{AreWhole};
 ghost use Rattle.bcder.specs.declared.mode.Mode.{Mode as ModeValue};
 ghost use Rattle.bcder_c.specs.Rules.{AreRules, AreUnknown};
-ghost use Rattle.bcder_c.specs.Status.{unknown_rules};
+ghost use Rattle.bcder_c.specs.Status.{done, no_memory, unknown_rules};
+ghost use Rattle.bcder_c.specs.Values.{AreNoValues};
 ghost use Rattle.bcder_c.specs.Values.{PassesFirst, PassesAll, PassesAllWithin};
 
 use crate::checked::Checked;
@@ -48,6 +50,15 @@ fn pass_all(alloc: Global, mode: Mode, octets: &[u8], levels: usize, checked: &m
         }
     }
     DONE
+}
+
+/// Returns whether all octets are values, one after the other, as a status.
+pub(crate) fn are_values(alloc: Global, mode: Mode, octets: &[u8]) -> u8
+    ensures whole { result ≡ done → AreWhole mode octets.now }
+    ensures none { result ≢ done → result ≢ no_memory → AreNoValues mode octets.now }
+{
+    let mut checked = NOTHING;
+    pass_all(alloc, mode, octets, usize::MAX, &mut checked)
 }
 
 /// Passes over all octets as values, one after the other (X.690, 8.1.1).

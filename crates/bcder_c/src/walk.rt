@@ -14,6 +14,7 @@ use std::alloc::Global;
 
 /// Goes past the end of the innermost open value if that comes next, adds its octets to `at`, and
 /// returns the octets after it.
+#[inline(always)]
 fn close<'a>(
     mode: Mode,
     innermost: Option<&'a [u8]>,
@@ -40,6 +41,7 @@ fn close<'a>(
 }
 
 /// Adds a value at a depth, of which so many octets were passed.
+#[inline(always)]
 fn tally(checked: &mut Checked, size: usize, depth: usize)
     requires at { checked.old.at + size < 2 ^ 64 }
     requires values { checked.old.values < 2 ^ 64 - 1 }
@@ -54,6 +56,7 @@ fn tally(checked: &mut Checked, size: usize, depth: usize)
 
 /// Passes the header of the next value, and the contents if the value is primitive, adds what was
 /// met to `checked`, and returns the octets that are next to come.
+#[inline(always)]
 fn begin<'a>(
     mode: Mode,
     rest: &'a [u8],

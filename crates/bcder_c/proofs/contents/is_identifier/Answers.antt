@@ -7,6 +7,10 @@ use Rattle.bcder_c.proofs.contents.is_identifier.Goals as goal
 pub returns : goal.returns
 returns c =
     elim c.match-decode_slice.branch [
-      | in-Ok w ↦ rw w.result-is (rw w.in-Ok.is at (read_alone _ _ (λ m. HoldIdentifier) (λ p r q y. search rules) _ c.args.octets.now c.decode_slice.result c.decode_slice.ensures))
-      | in-Err w ↦ rw w.result-is (λ is. rw w.in-Err.is at (refused_alone _ _ (λ m. HoldIdentifier) (λ p r q y. search rules) _ c.args.octets.now c.decode_slice.result c.decode_slice.ensures) (search rules) tt is)
+      | in-Ok w ↦
+          rw w.result-is (rw w.in-Ok.is at (read_alone _ _ (λ m. HoldIdentifier) (λ p r q y. search rules) _ c.args.octets.now
+          c.decode_slice.result c.decode_slice.ensures))
+      | in-Err w ↦
+          rw w.result-is (λ is. rw w.in-Err.is at (refused_alone _ _ (λ m. HoldIdentifier) (λ p r q y. search rules) _ c.args.octets.now
+          c.decode_slice.result c.decode_slice.ensures) (search rules) tt is)
     ]

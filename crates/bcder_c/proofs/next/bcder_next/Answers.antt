@@ -1,19 +1,29 @@
-use Rattle.std.proofs.Common.{◌<◌, refl, arith, rules}
-use Rattle.bcder_c.specs.Next.{MayStand}
-use Rattle.bcder_c.proofs.Stepping.{may_stand, due_outermost, advances_from}
+use Rattle.std.proofs.Common.{◌<◌, length, arith, rules}
+use Rattle.bcder.specs.x690.Identifier.{AreOctets}
+use Rattle.bcder_c.specs.Next.{no_offset}
+use Rattle.bcder_c.proofs.Standing.{no_walk, may_walk}
+use Rattle.bcder_c.proofs.WholeSteps.{starts}
+use Rattle.bcder_c.proofs.Refusing.{decided_from}
 use Rattle.bcder_c.proofs.next.bcder_next.Goals as goal
 
-pub returns-then-not-may_stand-clause-advances : goal.returns-then-not-may_stand-clause-advances
-returns-then-not-may_stand-clause-advances c =
-    let no : MayStand c.args.octets.now c.args.stack.now c.args.walk.now → ⊥ = search rules in
-    λ m _ os x s. absurd (no (may_stand m _ _ _ os x s))
+pub returns-in_default-clause-start : goal.returns-in_default-clause-start
+returns-in_default-clause-start c = λ mode e. starts mode _ _ _ e
 
-pub returns-then-walk-eq0-clause-advances : goal.returns-then-walk-eq0-clause-advances
-returns-then-walk-eq0-clause-advances c =
-    let more : c.args.walk.now.at < c.args.walk.now.end = search rules in
-    λ m r os x s. advances_from m _ _ _ _ _ _ _ _ _ (c.in-Some.ensures.known.1 m r) refl c.enter.ensures.entered os x s (due_outermost _ _ _ _ os x s (search rules) more)
+pub returns-clause-start : goal.returns-clause-start
+returns-clause-start c = λ mode e. starts mode _ _ _ e
 
 pub returns-clause-advances : goal.returns-clause-advances
-returns-clause-advances c =
-    let unmoved = c.if-leave.ensures.kept refl in
-    λ m r os x s. advances_from m _ _ _ _ _ _ _ _ _ (c.in-Some.ensures.known.1 m r) unmoved.0 c.enter-2.ensures.entered os x s (c.if-leave.ensures.due refl os x s)
+returns-clause-advances c = λ mode r os x s. rw (c.in-Some.ensures.known.1 mode r) (c.advance.ensures.advances os x s)
+
+pub returns-clause-misused : goal.returns-clause-misused
+returns-clause-misused c =
+    let small : length c.args.octets.now < no_offset = search rules in
+    λ mode _. (
+      λ e. no_walk mode _ _ _ (c.advance.ensures.misused.0 e),
+      λ none. c.advance.ensures.misused.1 (λ stands. may_walk _ _ _ small stands none),
+    )
+
+pub returns-clause-decides : goal.returns-clause-decides
+returns-clause-decides c =
+    let o : AreOctets c.args.octets.now = λ i. omega (arith, c.type_inv.octets i) in
+    λ mode r. decided_from mode _ _ _ _ _ _ _ _ (c.in-Some.ensures.known.1 mode r) o c.advance.ensures.advances

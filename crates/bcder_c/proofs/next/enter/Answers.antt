@@ -1,5 +1,5 @@
-use Rattle.std.proofs.Common.{◌<◌, length, refl, ap, arith, rules}
-use Rattle.bcder_c.specs.Next.{no_offset, kind_of}
+use Rattle.std.proofs.Common.{◌<◌, length, refl, ap, rules}
+use Rattle.bcder_c.specs.Next.{no_offset}
 use Rattle.bcder_c.proofs.Stepping.{stops_without_header, enters_primitive, enters_definite, enters_indefinite, full_definite, full_indefinite}
 use Rattle.bcder_c.proofs.next.enter.Goals as goal
 
@@ -11,7 +11,8 @@ pub returns-then-not-front-clause-entered : goal.returns-then-not-front-clause-e
 returns-then-not-front-clause-entered c =
     let f = c.in-Some.ensures.found in
     let k = ap (λ k. record { heading = c.heading_of.result; at = c.args.walk.now.at; depth = c.args.walk.now.depth; kind = k }) c.kind_of.ensures in
-    λ _ _ s due. enters_primitive _ _ _ _ _ _ s due _ _ _ f.0 _ f.1 f.2 _ refl _ c.heading_of.ensures _ k _ _ _ c.in-Some-len.is (search rules) (search rules) refl refl
+    λ _ _ s due. enters_primitive _ _ _ _ _ _ s due _ _ _ f.0 _ f.1 f.2 _ refl _ c.heading_of.ensures _ k _ _ _ c.in-Some-len.is
+    (search rules) (search rules) refl refl
 
 pub returns-then-walk-stack-clause-entered : goal.returns-then-walk-stack-clause-entered
 returns-then-walk-stack-clause-entered c =
@@ -29,11 +30,13 @@ returns-else-walk-stack-clause-entered c =
     let k = ap (λ k. record { heading = c.heading_of.result; at = c.args.walk.now.at; depth = c.args.walk.now.depth; kind = k }) c.kind_of.ensures in
     let small : length c.args.octets.now < no_offset = search rules in
     let room : c.args.walk.now.depth < length c.args.stack.now = search rules in
-    λ _ _ s due. enters_definite _ _ _ _ _ _ s due _ _ _ f.0 _ f.1 f.2 _ refl _ c.heading_of.ensures _ k _ _ _ c.in-Some-len.is (search rules) (search rules) room small c.open.ensures.stack c.open.ensures.walk
+    λ _ _ s due. enters_definite _ _ _ _ _ _ s due _ _ _ f.0 _ f.1 f.2 _ refl _ c.heading_of.ensures _ k _ _ _ c.in-Some-len.is
+    (search rules) (search rules) room small c.open.ensures.stack c.open.ensures.walk
 
 pub returns-else-walk-stack-2-clause-entered : goal.returns-else-walk-stack-2-clause-entered
 returns-else-walk-stack-2-clause-entered c =
     let f = c.in-Some.ensures.found in
     let k = ap (λ k. record { heading = c.heading_of.result; at = c.args.walk.now.at; depth = c.args.walk.now.depth; kind = k }) c.kind_of.ensures in
     let room : c.args.walk.now.depth < length c.args.stack.now = search rules in
-    λ _ _ s due. enters_indefinite _ _ _ _ _ _ s due _ _ _ f.0 _ f.1 f.2 _ refl _ c.heading_of.ensures _ k _ _ c.in-None.is room c.open-in-None.ensures.stack c.open-in-None.ensures.walk
+    λ _ _ s due. enters_indefinite _ _ _ _ _ _ s due _ _ _ f.0 _ f.1 f.2 _ refl _ c.heading_of.ensures _ k _ _ c.in-None.is room
+    c.open-in-None.ensures.stack c.open-in-None.ensures.walk

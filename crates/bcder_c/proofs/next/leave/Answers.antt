@@ -1,4 +1,4 @@
-use Rattle.std.proofs.Common.{◌≡◌, ◌-◌, get_or, refl, arith, rules}
+use Rattle.std.proofs.Common.{◌≡◌, ◌-◌, get_or, refl, rules}
 use Rattle.bcder_c.proofs.Stepping.{leaves_definite, leaves_indefinite}
 use Rattle.bcder_c.specs.Next.{no_offset}
 use Rattle.bcder_c.proofs.next.leave.Goals as goal

@@ -17,4 +17,5 @@ loop-rest-preserved c = record {
 pub returns-in-Err : goal.returns-in-Err
 returns-in-Err c =
     let some : 0 < length c.loop-rest.rest.now = search rules in
-    list_refused _ _ _ _ c.loop-rest.invariant.list _ _ _ some c.loop-rest.invariant.shallow c.in-Err.ensures.shallow c.in-Err.ensures.refused c.in-Err.ensures.deep
+    list_refused _ _ _ _ c.loop-rest.invariant.list _ _ _ some c.loop-rest.invariant.shallow c.in-Err.ensures.shallow
+    c.in-Err.ensures.refused c.in-Err.ensures.deep

@@ -1,7 +1,8 @@
 use Rattle.std.proofs.Common.{◌≡◌, ◌+◌, length, refl, sym, ◌∙◌, arith, rules, Some, None, ◌∷◌, ◌++◌, []}
 use Rattle.bcder.specs.x690.Identifier.{AreOctets}
 use Rattle.bcder_c.specs.Open.{open_values}
-use Rattle.bcder_c.proofs.Walking.{nothing_in_nothing, nothing_without_header, nothing_beyond, length_open, open_pushed, begins_primitive, begins_definite, begins_indefinite, begins_too_deep, must_be}
+use Rattle.bcder_c.proofs.Walking.{nothing_in_nothing, nothing_without_header, nothing_beyond, length_open, open_pushed, begins_primitive}
+use Rattle.bcder_c.proofs.Walking.{begins_definite, begins_indefinite, begins_too_deep, must_be}
 use Rattle.bcder_c.proofs.walk.begin.Goals as goal
 
 pub returns-then-is_empty-clause-none : goal.returns-then-is_empty-clause-none
@@ -34,7 +35,8 @@ returns-else-is_err-clause-begins c =
     let k : c.len-in-Some-len.result ≡ c.args.opened.now.len + 1 = search rules in
     let n : length c.args.opened.now.items ≡ c.args.opened.now.len = search rules in
     let l : c.len-in-Some-len.result ≡ length (open_values c.args.opened.now.items) + 1 = omega (arith, k, n, length_open c.args.opened.now.items) in
-    begins_definite _ _ _ _ _ f.0 _ o f.1 f.2 _ _ _ _ _ _ _ _ _ c.in-Some-len.is (search rules) (search rules) c.split_at.ensures.front c.split_at.ensures.back (open_pushed _ _ _ p)
+    begins_definite _ _ _ _ _ f.0 _ o f.1 f.2 _ _ _ _ _ _ _ _ _ c.in-Some-len.is (search rules) (search rules) c.split_at.ensures.front
+    c.split_at.ensures.back (open_pushed _ _ _ p)
     c.tally-in-Some-len.ensures.at refl c.tally-in-Some-len.ensures.values c.tally-in-Some-len.ensures.depth l
 
 pub returns-else-is_err-2-clause-begins : goal.returns-else-is_err-2-clause-begins

@@ -1,7 +1,8 @@
 use Rattle.std.proofs.Common.{◌≡◌, ◌-◌, length, take, slice_get, option_map, Some, ◌∷◌, [], ap, refl, sym, ◌∙◌, arith, rules}
 use Rattle.bcder.specs.x690.Identifier.{AreOctets}
 use Rattle.bcder_c.specs.Open.{open_values}
-use Rattle.bcder_c.proofs.WholeWalk.{walk_starts, walk_closes, walk_goes_on, walk_refused_first, walk_refused, walk_ends, innermost_first, walk_at, closes_smaller, none_open, walk_deeper_first, walk_deeper}
+use Rattle.bcder_c.proofs.WholeWalk.{walk_starts, walk_closes, walk_goes_on, walk_refused_first, walk_refused, walk_ends, innermost_first, walk_at}
+use Rattle.bcder_c.proofs.WholeWalk.{closes_smaller, none_open, walk_deeper_first, walk_deeper}
 use Rattle.bcder_c.proofs.Walking.{length_open}
 use Rattle.bcder_c.proofs.walk.pass_value.Goals as goal
 
@@ -28,14 +29,20 @@ loop-innermost-preserved-in-Some-close c =
     let p : c.pop-ended.new.self.items ≡ take (length c.loop-innermost.opened.items - 1) c.loop-innermost.opened.items = search rules in
     let q : open_values c.loop-innermost.opened.items ≡ option_map (λ s. s.now) c.in-Some.field-0.now ∷ open_values c.pop-ended.new.self.items =
     innermost_first c.loop-innermost.opened.items _ _ refl g ∙ ap (λ k. option_map (λ s. s.now) c.in-Some.field-0.now ∷ open_values k) (sym p) in
-    record { walk = walk_closes _ _ _ _ _ _ _ (walk_at _ _ _ _ _ _ _ _ q c.loop-innermost.invariant.walk) _ _ _ c.in-Some-close.ensures.1 c.in-Some-close.ensures.2 refl refl; few = search rules; shallow = c.loop-innermost.invariant.shallow }
+    record {
+      walk = walk_closes _ _ _ _ _ _ _ (walk_at _ _ _ _ _ _ _ _ q c.loop-innermost.invariant.walk) _ _ _ c.in-Some-close.ensures.1
+          c.in-Some-close.ensures.2 refl refl;
+      few = search rules;
+      shallow = c.loop-innermost.invariant.shallow;
+    }
 
 pub loop-innermost-preserved : goal.loop-innermost-preserved
 loop-innermost-preserved c =
     let g : slice_get c.loop-innermost.opened.items (length c.loop-innermost.opened.items - 1) ≡ Some c.in-Some.field-0.now = search rules in
     let q = innermost_first c.loop-innermost.opened.items _ _ refl g in
     record {
-      walk = walk_goes_on _ _ _ _ _ _ _ (walk_at _ _ _ _ _ _ _ _ q c.loop-innermost.invariant.walk) _ _ _ _ _ c.in-None.ensures.0 c.in-None.ensures.1 refl refl q c.in-Ok-begin.ensures.begins;
+      walk = walk_goes_on _ _ _ _ _ _ _ (walk_at _ _ _ _ _ _ _ _ q c.loop-innermost.invariant.walk) _ _ _ _ _ c.in-None.ensures.0
+          c.in-None.ensures.1 refl refl q c.in-Ok-begin.ensures.begins;
       few = c.in-Ok-begin.ensures.few;
       shallow = omega (arith, c.in-Ok-begin.ensures.shallow, c.loop-innermost.invariant.shallow);
     }
@@ -44,7 +51,8 @@ pub returns-in-Err-begin-clause-refused : goal.returns-in-Err-begin-clause-refus
 returns-in-Err-begin-clause-refused c =
     let g : slice_get c.loop-innermost.opened.items (length c.loop-innermost.opened.items - 1) ≡ Some c.in-Some.field-0.now = search rules in
     let q = innermost_first c.loop-innermost.opened.items _ _ refl g in
-    λ k n. walk_refused _ _ _ _ _ _ _ _ _ (walk_at _ _ _ _ _ _ _ _ q c.loop-innermost.invariant.walk) c.in-None.ensures.0 (c.in-Err-begin.ensures.none k n _) (c.in-Err-begin.ensures.why k n) (search rules) (search rules) (search rules)
+    λ k n. walk_refused _ _ _ _ _ _ _ _ _ (walk_at _ _ _ _ _ _ _ _ q c.loop-innermost.invariant.walk) c.in-None.ensures.0
+    (c.in-Err-begin.ensures.none k n _) (c.in-Err-begin.ensures.why k n) (search rules) (search rules) (search rules)
 
 pub returns-clause-passed : goal.returns-clause-passed
 returns-clause-passed c =
@@ -62,4 +70,5 @@ pub returns-in-Err-begin-clause-deep : goal.returns-in-Err-begin-clause-deep
 returns-in-Err-begin-clause-deep c =
     λ k. (let d = c.in-Err-begin.ensures.deep k in
     let n : length c.loop-innermost.opened.items ≡ c.args.levels = search rules in
-    walk_deeper _ _ _ _ _ _ _ _ c.loop-innermost.invariant.walk (length_open c.loop-innermost.opened.items ∙ n) d.2 d.0 (search rules) (search rules) (search rules))
+    walk_deeper _ _ _ _ _ _ _ _ c.loop-innermost.invariant.walk (length_open c.loop-innermost.opened.items ∙ n) d.2 d.0 (search rules)
+    (search rules) (search rules))
