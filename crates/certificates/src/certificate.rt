@@ -29,6 +29,14 @@ pub struct Certificate {
 impl Definition for Certificate {
     type As = Sequence<(TbsCertificate, AlgorithmIdentifier, BitString)>;
 
+    const NAME: &'static str = "Certificate";
+
+    const PARTS: &'static [&'static str] = &[
+        "tbs_certificate",
+        "signature_algorithm",
+        "signature_value",
+    ];
+
     ghost parts = { λ x. (x.tbs_certificate, x.signature_algorithm, x.signature_value) };
 
     fn from_parts(
