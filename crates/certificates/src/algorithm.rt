@@ -63,10 +63,11 @@ impl Type for AlgorithmIdentifier {
 
     ghost Key = { ⟦<AlgorithmIdentifierParts as Type>⟧.Key };
 
-    ghost key = { λ x. ⟦<AlgorithmIdentifierParts as Type>⟧.key (⟦<AlgorithmIdentifier as Parts>⟧.parts x) };
+    ghost key = { λ x. ⟦<AlgorithmIdentifierParts as Type>⟧.key
+        (⟦<AlgorithmIdentifier as Parts>⟧.parts x) };
 
-    ghost means = { λ mode t x.
-        ⟦<AlgorithmIdentifierParts as Type>⟧.means mode t (⟦<AlgorithmIdentifier as Parts>⟧.parts x) };
+    ghost means = { λ mode t x. ⟦<AlgorithmIdentifierParts as Type>⟧.means mode t
+        (⟦<AlgorithmIdentifier as Parts>⟧.parts x) };
 
     ghost keeps_all = { ⟦<AlgorithmIdentifierParts as Type>⟧.keeps_all };
 
@@ -99,14 +100,14 @@ impl<S: Source> Decode<S> for AlgorithmIdentifier {
 }
 
 impl Encode for AlgorithmIdentifier {
-    ghost writes = { λ tag x mode.
-        Lawfully mode (⟦<AlgorithmIdentifierParts as Encode>⟧.writes tag (⟦<AlgorithmIdentifier as Parts>⟧.parts x) mode) };
+    ghost writes = { λ tag x mode. Lawfully mode (⟦<AlgorithmIdentifierParts as Encode>⟧.writes tag
+        (⟦<AlgorithmIdentifier as Parts>⟧.parts x) mode) };
 
-    ghost may_lack = { λ x mode.
-        ⟦<AlgorithmIdentifierParts as Encode>⟧.may_lack (⟦<AlgorithmIdentifier as Parts>⟧.parts x) mode };
+    ghost may_lack = { λ x mode. ⟦<AlgorithmIdentifierParts as Encode>⟧.may_lack
+        (⟦<AlgorithmIdentifier as Parts>⟧.parts x) mode };
 
-    ghost is_clear = { λ x mode.
-        ⟦<AlgorithmIdentifierParts as Encode>⟧.is_clear (⟦<AlgorithmIdentifier as Parts>⟧.parts x) mode };
+    ghost is_clear = { λ x mode. ⟦<AlgorithmIdentifierParts as Encode>⟧.is_clear
+        (⟦<AlgorithmIdentifier as Parts>⟧.parts x) mode };
 
     fn encoded_len_as(&self, tag: Tag, mode: Mode) -> Result<usize, EncodeError> {
         len_parts(
@@ -134,8 +135,8 @@ impl Encode for AlgorithmIdentifier {
         parts_are_read_back::<AlgorithmIdentifier>(tag, mode);
     }
 
-    ghost lawful = { λ tag x mode. lawfully mode
-        (⟦<AlgorithmIdentifierParts as Encode>⟧.writes tag (⟦<AlgorithmIdentifier as Parts>⟧.parts x) mode) };
+    ghost lawful = { λ tag x mode. lawfully mode (⟦<AlgorithmIdentifierParts as Encode>⟧.writes tag
+        (⟦<AlgorithmIdentifier as Parts>⟧.parts x) mode) };
 }
 
 /// A public key, and the algorithm that it is of (RFC 5280, section 4.1.2.7).
@@ -188,10 +189,11 @@ impl Type for SubjectPublicKeyInfo {
 
     ghost Key = { ⟦<SubjectPublicKeyInfoParts as Type>⟧.Key };
 
-    ghost key = { λ x. ⟦<SubjectPublicKeyInfoParts as Type>⟧.key (⟦<SubjectPublicKeyInfo as Parts>⟧.parts x) };
+    ghost key = { λ x. ⟦<SubjectPublicKeyInfoParts as Type>⟧.key
+        (⟦<SubjectPublicKeyInfo as Parts>⟧.parts x) };
 
-    ghost means = { λ mode t x.
-        ⟦<SubjectPublicKeyInfoParts as Type>⟧.means mode t (⟦<SubjectPublicKeyInfo as Parts>⟧.parts x) };
+    ghost means = { λ mode t x. ⟦<SubjectPublicKeyInfoParts as Type>⟧.means mode t
+        (⟦<SubjectPublicKeyInfo as Parts>⟧.parts x) };
 
     ghost keeps_all = { ⟦<SubjectPublicKeyInfoParts as Type>⟧.keeps_all };
 
@@ -224,14 +226,14 @@ impl<S: Source> Decode<S> for SubjectPublicKeyInfo {
 }
 
 impl Encode for SubjectPublicKeyInfo {
-    ghost writes = { λ tag x mode.
-        Lawfully mode (⟦<SubjectPublicKeyInfoParts as Encode>⟧.writes tag (⟦<SubjectPublicKeyInfo as Parts>⟧.parts x) mode) };
+    ghost writes = { λ tag x mode. Lawfully mode (⟦<SubjectPublicKeyInfoParts as Encode>⟧.writes tag
+        (⟦<SubjectPublicKeyInfo as Parts>⟧.parts x) mode) };
 
-    ghost may_lack = { λ x mode.
-        ⟦<SubjectPublicKeyInfoParts as Encode>⟧.may_lack (⟦<SubjectPublicKeyInfo as Parts>⟧.parts x) mode };
+    ghost may_lack = { λ x mode. ⟦<SubjectPublicKeyInfoParts as Encode>⟧.may_lack
+        (⟦<SubjectPublicKeyInfo as Parts>⟧.parts x) mode };
 
-    ghost is_clear = { λ x mode.
-        ⟦<SubjectPublicKeyInfoParts as Encode>⟧.is_clear (⟦<SubjectPublicKeyInfo as Parts>⟧.parts x) mode };
+    ghost is_clear = { λ x mode. ⟦<SubjectPublicKeyInfoParts as Encode>⟧.is_clear
+        (⟦<SubjectPublicKeyInfo as Parts>⟧.parts x) mode };
 
     fn encoded_len_as(&self, tag: Tag, mode: Mode) -> Result<usize, EncodeError> {
         len_parts(
@@ -259,6 +261,6 @@ impl Encode for SubjectPublicKeyInfo {
         parts_are_read_back::<SubjectPublicKeyInfo>(tag, mode);
     }
 
-    ghost lawful = { λ tag x mode. lawfully mode
-        (⟦<SubjectPublicKeyInfoParts as Encode>⟧.writes tag (⟦<SubjectPublicKeyInfo as Parts>⟧.parts x) mode) };
+    ghost lawful = { λ tag x mode. lawfully mode (⟦<SubjectPublicKeyInfoParts as Encode>⟧.writes tag
+        (⟦<SubjectPublicKeyInfo as Parts>⟧.parts x) mode) };
 }

@@ -62,10 +62,11 @@ impl Type for Name {
 
     ghost Key = { ⟦<NameParts as Type>⟧.Key };
 
-    ghost key = { λ x. ⟦<NameParts as Type>⟧.key (⟦<Name as Parts>⟧.parts x) };
+    ghost key = { λ x. ⟦<NameParts as Type>⟧.key
+        (⟦<Name as Parts>⟧.parts x) };
 
-    ghost means = { λ mode t x.
-        ⟦<NameParts as Type>⟧.means mode t (⟦<Name as Parts>⟧.parts x) };
+    ghost means = { λ mode t x. ⟦<NameParts as Type>⟧.means mode t
+        (⟦<Name as Parts>⟧.parts x) };
 
     ghost keeps_all = { ⟦<NameParts as Type>⟧.keeps_all };
 
@@ -98,14 +99,14 @@ impl<S: Source> Decode<S> for Name {
 }
 
 impl Encode for Name {
-    ghost writes = { λ tag x mode.
-        Lawfully mode (⟦<NameParts as Encode>⟧.writes tag (⟦<Name as Parts>⟧.parts x) mode) };
+    ghost writes = { λ tag x mode. Lawfully mode (⟦<NameParts as Encode>⟧.writes tag
+        (⟦<Name as Parts>⟧.parts x) mode) };
 
-    ghost may_lack = { λ x mode.
-        ⟦<NameParts as Encode>⟧.may_lack (⟦<Name as Parts>⟧.parts x) mode };
+    ghost may_lack = { λ x mode. ⟦<NameParts as Encode>⟧.may_lack
+        (⟦<Name as Parts>⟧.parts x) mode };
 
-    ghost is_clear = { λ x mode.
-        ⟦<NameParts as Encode>⟧.is_clear (⟦<Name as Parts>⟧.parts x) mode };
+    ghost is_clear = { λ x mode. ⟦<NameParts as Encode>⟧.is_clear
+        (⟦<Name as Parts>⟧.parts x) mode };
 
     fn encoded_len_as(&self, tag: Tag, mode: Mode) -> Result<usize, EncodeError> {
         len_parts(&self.rdn_sequence, tag, mode)
@@ -124,8 +125,8 @@ impl Encode for Name {
         parts_are_read_back::<Name>(tag, mode);
     }
 
-    ghost lawful = { λ tag x mode. lawfully mode
-        (⟦<NameParts as Encode>⟧.writes tag (⟦<Name as Parts>⟧.parts x) mode) };
+    ghost lawful = { λ tag x mode. lawfully mode (⟦<NameParts as Encode>⟧.writes tag
+        (⟦<Name as Parts>⟧.parts x) mode) };
 }
 
 /// One part of a name. It has one attribute or several.
@@ -155,6 +156,10 @@ pub struct AttributeTypeAndValue {
 
 impl Definition for AttributeTypeAndValue {
     type As = Sequence<(ObjectIdentifier, Any)>;
+
+    const NAME: &'static str = "AttributeTypeAndValue";
+
+    const PARTS: &'static [&'static str] = &["attribute_type", "value"];
 
     ghost parts = { λ x. (x.attribute_type, x.value) };
 

@@ -125,7 +125,18 @@ impl Parts for TbsCertificate {
         "extensions",
     ];
 
-    ghost parts = { λ x. (x.version, x.serial_number, x.signature, x.issuer, x.validity, x.subject, x.subject_public_key_info, x.issuer_unique_id, x.subject_unique_id, x.extensions) };
+    ghost parts = { λ x. (
+      x.version,
+      x.serial_number,
+      x.signature,
+      x.issuer,
+      x.validity,
+      x.subject,
+      x.subject_public_key_info,
+      x.issuer_unique_id,
+      x.subject_unique_id,
+      x.extensions,
+    ) };
 
     fn from_parts(value: TbsCertificateParts) -> TbsCertificate {
         let Sequence(
@@ -156,7 +167,21 @@ impl Parts for TbsCertificate {
         }
     }
 
-    ghost made = { λ v. (record { version = v.0; serial_number = v.1; signature = v.2; issuer = v.3; validity = v.4; subject = v.5; subject_public_key_info = v.6; issuer_unique_id = v.7; subject_unique_id = v.8; extensions = v.9 }, refl) };
+    ghost made = { λ v. (
+      record {
+        version = v.0;
+        serial_number = v.1;
+        signature = v.2;
+        issuer = v.3;
+        validity = v.4;
+        subject = v.5;
+        subject_public_key_info = v.6;
+        issuer_unique_id = v.7;
+        subject_unique_id = v.8;
+        extensions = v.9;
+      },
+      refl,
+    ) };
 }
 
 impl Type for TbsCertificate {
@@ -174,10 +199,11 @@ impl Type for TbsCertificate {
 
     ghost Key = { ⟦<TbsCertificateParts as Type>⟧.Key };
 
-    ghost key = { λ x. ⟦<TbsCertificateParts as Type>⟧.key (⟦<TbsCertificate as Parts>⟧.parts x) };
+    ghost key = { λ x. ⟦<TbsCertificateParts as Type>⟧.key
+        (⟦<TbsCertificate as Parts>⟧.parts x) };
 
-    ghost means = { λ mode t x.
-        ⟦<TbsCertificateParts as Type>⟧.means mode t (⟦<TbsCertificate as Parts>⟧.parts x) };
+    ghost means = { λ mode t x. ⟦<TbsCertificateParts as Type>⟧.means mode t
+        (⟦<TbsCertificate as Parts>⟧.parts x) };
 
     ghost keeps_all = { ⟦<TbsCertificateParts as Type>⟧.keeps_all };
 
@@ -210,14 +236,14 @@ impl<S: Source> Decode<S> for TbsCertificate {
 }
 
 impl Encode for TbsCertificate {
-    ghost writes = { λ tag x mode.
-        Lawfully mode (⟦<TbsCertificateParts as Encode>⟧.writes tag (⟦<TbsCertificate as Parts>⟧.parts x) mode) };
+    ghost writes = { λ tag x mode. Lawfully mode (⟦<TbsCertificateParts as Encode>⟧.writes tag
+        (⟦<TbsCertificate as Parts>⟧.parts x) mode) };
 
-    ghost may_lack = { λ x mode.
-        ⟦<TbsCertificateParts as Encode>⟧.may_lack (⟦<TbsCertificate as Parts>⟧.parts x) mode };
+    ghost may_lack = { λ x mode. ⟦<TbsCertificateParts as Encode>⟧.may_lack
+        (⟦<TbsCertificate as Parts>⟧.parts x) mode };
 
-    ghost is_clear = { λ x mode.
-        ⟦<TbsCertificateParts as Encode>⟧.is_clear (⟦<TbsCertificate as Parts>⟧.parts x) mode };
+    ghost is_clear = { λ x mode. ⟦<TbsCertificateParts as Encode>⟧.is_clear
+        (⟦<TbsCertificate as Parts>⟧.parts x) mode };
 
     fn encoded_len_as(&self, tag: Tag, mode: Mode) -> Result<usize, EncodeError> {
         len_parts(
@@ -267,6 +293,6 @@ impl Encode for TbsCertificate {
         parts_are_read_back::<TbsCertificate>(tag, mode);
     }
 
-    ghost lawful = { λ tag x mode. lawfully mode
-        (⟦<TbsCertificateParts as Encode>⟧.writes tag (⟦<TbsCertificate as Parts>⟧.parts x) mode) };
+    ghost lawful = { λ tag x mode. lawfully mode (⟦<TbsCertificateParts as Encode>⟧.writes tag
+        (⟦<TbsCertificate as Parts>⟧.parts x) mode) };
 }

@@ -68,10 +68,11 @@ impl Type for Validity {
 
     ghost Key = { ⟦<ValidityParts as Type>⟧.Key };
 
-    ghost key = { λ x. ⟦<ValidityParts as Type>⟧.key (⟦<Validity as Parts>⟧.parts x) };
+    ghost key = { λ x. ⟦<ValidityParts as Type>⟧.key
+        (⟦<Validity as Parts>⟧.parts x) };
 
-    ghost means = { λ mode t x.
-        ⟦<ValidityParts as Type>⟧.means mode t (⟦<Validity as Parts>⟧.parts x) };
+    ghost means = { λ mode t x. ⟦<ValidityParts as Type>⟧.means mode t
+        (⟦<Validity as Parts>⟧.parts x) };
 
     ghost keeps_all = { ⟦<ValidityParts as Type>⟧.keeps_all };
 
@@ -104,14 +105,14 @@ impl<S: Source> Decode<S> for Validity {
 }
 
 impl Encode for Validity {
-    ghost writes = { λ tag x mode.
-        Lawfully mode (⟦<ValidityParts as Encode>⟧.writes tag (⟦<Validity as Parts>⟧.parts x) mode) };
+    ghost writes = { λ tag x mode. Lawfully mode (⟦<ValidityParts as Encode>⟧.writes tag
+        (⟦<Validity as Parts>⟧.parts x) mode) };
 
-    ghost may_lack = { λ x mode.
-        ⟦<ValidityParts as Encode>⟧.may_lack (⟦<Validity as Parts>⟧.parts x) mode };
+    ghost may_lack = { λ x mode. ⟦<ValidityParts as Encode>⟧.may_lack
+        (⟦<Validity as Parts>⟧.parts x) mode };
 
-    ghost is_clear = { λ x mode.
-        ⟦<ValidityParts as Encode>⟧.is_clear (⟦<Validity as Parts>⟧.parts x) mode };
+    ghost is_clear = { λ x mode. ⟦<ValidityParts as Encode>⟧.is_clear
+        (⟦<Validity as Parts>⟧.parts x) mode };
 
     fn encoded_len_as(&self, tag: Tag, mode: Mode) -> Result<usize, EncodeError> {
         len_parts(
@@ -139,8 +140,8 @@ impl Encode for Validity {
         parts_are_read_back::<Validity>(tag, mode);
     }
 
-    ghost lawful = { λ tag x mode. lawfully mode
-        (⟦<ValidityParts as Encode>⟧.writes tag (⟦<Validity as Parts>⟧.parts x) mode) };
+    ghost lawful = { λ tag x mode. lawfully mode (⟦<ValidityParts as Encode>⟧.writes tag
+        (⟦<Validity as Parts>⟧.parts x) mode) };
 }
 
 /// A time, in one of two notations.

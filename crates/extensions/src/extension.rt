@@ -71,10 +71,11 @@ impl Type for Extension {
 
     ghost Key = { ⟦<ExtensionParts as Type>⟧.Key };
 
-    ghost key = { λ x. ⟦<ExtensionParts as Type>⟧.key (⟦<Extension as Parts>⟧.parts x) };
+    ghost key = { λ x. ⟦<ExtensionParts as Type>⟧.key
+        (⟦<Extension as Parts>⟧.parts x) };
 
-    ghost means = { λ mode t x.
-        ⟦<ExtensionParts as Type>⟧.means mode t (⟦<Extension as Parts>⟧.parts x) };
+    ghost means = { λ mode t x. ⟦<ExtensionParts as Type>⟧.means mode t
+        (⟦<Extension as Parts>⟧.parts x) };
 
     ghost keeps_all = { ⟦<ExtensionParts as Type>⟧.keeps_all };
 
@@ -107,14 +108,14 @@ impl<S: Source> Decode<S> for Extension {
 }
 
 impl Encode for Extension {
-    ghost writes = { λ tag x mode.
-        Lawfully mode (⟦<ExtensionParts as Encode>⟧.writes tag (⟦<Extension as Parts>⟧.parts x) mode) };
+    ghost writes = { λ tag x mode. Lawfully mode (⟦<ExtensionParts as Encode>⟧.writes tag
+        (⟦<Extension as Parts>⟧.parts x) mode) };
 
-    ghost may_lack = { λ x mode.
-        ⟦<ExtensionParts as Encode>⟧.may_lack (⟦<Extension as Parts>⟧.parts x) mode };
+    ghost may_lack = { λ x mode. ⟦<ExtensionParts as Encode>⟧.may_lack
+        (⟦<Extension as Parts>⟧.parts x) mode };
 
-    ghost is_clear = { λ x mode.
-        ⟦<ExtensionParts as Encode>⟧.is_clear (⟦<Extension as Parts>⟧.parts x) mode };
+    ghost is_clear = { λ x mode. ⟦<ExtensionParts as Encode>⟧.is_clear
+        (⟦<Extension as Parts>⟧.parts x) mode };
 
     fn encoded_len_as(&self, tag: Tag, mode: Mode) -> Result<usize, EncodeError> {
         len_parts(
@@ -142,8 +143,8 @@ impl Encode for Extension {
         parts_are_read_back::<Extension>(tag, mode);
     }
 
-    ghost lawful = { λ tag x mode. lawfully mode
-        (⟦<ExtensionParts as Encode>⟧.writes tag (⟦<Extension as Parts>⟧.parts x) mode) };
+    ghost lawful = { λ tag x mode. lawfully mode (⟦<ExtensionParts as Encode>⟧.writes tag
+        (⟦<Extension as Parts>⟧.parts x) mode) };
 }
 
 /// All extensions of a certificate.

@@ -29,6 +29,14 @@ pub struct CertificateList {
 impl Definition for CertificateList {
     type As = Sequence<(TbsCertList, AlgorithmIdentifier, BitString)>;
 
+    const NAME: &'static str = "CertificateList";
+
+    const PARTS: &'static [&'static str] = &[
+        "tbs_cert_list",
+        "signature_algorithm",
+        "signature_value",
+    ];
+
     ghost parts = { λ x. (x.tbs_cert_list, x.signature_algorithm, x.signature_value) };
 
     fn from_parts(
