@@ -1,12 +1,16 @@
 //! Algorithms, and the keys that belong to them.
 ghost use Rattle.std.specs.Prelude.{refl};
+ghost use Rattle.asn1.specs.Tags.{only_tagged, sequence_tagged};
+ghost use Rattle.nested.specs.Lawfully.{Lawfully, lawfully};
 
-use asn1::{
-    Any, ByRef, DecodeDefinition, Definition, Encode, EncodeDefinition, ObjectIdentifier, Sequence,
-};
-use bcder::decode::Source;
+use asn1::{Any, ByRef, Decode, Encode, ObjectIdentifier, Path, Sequence, Type};
+use bcder::decode::{Constructed, DecodeError, Source};
 use bcder::encode::{EncodeError, WriteError};
 use bcder::{BitString, Mode, Tag};
+use nested::{
+    Parts, len_parts, parts_are_one, parts_are_read_back, take_parts, trace_parts, write_parts,
+};
+use std::alloc::Global;
 use std::io;
 
 /// An algorithm, with what it is used with (RFC 5280, section 4.1.1.2).
@@ -23,43 +27,116 @@ pub struct AlgorithmIdentifier {
     pub parameters: Option<Any>,
 }
 
-impl Definition for AlgorithmIdentifier {
-    type As = Sequence<(ObjectIdentifier, Option<Any>)>;
+/// What defines [`AlgorithmIdentifier`].
+type AlgorithmIdentifierParts = Sequence<(ObjectIdentifier, Option<Any>)>;
 
-    const NAME: &'static str = "AlgorithmIdentifier";
+impl Parts for AlgorithmIdentifier {
+    type As = AlgorithmIdentifierParts;
 
     const PARTS: &'static [&'static str] = &["algorithm", "parameters"];
 
     ghost parts = { λ x. (x.algorithm, x.parameters) };
 
-    fn from_parts(value: Sequence<(ObjectIdentifier, Option<Any>)>) -> AlgorithmIdentifier {
+    fn from_parts(value: AlgorithmIdentifierParts) -> AlgorithmIdentifier {
         let Sequence((algorithm, parameters)) = value;
         AlgorithmIdentifier {
             algorithm,
             parameters,
         }
     }
+
+    ghost made = { λ v. (record { algorithm = v.0; parameters = v.1 }, refl) };
 }
 
-impl<S: Source> DecodeDefinition<S> for AlgorithmIdentifier {}
+impl Type for AlgorithmIdentifier {
+    ghost TAG = { ⟦<AlgorithmIdentifierParts as Type>⟧.TAG };
 
-impl EncodeDefinition for AlgorithmIdentifier {
-    fn len_parts(&self, tag: Tag, mode: Mode) -> Result<usize, EncodeError> {
-        Sequence((ByRef(&self.algorithm), ByRef(&self.parameters))).encoded_len_as(tag, mode)
+    fn tag() -> Tag {
+        <AlgorithmIdentifierParts>::tag()
     }
 
-    fn write_parts<W: io::Write>(
+    fn name() -> &'static str {
+        "AlgorithmIdentifier"
+    }
+
+    ghost tags = { ⟦<AlgorithmIdentifierParts as Type>⟧.tags };
+
+    ghost Key = { ⟦<AlgorithmIdentifierParts as Type>⟧.Key };
+
+    ghost key = { λ x. ⟦<AlgorithmIdentifierParts as Type>⟧.key
+        (⟦<AlgorithmIdentifier as Parts>⟧.parts x) };
+
+    ghost means = { λ mode t x. ⟦<AlgorithmIdentifierParts as Type>⟧.means mode t
+        (⟦<AlgorithmIdentifier as Parts>⟧.parts x) };
+
+    ghost keeps_all = { ⟦<AlgorithmIdentifierParts as Type>⟧.keeps_all };
+
+    fn values_are_one() {
+        parts_are_one::<AlgorithmIdentifier>();
+    }
+
+    ghost tagged = { refl };
+
+    ghost value_tags = { only_tagged sequence_tagged };
+}
+
+impl<S: Source> Decode<S> for AlgorithmIdentifier {
+    fn take_opt_if(
+        alloc: Global,
+        cons: &mut Constructed<'_, S>,
+        tag: Tag,
+    ) -> Result<Option<AlgorithmIdentifier>, DecodeError<S::Error>> {
+        take_parts(alloc, cons, tag)
+    }
+
+    fn trace_opt_if(
+        alloc: Global,
+        cons: &mut Constructed<'_, S>,
+        tag: Tag,
+        path: &mut Path,
+    ) -> Result<Option<AlgorithmIdentifier>, DecodeError<S::Error>> {
+        trace_parts(alloc, cons, tag, path)
+    }
+}
+
+impl Encode for AlgorithmIdentifier {
+    ghost writes = { λ tag x mode. Lawfully mode (⟦<AlgorithmIdentifierParts as Encode>⟧.writes tag
+        (⟦<AlgorithmIdentifier as Parts>⟧.parts x) mode) };
+
+    ghost may_lack = { λ x mode. ⟦<AlgorithmIdentifierParts as Encode>⟧.may_lack
+        (⟦<AlgorithmIdentifier as Parts>⟧.parts x) mode };
+
+    ghost is_clear = { λ x mode. ⟦<AlgorithmIdentifierParts as Encode>⟧.is_clear
+        (⟦<AlgorithmIdentifier as Parts>⟧.parts x) mode };
+
+    fn encoded_len_as(&self, tag: Tag, mode: Mode) -> Result<usize, EncodeError> {
+        len_parts(
+            &Sequence((ByRef(&self.algorithm), ByRef(&self.parameters))),
+            tag,
+            mode,
+        )
+    }
+
+    fn write_encoded_as<W: io::Write>(
         &self,
         tag: Tag,
         mode: Mode,
         target: &mut W,
     ) -> Result<(), WriteError> {
-        Sequence((ByRef(&self.algorithm), ByRef(&self.parameters))).write_encoded_as(
-            tag, mode, target,
+        write_parts(
+            &Sequence((ByRef(&self.algorithm), ByRef(&self.parameters))),
+            tag,
+            mode,
+            target,
         )
     }
 
-    ghost made = { λ v. (record { algorithm = v.0; parameters = v.1 }, refl) };
+    fn is_read_back(tag: Tag, mode: Mode) {
+        parts_are_read_back::<AlgorithmIdentifier>(tag, mode);
+    }
+
+    ghost lawful = { λ tag x mode. lawfully mode (⟦<AlgorithmIdentifierParts as Encode>⟧.writes tag
+        (⟦<AlgorithmIdentifier as Parts>⟧.parts x) mode) };
 }
 
 /// A public key, and the algorithm that it is of (RFC 5280, section 4.1.2.7).
@@ -76,43 +153,114 @@ pub struct SubjectPublicKeyInfo {
     pub subject_public_key: BitString,
 }
 
-impl Definition for SubjectPublicKeyInfo {
-    type As = Sequence<(AlgorithmIdentifier, BitString)>;
+/// What defines [`SubjectPublicKeyInfo`].
+type SubjectPublicKeyInfoParts = Sequence<(AlgorithmIdentifier, BitString)>;
 
-    const NAME: &'static str = "SubjectPublicKeyInfo";
+impl Parts for SubjectPublicKeyInfo {
+    type As = SubjectPublicKeyInfoParts;
 
     const PARTS: &'static [&'static str] = &["algorithm", "subject_public_key"];
 
     ghost parts = { λ x. (x.algorithm, x.subject_public_key) };
 
-    fn from_parts(value: Sequence<(AlgorithmIdentifier, BitString)>) -> SubjectPublicKeyInfo {
+    fn from_parts(value: SubjectPublicKeyInfoParts) -> SubjectPublicKeyInfo {
         let Sequence((algorithm, subject_public_key)) = value;
         SubjectPublicKeyInfo {
             algorithm,
             subject_public_key,
         }
     }
+
+    ghost made = { λ v. (record { algorithm = v.0; subject_public_key = v.1 }, refl) };
 }
 
-impl<S: Source> DecodeDefinition<S> for SubjectPublicKeyInfo {}
+impl Type for SubjectPublicKeyInfo {
+    ghost TAG = { ⟦<SubjectPublicKeyInfoParts as Type>⟧.TAG };
 
-impl EncodeDefinition for SubjectPublicKeyInfo {
-    fn len_parts(&self, tag: Tag, mode: Mode) -> Result<usize, EncodeError> {
-        Sequence((ByRef(&self.algorithm), ByRef(&self.subject_public_key))).encoded_len_as(
-            tag, mode,
+    fn tag() -> Tag {
+        <SubjectPublicKeyInfoParts>::tag()
+    }
+
+    fn name() -> &'static str {
+        "SubjectPublicKeyInfo"
+    }
+
+    ghost tags = { ⟦<SubjectPublicKeyInfoParts as Type>⟧.tags };
+
+    ghost Key = { ⟦<SubjectPublicKeyInfoParts as Type>⟧.Key };
+
+    ghost key = { λ x. ⟦<SubjectPublicKeyInfoParts as Type>⟧.key
+        (⟦<SubjectPublicKeyInfo as Parts>⟧.parts x) };
+
+    ghost means = { λ mode t x. ⟦<SubjectPublicKeyInfoParts as Type>⟧.means mode t
+        (⟦<SubjectPublicKeyInfo as Parts>⟧.parts x) };
+
+    ghost keeps_all = { ⟦<SubjectPublicKeyInfoParts as Type>⟧.keeps_all };
+
+    fn values_are_one() {
+        parts_are_one::<SubjectPublicKeyInfo>();
+    }
+
+    ghost tagged = { refl };
+
+    ghost value_tags = { only_tagged sequence_tagged };
+}
+
+impl<S: Source> Decode<S> for SubjectPublicKeyInfo {
+    fn take_opt_if(
+        alloc: Global,
+        cons: &mut Constructed<'_, S>,
+        tag: Tag,
+    ) -> Result<Option<SubjectPublicKeyInfo>, DecodeError<S::Error>> {
+        take_parts(alloc, cons, tag)
+    }
+
+    fn trace_opt_if(
+        alloc: Global,
+        cons: &mut Constructed<'_, S>,
+        tag: Tag,
+        path: &mut Path,
+    ) -> Result<Option<SubjectPublicKeyInfo>, DecodeError<S::Error>> {
+        trace_parts(alloc, cons, tag, path)
+    }
+}
+
+impl Encode for SubjectPublicKeyInfo {
+    ghost writes = { λ tag x mode. Lawfully mode (⟦<SubjectPublicKeyInfoParts as Encode>⟧.writes tag
+        (⟦<SubjectPublicKeyInfo as Parts>⟧.parts x) mode) };
+
+    ghost may_lack = { λ x mode. ⟦<SubjectPublicKeyInfoParts as Encode>⟧.may_lack
+        (⟦<SubjectPublicKeyInfo as Parts>⟧.parts x) mode };
+
+    ghost is_clear = { λ x mode. ⟦<SubjectPublicKeyInfoParts as Encode>⟧.is_clear
+        (⟦<SubjectPublicKeyInfo as Parts>⟧.parts x) mode };
+
+    fn encoded_len_as(&self, tag: Tag, mode: Mode) -> Result<usize, EncodeError> {
+        len_parts(
+            &Sequence((ByRef(&self.algorithm), ByRef(&self.subject_public_key))),
+            tag,
+            mode,
         )
     }
 
-    fn write_parts<W: io::Write>(
+    fn write_encoded_as<W: io::Write>(
         &self,
         tag: Tag,
         mode: Mode,
         target: &mut W,
     ) -> Result<(), WriteError> {
-        Sequence((ByRef(&self.algorithm), ByRef(&self.subject_public_key))).write_encoded_as(
-            tag, mode, target,
+        write_parts(
+            &Sequence((ByRef(&self.algorithm), ByRef(&self.subject_public_key))),
+            tag,
+            mode,
+            target,
         )
     }
 
-    ghost made = { λ v. (record { algorithm = v.0; subject_public_key = v.1 }, refl) };
+    fn is_read_back(tag: Tag, mode: Mode) {
+        parts_are_read_back::<SubjectPublicKeyInfo>(tag, mode);
+    }
+
+    ghost lawful = { λ tag x mode. lawfully mode (⟦<SubjectPublicKeyInfoParts as Encode>⟧.writes tag
+        (⟦<SubjectPublicKeyInfo as Parts>⟧.parts x) mode) };
 }

@@ -4,13 +4,24 @@
 #![tactic(auto, using(bcder::specs::laws::Moved::untouched_is_moved))]
 
 mod algorithm;
+mod certificate;
+mod certificate_list;
+mod certification_request;
 mod name;
+mod tbs_cert_list;
+mod tbs_certificate;
 #[cfg(test)]
 mod tests;
 mod time;
 mod validity;
 
 pub use algorithm::{AlgorithmIdentifier, SubjectPublicKeyInfo};
+pub use certificate::Certificate;
+pub use certificate_list::CertificateList;
+pub use certification_request::{Attribute, CertificationRequest, CertificationRequestInfo};
+pub use extensions::{Extension, Extensions};
 pub use name::{AttributeTypeAndValue, Name, RelativeDistinguishedName};
+pub use tbs_cert_list::{RevokedCertificate, TbsCertList};
+pub use tbs_certificate::{TbsCertificate, UniqueIdentifier, Version, Version1};
 pub use time::{GeneralizedTime, UtcTime};
 pub use validity::{Time, Validity};

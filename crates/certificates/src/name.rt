@@ -1,13 +1,19 @@
 //! Names of issuers and subjects.
 ghost use Rattle.std.specs.Prelude.{refl};
+ghost use Rattle.asn1.specs.Tags.{only_tagged, sequence_tagged};
+ghost use Rattle.nested.specs.Lawfully.{Lawfully, lawfully};
 
 use asn1::{
-    Any, ByRef, DecodeDefinition, Definition, Encode, EncodeDefinition, ObjectIdentifier, Sequence,
-    SequenceOf, SetOf,
+    Any, ByRef, Decode, DecodeDefinition, Definition, Encode, EncodeDefinition, ObjectIdentifier,
+    Path, Sequence, SequenceOf, SetOf, Type,
 };
-use bcder::decode::Source;
+use bcder::decode::{Constructed, DecodeError, Source};
 use bcder::encode::{EncodeError, WriteError};
 use bcder::{Mode, Tag};
+use nested::{
+    Parts, len_parts, parts_are_one, parts_are_read_back, take_parts, trace_parts, write_parts,
+};
+use std::alloc::Global;
 use std::io;
 
 /// A name (RFC 5280, section 4.1.2.4).
@@ -24,21 +30,104 @@ pub struct Name {
     pub rdn_sequence: SequenceOf<RelativeDistinguishedName>,
 }
 
-impl Definition for Name {
-    type As = SequenceOf<RelativeDistinguishedName>;
+/// What defines [`Name`].
+type NameParts = SequenceOf<RelativeDistinguishedName>;
 
-    const NAME: &'static str = "Name";
+impl Parts for Name {
+    type As = NameParts;
 
     ghost parts = { λ x. x.rdn_sequence };
 
-    fn from_parts(value: SequenceOf<RelativeDistinguishedName>) -> Name {
+    fn from_parts(value: NameParts) -> Name {
         Name {
             rdn_sequence: value,
         }
     }
+
+    ghost made = { λ v. (record { rdn_sequence = v }, refl) };
 }
 
-impl<S: Source> DecodeDefinition<S> for Name {}
+impl Type for Name {
+    ghost TAG = { ⟦<NameParts as Type>⟧.TAG };
+
+    fn tag() -> Tag {
+        <NameParts>::tag()
+    }
+
+    fn name() -> &'static str {
+        "Name"
+    }
+
+    ghost tags = { ⟦<NameParts as Type>⟧.tags };
+
+    ghost Key = { ⟦<NameParts as Type>⟧.Key };
+
+    ghost key = { λ x. ⟦<NameParts as Type>⟧.key
+        (⟦<Name as Parts>⟧.parts x) };
+
+    ghost means = { λ mode t x. ⟦<NameParts as Type>⟧.means mode t
+        (⟦<Name as Parts>⟧.parts x) };
+
+    ghost keeps_all = { ⟦<NameParts as Type>⟧.keeps_all };
+
+    fn values_are_one() {
+        parts_are_one::<Name>();
+    }
+
+    ghost tagged = { refl };
+
+    ghost value_tags = { only_tagged sequence_tagged };
+}
+
+impl<S: Source> Decode<S> for Name {
+    fn take_opt_if(
+        alloc: Global,
+        cons: &mut Constructed<'_, S>,
+        tag: Tag,
+    ) -> Result<Option<Name>, DecodeError<S::Error>> {
+        take_parts(alloc, cons, tag)
+    }
+
+    fn trace_opt_if(
+        alloc: Global,
+        cons: &mut Constructed<'_, S>,
+        tag: Tag,
+        path: &mut Path,
+    ) -> Result<Option<Name>, DecodeError<S::Error>> {
+        trace_parts(alloc, cons, tag, path)
+    }
+}
+
+impl Encode for Name {
+    ghost writes = { λ tag x mode. Lawfully mode (⟦<NameParts as Encode>⟧.writes tag
+        (⟦<Name as Parts>⟧.parts x) mode) };
+
+    ghost may_lack = { λ x mode. ⟦<NameParts as Encode>⟧.may_lack
+        (⟦<Name as Parts>⟧.parts x) mode };
+
+    ghost is_clear = { λ x mode. ⟦<NameParts as Encode>⟧.is_clear
+        (⟦<Name as Parts>⟧.parts x) mode };
+
+    fn encoded_len_as(&self, tag: Tag, mode: Mode) -> Result<usize, EncodeError> {
+        len_parts(&self.rdn_sequence, tag, mode)
+    }
+
+    fn write_encoded_as<W: io::Write>(
+        &self,
+        tag: Tag,
+        mode: Mode,
+        target: &mut W,
+    ) -> Result<(), WriteError> {
+        write_parts(&self.rdn_sequence, tag, mode, target)
+    }
+
+    fn is_read_back(tag: Tag, mode: Mode) {
+        parts_are_read_back::<Name>(tag, mode);
+    }
+
+    ghost lawful = { λ tag x mode. lawfully mode (⟦<NameParts as Encode>⟧.writes tag
+        (⟦<Name as Parts>⟧.parts x) mode) };
+}
 
 /// One part of a name. It has one attribute or several.
 ///

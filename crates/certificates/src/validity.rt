@@ -1,15 +1,21 @@
 //! When a certificate is valid.
 ghost use Rattle.std.specs.Prelude.{refl};
 ghost use Rattle.asn1.specs.declared.choice.Choice2.TheVariants.{One, Two};
+ghost use Rattle.asn1.specs.Tags.{only_tagged, sequence_tagged};
+ghost use Rattle.nested.specs.Lawfully.{Lawfully, lawfully};
 
 use crate::time::{GeneralizedTime, UtcTime};
 use asn1::{
-    ByRef, Choice2, DecodeDefinition, Definition, Encode, EncodeDefinition, EncodeFields, Leaf,
-    Sequence,
+    ByRef, Choice2, Decode, DecodeDefinition, Definition, Encode, EncodeDefinition, EncodeFields,
+    Leaf, Path, Sequence, Type,
 };
-use bcder::decode::Source;
+use bcder::decode::{Constructed, DecodeError, Source};
 use bcder::encode::{EncodeError, WriteError};
 use bcder::{Mode, Tag};
+use nested::{
+    Parts, len_parts, parts_are_one, parts_are_read_back, take_parts, trace_parts, write_parts,
+};
+use std::alloc::Global;
 use std::io;
 
 /// When a certificate is valid (RFC 5280, section 4.1.2.5).
@@ -26,43 +32,116 @@ pub struct Validity {
     pub not_after: Time,
 }
 
-impl Definition for Validity {
-    type As = Sequence<(Time, Time)>;
+/// What defines [`Validity`].
+type ValidityParts = Sequence<(Time, Time)>;
 
-    const NAME: &'static str = "Validity";
+impl Parts for Validity {
+    type As = ValidityParts;
 
     const PARTS: &'static [&'static str] = &["not_before", "not_after"];
 
     ghost parts = { λ x. (x.not_before, x.not_after) };
 
-    fn from_parts(value: Sequence<(Time, Time)>) -> Validity {
+    fn from_parts(value: ValidityParts) -> Validity {
         let Sequence((not_before, not_after)) = value;
         Validity {
             not_before,
             not_after,
         }
     }
+
+    ghost made = { λ v. (record { not_before = v.0; not_after = v.1 }, refl) };
 }
 
-impl<S: Source> DecodeDefinition<S> for Validity {}
+impl Type for Validity {
+    ghost TAG = { ⟦<ValidityParts as Type>⟧.TAG };
 
-impl EncodeDefinition for Validity {
-    fn len_parts(&self, tag: Tag, mode: Mode) -> Result<usize, EncodeError> {
-        Sequence((ByRef(&self.not_before), ByRef(&self.not_after))).encoded_len_as(tag, mode)
+    fn tag() -> Tag {
+        <ValidityParts>::tag()
     }
 
-    fn write_parts<W: io::Write>(
+    fn name() -> &'static str {
+        "Validity"
+    }
+
+    ghost tags = { ⟦<ValidityParts as Type>⟧.tags };
+
+    ghost Key = { ⟦<ValidityParts as Type>⟧.Key };
+
+    ghost key = { λ x. ⟦<ValidityParts as Type>⟧.key
+        (⟦<Validity as Parts>⟧.parts x) };
+
+    ghost means = { λ mode t x. ⟦<ValidityParts as Type>⟧.means mode t
+        (⟦<Validity as Parts>⟧.parts x) };
+
+    ghost keeps_all = { ⟦<ValidityParts as Type>⟧.keeps_all };
+
+    fn values_are_one() {
+        parts_are_one::<Validity>();
+    }
+
+    ghost tagged = { refl };
+
+    ghost value_tags = { only_tagged sequence_tagged };
+}
+
+impl<S: Source> Decode<S> for Validity {
+    fn take_opt_if(
+        alloc: Global,
+        cons: &mut Constructed<'_, S>,
+        tag: Tag,
+    ) -> Result<Option<Validity>, DecodeError<S::Error>> {
+        take_parts(alloc, cons, tag)
+    }
+
+    fn trace_opt_if(
+        alloc: Global,
+        cons: &mut Constructed<'_, S>,
+        tag: Tag,
+        path: &mut Path,
+    ) -> Result<Option<Validity>, DecodeError<S::Error>> {
+        trace_parts(alloc, cons, tag, path)
+    }
+}
+
+impl Encode for Validity {
+    ghost writes = { λ tag x mode. Lawfully mode (⟦<ValidityParts as Encode>⟧.writes tag
+        (⟦<Validity as Parts>⟧.parts x) mode) };
+
+    ghost may_lack = { λ x mode. ⟦<ValidityParts as Encode>⟧.may_lack
+        (⟦<Validity as Parts>⟧.parts x) mode };
+
+    ghost is_clear = { λ x mode. ⟦<ValidityParts as Encode>⟧.is_clear
+        (⟦<Validity as Parts>⟧.parts x) mode };
+
+    fn encoded_len_as(&self, tag: Tag, mode: Mode) -> Result<usize, EncodeError> {
+        len_parts(
+            &Sequence((ByRef(&self.not_before), ByRef(&self.not_after))),
+            tag,
+            mode,
+        )
+    }
+
+    fn write_encoded_as<W: io::Write>(
         &self,
         tag: Tag,
         mode: Mode,
         target: &mut W,
     ) -> Result<(), WriteError> {
-        Sequence((ByRef(&self.not_before), ByRef(&self.not_after))).write_encoded_as(
-            tag, mode, target,
+        write_parts(
+            &Sequence((ByRef(&self.not_before), ByRef(&self.not_after))),
+            tag,
+            mode,
+            target,
         )
     }
 
-    ghost made = { λ v. (record { not_before = v.0; not_after = v.1 }, refl) };
+    fn is_read_back(tag: Tag, mode: Mode) {
+        parts_are_read_back::<Validity>(tag, mode);
+    }
+
+    ghost lawful = { λ tag x mode. lawfully mode (⟦<ValidityParts as Encode>⟧.writes tag
+        (⟦<Validity as Parts>⟧.parts x) mode) };
 }
 
 /// A time, in one of two notations.

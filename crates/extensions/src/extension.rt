@@ -1,13 +1,18 @@
 //! Extensions.
 ghost use Rattle.std.specs.Prelude.{false, refl};
+ghost use Rattle.asn1.specs.Tags.{only_tagged, sequence_tagged};
+ghost use Rattle.nested.specs.Lawfully.{Lawfully, lawfully};
 
 use asn1::{
-    ByRef, DecodeDefinition, DefaultValue, Definition, Encode, EncodeDefinition, ObjectIdentifier,
-    OrDefault, Sequence, SequenceOf,
+    ByRef, Decode, DefaultValue, Encode, ObjectIdentifier, OrDefault, Path, Sequence, SequenceOf,
+    Type,
 };
-use bcder::decode::Source;
+use bcder::decode::{Constructed, DecodeError, Source};
 use bcder::encode::{EncodeError, WriteError};
 use bcder::{Mode, NoMemory, OctetString, Tag};
+use nested::{
+    Parts, len_parts, parts_are_one, parts_are_read_back, take_parts, trace_parts, write_parts,
+};
 use std::alloc::Global;
 use std::io;
 
@@ -29,6 +34,119 @@ pub struct Extension {
     pub value: OctetString,
 }
 
+/// What defines [`Extension`].
+type ExtensionParts = Sequence<(ObjectIdentifier, OrDefault<bool, NotCritical>, OctetString)>;
+
+impl Parts for Extension {
+    type As = ExtensionParts;
+
+    const PARTS: &'static [&'static str] = &["id", "critical", "value"];
+
+    ghost parts = { λ x. (x.id, x.critical, x.value) };
+
+    fn from_parts(value: ExtensionParts) -> Extension {
+        let Sequence((id, critical, value)) = value;
+        Extension {
+            id,
+            critical,
+            value,
+        }
+    }
+
+    ghost made = { λ v. (record { id = v.0; critical = v.1; value = v.2 }, refl) };
+}
+
+impl Type for Extension {
+    ghost TAG = { ⟦<ExtensionParts as Type>⟧.TAG };
+
+    fn tag() -> Tag {
+        <ExtensionParts>::tag()
+    }
+
+    fn name() -> &'static str {
+        "Extension"
+    }
+
+    ghost tags = { ⟦<ExtensionParts as Type>⟧.tags };
+
+    ghost Key = { ⟦<ExtensionParts as Type>⟧.Key };
+
+    ghost key = { λ x. ⟦<ExtensionParts as Type>⟧.key
+        (⟦<Extension as Parts>⟧.parts x) };
+
+    ghost means = { λ mode t x. ⟦<ExtensionParts as Type>⟧.means mode t
+        (⟦<Extension as Parts>⟧.parts x) };
+
+    ghost keeps_all = { ⟦<ExtensionParts as Type>⟧.keeps_all };
+
+    fn values_are_one() {
+        parts_are_one::<Extension>();
+    }
+
+    ghost tagged = { refl };
+
+    ghost value_tags = { only_tagged sequence_tagged };
+}
+
+impl<S: Source> Decode<S> for Extension {
+    fn take_opt_if(
+        alloc: Global,
+        cons: &mut Constructed<'_, S>,
+        tag: Tag,
+    ) -> Result<Option<Extension>, DecodeError<S::Error>> {
+        take_parts(alloc, cons, tag)
+    }
+
+    fn trace_opt_if(
+        alloc: Global,
+        cons: &mut Constructed<'_, S>,
+        tag: Tag,
+        path: &mut Path,
+    ) -> Result<Option<Extension>, DecodeError<S::Error>> {
+        trace_parts(alloc, cons, tag, path)
+    }
+}
+
+impl Encode for Extension {
+    ghost writes = { λ tag x mode. Lawfully mode (⟦<ExtensionParts as Encode>⟧.writes tag
+        (⟦<Extension as Parts>⟧.parts x) mode) };
+
+    ghost may_lack = { λ x mode. ⟦<ExtensionParts as Encode>⟧.may_lack
+        (⟦<Extension as Parts>⟧.parts x) mode };
+
+    ghost is_clear = { λ x mode. ⟦<ExtensionParts as Encode>⟧.is_clear
+        (⟦<Extension as Parts>⟧.parts x) mode };
+
+    fn encoded_len_as(&self, tag: Tag, mode: Mode) -> Result<usize, EncodeError> {
+        len_parts(
+            &Sequence((ByRef(&self.id), ByRef(&self.critical), ByRef(&self.value))),
+            tag,
+            mode,
+        )
+    }
+
+    fn write_encoded_as<W: io::Write>(
+        &self,
+        tag: Tag,
+        mode: Mode,
+        target: &mut W,
+    ) -> Result<(), WriteError> {
+        write_parts(
+            &Sequence((ByRef(&self.id), ByRef(&self.critical), ByRef(&self.value))),
+            tag,
+            mode,
+            target,
+        )
+    }
+
+    fn is_read_back(tag: Tag, mode: Mode) {
+        parts_are_read_back::<Extension>(tag, mode);
+    }
+
+    ghost lawful = { λ tag x mode. lawfully mode (⟦<ExtensionParts as Encode>⟧.writes tag
+        (⟦<Extension as Parts>⟧.parts x) mode) };
+}
+
 /// All extensions of a certificate.
 pub type Extensions = SequenceOf<Extension>;
 
@@ -46,44 +164,4 @@ impl DefaultValue<bool> for NotCritical {
     fn make(_alloc: Global) -> Result<bool, NoMemory> {
         Ok(false)
     }
-}
-
-impl Definition for Extension {
-    type As = Sequence<(ObjectIdentifier, OrDefault<bool, NotCritical>, OctetString)>;
-
-    ghost parts = { λ x. (x.id, x.critical, x.value) };
-
-    fn from_parts(
-        value: Sequence<(ObjectIdentifier, OrDefault<bool, NotCritical>, OctetString)>,
-    ) -> Extension {
-        let Sequence((id, critical, value)) = value;
-        Extension {
-            id,
-            critical,
-            value,
-        }
-    }
-}
-
-impl<S: Source> DecodeDefinition<S> for Extension {}
-
-impl EncodeDefinition for Extension {
-    fn len_parts(&self, tag: Tag, mode: Mode) -> Result<usize, EncodeError> {
-        Sequence((ByRef(&self.id), ByRef(&self.critical), ByRef(&self.value))).encoded_len_as(
-            tag, mode,
-        )
-    }
-
-    fn write_parts<W: io::Write>(
-        &self,
-        tag: Tag,
-        mode: Mode,
-        target: &mut W,
-    ) -> Result<(), WriteError> {
-        Sequence((ByRef(&self.id), ByRef(&self.critical), ByRef(&self.value))).write_encoded_as(
-            tag, mode, target,
-        )
-    }
-
-    ghost made = { λ v. (record { id = v.0; critical = v.1; value = v.2 }, refl) };
 }

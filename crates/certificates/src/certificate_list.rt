@@ -1,23 +1,23 @@
-//! Certificates.
+//! Lists of certificates that are revoked.
 ghost use Rattle.std.specs.Prelude.{refl};
 
-use crate::{AlgorithmIdentifier, TbsCertificate};
+use crate::{AlgorithmIdentifier, TbsCertList};
 use asn1::{ByRef, DecodeDefinition, Definition, Encode, EncodeDefinition, Sequence};
 use bcder::decode::Source;
 use bcder::encode::{EncodeError, WriteError};
 use bcder::{BitString, Mode, Tag};
 use std::io;
 
-/// A certificate (RFC 5280, section 4.1).
+/// A list of certificates that are revoked: a CRL (RFC 5280, section 5.1).
 ///
-///     Certificate ::= SEQUENCE {
-///         tbsCertificate      TBSCertificate,
+///     CertificateList ::= SEQUENCE {
+///         tbsCertList         TBSCertList,
 ///         signatureAlgorithm  AlgorithmIdentifier,
 ///         signatureValue      BIT STRING }
 #[derive(Debug, Drop)]
-pub struct Certificate {
+pub struct CertificateList {
     /// What is signed.
-    pub tbs_certificate: TbsCertificate,
+    pub tbs_cert_list: TbsCertList,
 
     /// The algorithm of the signature.
     pub signature_algorithm: AlgorithmIdentifier,
@@ -26,29 +26,37 @@ pub struct Certificate {
     pub signature_value: BitString,
 }
 
-impl Definition for Certificate {
-    type As = Sequence<(TbsCertificate, AlgorithmIdentifier, BitString)>;
+impl Definition for CertificateList {
+    type As = Sequence<(TbsCertList, AlgorithmIdentifier, BitString)>;
 
-    ghost parts = { λ x. (x.tbs_certificate, x.signature_algorithm, x.signature_value) };
+    const NAME: &'static str = "CertificateList";
+
+    const PARTS: &'static [&'static str] = &[
+        "tbs_cert_list",
+        "signature_algorithm",
+        "signature_value",
+    ];
+
+    ghost parts = { λ x. (x.tbs_cert_list, x.signature_algorithm, x.signature_value) };
 
     fn from_parts(
-        value: Sequence<(TbsCertificate, AlgorithmIdentifier, BitString)>,
-    ) -> Certificate {
-        let Sequence((tbs_certificate, signature_algorithm, signature_value)) = value;
-        Certificate {
-            tbs_certificate,
+        value: Sequence<(TbsCertList, AlgorithmIdentifier, BitString)>,
+    ) -> CertificateList {
+        let Sequence((tbs_cert_list, signature_algorithm, signature_value)) = value;
+        CertificateList {
+            tbs_cert_list,
             signature_algorithm,
             signature_value,
         }
     }
 }
 
-impl<S: Source> DecodeDefinition<S> for Certificate {}
+impl<S: Source> DecodeDefinition<S> for CertificateList {}
 
-impl EncodeDefinition for Certificate {
+impl EncodeDefinition for CertificateList {
     fn len_parts(&self, tag: Tag, mode: Mode) -> Result<usize, EncodeError> {
         Sequence((
-            ByRef(&self.tbs_certificate),
+            ByRef(&self.tbs_cert_list),
             ByRef(&self.signature_algorithm),
             ByRef(&self.signature_value),
         ))
@@ -62,7 +70,7 @@ impl EncodeDefinition for Certificate {
         target: &mut W,
     ) -> Result<(), WriteError> {
         Sequence((
-            ByRef(&self.tbs_certificate),
+            ByRef(&self.tbs_cert_list),
             ByRef(&self.signature_algorithm),
             ByRef(&self.signature_value),
         ))
@@ -71,7 +79,7 @@ impl EncodeDefinition for Certificate {
 
     ghost made = { λ v. (
       record {
-        tbs_certificate = v.0;
+        tbs_cert_list = v.0;
         signature_algorithm = v.1;
         signature_value = v.2;
       },

@@ -1,14 +1,20 @@
 //! Requests for certificates.
 ghost use Rattle.std.specs.Prelude.{refl};
+ghost use Rattle.asn1.specs.Tags.{only_tagged, sequence_tagged};
+ghost use Rattle.nested.specs.Lawfully.{Lawfully, lawfully};
 
 use crate::{AlgorithmIdentifier, Name, SubjectPublicKeyInfo, Version};
 use asn1::{
-    Any, ByRef, Context, DecodeDefinition, Definition, Encode, EncodeDefinition, Implicit,
-    ObjectIdentifier, Sequence, SetOf,
+    Any, ByRef, Context, Decode, DecodeDefinition, Definition, Encode, EncodeDefinition, Implicit,
+    ObjectIdentifier, Path, Sequence, SetOf, Type,
 };
-use bcder::decode::Source;
+use bcder::decode::{Constructed, DecodeError, Source};
 use bcder::encode::{EncodeError, WriteError};
 use bcder::{BitString, Mode, Tag};
+use nested::{
+    Parts, len_parts, parts_are_one, parts_are_read_back, take_parts, trace_parts, write_parts,
+};
+use std::alloc::Global;
 use std::io;
 
 /// A request for a certificate (RFC 2986, section 4.2).
@@ -31,6 +37,14 @@ pub struct CertificationRequest {
 
 impl Definition for CertificationRequest {
     type As = Sequence<(CertificationRequestInfo, AlgorithmIdentifier, BitString)>;
+
+    const NAME: &'static str = "CertificationRequest";
+
+    const PARTS: &'static [&'static str] = &[
+        "certification_request_info",
+        "signature_algorithm",
+        "signature",
+    ];
 
     ghost parts = { λ x. (x.certification_request_info, x.signature_algorithm, x.signature) };
 
@@ -108,20 +122,24 @@ pub struct CertificationRequestInfo {
     pub attributes: Implicit<Context<0>, SetOf<Attribute>>,
 }
 
-/// The fields of a [`CertificationRequestInfo`], in their order.
-type Fields = (
-    Version,
-    Name,
-    SubjectPublicKeyInfo,
-    Implicit<Context<0>, SetOf<Attribute>>,
-);
+/// What defines [`CertificationRequestInfo`].
+type CertificationRequestInfoParts = Sequence<
+    (
+        Version,
+        Name,
+        SubjectPublicKeyInfo,
+        Implicit<Context<0>, SetOf<Attribute>>,
+    ),
+>;
 
-impl Definition for CertificationRequestInfo {
-    type As = Sequence<Fields>;
+impl Parts for CertificationRequestInfo {
+    type As = CertificationRequestInfoParts;
+
+    const PARTS: &'static [&'static str] = &["version", "subject", "subject_pk_info", "attributes"];
 
     ghost parts = { λ x. (x.version, x.subject, x.subject_pk_info, x.attributes) };
 
-    fn from_parts(value: Sequence<Fields>) -> CertificationRequestInfo {
+    fn from_parts(value: CertificationRequestInfoParts) -> CertificationRequestInfo {
         let Sequence((version, subject, subject_pk_info, attributes)) = value;
         CertificationRequestInfo {
             version,
@@ -129,35 +147,6 @@ impl Definition for CertificationRequestInfo {
             subject_pk_info,
             attributes,
         }
-    }
-}
-
-impl<S: Source> DecodeDefinition<S> for CertificationRequestInfo {}
-
-impl EncodeDefinition for CertificationRequestInfo {
-    fn len_parts(&self, tag: Tag, mode: Mode) -> Result<usize, EncodeError> {
-        Sequence((
-            ByRef(&self.version),
-            ByRef(&self.subject),
-            ByRef(&self.subject_pk_info),
-            ByRef(&self.attributes),
-        ))
-        .encoded_len_as(tag, mode)
-    }
-
-    fn write_parts<W: io::Write>(
-        &self,
-        tag: Tag,
-        mode: Mode,
-        target: &mut W,
-    ) -> Result<(), WriteError> {
-        Sequence((
-            ByRef(&self.version),
-            ByRef(&self.subject),
-            ByRef(&self.subject_pk_info),
-            ByRef(&self.attributes),
-        ))
-        .write_encoded_as(tag, mode, target)
     }
 
     ghost made = { λ v. (
@@ -169,6 +158,109 @@ impl EncodeDefinition for CertificationRequestInfo {
       },
       refl,
     ) };
+}
+
+impl Type for CertificationRequestInfo {
+    ghost TAG = { ⟦<CertificationRequestInfoParts as Type>⟧.TAG };
+
+    fn tag() -> Tag {
+        <CertificationRequestInfoParts>::tag()
+    }
+
+    fn name() -> &'static str {
+        "CertificationRequestInfo"
+    }
+
+    ghost tags = { ⟦<CertificationRequestInfoParts as Type>⟧.tags };
+
+    ghost Key = { ⟦<CertificationRequestInfoParts as Type>⟧.Key };
+
+    ghost key = { λ x. ⟦<CertificationRequestInfoParts as Type>⟧.key
+        (⟦<CertificationRequestInfo as Parts>⟧.parts x) };
+
+    ghost means = { λ mode t x. ⟦<CertificationRequestInfoParts as Type>⟧.means mode t
+        (⟦<CertificationRequestInfo as Parts>⟧.parts x) };
+
+    ghost keeps_all = { ⟦<CertificationRequestInfoParts as Type>⟧.keeps_all };
+
+    fn values_are_one() {
+        parts_are_one::<CertificationRequestInfo>();
+    }
+
+    ghost tagged = { refl };
+
+    ghost value_tags = { only_tagged sequence_tagged };
+}
+
+impl<S: Source> Decode<S> for CertificationRequestInfo {
+    fn take_opt_if(
+        alloc: Global,
+        cons: &mut Constructed<'_, S>,
+        tag: Tag,
+    ) -> Result<Option<CertificationRequestInfo>, DecodeError<S::Error>> {
+        take_parts(alloc, cons, tag)
+    }
+
+    fn trace_opt_if(
+        alloc: Global,
+        cons: &mut Constructed<'_, S>,
+        tag: Tag,
+        path: &mut Path,
+    ) -> Result<Option<CertificationRequestInfo>, DecodeError<S::Error>> {
+        trace_parts(alloc, cons, tag, path)
+    }
+}
+
+impl Encode for CertificationRequestInfo {
+    ghost writes = { λ tag x mode. Lawfully mode
+        (⟦<CertificationRequestInfoParts as Encode>⟧.writes tag
+        (⟦<CertificationRequestInfo as Parts>⟧.parts x) mode) };
+
+    ghost may_lack = { λ x mode. ⟦<CertificationRequestInfoParts as Encode>⟧.may_lack
+        (⟦<CertificationRequestInfo as Parts>⟧.parts x) mode };
+
+    ghost is_clear = { λ x mode. ⟦<CertificationRequestInfoParts as Encode>⟧.is_clear
+        (⟦<CertificationRequestInfo as Parts>⟧.parts x) mode };
+
+    fn encoded_len_as(&self, tag: Tag, mode: Mode) -> Result<usize, EncodeError> {
+        len_parts(
+            &Sequence((
+                ByRef(&self.version),
+                ByRef(&self.subject),
+                ByRef(&self.subject_pk_info),
+                ByRef(&self.attributes),
+            )),
+            tag,
+            mode,
+        )
+    }
+
+    fn write_encoded_as<W: io::Write>(
+        &self,
+        tag: Tag,
+        mode: Mode,
+        target: &mut W,
+    ) -> Result<(), WriteError> {
+        write_parts(
+            &Sequence((
+                ByRef(&self.version),
+                ByRef(&self.subject),
+                ByRef(&self.subject_pk_info),
+                ByRef(&self.attributes),
+            )),
+            tag,
+            mode,
+            target,
+        )
+    }
+
+    fn is_read_back(tag: Tag, mode: Mode) {
+        parts_are_read_back::<CertificationRequestInfo>(tag, mode);
+    }
+
+    ghost lawful = { λ tag x mode. lawfully mode
+        (⟦<CertificationRequestInfoParts as Encode>⟧.writes tag
+        (⟦<CertificationRequestInfo as Parts>⟧.parts x) mode) };
 }
 
 /// What is said of the subject besides (RFC 2986, section 4.1).
@@ -189,6 +281,10 @@ pub struct Attribute {
 
 impl Definition for Attribute {
     type As = Sequence<(ObjectIdentifier, SetOf<Any>)>;
+
+    const NAME: &'static str = "Attribute";
+
+    const PARTS: &'static [&'static str] = &["attribute_type", "values"];
 
     ghost parts = { λ x. (x.attribute_type, x.values) };
 
