@@ -3,13 +3,11 @@ ghost use Rattle.std.specs.Prelude.{refl};
 ghost use Rattle.asn1.specs.Tags.{only_tagged, sequence_tagged};
 ghost use Rattle.nested.specs.Lawfully.{Lawfully, lawfully};
 
-use asn1::{Any, ByRef, Decode, Encode, ObjectIdentifier, Path, Sequence, Type};
+use asn1::{Any, ByRef, Decode, Encode, ObjectIdentifier, Sequence, Trace, Type};
 use bcder::decode::{Constructed, DecodeError, Source};
 use bcder::encode::{EncodeError, WriteError};
 use bcder::{BitString, Mode, Tag};
-use nested::{
-    Parts, len_parts, parts_are_one, parts_are_read_back, take_parts, trace_parts, write_parts,
-};
+use nested::{Parts, len_parts, parts_are_one, parts_are_read_back, take_parts, write_parts};
 use std::alloc::Global;
 use std::io;
 
@@ -81,21 +79,13 @@ impl Type for AlgorithmIdentifier {
 }
 
 impl<S: Source> Decode<S> for AlgorithmIdentifier {
-    fn take_opt_if(
+    fn trace_opt_if<P: Trace>(
         alloc: Global,
         cons: &mut Constructed<'_, S>,
         tag: Tag,
+        path: &mut P,
     ) -> Result<Option<AlgorithmIdentifier>, DecodeError<S::Error>> {
-        take_parts(alloc, cons, tag)
-    }
-
-    fn trace_opt_if(
-        alloc: Global,
-        cons: &mut Constructed<'_, S>,
-        tag: Tag,
-        path: &mut Path,
-    ) -> Result<Option<AlgorithmIdentifier>, DecodeError<S::Error>> {
-        trace_parts(alloc, cons, tag, path)
+        take_parts(alloc, cons, tag, path)
     }
 }
 
@@ -207,21 +197,13 @@ impl Type for SubjectPublicKeyInfo {
 }
 
 impl<S: Source> Decode<S> for SubjectPublicKeyInfo {
-    fn take_opt_if(
+    fn trace_opt_if<P: Trace>(
         alloc: Global,
         cons: &mut Constructed<'_, S>,
         tag: Tag,
+        path: &mut P,
     ) -> Result<Option<SubjectPublicKeyInfo>, DecodeError<S::Error>> {
-        take_parts(alloc, cons, tag)
-    }
-
-    fn trace_opt_if(
-        alloc: Global,
-        cons: &mut Constructed<'_, S>,
-        tag: Tag,
-        path: &mut Path,
-    ) -> Result<Option<SubjectPublicKeyInfo>, DecodeError<S::Error>> {
-        trace_parts(alloc, cons, tag, path)
+        take_parts(alloc, cons, tag, path)
     }
 }
 

@@ -6,14 +6,12 @@ ghost use Rattle.nested.specs.Lawfully.{Lawfully, lawfully};
 use crate::{AlgorithmIdentifier, Name, SubjectPublicKeyInfo, Version};
 use asn1::{
     Any, ByRef, Context, Decode, DecodeDefinition, Definition, Encode, EncodeDefinition, Implicit,
-    ObjectIdentifier, Path, Sequence, SetOf, Type,
+    ObjectIdentifier, Sequence, SetOf, Trace, Type,
 };
 use bcder::decode::{Constructed, DecodeError, Source};
 use bcder::encode::{EncodeError, WriteError};
 use bcder::{BitString, Mode, Tag};
-use nested::{
-    Parts, len_parts, parts_are_one, parts_are_read_back, take_parts, trace_parts, write_parts,
-};
+use nested::{Parts, len_parts, parts_are_one, parts_are_read_back, take_parts, write_parts};
 use std::alloc::Global;
 use std::io;
 
@@ -193,21 +191,13 @@ impl Type for CertificationRequestInfo {
 }
 
 impl<S: Source> Decode<S> for CertificationRequestInfo {
-    fn take_opt_if(
+    fn trace_opt_if<P: Trace>(
         alloc: Global,
         cons: &mut Constructed<'_, S>,
         tag: Tag,
+        path: &mut P,
     ) -> Result<Option<CertificationRequestInfo>, DecodeError<S::Error>> {
-        take_parts(alloc, cons, tag)
-    }
-
-    fn trace_opt_if(
-        alloc: Global,
-        cons: &mut Constructed<'_, S>,
-        tag: Tag,
-        path: &mut Path,
-    ) -> Result<Option<CertificationRequestInfo>, DecodeError<S::Error>> {
-        trace_parts(alloc, cons, tag, path)
+        take_parts(alloc, cons, tag, path)
     }
 }
 

@@ -5,14 +5,12 @@ ghost use Rattle.nested.specs.Lawfully.{Lawfully, lawfully};
 
 use asn1::{
     Any, ByRef, Decode, DecodeDefinition, Definition, Encode, EncodeDefinition, ObjectIdentifier,
-    Path, Sequence, SequenceOf, SetOf, Type,
+    Sequence, SequenceOf, SetOf, Trace, Type,
 };
 use bcder::decode::{Constructed, DecodeError, Source};
 use bcder::encode::{EncodeError, WriteError};
 use bcder::{Mode, Tag};
-use nested::{
-    Parts, len_parts, parts_are_one, parts_are_read_back, take_parts, trace_parts, write_parts,
-};
+use nested::{Parts, len_parts, parts_are_one, parts_are_read_back, take_parts, write_parts};
 use std::alloc::Global;
 use std::io;
 
@@ -80,21 +78,13 @@ impl Type for Name {
 }
 
 impl<S: Source> Decode<S> for Name {
-    fn take_opt_if(
+    fn trace_opt_if<P: Trace>(
         alloc: Global,
         cons: &mut Constructed<'_, S>,
         tag: Tag,
+        path: &mut P,
     ) -> Result<Option<Name>, DecodeError<S::Error>> {
-        take_parts(alloc, cons, tag)
-    }
-
-    fn trace_opt_if(
-        alloc: Global,
-        cons: &mut Constructed<'_, S>,
-        tag: Tag,
-        path: &mut Path,
-    ) -> Result<Option<Name>, DecodeError<S::Error>> {
-        trace_parts(alloc, cons, tag, path)
+        take_parts(alloc, cons, tag, path)
     }
 }
 

@@ -4,14 +4,12 @@ ghost use Rattle.asn1.specs.Tags.{only_tagged, sequence_tagged};
 ghost use Rattle.nested.specs.Lawfully.{Lawfully, lawfully};
 
 use crate::{AlgorithmIdentifier, Name, Time, Version};
-use asn1::{ByRef, Context, Decode, Encode, Explicit, Path, Sequence, SequenceOf, Type};
+use asn1::{ByRef, Context, Decode, Encode, Explicit, Sequence, SequenceOf, Trace, Type};
 use bcder::decode::{Constructed, DecodeError, Source};
 use bcder::encode::{EncodeError, WriteError};
 use bcder::{Integer, Mode, Tag};
 use extensions::Extensions;
-use nested::{
-    Parts, len_parts, parts_are_one, parts_are_read_back, take_parts, trace_parts, write_parts,
-};
+use nested::{Parts, len_parts, parts_are_one, parts_are_read_back, take_parts, write_parts};
 use std::alloc::Global;
 use std::io;
 
@@ -155,21 +153,13 @@ impl Type for TbsCertList {
 }
 
 impl<S: Source> Decode<S> for TbsCertList {
-    fn take_opt_if(
+    fn trace_opt_if<P: Trace>(
         alloc: Global,
         cons: &mut Constructed<'_, S>,
         tag: Tag,
+        path: &mut P,
     ) -> Result<Option<TbsCertList>, DecodeError<S::Error>> {
-        take_parts(alloc, cons, tag)
-    }
-
-    fn trace_opt_if(
-        alloc: Global,
-        cons: &mut Constructed<'_, S>,
-        tag: Tag,
-        path: &mut Path,
-    ) -> Result<Option<TbsCertList>, DecodeError<S::Error>> {
-        trace_parts(alloc, cons, tag, path)
+        take_parts(alloc, cons, tag, path)
     }
 }
 
@@ -313,21 +303,13 @@ impl Type for RevokedCertificate {
 }
 
 impl<S: Source> Decode<S> for RevokedCertificate {
-    fn take_opt_if(
+    fn trace_opt_if<P: Trace>(
         alloc: Global,
         cons: &mut Constructed<'_, S>,
         tag: Tag,
+        path: &mut P,
     ) -> Result<Option<RevokedCertificate>, DecodeError<S::Error>> {
-        take_parts(alloc, cons, tag)
-    }
-
-    fn trace_opt_if(
-        alloc: Global,
-        cons: &mut Constructed<'_, S>,
-        tag: Tag,
-        path: &mut Path,
-    ) -> Result<Option<RevokedCertificate>, DecodeError<S::Error>> {
-        trace_parts(alloc, cons, tag, path)
+        take_parts(alloc, cons, tag, path)
     }
 }
 

@@ -5,16 +5,14 @@ ghost use Rattle.nested.specs.Lawfully.{Lawfully, lawfully};
 
 use crate::{AlgorithmIdentifier, Name, SubjectPublicKeyInfo, Validity};
 use asn1::{
-    ByRef, Context, Decode, DefaultValue, Encode, Explicit, Implicit, OrDefault, Path, Sequence,
+    ByRef, Context, Decode, DefaultValue, Encode, Explicit, Implicit, OrDefault, Sequence, Trace,
     Type,
 };
 use bcder::decode::{Constructed, DecodeError, Source};
 use bcder::encode::{EncodeError, WriteError};
 use bcder::{BitString, Integer, Mode, NoMemory, Tag};
 use extensions::Extensions;
-use nested::{
-    Parts, len_parts, parts_are_one, parts_are_read_back, take_parts, trace_parts, write_parts,
-};
+use nested::{Parts, len_parts, parts_are_one, parts_are_read_back, take_parts, write_parts};
 use std::alloc::Global;
 use std::io;
 
@@ -217,21 +215,13 @@ impl Type for TbsCertificate {
 }
 
 impl<S: Source> Decode<S> for TbsCertificate {
-    fn take_opt_if(
+    fn trace_opt_if<P: Trace>(
         alloc: Global,
         cons: &mut Constructed<'_, S>,
         tag: Tag,
+        path: &mut P,
     ) -> Result<Option<TbsCertificate>, DecodeError<S::Error>> {
-        take_parts(alloc, cons, tag)
-    }
-
-    fn trace_opt_if(
-        alloc: Global,
-        cons: &mut Constructed<'_, S>,
-        tag: Tag,
-        path: &mut Path,
-    ) -> Result<Option<TbsCertificate>, DecodeError<S::Error>> {
-        trace_parts(alloc, cons, tag, path)
+        take_parts(alloc, cons, tag, path)
     }
 }
 

@@ -7,14 +7,12 @@ ghost use Rattle.nested.specs.Lawfully.{Lawfully, lawfully};
 use crate::time::{GeneralizedTime, UtcTime};
 use asn1::{
     ByRef, Choice2, Decode, DecodeDefinition, Definition, Encode, EncodeDefinition, EncodeFields,
-    Leaf, Path, Sequence, Type,
+    Leaf, Sequence, Trace, Type,
 };
 use bcder::decode::{Constructed, DecodeError, Source};
 use bcder::encode::{EncodeError, WriteError};
 use bcder::{Mode, Tag};
-use nested::{
-    Parts, len_parts, parts_are_one, parts_are_read_back, take_parts, trace_parts, write_parts,
-};
+use nested::{Parts, len_parts, parts_are_one, parts_are_read_back, take_parts, write_parts};
 use std::alloc::Global;
 use std::io;
 
@@ -86,21 +84,13 @@ impl Type for Validity {
 }
 
 impl<S: Source> Decode<S> for Validity {
-    fn take_opt_if(
+    fn trace_opt_if<P: Trace>(
         alloc: Global,
         cons: &mut Constructed<'_, S>,
         tag: Tag,
+        path: &mut P,
     ) -> Result<Option<Validity>, DecodeError<S::Error>> {
-        take_parts(alloc, cons, tag)
-    }
-
-    fn trace_opt_if(
-        alloc: Global,
-        cons: &mut Constructed<'_, S>,
-        tag: Tag,
-        path: &mut Path,
-    ) -> Result<Option<Validity>, DecodeError<S::Error>> {
-        trace_parts(alloc, cons, tag, path)
+        take_parts(alloc, cons, tag, path)
     }
 }
 

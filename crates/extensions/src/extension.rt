@@ -4,15 +4,13 @@ ghost use Rattle.asn1.specs.Tags.{only_tagged, sequence_tagged};
 ghost use Rattle.nested.specs.Lawfully.{Lawfully, lawfully};
 
 use asn1::{
-    ByRef, Decode, DefaultValue, Encode, ObjectIdentifier, OrDefault, Path, Sequence, SequenceOf,
+    ByRef, Decode, DefaultValue, Encode, ObjectIdentifier, OrDefault, Sequence, SequenceOf, Trace,
     Type,
 };
 use bcder::decode::{Constructed, DecodeError, Source};
 use bcder::encode::{EncodeError, WriteError};
 use bcder::{Mode, NoMemory, OctetString, Tag};
-use nested::{
-    Parts, len_parts, parts_are_one, parts_are_read_back, take_parts, trace_parts, write_parts,
-};
+use nested::{Parts, len_parts, parts_are_one, parts_are_read_back, take_parts, write_parts};
 use std::alloc::Global;
 use std::io;
 
@@ -89,21 +87,13 @@ impl Type for Extension {
 }
 
 impl<S: Source> Decode<S> for Extension {
-    fn take_opt_if(
+    fn trace_opt_if<P: Trace>(
         alloc: Global,
         cons: &mut Constructed<'_, S>,
         tag: Tag,
+        path: &mut P,
     ) -> Result<Option<Extension>, DecodeError<S::Error>> {
-        take_parts(alloc, cons, tag)
-    }
-
-    fn trace_opt_if(
-        alloc: Global,
-        cons: &mut Constructed<'_, S>,
-        tag: Tag,
-        path: &mut Path,
-    ) -> Result<Option<Extension>, DecodeError<S::Error>> {
-        trace_parts(alloc, cons, tag, path)
+        take_parts(alloc, cons, tag, path)
     }
 }
 

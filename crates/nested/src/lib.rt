@@ -6,5 +6,5 @@ mod reading;
 mod writing;
 
 pub use parts::Parts;
-pub use reading::{parts_are_one, take_parts, trace_parts};
+pub use reading::{parts_are_one, take_parts};
 pub use writing::{len_parts, parts_are_read_back, write_parts};

@@ -7,22 +7,22 @@ ghost use Rattle.asn1.specs.Types.{TookNextTyped};
 ghost use Rattle.asn1.specs.Keys.{MeansOne, IsMeantOnce};
 
 use crate::Parts;
-use asn1::{Decode, DecodeDefinition, Definition, Path, Type};
+use asn1::{Decode, Trace, Type};
 use bcder::Tag;
 use bcder::decode::{Constructed, DecodeError, Source};
 use std::alloc::Global;
-use std::marker::Model;
 
-/// Takes the next value if it has this tag, as its parts.
+/// Takes the next value if it has this tag, as its parts. Their names are those in errors.
 ///
 /// # Errors
 ///
-/// Those of [`Decode::take_opt_if`].
+/// Those of [`Decode::trace_opt_if`].
 #[inline(always)]
-pub fn take_parts<P: Parts, S: Source>(
+pub fn take_parts<P: Parts, S: Source, T: Trace>(
     alloc: Global,
     cons: &mut Constructed<'_, S>,
     tag: Tag,
+    path: &mut T,
 ) -> Result<Option<P>, DecodeError<S::Error>>
 where
     P::As: Type + Decode<S>,
@@ -30,66 +30,13 @@ where
     ensures took { TookNextTyped S.stream cons (P.As.tags tag)
         (λ mode t x. P.As.means mode t (P.parts x)) result }
 {
-    match <P::As>::take_opt_if(alloc, cons, tag) {
+    match <P::As>::trace_opt_if(alloc, cons, tag, path) {
         Ok(Some(parts)) => Ok(Some(P::from_parts(parts))),
         Ok(None) => Ok(None),
-        Err(error) => Err(error),
-    }
-}
-
-/// A value whose parts have names.
-#[derive(Drop)]
-struct Named<P>(P);
-
-impl<P> Model for Named<P> {
-    ghost Value = { P };
-
-    ghost view = { λ x. x.0 };
-
-    ghost inverse = { λ v. record { 0 = v } };
-}
-
-impl<P: Parts> Definition for Named<P>
-where
-    P::As: Type,
-{
-    type As = P::As;
-
-    const PARTS: &'static [&'static str] = P::PARTS;
-
-    ghost parts = { λ x. P.parts x };
-
-    fn from_parts(value: P::As) -> Named<P> {
-        Named(P::from_parts(value))
-    }
-}
-
-impl<S: Source, P: Parts> DecodeDefinition<S> for Named<P>
-where
-    P::As: Type + Decode<S>,
-{}
-
-/// Does what [`take_parts`] does, and notes in which part of the value something was refused.
-///
-/// # Errors
-///
-/// Those of [`Decode::take_opt_if`].
-pub fn trace_parts<P: Parts, S: Source>(
-    alloc: Global,
-    cons: &mut Constructed<'_, S>,
-    tag: Tag,
-    path: &mut Path,
-) -> Result<Option<P>, DecodeError<S::Error>>
-where
-    P::As: Type + Decode<S>,
-    ensures moves { Moved S.stream cons }
-    ensures took { TookNextTyped S.stream cons (P.As.tags tag)
-        (λ mode t x. P.As.means mode t (P.parts x)) result }
-{
-    match <Named<P>>::trace_opt_if(alloc, cons, tag, path) {
-        Ok(Some(value)) => Ok(Some(value.0)),
-        Ok(None) => Ok(None),
-        Err(error) => Err(error),
+        Err(error) => {
+            path.name_part(P::PARTS);
+            Err(error)
+        }
     }
 }
 
