@@ -199,9 +199,9 @@ type Lent<'a> = Sequence<(OctetStringRef<&'a [u8]>, Utf8StringRef<&'a [u8]>)>;
 
 /// In DER, what is encoded of lent octets is decoded as them, and as no others.
 fn lent_octets_are_decoded(x: &Lent<'_>)
-    ensures { IsDecodedBack Der (⟦<Lent<'_> as Type>⟧.tags ⟦<Lent<'_> as Type>⟧.TAG)
-        (⟦<Lent<'_> as Type>⟧.means Der) ⟦<Lent<'_> as Type>⟧.key
-        (⟦<Lent<'_> as Encode>⟧.writes ⟦<Lent<'_> as Type>⟧.TAG x.now Der) x.now }
+    ensures { IsDecodedBack Der (⟦<Lent<'static> as Type>⟧.tags ⟦<Lent<'static> as Type>⟧.TAG)
+        (⟦<Lent<'static> as Type>⟧.means Der) ⟦<Lent<'static> as Type>⟧.key
+        (⟦<Lent<'static> as Encode>⟧.writes ⟦<Lent<'static> as Type>⟧.TAG x.now Der) x.now }
 {
     each_value_is_decoded(x, Mode::Der);
 }
