@@ -2,9 +2,10 @@
  *
  * Every function stores its result where it returns BCDER_OK. bcder_value, bcder_check and
  * bcder_check_within store what was passed in every case but BCDER_UNKNOWN_RULES; all others store
- * nothing unless they return BCDER_OK, or store `size` alone where they return BCDER_TOO_SMALL. No octet outside (data, len) is read and each call ends. Nothing is
- * kept between calls, so any number of threads may call. NULL with length 0 is no octets; no other
- * pointer may be NULL. Where a result is stored must not overlap the octets. docs/C.md says more. */
+ * nothing unless they return BCDER_OK, or `size` alone with BCDER_TOO_SMALL. No octet outside (data, len)
+ * is read and each call ends. Nothing is kept between calls, so any number of threads may call. NULL with
+ * length 0 is no octets; no other pointer may be NULL. Where a result is stored must not overlap the
+ * octets. docs/C.md says more. */
 #ifndef BCDER_H
 #define BCDER_H
 #include <stdbool.h>
@@ -115,13 +116,13 @@ uint8_t bcder_numeric(const uint8_t *data, size_t len);                   /* Num
 uint8_t bcder_printable(const uint8_t *data, size_t len);                 /* PrintableString */
 uint8_t bcder_ia5(const uint8_t *data, size_t len);                       /* IA5String */
 
-/* The octets of an OCTET STRING, or of a type that is encoded as one: of its contents octets, or, if the
- * value is constructed, of the segments that they are. They are never more than `len`. ABSENT: the rules
- * allow no such string. Memory, by malloc, only for segments that are constructed.
+/* The octets of an OCTET STRING, or of a type that is encoded as one: its contents octets, or, if the value
+ * is constructed, those of the segments in them. They are never more than `len`. ABSENT: the rules allow no
+ * such string. Memory, by malloc, only for segments that are constructed.
  *
- * This, bcder_magnitude and bcder_oid_text store octets at `out`, which has room for `room` of them and must not overlap
- * `data`; with no room it may be NULL. `size` is their number. TOO_SMALL: there is no room for all of
- * them, `size` says how much is needed, and `out` is as it was. */
+ * bcder_string, bcder_magnitude and bcder_oid_text store octets at `out`, which has room for `room` of them;
+ * with no room it may be NULL. `size` is their number. TOO_SMALL: there is no room for all of them, `size`
+ * says how much is needed, and `out` is as it was. */
 uint8_t bcder_string(uint8_t rules, bool constructed, const uint8_t *data, size_t len, uint8_t *out, size_t room,
                      size_t *size);
 

@@ -10,7 +10,7 @@ loop-rest-init c = full_starts _ _ c.requires
 
 pub loop-rest-smaller : goal.loop-rest-smaller
 loop-rest-smaller c =
-    let some : 0 < length c.loop-rest.rest.now = search rules in
+    let some : 0 < length c.loop-rest.rest.now = search (rules, c.is_empty.ensures, c.loop-rest-test.ensures) in
     full_smaller _ _ _ _ _ _ _ c.loop-rest.invariant some _ _ c.in-Some.ensures.passed
 
 pub returns-then-not-may_follow : goal.returns-then-not-may_follow
@@ -23,7 +23,7 @@ returns-then-not-may_follow c =
 
 pub loop-rest-preserved : goal.loop-rest-preserved
 loop-rest-preserved c =
-    let some : 0 < length c.loop-rest.rest.now = search rules in
+    let some : 0 < length c.loop-rest.rest.now = search (rules, c.is_empty.ensures, c.loop-rest-test.ensures) in
     let q : PassesPiece Cer c.loop-rest.rest.now (Some c.in-Some-segment.segment.now) c.in-Some.piece.rest.now =
     subst (λ s. PassesPiece Cer c.loop-rest.rest.now s c.in-Some.piece.rest.now) (ap (option_map (λ s. s.now)) c.in-Some-segment.is)
     c.in-Some.ensures.passed in
@@ -41,7 +41,7 @@ returns-in-None-segment c =
 
 pub returns-in-None : goal.returns-in-None
 returns-in-None c =
-    let some : 0 < length c.loop-rest.rest.now = search rules in
+    let some : 0 < length c.loop-rest.rest.now = search (rules, c.is_empty.ensures, c.loop-rest-test.ensures) in
     full_none _ _ _ _ _ _ _ c.loop-rest.invariant some c.in-None.ensures.none
 
 pub returns-then-count-lt2 : goal.returns-then-count-lt2
