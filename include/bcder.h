@@ -91,7 +91,7 @@ uint8_t bcder_check_within(uint8_t rules, const uint8_t *data, size_t len, size_
  * to the walk until its end, as `walk` does; with no room it may be NULL. FINISHED: all octets were
  * passed, and are values. ABSENT, BEYOND, ENDED: at `walk->at` no value begins, as bcder_check says,
  * and none ends, so they are no values. TOO_DEEP: a constructed value begins, and the stack has no room
- * for it. MISUSED: exactly if no walk gives `walk`, `room` and the number of the innermost open value.
+ * for it. MISUSED: exactly if `walk`, `room` and the innermost number of `stack` stand for no open values.
  * Except for OK, nothing is changed. No memory is allocated. */
 uint8_t bcder_next(uint8_t rules, const uint8_t *data, size_t len, size_t *stack, size_t room,
                    bcder_walk_t *walk, bcder_event_t *event);

@@ -1,4 +1,4 @@
--- The states that a call takes for those of a walk: they are those that stand for open values with some numbers kept.
+-- The states that a call takes: those that stand for open values, with some other numbers kept.
 use Rattle.std.proofs.Common.{◌≡◌, ℕ, zero, suc, ◌+◌, ◌-◌, ◌<◌, ◌≤◌, true, false, List, [], ◌∷◌, ◌++◌, length, drop, reverse, get_or}
 use Rattle.std.proofs.Common.{slice_range, replicate, Some, None, refl, sym, ap, subst, ◌∙◌, arith}
 use Rattle.std.specs.Prelude.{nat_eq}
@@ -7,7 +7,7 @@ use Rattle.std.proofs.lemmas.List.{length-append, length-drop, length-replicate,
 use Rattle.bcder.specs.declared.mode.Mode.{Mode}
 use Rattle.bcder_c.specs.declared.next.Walk.{Walk}
 use Rattle.bcder_c.specs.Open.{Open}
-use Rattle.bcder_c.specs.Next.{no_offset, kept, AreKept, IsOfNoWalk, around, EndsInside, MayStand}
+use Rattle.bcder_c.specs.Next.{no_offset, kept, AreKept, StandsForNone, around, EndsInside, MayStand}
 use Rattle.bcder_c.proofs.Stepping.{popped, may_stand}
 
 is_none : (n : ℕ) → nat_eq n no_offset ≡ true → n ≡ no_offset
@@ -42,7 +42,7 @@ head_is a b v w e = ap (λ l. get_or l 0 0) e
 
 -- the numbers that a call reads, with others that are kept for such values
 module _ (w stack : List ℕ) (walk : Walk) (small : length w < no_offset) (m : MayStand w stack walk) where
-  none_open : walk.depth ≡ 0 → IsOfNoWalk w stack walk → ⊥
+  none_open : walk.depth ≡ 0 → StandsForNone w stack walk → ⊥
   none_open z none =
       none stack [] (slice_range w walk.at walk.end) (record { room = refl; innermost = λ l. refl }) (record {
         room = m.room;
@@ -51,7 +51,7 @@ module _ (w stack : List ℕ) (walk : Walk) (small : length w < no_offset) (m : 
         rest = refl;
       })
 
-  some_open : (k : ℕ) → walk.depth ≡ suc k → IsOfNoWalk w stack walk → ⊥
+  some_open : (k : ℕ) → walk.depth ≡ suc k → StandsForNone w stack walk → ⊥
   some_open k d none =
       let last : walk.depth - 1 ≡ k = omega (arith, d) in
       let n = get_or stack k 0 in
@@ -74,8 +74,8 @@ module _ (w stack : List ℕ) (walk : Walk) (small : length w < no_offset) (m : 
         rest = refl;
       })
 
-  pub may_walk : IsOfNoWalk w stack walk → ⊥
-  may_walk none = by_depth walk.depth refl
+  pub stands_for_some : StandsForNone w stack walk → ⊥
+  stands_for_some none = by_depth walk.depth refl
     where
       by_depth : (d : ℕ) → walk.depth ≡ d → ⊥
       by_depth zero e = none_open e none
@@ -83,9 +83,9 @@ module _ (w stack : List ℕ) (walk : Walk) (small : length w < no_offset) (m : 
 
 -- ---- the other way round
 
--- a state that a call doesn't take for one of a walk is none, whatever the numbers are that it doesn't read
-pub no_walk : (mode : Mode) (w stack : List ℕ) (walk : Walk) → (MayStand w stack walk → ⊥) → IsOfNoWalk w stack walk
-no_walk mode w stack walk none other os x same s =
+-- a state that a call refuses stands for none, whatever the numbers are that it doesn't read
+pub stands_for_none : (mode : Mode) (w stack : List ℕ) (walk : Walk) → (MayStand w stack walk → ⊥) → StandsForNone w stack walk
+stands_for_none mode w stack walk none other os x same s =
     let m = may_stand mode w other walk os x s in
     none (record {
       order = m.order;

@@ -44,9 +44,9 @@ pub record SameRead (stack other : List ℕ) (depth : ℕ) : Type 0 where
   pub room : length other ≡ length stack
   pub innermost : 0 < depth → slice_index other (depth - 1) ≡ slice_index stack (depth - 1)
 
--- no walk gives the numbers that a call reads: whatever the others are, they stand for no open values
-abbrev pub IsOfNoWalk : List ℕ → List ℕ → Walk → Type 0
-IsOfNoWalk octets stack walk = (other : List ℕ) (os : List Open) (x : List ℕ) → SameRead stack other walk.depth
+-- the numbers that a call reads stand for no open values, whatever the others are; so no walk gives them
+abbrev pub StandsForNone : List ℕ → List ℕ → Walk → Type 0
+StandsForNone octets stack walk = (other : List ℕ) (os : List Open) (x : List ℕ) → SameRead stack other walk.depth
     → StandsFor octets other walk os x → ⊥
 
 -- where the octets around the innermost open value end, if this number is kept for it

@@ -4,7 +4,7 @@ ghost use Rattle.std.specs.Prelude.{ℕ, List, [], IsTrue, IsFalse};
 ghost use Rattle.bcder.specs.declared.mode.Mode.{Mode as ModeValue};
 ghost use Rattle.bcder.specs.x690.Preorder.{Heading as HeadingMet};
 ghost use Rattle.bcder_c.specs.Next.{Advanced, Advances, IsDue, MayStand, StandsFor};
-ghost use Rattle.bcder_c.specs.Next.{Decides, IsOfNoWalk, Walked};
+ghost use Rattle.bcder_c.specs.Next.{Decides, StandsForNone, Walked};
 ghost use Rattle.bcder_c.specs.Next.{an_end, end_told, kind_of as kind_number};
 ghost use Rattle.bcder_c.specs.Rules.{AreRules, AreUnknown};
 ghost use Rattle.bcder_c.specs.Status.{done, misused, unknown_rules};
@@ -251,7 +251,7 @@ pub extern "C" fn bcder_next(
 ) -> u8
     ensures unknown { AreUnknown rules → result ≡ unknown_rules }
     ensures misused { (mode : ModeValue) → AreRules rules mode
-        → (result ≡ misused ↔ IsOfNoWalk octets.now stack.old walk.old) }
+        → (result ≡ misused ↔ StandsForNone octets.now stack.old walk.old) }
     ensures advances { (mode : ModeValue) → AreRules rules mode
         → (os : _) (x : _) → StandsFor octets.now stack.old walk.old os x
         → Advances mode octets.now os x stack.old stack.new

@@ -1,7 +1,7 @@
 use Rattle.std.proofs.Common.{◌<◌, length, arith, rules}
 use Rattle.bcder.specs.x690.Identifier.{AreOctets}
 use Rattle.bcder_c.specs.Next.{no_offset}
-use Rattle.bcder_c.proofs.Standing.{no_walk, may_walk}
+use Rattle.bcder_c.proofs.Standing.{stands_for_none, stands_for_some}
 use Rattle.bcder_c.proofs.WholeSteps.{starts}
 use Rattle.bcder_c.proofs.Refusing.{decided_from}
 use Rattle.bcder_c.proofs.next.bcder_next.Goals as goal
@@ -19,8 +19,8 @@ pub returns-clause-misused : goal.returns-clause-misused
 returns-clause-misused c =
     let small : length c.args.octets.now < no_offset = search rules in
     λ mode _. (
-      λ e. no_walk mode _ _ _ (c.advance.ensures.misused.0 e),
-      λ none. c.advance.ensures.misused.1 (λ stands. may_walk _ _ _ small stands none),
+      λ e. stands_for_none mode _ _ _ (c.advance.ensures.misused.0 e),
+      λ none. c.advance.ensures.misused.1 (λ stands. stands_for_some _ _ _ small stands none),
     )
 
 pub returns-clause-decides : goal.returns-clause-decides
