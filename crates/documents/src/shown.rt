@@ -81,10 +81,13 @@ impl Plain for u8 {}
 impl Show for Utf8String {
     fn show(&self, alloc: Global, text: &mut String) -> Result<(), AllocError> {
         text.push_str("'")?;
-        let mut dot = "";
+        let mut is_first = true;
         for character in self.chars() {
-            text.push_str(format!(in alloc; "{dot}{:x}", character as u32)?.as_str())?;
-            dot = ".";
+            if !is_first {
+                text.push_str(".")?;
+            }
+            text.push_str(format!(in alloc; "{:x}", character as u32)?.as_str())?;
+            is_first = false;
         }
         Ok(())
     }

@@ -1,5 +1,5 @@
 //! The types of the data.
-ghost use Rattle.std.specs.Prelude.{◌≡◌};
+ghost use Rattle.std.specs.Prelude.{◌≡◌, pos};
 
 use asn1::{
     Application, Choice2, Choice3, Context, DefaultValue, Explicit, Implicit, ObjectIdentifier,
@@ -14,7 +14,7 @@ use std::alloc::Global;
 pub struct Seven;
 
 impl DefaultValue<i32> for Seven {
-    ghost default = { 7 };
+    ghost default = { pos 7 };
 
     fn is_default(value: &i32) -> bool {
         *value == 7
