@@ -131,3 +131,10 @@ moves_value c d p t inner a v g h s e = record {
 pub moves_changed : (c d : Reading) → d.stream ≡ c.stream → d.owed ≡ c.owed → d.kind ≡ c.kind → d.name ≡ c.name → d.state ≡ c.state → d.marked ≡ true → Moves c d
 moves_changed c d s o k n e g =
     moves_still c d (ap (λ x. x.rest) s) (ap (λ x. x.kept) s) (omega (arith, ap (λ x. x.faults) s)) o k (λ x. absurd (let y : true ≡ false = sym g ∙ x in cc)) n e (λ _. g)
+
+-- nothing was taken, and content has failed
+pub moves_refused : (c d : Reading) → d.stream ≡ c.stream → d.owed ≡ c.owed → d.kind ≡ c.kind → d.mode ≡ c.mode → d.name ≡ c.name → d.marked ≡ c.marked → c.state ≢ Ended → d.state ≡ Failed → Moves c d
+moves_refused c d s o k m n g e f =
+    moves_failed c d []
+    (record { rest = ap (λ x. x.rest) (sym s); owed = rw o (Falls-refl c.owed); kept = ap (λ x. x.kept) s; faults = omega (arith, ap (λ x. x.faults) s); kind = k; mode = m; name = n })
+    (λ x. g ∙ x) e f

@@ -1,7 +1,6 @@
 -- What skipping promises of content, by what a run over the content of a value did.
-use Rattle.std.proofs.Common.{◌≡◌, ◌≢◌, inl, inr, ℕ, ◌+◌, ◌*◌, ◌≤◌, true, false, List, [], ◌∷◌, ◌++◌, length, take, Option, Some, None, Ok, Err, min, refl, sym, ap, subst, ◌∙◌, arith, append_assoc, append-nil, length-append}
+use Rattle.std.proofs.Common.{◌≡◌, ◌≢◌, inl, inr, ℕ, ◌+◌, ◌*◌, ◌≤◌, true, false, List, [], ◌∷◌, ◌++◌, length, Option, Some, None, Ok, Err, refl, sym, ap, subst, ◌∙◌, arith, append_assoc, append-nil, length-append}
 use Rattle.std.specs.Prelude.{Result, IsOk, ◌⊎◌, ◌<◌}
-use Rattle.std.proofs.Math.Nat.{min-le_right}
 use Rattle.std.proofs.lemmas.List.{append_cancel_right}
 use Rattle.bcder.specs.declared.mode.Mode.{Mode}
 use Rattle.bcder.specs.declared.decode.content.State.TheVariants.{Open, Ended, Failed}
@@ -10,19 +9,16 @@ use Rattle.bcder.specs.declared.decode.content.skip.Interrupt.TheVariants as int
 use Rattle.bcder.specs.declared.decode.error.ContentError.{ContentError}
 use Rattle.bcder.specs.declared.decode.error.DecodeError.{DecodeError}
 use Rattle.bcder.specs.calls.Cause.{Cause, cause_of, of_source, of_content, of_memory, IsOfContent}
-use Rattle.bcder.specs.x690.Identifier.{universal}
+use Rattle.bcder.specs.x690.Identifier.{universal, AreOctets}
 use Rattle.bcder.specs.x690.Tree.{Tree, primitive}
 use Rattle.bcder.specs.x690.Encoding.{IsEncoding, Header}
 use Rattle.bcder.specs.x690.Preorder.{Heading, preorder}
 use Rattle.bcder.specs.steps.Reading.{read_header, read_contents, read_list, read_tree}
-use Rattle.bcder.specs.calls.Stream.{Stream, Grew, capped, cut, past, limited}
-use Rattle.std.proofs.lemmas.Grind.{common_steps}
-use Rattle.bcder.specs.declared.length.Length.TheVariants.{Definite}
-use Rattle.bcder.specs.calls.Content.{FitsOwed, Reading, Octets, Resembles, any, Falls, Moves, Advances, Enters, EndsBefore, EndsAt, IsDone, NotAtEnd}
+use Rattle.bcder.specs.calls.Stream.{Stream, Grew, cut, past, limited}
+use Rattle.bcder.specs.calls.Content.{Reading, Octets, Resembles, any, Falls, Moves, Advances, Enters, EndsBefore, EndsAt, IsDone, NotAtEnd}
 use Rattle.bcder.specs.x690.Grammar.{IsOnly}
 use Rattle.bcder.specs.calls.Walking.{HasValue, NoValue, PassesValue, RefusesWalk, PassedBy, AnswersNext, HasValues, AllBy, Walks}
 use Rattle.bcder.specs.calls.Walking as walking
-use Rattle.bcder.specs.steps.SkipSteps.{IsPast}
 use Rattle.bcder.specs.calls.Skipping.{Steps, Called, WereCalls, SkipsValue, RefusesSkip, SkippedBy, AnswersAll, IsShallow, AnswersSkip, AnswersValue, SkippedValueBy, RefusesOne, RefusesSkipAll, FoundMemory}
 use Rattle.bcder.specs.calls.Skipping as skipping
 use Rattle.bcder.specs.steps.Stacked.{heading, interrupt_cause, PassesCalls, IsUnderWay, IsBroken, RanBy, Breaks, by_source, by_content, by_closure, by_memory}
@@ -36,7 +32,7 @@ use Rattle.bcder.proofs.Inner.{layers_eq}
 use Rattle.bcder.proofs.Moving.{moves_value, moves_failed, advances_trans, open_not_ended, open_not_failed}
 use Rattle.bcder.proofs.LimitStack.{cut_falls, past_falls, finished}
 use Rattle.bcder.proofs.Naming.{behind_header}
-use Rattle.bcder.proofs.Passing.{looked_ends, looked_open, looked_refused, looked_by}
+use Rattle.bcder.proofs.Passing.{looked_open, looked_refused, looked_by}
 use Rattle.bcder.proofs.WalkCalls.{answers_next}
 use Rattle.bcder.proofs.WalkSteps.{value_not_at_end, value_once, walks_refused}
 
@@ -190,24 +186,13 @@ module _ (c d e : Reading) (k : Header) (s t : Stream) (o p : Option ℕ) (withi
 
 -- ---- a header of two octets of a value that is here
 
-pub whole_fits : (j d : Reading) (n k : ℕ) → 2 + n ≤ k → k ≤ length j.stream.rest → Within j → Advances j d (take 2 j.stream.rest) → FitsOwed (Definite n) d.owed
-whole_fits j d n k w l wi a = go j.owed d.owed refl a.owed
-  where
-    go : (p q : Option ℕ) → j.owed ≡ p → Falls p (length (take 2 j.stream.rest)) q → FitsOwed (Definite n) q
-    go p None e f = refl
-    go None (Some m) e f = absurd (f refl)
-    go (Some i) (Some m) e f =
-        let x : length j.stream.rest ≤ i = wi.fits i e in
-        let z : length (take 2 j.stream.rest) ≤ 2 = grind (arith, common_steps) in
-        let u : i ≡ length (take 2 j.stream.rest) + m = f in
-        omega (arith, x, w, z, u, l)
-
--- behind the header of a primitive value whose octets are at hand, its contents octets are
-pub behind_at_hand : (p : Option ℕ) (a n k : ℕ) → 2 + n ≤ k → capped p a + 2 ≡ k → n ≤ a
-behind_at_hand None a n k w e = omega (arith, w, e)
-behind_at_hand (Some m) a n k w e = let z : min m a ≤ a = min-le_right m a in omega (arith, w, e, z)
-
 -- ---- the same of content of which only the header was passed
+
+-- c is the content b behind a header that was passed
+pub record IsPast (b : Reading) (h : Header) (c : Reading) : Type 0 where
+  pub enters : Enters b h c
+  pub octets : AreOctets b.stream.rest
+  pub fits : (n : ℕ) → b.owed ≡ Some n → length b.stream.rest ≤ n
 
 past_within : (c d : Reading) (k : Header) → IsPast c k d → Within c
 past_within c d k i = record { fits = i.fits; octets = i.octets }
@@ -332,27 +317,6 @@ module _ {X : Type 0} (why : X → Cause ContentError) (c d e : Reading) where
 
   pub looked_skipped : {T : Type 0} (r : Result (Option T) X) → Resembles c d → d.stream.faults ≡ c.stream.faults → PassedBy (RefusesOne why) d r e → PassedBy (RefusesOne why) c r e
   looked_skipped r s f = looked_by c d e s f (RefusesOne why) (looked_one s f) r
-
--- a call with a closure that went on from there went on from the content itself
-module _ {F X : Type 0} (why : X → Cause ContentError) (step : Steps F ContentError) (c d e : Reading) (f g : F) (s : Resembles c d) (nf : d.stream.faults ≡ c.stream.faults) where
-  looked_skip : (y : X) → RefusesSkip why step d f y g e → RefusesSkip why step c f y g e
-  looked_skip y (skipping.RefusesSkip.by_content calls called were r) = skipping.RefusesSkip.by_content calls called (looked_calls why c d e s calls were) (looked_refused why c d e s nf y r)
-  looked_skip y (skipping.RefusesSkip.by_closure calls h q x called r were j) = skipping.RefusesSkip.by_closure calls h q x called r (looked_calls why c d e s (calls ++ h ∷ []) were) j
-  looked_skip y (skipping.RefusesSkip.by_memory calls h called were b l j) = skipping.RefusesSkip.by_memory calls h called (looked_calls why c d e s (calls ++ h ∷ []) were) b l j
-
-  abbrev looked_at : PassesValue d e → PassesValue c e
-  looked_at p = record {
-    tree = p.tree;
-    value = p.value;
-    has = record { usable = sym s.state ∙ p.has.usable; encodes = subst (λ m. IsEncoding m p.tree p.value) s.mode p.has.encodes; rest = sym s.rest ∙ p.has.rest };
-    only = subst (λ m. IsOnly m p.tree p.value c.stream.rest) s.mode (subst (λ z. IsOnly d.mode p.tree p.value z) s.rest p.only);
-    stays = p.stays;
-  }
-
-  pub looked_told : {T : Type 0} (r : Result (Option T) X) → SkippedBy why step d f r g e → SkippedBy why step c f r g e
-  looked_told (Ok None) p = record { value = tt; end = looked_ends c d e.stream.rest s p.end; done = p.done; uncalled = p.uncalled; no_fault = p.no_fault ∙ nf; refused = tt; failed = tt; mode = p.mode ∙ s.mode; marked = p.marked ∙ s.marked }
-  looked_told (Ok (Some x)) p = record { value = record { passes = looked_at p.value.passes; called = p.value.called; were = looked_calls why c d e s (preorder p.value.passes.tree 0) p.value.were }; end = tt; done = tt; uncalled = tt; no_fault = p.no_fault ∙ nf; refused = tt; failed = tt; mode = p.mode ∙ s.mode; marked = p.marked ∙ s.marked }
-  looked_told (Err x) p = record { value = tt; end = tt; done = tt; uncalled = tt; no_fault = tt; refused = looked_skip x p.refused; failed = p.failed; mode = p.mode ∙ s.mode; marked = p.marked ∙ s.marked }
 
 -- where memory was found, refusals are those of a walk
 walk_of_one : {S : Type 0} (c d : Reading) (e : DecodeError S) → (cause_of e ≡ of_memory → ⊥) → RefusesOne cause_of c e d → RefusesWalk cause_of c e d

@@ -12,7 +12,6 @@ pub mod PeekTag
 pub mod Answers
 pub mod Enclosing
 pub mod Growing
-pub mod SkipSteps
 pub mod Stacked
 pub mod Buffer
 pub mod Segmenting

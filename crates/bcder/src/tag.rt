@@ -51,264 +51,149 @@ impl Model for Tag {
     ghost inverse = { λ t. record { class = class_kept t.class; number = t.number } };
 }
 
+/// A constant tag of the universal class.
+macro_rules! universal {
+    ($number:literal) => {
+        Tag { class: Class::Universal, number: $number }
+    };
+}
+
+/// A constant context-specific tag.
+macro_rules! context {
+    ($number:literal) => {
+        Tag { class: Class::ContextSpecific, number: $number }
+    };
+}
+
 impl Tag {
     /// The tag of the end-of-contents octets, which no value has (8.1.5).
-    pub const END_OF_VALUE: Tag = Tag {
-        class: Class::Universal,
-        number: 0,
-    };
+    pub const END_OF_VALUE: Tag = universal!(0);
 
     /// The universal tag of BOOLEAN.
-    pub const BOOLEAN: Tag = Tag {
-        class: Class::Universal,
-        number: 1,
-    };
+    pub const BOOLEAN: Tag = universal!(1);
 
     /// The universal tag of INTEGER.
-    pub const INTEGER: Tag = Tag {
-        class: Class::Universal,
-        number: 2,
-    };
+    pub const INTEGER: Tag = universal!(2);
 
     /// The universal tag of BIT STRING.
-    pub const BIT_STRING: Tag = Tag {
-        class: Class::Universal,
-        number: 3,
-    };
+    pub const BIT_STRING: Tag = universal!(3);
 
     /// The universal tag of OCTET STRING.
-    pub const OCTET_STRING: Tag = Tag {
-        class: Class::Universal,
-        number: 4,
-    };
+    pub const OCTET_STRING: Tag = universal!(4);
 
     /// The universal tag of NULL.
-    pub const NULL: Tag = Tag {
-        class: Class::Universal,
-        number: 5,
-    };
+    pub const NULL: Tag = universal!(5);
 
     /// The universal tag of OBJECT IDENTIFIER.
-    pub const OID: Tag = Tag {
-        class: Class::Universal,
-        number: 6,
-    };
+    pub const OID: Tag = universal!(6);
 
     /// The universal tag of ObjectDescriptor.
-    pub const OBJECT_DESCRIPTOR: Tag = Tag {
-        class: Class::Universal,
-        number: 7,
-    };
+    pub const OBJECT_DESCRIPTOR: Tag = universal!(7);
 
     /// The universal tag of EXTERNAL.
-    pub const EXTERNAL: Tag = Tag {
-        class: Class::Universal,
-        number: 8,
-    };
+    pub const EXTERNAL: Tag = universal!(8);
 
     /// The universal tag of REAL.
-    pub const REAL: Tag = Tag {
-        class: Class::Universal,
-        number: 9,
-    };
+    pub const REAL: Tag = universal!(9);
 
     /// The universal tag of ENUMERATED.
-    pub const ENUMERATED: Tag = Tag {
-        class: Class::Universal,
-        number: 10,
-    };
+    pub const ENUMERATED: Tag = universal!(10);
 
     /// The universal tag of EMBEDDED PDV.
-    pub const EMBEDDED_PDV: Tag = Tag {
-        class: Class::Universal,
-        number: 11,
-    };
+    pub const EMBEDDED_PDV: Tag = universal!(11);
 
     /// The universal tag of UTF8String.
-    pub const UTF8_STRING: Tag = Tag {
-        class: Class::Universal,
-        number: 12,
-    };
+    pub const UTF8_STRING: Tag = universal!(12);
 
     /// The universal tag of RELATIVE-OID.
-    pub const RELATIVE_OID: Tag = Tag {
-        class: Class::Universal,
-        number: 13,
-    };
+    pub const RELATIVE_OID: Tag = universal!(13);
 
     /// The universal tag of TIME.
-    pub const TIME: Tag = Tag {
-        class: Class::Universal,
-        number: 14,
-    };
+    pub const TIME: Tag = universal!(14);
 
     /// The universal tag of SEQUENCE and SEQUENCE OF.
-    pub const SEQUENCE: Tag = Tag {
-        class: Class::Universal,
-        number: 16,
-    };
+    pub const SEQUENCE: Tag = universal!(16);
 
     /// The universal tag of SET and SET OF.
-    pub const SET: Tag = Tag {
-        class: Class::Universal,
-        number: 17,
-    };
+    pub const SET: Tag = universal!(17);
 
     /// The universal tag of NumericString.
-    pub const NUMERIC_STRING: Tag = Tag {
-        class: Class::Universal,
-        number: 18,
-    };
+    pub const NUMERIC_STRING: Tag = universal!(18);
 
     /// The universal tag of PrintableString.
-    pub const PRINTABLE_STRING: Tag = Tag {
-        class: Class::Universal,
-        number: 19,
-    };
+    pub const PRINTABLE_STRING: Tag = universal!(19);
 
     /// The universal tag of TeletexString.
-    pub const TELETEX_STRING: Tag = Tag {
-        class: Class::Universal,
-        number: 20,
-    };
+    pub const TELETEX_STRING: Tag = universal!(20);
 
     /// The universal tag of VideotexString.
-    pub const VIDEOTEX_STRING: Tag = Tag {
-        class: Class::Universal,
-        number: 21,
-    };
+    pub const VIDEOTEX_STRING: Tag = universal!(21);
 
     /// The universal tag of IA5String.
-    pub const IA5_STRING: Tag = Tag {
-        class: Class::Universal,
-        number: 22,
-    };
+    pub const IA5_STRING: Tag = universal!(22);
 
     /// The universal tag of UTCTime.
-    pub const UTC_TIME: Tag = Tag {
-        class: Class::Universal,
-        number: 23,
-    };
+    pub const UTC_TIME: Tag = universal!(23);
 
     /// The universal tag of GeneralizedTime.
-    pub const GENERALIZED_TIME: Tag = Tag {
-        class: Class::Universal,
-        number: 24,
-    };
+    pub const GENERALIZED_TIME: Tag = universal!(24);
 
     /// The universal tag of GraphicString.
-    pub const GRAPHIC_STRING: Tag = Tag {
-        class: Class::Universal,
-        number: 25,
-    };
+    pub const GRAPHIC_STRING: Tag = universal!(25);
 
     /// The universal tag of VisibleString.
-    pub const VISIBLE_STRING: Tag = Tag {
-        class: Class::Universal,
-        number: 26,
-    };
+    pub const VISIBLE_STRING: Tag = universal!(26);
 
     /// The universal tag of GeneralString.
-    pub const GENERAL_STRING: Tag = Tag {
-        class: Class::Universal,
-        number: 27,
-    };
+    pub const GENERAL_STRING: Tag = universal!(27);
 
     /// The universal tag of UniversalString.
-    pub const UNIVERSAL_STRING: Tag = Tag {
-        class: Class::Universal,
-        number: 28,
-    };
+    pub const UNIVERSAL_STRING: Tag = universal!(28);
 
     /// The universal tag of CHARACTER STRING.
-    pub const CHARACTER_STRING: Tag = Tag {
-        class: Class::Universal,
-        number: 29,
-    };
+    pub const CHARACTER_STRING: Tag = universal!(29);
 
     /// The universal tag of BMPString.
-    pub const BMP_STRING: Tag = Tag {
-        class: Class::Universal,
-        number: 30,
-    };
+    pub const BMP_STRING: Tag = universal!(30);
 
     /// The universal tag of DATE.
-    pub const DATE: Tag = Tag {
-        class: Class::Universal,
-        number: 31,
-    };
+    pub const DATE: Tag = universal!(31);
 
     /// The universal tag of TIME-OF-DAY.
-    pub const TIME_OF_DAY: Tag = Tag {
-        class: Class::Universal,
-        number: 32,
-    };
+    pub const TIME_OF_DAY: Tag = universal!(32);
 
     /// The universal tag of DATE-TIME.
-    pub const DATE_TIME: Tag = Tag {
-        class: Class::Universal,
-        number: 33,
-    };
+    pub const DATE_TIME: Tag = universal!(33);
 
     /// The universal tag of DURATION.
-    pub const DURATION: Tag = Tag {
-        class: Class::Universal,
-        number: 34,
-    };
+    pub const DURATION: Tag = universal!(34);
 
     /// The universal tag of OID-IRI.
-    pub const OID_IRI: Tag = Tag {
-        class: Class::Universal,
-        number: 35,
-    };
+    pub const OID_IRI: Tag = universal!(35);
 
     /// The universal tag of RELATIVE-OID-IRI.
-    pub const RELATIVE_OID_IRI: Tag = Tag {
-        class: Class::Universal,
-        number: 36,
-    };
+    pub const RELATIVE_OID_IRI: Tag = universal!(36);
 
     /// The context-specific tag 0.
-    pub const CTX_0: Tag = Tag {
-        class: Class::ContextSpecific,
-        number: 0,
-    };
+    pub const CTX_0: Tag = context!(0);
 
     /// The context-specific tag 1.
-    pub const CTX_1: Tag = Tag {
-        class: Class::ContextSpecific,
-        number: 1,
-    };
+    pub const CTX_1: Tag = context!(1);
 
     /// The context-specific tag 2.
-    pub const CTX_2: Tag = Tag {
-        class: Class::ContextSpecific,
-        number: 2,
-    };
+    pub const CTX_2: Tag = context!(2);
 
     /// The context-specific tag 3.
-    pub const CTX_3: Tag = Tag {
-        class: Class::ContextSpecific,
-        number: 3,
-    };
+    pub const CTX_3: Tag = context!(3);
 
     /// The context-specific tag 4.
-    pub const CTX_4: Tag = Tag {
-        class: Class::ContextSpecific,
-        number: 4,
-    };
+    pub const CTX_4: Tag = context!(4);
 
     /// The context-specific tag 5.
-    pub const CTX_5: Tag = Tag {
-        class: Class::ContextSpecific,
-        number: 5,
-    };
+    pub const CTX_5: Tag = context!(5);
 
     /// The context-specific tag 6.
-    pub const CTX_6: Tag = Tag {
-        class: Class::ContextSpecific,
-        number: 6,
-    };
+    pub const CTX_6: Tag = context!(6);
 
     /// Returns the universal tag with this number, which has to be at most 2097151.
     pub fn universal(number: u32) -> Self

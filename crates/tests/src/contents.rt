@@ -3,9 +3,11 @@
 
 ghost use Rattle.bcder.specs.calls.Views.{Moved, MovedContent, MovedOctets};
 
-use crate::asserts::{done, holds, same};
+use crate::asserts::{done, holds, same, shows};
 use crate::over::{failing_sip, sip};
-use bcder::decode::{Constructed, Content, DecodeError, Primitive, SliceSource, Source, walk};
+use bcder::decode::{
+    Constructed, Content, ContentError, DecodeError, Primitive, SliceSource, Source, walk,
+};
 use bcder::{Integer, Mode, OctetString};
 use std::alloc::{AllocError, Global};
 use std::fmt::Debug;
@@ -187,6 +189,74 @@ fn encodings_that_are_no_values(rt: HostRuntime) {
     let string = Mode::Der.decode(NO_VALUES[1], |cons| OctetString::take_from(alloc, cons));
     let refused = string.err().expect(&rt, "segments in DER");
     holds(&rt, refused.content_error().is_some());
+}
+
+/// Takes one value, and makes the content fail. Checks that no other value is taken then.
+fn fail_behind_one<S: Source>(
+    rt: &impl Abort,
+    cons: &mut Constructed<'_, S>,
+) -> Result<(), DecodeError<S::Error>>
+    ensures { Moved S.stream cons }
+{
+    pass_one(cons)?;
+    cons.fail();
+    let later = cons.take_opt_value(|_, content| pass(content));
+    holds(
+        rt,
+        later.is_err_and(|error| error.content_error().is_some()),
+    );
+    Ok(())
+}
+
+/// Takes all values and their end, and makes the content fail then.
+fn fail_behind_all<S: Source>(cons: &mut Constructed<'_, S>) -> Result<(), DecodeError<S::Error>>
+    ensures { Moved S.stream cons }
+{
+    while walk(cons)?.is_some() {}
+    cons.fail();
+    Ok(())
+}
+
+/// A SEQUENCE is refused if its content was made to fail, unless its end was taken before.
+#[test]
+fn content_that_is_made_to_fail(rt: HostRuntime) {
+    let definite: &[u8] = &[0x30, 0x06, 0x02, 0x01, 0x05, 0x02, 0x01, 0x06];
+    let found = Mode::Der.decode(definite, |cons| {
+        cons.take_sequence(|inner| fail_behind_one(&rt, inner))
+    });
+    let refused = found.err().expect(&rt, "failed content");
+    holds(&rt, refused.content_error().is_some());
+    let found = Mode::Der.decode(definite, |cons| {
+        cons.take_sequence(|inner| fail_behind_all(inner))
+    });
+    holds(
+        &rt,
+        found.is_err_and(|error| error.content_error().is_some()),
+    );
+    let indefinite: &[u8] = &[0x30, 0x80, 0x02, 0x01, 0x05, 0x00, 0x00];
+    let found = Mode::Ber.decode(indefinite, |cons| {
+        cons.take_sequence(|inner| fail_behind_all(inner))
+    });
+    done(&rt, found);
+}
+
+/// Takes one value, and refuses the next.
+fn refuse_second<S: Source>(cons: &mut Constructed<'_, S>) -> Result<(), DecodeError<S::Error>>
+    ensures { Moved S.stream cons }
+{
+    pass_one(cons)?;
+    Err(cons.next_err(ContentError::from_static("no second")))
+}
+
+/// The position is that of the second value, not that of the content.
+#[test]
+fn the_next_value_is_refused_at_its_position(rt: HostRuntime) {
+    let octets: &[u8] = &[0x30, 0x06, 0x02, 0x01, 0x05, 0x02, 0x01, 0x06];
+    let found = Mode::Der.decode(octets, |cons| {
+        cons.take_sequence(|inner| refuse_second(inner))
+    });
+    let refused = found.err().expect(&rt, "a refusal");
+    shows(&rt, rt.alloc(), &refused, "no second (at position 5)");
 }
 
 /// Returns the debug text of values.

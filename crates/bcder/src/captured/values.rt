@@ -7,8 +7,9 @@ ghost use Rattle.bcder.specs.laws.Gathered.{kept_lawful};
 use crate::captured::Captured;
 use crate::encode::sizes::{Sizes, SizesLeft};
 use crate::encode::slot::Failed;
-use crate::encode::target::{put_all, write_all};
-use crate::encode::{EncodeError, Values, WriteError};
+use crate::encode::target::put_all;
+use crate::encode::values::Encoder;
+use crate::encode::{EncodeError, WriteError};
 use crate::mode::Mode;
 use std::io;
 
@@ -17,29 +18,20 @@ use std::io;
 /// They are written in their own mode, and in BER, since an encoding in CER or DER is one in BER
 /// too. In CER and DER, values of another mode are refused with `CapturedMode`, even if there are
 /// none.
-impl Values for Captured {
-    ghost means = { KeptMeans };
+impl Encoder for Captured {
+    ghost all = { KeptMeans };
 
-    ghost reads = { λ _ _. ReadsNone };
+    ghost takes = { λ _ _. ReadsNone };
 
-    fn encoded_len(&self, mode: Mode) -> Result<usize, EncodeError> {
+    #[inline(always)]
+    #[tactic(auto, using(crate::proofs::Noting::nothing_noted))]
+    fn measured(&self, mode: Mode, _sizes: &mut Sizes) -> Result<usize, EncodeError> {
         self.check_mode(mode)?;
         Ok(self.octets.len())
     }
 
-    #[inline(always)]
-    #[tactic(auto, using(crate::proofs::Noting::nothing_noted))]
-    fn note_sizes(&self, mode: Mode, _sizes: &mut Sizes) -> Result<usize, EncodeError> {
-        self.encoded_len(mode)
-    }
-
-    fn write_encoded<W: io::Write>(&self, mode: Mode, target: &mut W) -> Result<(), WriteError> {
-        self.check_mode(mode)?;
-        write_all(target, self.octets.as_slice())
-    }
-
     #[tactic(auto, using(crate::proofs::Noting::none_read))]
-    fn write_known<W: io::Write>(
+    fn put<W: io::Write>(
         &self,
         _mode: Mode,
         _sizes: &mut SizesLeft<'_>,
@@ -49,7 +41,7 @@ impl Values for Captured {
         put_all(target, self.octets.as_slice(), why)
     }
 
-    ghost lawful = { λ c mode can. kept_lawful c mode };
+    ghost one = { λ c mode can. kept_lawful c mode };
 }
 
 impl Captured {

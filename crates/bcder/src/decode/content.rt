@@ -123,6 +123,37 @@ impl<'a, S: Source> Constructed<'a, S> {
     {
         DecodeError::content(error, self.start)
     }
+
+    /// Returns an error that refuses the next value, at the current position.
+    pub fn next_err(&self, error: ContentError) -> DecodeError<S::Error>
+        ensures cause { cause_of result ≡ of_refusal error }
+        ensures position { position_of result
+            ≡ Some (of_constructed S.stream self.now).stream.position }
+    {
+        self.source.content_err(error)
+    }
+
+    /// Makes the content fail: every later take returns an error.
+    ///
+    /// A closure that got a value and can't use it calls this before it returns its error, if what
+    /// is around it may go on. Content whose end was taken has no values left, and stays as it is.
+    pub fn fail(&mut self)
+        ensures moves { Moved S.stream self }
+        ensures failed { (before S.stream self).state ≢ State.Ended
+            → (after S.stream self).state ≡ State.Failed }
+        ensures ended { (before S.stream self).state ≡ State.Ended
+            → (after S.stream self).state ≡ State.Ended }
+        ensures stream { (after S.stream self).stream ≡ (before S.stream self).stream }
+        ensures owed { (after S.stream self).owed ≡ (before S.stream self).owed }
+        ensures mode { (after S.stream self).mode ≡ (before S.stream self).mode }
+        ensures marked { (after S.stream self).marked ≡ (before S.stream self).marked }
+        ensures start { self.new.start ≡ self.old.start }
+    {
+        match self.state {
+            State::Ended => {}
+            _ => self.state = State::Failed,
+        }
+    }
 }
 
 #[tactic(auto, using(crate::proofs::moves), unfolding(crate::specs::calls::Views::of_primitive))]

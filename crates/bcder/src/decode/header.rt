@@ -203,21 +203,6 @@ pub(crate) fn look(mode: Mode, wanted: &Wanted, octets: &[u8]) -> Option<Peeked>
     }
 }
 
-/// Returns the tag of the primitive value whose header of two octets comes first, and how many
-/// contents octets it has. No mode refuses it.
-#[inline(always)]
-fn short_octets(octets: &[u8]) -> Option<(Tag, usize)>
-    ensures { IfSome result (λ r. (mode : ModeValue) (x : List ℕ)
-        → IsFront mode (octets_header r.0 r.1) 2 (length octets.now) (octets.now ++ x)) }
-{
-    match octets {
-        [leading, len, ..] if *leading % 64 < 31 && *leading != 0 && *len < 0x80 => {
-            Some((tag_of_leading(*leading), usize::from(*len)))
-        }
-        _ => None,
-    }
-}
-
 /// Returns what comes next, given a leading octet that holds the whole tag, and a length. The
 /// header has `size` octets.
 ///
@@ -264,32 +249,6 @@ fn look_long(mode: Mode, wanted: &Wanted, octets: &[u8]) -> Option<Peeked>
             short_front(mode, wanted, *leading, Length::Definite(len), 4)
         }
         _ => None,
-    }
-}
-
-/// Returns the tag of the next primitive value of a source, and how many contents octets it has, if
-/// its header has two octets and all of its octets are at hand.
-///
-/// No mode refuses it. It requests two octets, and takes none. An error is the source's own.
-#[inline(always)]
-pub(crate) fn peek_whole<S: Source>(source: &mut S) -> Result<Option<(Tag, usize)>, S::Error>
-    ensures short { IfOk result (λ o. IfSome o (λ r. (mode : ModeValue)
-        → Fronts mode (octets_header r.0 r.1) 2 (S.stream source.new))) }
-    ensures whole { IfOk result (λ o. IfSome o (λ r. 2 + r.1 ≤ (S.stream source.new).avail)) }
-    ensures no_fault { OnOk result (SameFaults S.stream source) }
-    ensures fault { OnErr result (MoreFaults S.stream source) }
-    ensures rest { SameRest S.stream source }
-    ensures kept { SameKept S.stream source }
-{
-    let found = source.request(2)?;
-    match short_octets(&source.slice()[..found]) {
-        Some(octets) => {
-            if found - 2 < octets.1 {
-                return Ok(None);
-            }
-            Ok(Some(octets))
-        }
-        None => Ok(None),
     }
 }
 

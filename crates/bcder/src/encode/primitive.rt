@@ -22,7 +22,7 @@ use crate::encode::header::put_header;
 use crate::encode::sizes::{Sizes, SizesLeft};
 use crate::encode::slot::{Failed, into_result, slot, store, store_refusal};
 use crate::encode::target::put_all;
-use crate::encode::values::Values;
+use crate::encode::values::{Encoder, Values};
 use crate::encode::{EncodeError, WriteError};
 use crate::length::Length;
 use crate::mode::Mode;
@@ -191,21 +191,6 @@ pub struct Primitive<P> {
     prim: P,
 }
 
-/// Returns the number of contents octets of the value, or its refusal.
-#[inline(always)]
-fn contents_len<P: PrimitiveContent>(tag: Tag, prim: &P, mode: Mode) -> Result<usize, EncodeError>
-    ensures { ContentsSize tag (P.means prim.now mode) (P.may_lack prim.now mode) result }
-{
-    if !tag.is_value() {
-        return Err(EncodeError::EndOfValueTag);
-    }
-    let len = prim.encoded_len(mode)?;
-    if len > 0xFFFF_FFFF {
-        return Err(EncodeError::LengthTooLarge);
-    }
-    Ok(len)
-}
-
 /// Returns the number of octets of the value, or its refusal.
 #[inline(always)]
 fn value_len<P: PrimitiveContent>(tag: Tag, prim: &P, mode: Mode) -> Result<usize, EncodeError>
@@ -225,53 +210,22 @@ fn value_len<P: PrimitiveContent>(tag: Tag, prim: &P, mode: Mode) -> Result<usiz
     Ok(identifier + Length::Definite(len).octet_count() + len)
 }
 
-/// Writes the value if it has an encoding.
-#[inline(always)]
-fn put_value<P: PrimitiveContent, W: io::Write>(
-    tag: Tag,
-    prim: &P,
-    mode: Mode,
-    target: &mut W,
-    why: &mut WriteError,
-) -> Result<(), Failed>
-    ensures { WritesValues W.contents target
-        (ValueMeans tag (primitive_meaning tag) (P.means prim.now mode))
-        (P.may_lack prim.now mode) (into_result result why.new) }
-{
-    match contents_len(tag, prim, mode) {
-        Ok(len) => prim.write_value(tag, len, mode, target, why),
-        Err(error) => Err(store_refusal(why, error)),
-    }
-}
+impl<P: PrimitiveContent> Encoder for Primitive<P> {
+    ghost all = { λ x mode. ValueMeans x.tag (primitive_meaning x.tag) (P.means x.prim mode) };
 
-impl<P: PrimitiveContent> Values for Primitive<P> {
-    ghost means = { λ x mode. ValueMeans x.tag (primitive_meaning x.tag) (P.means x.prim mode) };
+    ghost lacks = { λ x mode. P.may_lack x.prim mode };
 
-    ghost may_lack = { λ x mode. P.may_lack x.prim mode };
-
-    ghost reads = { λ _ _. ReadsNone };
+    ghost takes = { λ _ _. ReadsNone };
 
     #[inline(always)]
-    fn encoded_len(&self, mode: Mode) -> Result<usize, EncodeError> {
+    #[tactic(auto, using(crate::proofs::Noting::nothing_noted))]
+    fn measured(&self, mode: Mode, _sizes: &mut Sizes) -> Result<usize, EncodeError> {
         value_len(self.tag, &self.prim, mode)
     }
 
     #[inline(always)]
-    #[tactic(auto, using(crate::proofs::Noting::nothing_noted))]
-    fn note_sizes(&self, mode: Mode, _sizes: &mut Sizes) -> Result<usize, EncodeError> {
-        self.encoded_len(mode)
-    }
-
-    #[inline(always)]
-    fn write_encoded<W: io::Write>(&self, mode: Mode, target: &mut W) -> Result<(), WriteError> {
-        let mut why = slot();
-        let outcome = put_value(self.tag, &self.prim, mode, target, &mut why);
-        into_result(outcome, why)
-    }
-
-    #[inline(always)]
     #[tactic(auto, using(crate::proofs::Noting::none_read))]
-    fn write_known<W: io::Write>(
+    fn put<W: io::Write>(
         &self,
         mode: Mode,
         _sizes: &mut SizesLeft<'_>,
@@ -284,5 +238,5 @@ impl<P: PrimitiveContent> Values for Primitive<P> {
         }
     }
 
-    ghost lawful = { λ x mode can. primitive_lawful x.tag mode (P.lawful x.prim mode) };
+    ghost one = { λ x mode can. primitive_lawful x.tag mode (P.lawful x.prim mode) };
 }

@@ -20,7 +20,7 @@ mod tuples;
 
 use crate::captured::Captured;
 use crate::encode::sizes::{Sizes, SizesLeft};
-use crate::encode::slot::{Failed, store};
+use crate::encode::slot::{Failed, into_result, slot, store};
 use crate::encode::values::constructed::Constructed;
 use crate::encode::{EncodeError, WriteError};
 use crate::mode::Mode;
@@ -142,28 +142,73 @@ pub trait Values {
     }
 }
 
-impl<V: Values> Values for &'_ V {
-    ghost means = { λ x mode. V.means x.now mode };
+/// An encoder of this crate, by two calls. The four calls of [`Values`] are made of them.
+#[doc(hidden)]
+pub trait Encoder {
+    /// What the encoder means in a mode.
+    ghost all: { Self → Mode → Meaning → Type 0 };
 
-    ghost may_lack = { λ x mode. V.may_lack x.now mode };
+    /// When a call may run out of memory. By default never.
+    ghost lacks: { Self → Mode → Type 0 } = { λ _ _. ⊥ };
 
-    ghost reads = { λ x mode. V.reads x.now mode };
+    /// Which of the sizes that are left are read when it is written, and which are left then.
+    ghost takes: { Self → Mode → List ℕ → List ℕ → Type 0 } = { λ _ _ _ _. ⊥ };
 
-    ghost can_encode = { λ x. V.can_encode x.now };
+    /// The condition under which the calls may be made. By default there is none.
+    ghost can: { Self → Type 0 } = { λ _. ⊤ };
 
-    #[inline(always)]
+    /// Returns the number of octets of the encoding, and notes the sizes that writing needs.
+    fn measured(&self, mode: Mode, sizes: &mut Sizes) -> Result<usize, EncodeError>
+        requires { can self.now }
+        ensures sized { SizeOfValues (all self.now mode) (lacks self.now mode) result }
+        ensures noted { IfOk result (λ _. Notes (takes self.now mode) sizes.old sizes.new) };
+
+    /// Writes an encoding that is known to exist. Sizes are read from those that are left.
+    fn put<W: io::Write>(
+        &self,
+        mode: Mode,
+        sizes: &mut SizesLeft<'_>,
+        target: &mut W,
+        why: &mut WriteError,
+    ) -> Result<(), Failed>
+        requires can { can self.now }
+        requires known { HasEncoding (all self.now mode) }
+        requires sized { MayRead (takes self.now mode) sizes.old.sizes.now }
+        ensures written { WritesKnown W.contents target
+            (all self.now mode) (lacks self.now mode) (into_result result why.new) }
+        ensures left { IfOk result (λ _.
+            HasRead (takes self.now mode) sizes.old.sizes.now sizes.new.sizes.now) };
+
+    /// There is at most one meaning, and it is a refusal or an encoding.
+    ghost one: { (x : Self) (mode : Mode) → can x → IsLawful mode (all x mode) };
+}
+
+impl<E: Encoder> Values for E {
+    ghost means = { E.all };
+
+    ghost may_lack = { E.lacks };
+
+    ghost reads = { E.takes };
+
+    ghost can_encode = { E.can };
+
     fn encoded_len(&self, mode: Mode) -> Result<usize, EncodeError> {
-        (**self).encoded_len(mode)
+        let mut sizes = Sizes::new();
+        sizes.close();
+        self.measured(mode, &mut sizes)
     }
 
     #[inline(always)]
     fn note_sizes(&self, mode: Mode, sizes: &mut Sizes) -> Result<usize, EncodeError> {
-        (**self).note_sizes(mode, sizes)
+        self.measured(mode, sizes)
     }
 
-    #[inline(always)]
     fn write_encoded<W: io::Write>(&self, mode: Mode, target: &mut W) -> Result<(), WriteError> {
-        (**self).write_encoded(mode, target)
+        let mut sizes = Sizes::new();
+        measure_first(self, mode, &mut sizes)?;
+        let mut why = slot();
+        let written = self.put(mode, &mut sizes.left(), target, &mut why);
+        into_result(written, why)
     }
 
     #[inline(always)]
@@ -174,10 +219,53 @@ impl<V: Values> Values for &'_ V {
         target: &mut W,
         why: &mut WriteError,
     ) -> Result<(), Failed> {
+        self.put(mode, sizes, target, why)
+    }
+
+    ghost lawful = { E.one };
+}
+
+/// Returns the number of octets of what is written next, and notes the sizes that writing needs.
+#[inline(always)]
+fn measure_first<E: Encoder>(
+    encoder: &E,
+    mode: Mode,
+    sizes: &mut Sizes,
+) -> Result<usize, EncodeError>
+    requires can { E.can encoder.now }
+    requires none { noted sizes.old ≡ [] }
+    ensures sized { SizeOfValues (E.all encoder.now mode) (E.lacks encoder.now mode) result }
+    ensures noted { IfOk result (λ _. MayRead (E.takes encoder.now mode) (noted sizes.new)) }
+{
+    encoder.measured(mode, sizes)
+}
+
+impl<V: Values> Encoder for &'_ V {
+    ghost all = { λ x mode. V.means x.now mode };
+
+    ghost lacks = { λ x mode. V.may_lack x.now mode };
+
+    ghost takes = { λ x mode. V.reads x.now mode };
+
+    ghost can = { λ x. V.can_encode x.now };
+
+    #[inline(always)]
+    fn measured(&self, mode: Mode, sizes: &mut Sizes) -> Result<usize, EncodeError> {
+        (**self).note_sizes(mode, sizes)
+    }
+
+    #[inline(always)]
+    fn put<W: io::Write>(
+        &self,
+        mode: Mode,
+        sizes: &mut SizesLeft<'_>,
+        target: &mut W,
+        why: &mut WriteError,
+    ) -> Result<(), Failed> {
         (**self).write_known(mode, sizes, target, why)
     }
 
-    ghost lawful = { λ x mode can. V.lawful x.now mode can };
+    ghost one = { λ x mode can. V.lawful x.now mode can };
 }
 
 /// Returns the number of octets of the values. Notes it ahead of the sizes inside.

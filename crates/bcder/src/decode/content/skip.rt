@@ -6,9 +6,8 @@ ghost use Rattle.bcder.specs.steps.StopCause.{stop_cause};
 ghost use Rattle.bcder.specs.calls.Cause.{IsOfContent, IsRefusal};
 ghost use Rattle.bcder.specs.calls.Content.{FitsOwed, Moves, Resembles};
 ghost use Rattle.bcder.specs.steps.Inside.{kind_behind, limit_inside};
-ghost use Rattle.bcder.specs.steps.Peek.{header_of, octets_header, len_of};
+ghost use Rattle.bcder.specs.steps.Peek.{len_of};
 ghost use Rattle.bcder.specs.calls.Skipping.{ExactlyAll, ExactlySkipped, ExactlyValue, FoundMemory};
-ghost use Rattle.bcder.specs.steps.SkipSteps.{IsPast};
 ghost use Rattle.bcder.specs.calls.Skipping.{SkippedAll, SkippedNext, SkippedOne, SkippedValue};
 ghost use Rattle.bcder.specs.steps.Stacked.{Counts, Gone, IsCounted, LeavesInnermost, RanOverSource};
 ghost use Rattle.bcder.specs.steps.Stacked.{TopIs};
@@ -23,7 +22,7 @@ use super::inside::go_inside;
 use super::walk::Lookahead;
 use super::{Constructed, Kind, State};
 use crate::decode::error::{ContentError, DecodeError};
-use crate::decode::header::{Form, Header, Wanted, peek_whole};
+use crate::decode::header::{Form, Header, Wanted};
 use crate::decode::source::{LimitedSource, Source};
 use crate::decode::stop::Stop;
 use crate::length::Length;
@@ -282,50 +281,7 @@ impl<'a, S: Source> Constructed<'a, S> {
         }
     }
 
-    /// Passes over the header of the next value, if the value is primitive, has a header of two
-    /// octets, and is all at hand.
-    ///
-    /// Returns its tag and how many contents octets it has. Otherwise nothing is taken. The source
-    /// gets at most one request.
-    #[tactic(auto, using(crate::specs::laws::Moved::untouched_is_moved), unfolding(crate::specs::calls::Views::views))]
-    #[inline(always)]
-    fn enter_at_hand(&mut self) -> Result<Option<(Tag, usize)>, Stop<S::Error>>
-        ensures moves { Between S.stream self Moves }
-        ensures entered { IfOk result (λ o. IfSome o (λ r.
-            IsPast (before S.stream self) (header_of (octets_header r.0 r.1))
-            (after S.stream self))) }
-        ensures at_hand { IfOk result (λ o. IfSome o (λ r.
-            r.1 ≤ (source_of S.stream self.new).avail)) }
-        ensures same { IfOk result (λ o. IfNone o (Between S.stream self Resembles)) }
-        ensures no_fault { OnOk result (NoFault S.stream self) }
-        ensures fault { IfErr result (λ e. (stop_cause e ≡ of_source) × Fault S.stream self) }
-        ensures failed { OnErr result (self.new.state ≡ State.Failed) }
-        ensures mode { self.new.mode ≡ self.old.mode }
-        ensures marked { self.new.marked ≡ self.old.marked }
-    {
-        let State::Open = self.state else {
-            return Ok(None);
-        };
-        if let Kind::Definite = self.kind {
-            if let Some(0) = self.source.limit() {
-                return Ok(None);
-            }
-        }
-        match peek_whole(self.source) {
-            Ok(Some(found)) => {
-                self.state = State::Failed;
-                self.source.advance(2);
-                Ok(Some(found))
-            }
-            Ok(None) => Ok(None),
-            Err(error) => {
-                self.state = State::Failed;
-                Err(Stop::Source(error))
-            }
-        }
-    }
-
-    /// Does what `skip_opt` does, whatever comes next.
+    /// Does what `skip_opt` does, as a call of its own.
     #[inline(never)]
     fn skip_next<F>(
         &mut self,
@@ -363,30 +319,6 @@ impl<'a, S: Source> Constructed<'a, S> {
             }
             Ok(None) => Ok(None),
             Err(stop) => Err(self.stop_error(stop)),
-        }
-    }
-
-    /// Calls `skip_next`, with the stack space of the result cleared here and not before the first
-    /// look.
-    ///
-    /// Each arm builds its result anew, so that the octets of an error are moved only if there is
-    /// one.
-    #[inline(always)]
-    fn skip_next_on<F>(
-        &mut self,
-        alloc: Global,
-        op: &mut F,
-    ) -> Result<Option<()>, DecodeError<S::Error>>
-    where
-        F: FnMut(Tag, bool, usize) -> Result<(), ContentError>,
-        requires { F.IsAlwaysCallable op.old }
-        ensures moves { Moves (before S.stream self) (after S.stream self) }
-        ensures skipped { SkippedNext S.stream F.step self op result }
-    {
-        match self.skip_next(alloc, op) {
-            Ok(Some(())) => Ok(Some(())),
-            Ok(None) => Ok(None),
-            Err(error) => Err(error),
         }
     }
 
@@ -430,18 +362,7 @@ impl<'a, S: Source> Constructed<'a, S> {
         ensures skipped { SkippedNext S.stream F.step self op result }
         ensures exact { ExactlySkipped S.stream F.step self op result }
     {
-        match self.enter_at_hand() {
-            Ok(Some(found)) => {
-                if let Err(error) = op(found.0, false, 0) {
-                    return Err(self.interrupt_error(Interrupt::Closure(error)));
-                }
-                self.source.pass_owed(found.1);
-                self.state = State::Open;
-                Ok(Some(()))
-            }
-            Ok(None) => self.skip_next_on(alloc, op),
-            Err(stop) => Err(self.stop_error(stop)),
-        }
+        self.skip_next(alloc, op)
     }
 
     /// Passes over the next value, which has to be there.

@@ -9,7 +9,7 @@ ghost use Rattle.bcder.specs.laws.Joined.{NoValues_lawful};
 
 use crate::encode::sizes::{Sizes, SizesLeft};
 use crate::encode::slot::Failed;
-use crate::encode::values::Values;
+use crate::encode::values::{Encoder, Values};
 use crate::encode::{EncodeError, WriteError};
 use crate::mode::Mode;
 use std::io;
@@ -18,28 +18,20 @@ use std::io;
 #[derive(Clone, Copy, Debug)]
 pub struct Nothing;
 
-impl Values for Nothing {
-    ghost means = { λ x mode. NoValues };
+impl Encoder for Nothing {
+    ghost all = { λ x mode. NoValues };
 
-    ghost reads = { λ _ _. ReadsNone };
+    ghost takes = { λ _ _. ReadsNone };
 
-    fn encoded_len(&self, _mode: Mode) -> Result<usize, EncodeError> {
+    #[inline(always)]
+    #[tactic(auto, using(crate::proofs::Noting::nothing_noted))]
+    fn measured(&self, _mode: Mode, _sizes: &mut Sizes) -> Result<usize, EncodeError> {
         Ok(0)
     }
 
     #[inline(always)]
-    #[tactic(auto, using(crate::proofs::Noting::nothing_noted))]
-    fn note_sizes(&self, mode: Mode, _sizes: &mut Sizes) -> Result<usize, EncodeError> {
-        self.encoded_len(mode)
-    }
-
-    fn write_encoded<W: io::Write>(&self, _mode: Mode, _target: &mut W) -> Result<(), WriteError> {
-        Ok(())
-    }
-
-    #[inline(always)]
     #[tactic(auto, using(crate::proofs::Noting::none_read))]
-    fn write_known<W: io::Write>(
+    fn put<W: io::Write>(
         &self,
         _mode: Mode,
         _sizes: &mut SizesLeft<'_>,
@@ -49,43 +41,29 @@ impl Values for Nothing {
         Ok(())
     }
 
-    ghost lawful = { λ x mode can. NoValues_lawful mode };
+    ghost one = { λ x mode can. NoValues_lawful mode };
 }
 
 /// Encodes `Some` as the values of what is in it, and `None` as no values.
-impl<V: Values> Values for Option<V> {
-    ghost means = { λ x mode. OptionMeans (λ v. V.means v mode) x };
+impl<V: Values> Encoder for Option<V> {
+    ghost all = { λ x mode. OptionMeans (λ v. V.means v mode) x };
 
-    ghost may_lack = { λ x mode. OptionLacks (λ v. V.may_lack v mode) x };
+    ghost lacks = { λ x mode. OptionLacks (λ v. V.may_lack v mode) x };
 
-    ghost reads = { λ x mode. OptionReads (λ v. V.reads v mode) x };
+    ghost takes = { λ x mode. OptionReads (λ v. V.reads v mode) x };
 
-    ghost can_encode = { λ x. OptionCan V.can_encode x };
-
-    fn encoded_len(&self, mode: Mode) -> Result<usize, EncodeError> {
-        match self {
-            Some(values) => values.encoded_len(mode),
-            None => Nothing.encoded_len(mode),
-        }
-    }
+    ghost can = { λ x. OptionCan V.can_encode x };
 
     #[tactic(auto, using(crate::proofs::Noting::nothing_noted))]
     #[inline(always)]
-    fn note_sizes(&self, mode: Mode, sizes: &mut Sizes) -> Result<usize, EncodeError> {
+    fn measured(&self, mode: Mode, sizes: &mut Sizes) -> Result<usize, EncodeError> {
         match self {
             Some(values) => values.note_sizes(mode, sizes),
             None => Nothing.note_sizes(mode, sizes),
         }
     }
 
-    fn write_encoded<W: io::Write>(&self, mode: Mode, target: &mut W) -> Result<(), WriteError> {
-        match self {
-            Some(values) => values.write_encoded(mode, target),
-            None => Nothing.write_encoded(mode, target),
-        }
-    }
-
-    fn write_known<W: io::Write>(
+    fn put<W: io::Write>(
         &self,
         mode: Mode,
         sizes: &mut SizesLeft<'_>,
@@ -98,7 +76,7 @@ impl<V: Values> Values for Option<V> {
         }
     }
 
-    ghost lawful = { λ x mode can. option_lawful mode (λ v. V.lawful v mode) x can };
+    ghost one = { λ x mode can. option_lawful mode (λ v. V.lawful v mode) x can };
 }
 
 /// One of two encoders.
@@ -111,38 +89,24 @@ pub enum Choice2<L, R> {
     Two(R),
 }
 
-impl<L: Values, R: Values> Values for Choice2<L, R> {
-    ghost means = { λ x mode. EitherMeans (λ v. L.means v mode) (λ v. R.means v mode) x };
+impl<L: Values, R: Values> Encoder for Choice2<L, R> {
+    ghost all = { λ x mode. EitherMeans (λ v. L.means v mode) (λ v. R.means v mode) x };
 
-    ghost may_lack = { λ x mode. EitherHolds (λ v. L.may_lack v mode) (λ v. R.may_lack v mode) x };
+    ghost lacks = { λ x mode. EitherHolds (λ v. L.may_lack v mode) (λ v. R.may_lack v mode) x };
 
-    ghost reads = { λ x mode. EitherReads (λ v. L.reads v mode) (λ v. R.reads v mode) x };
+    ghost takes = { λ x mode. EitherReads (λ v. L.reads v mode) (λ v. R.reads v mode) x };
 
-    ghost can_encode = { λ x. EitherHolds L.can_encode R.can_encode x };
-
-    fn encoded_len(&self, mode: Mode) -> Result<usize, EncodeError> {
-        match self {
-            Choice2::One(values) => values.encoded_len(mode),
-            Choice2::Two(values) => values.encoded_len(mode),
-        }
-    }
+    ghost can = { λ x. EitherHolds L.can_encode R.can_encode x };
 
     #[inline(always)]
-    fn note_sizes(&self, mode: Mode, sizes: &mut Sizes) -> Result<usize, EncodeError> {
+    fn measured(&self, mode: Mode, sizes: &mut Sizes) -> Result<usize, EncodeError> {
         match self {
             Choice2::One(values) => values.note_sizes(mode, sizes),
             Choice2::Two(values) => values.note_sizes(mode, sizes),
         }
     }
 
-    fn write_encoded<W: io::Write>(&self, mode: Mode, target: &mut W) -> Result<(), WriteError> {
-        match self {
-            Choice2::One(values) => values.write_encoded(mode, target),
-            Choice2::Two(values) => values.write_encoded(mode, target),
-        }
-    }
-
-    fn write_known<W: io::Write>(
+    fn put<W: io::Write>(
         &self,
         mode: Mode,
         sizes: &mut SizesLeft<'_>,
@@ -155,7 +119,7 @@ impl<L: Values, R: Values> Values for Choice2<L, R> {
         }
     }
 
-    ghost lawful = { λ x mode can.
+    ghost one = { λ x mode can.
         either_lawful mode (λ v. L.lawful v mode) (λ v. R.lawful v mode) x can };
 }
 
@@ -172,28 +136,20 @@ pub enum Choice3<L, C, R> {
     Three(R),
 }
 
-impl<L: Values, C: Values, R: Values> Values for Choice3<L, C, R> {
-    ghost means = { λ x mode.
+impl<L: Values, C: Values, R: Values> Encoder for Choice3<L, C, R> {
+    ghost all = { λ x mode.
         AnyMeans (λ v. L.means v mode) (λ v. C.means v mode) (λ v. R.means v mode) x };
 
-    ghost may_lack = { λ x mode.
+    ghost lacks = { λ x mode.
         AnyHolds (λ v. L.may_lack v mode) (λ v. C.may_lack v mode) (λ v. R.may_lack v mode) x };
 
-    ghost reads = { λ x mode.
+    ghost takes = { λ x mode.
         AnyReads (λ v. L.reads v mode) (λ v. C.reads v mode) (λ v. R.reads v mode) x };
 
-    ghost can_encode = { λ x. AnyHolds L.can_encode C.can_encode R.can_encode x };
-
-    fn encoded_len(&self, mode: Mode) -> Result<usize, EncodeError> {
-        match self {
-            Choice3::One(values) => values.encoded_len(mode),
-            Choice3::Two(values) => values.encoded_len(mode),
-            Choice3::Three(values) => values.encoded_len(mode),
-        }
-    }
+    ghost can = { λ x. AnyHolds L.can_encode C.can_encode R.can_encode x };
 
     #[inline(always)]
-    fn note_sizes(&self, mode: Mode, sizes: &mut Sizes) -> Result<usize, EncodeError> {
+    fn measured(&self, mode: Mode, sizes: &mut Sizes) -> Result<usize, EncodeError> {
         match self {
             Choice3::One(values) => values.note_sizes(mode, sizes),
             Choice3::Two(values) => values.note_sizes(mode, sizes),
@@ -201,15 +157,7 @@ impl<L: Values, C: Values, R: Values> Values for Choice3<L, C, R> {
         }
     }
 
-    fn write_encoded<W: io::Write>(&self, mode: Mode, target: &mut W) -> Result<(), WriteError> {
-        match self {
-            Choice3::One(values) => values.write_encoded(mode, target),
-            Choice3::Two(values) => values.write_encoded(mode, target),
-            Choice3::Three(values) => values.write_encoded(mode, target),
-        }
-    }
-
-    fn write_known<W: io::Write>(
+    fn put<W: io::Write>(
         &self,
         mode: Mode,
         sizes: &mut SizesLeft<'_>,
@@ -223,6 +171,6 @@ impl<L: Values, C: Values, R: Values> Values for Choice3<L, C, R> {
         }
     }
 
-    ghost lawful = { λ x mode can. any_lawful mode
+    ghost one = { λ x mode can. any_lawful mode
         (λ v. L.lawful v mode) (λ v. C.lawful v mode) (λ v. R.lawful v mode) x can };
 }

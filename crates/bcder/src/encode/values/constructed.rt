@@ -15,7 +15,7 @@ use crate::encode::header::put_header;
 use crate::encode::sizes::{Sizes, SizesLeft};
 use crate::encode::slot::{Failed, into_result, slot, store_refusal};
 use crate::encode::target::put_all;
-use crate::encode::values::{Values, measure, note_inside};
+use crate::encode::values::{Encoder, Values, note_inside};
 use crate::encode::{EncodeError, WriteError};
 use crate::length::Length;
 use crate::mode::Mode;
@@ -100,28 +100,6 @@ fn size_behind(identifier: usize, _tag: Tag, mode: Mode, len: usize) -> Result<u
             Ok(identifier + Length::Definite(len).octet_count() + len)
         }
     }
-}
-
-/// Returns the number of contents octets of a constructed value that is written next, or its
-/// refusal. Notes the sizes inside that length octets need.
-fn measure_contents<V: Values>(
-    tag: Tag,
-    inner: &V,
-    mode: Mode,
-    sizes: &mut Sizes,
-) -> Result<usize, EncodeError>
-    requires can { V.can_encode inner.now }
-    requires none { noted sizes.old ≡ [] }
-    ensures sized { MeasuredInside tag mode
-        (V.means inner.now mode) (V.may_lack inner.now mode) result }
-    ensures noted { IfOk result (λ _. MayRead (V.reads inner.now mode) (noted sizes.new)) }
-{
-    let Some(identifier) = tag.value_len() else {
-        return Err(EncodeError::EndOfValueTag);
-    };
-    let contents = measure(inner, mode, sizes)?;
-    size_behind(identifier, tag, mode, contents)?;
-    Ok(contents)
 }
 
 /// Returns the number of contents octets of a constructed value. If length octets need it, it is
@@ -244,27 +222,18 @@ fn put_measured<V: Values, W: io::Write>(
     }
 }
 
-impl<V: Values> Values for Constructed<V> {
-    ghost means = { λ x mode.
+impl<V: Values> Encoder for Constructed<V> {
+    ghost all = { λ x mode.
         ValueMeans x.tag (constructed_meaning x.tag mode) (V.means x.inner mode) };
 
-    ghost may_lack = { λ x mode. V.may_lack x.inner mode };
+    ghost lacks = { λ x mode. V.may_lack x.inner mode };
 
-    ghost reads = { λ x mode. ReadsContents mode (V.means x.inner mode) (V.reads x.inner mode) };
+    ghost takes = { λ x mode. ReadsContents mode (V.means x.inner mode) (V.reads x.inner mode) };
 
-    ghost can_encode = { λ x. V.can_encode x.inner };
-
-    fn encoded_len(&self, mode: Mode) -> Result<usize, EncodeError> {
-        let Some(identifier) = self.tag.value_len() else {
-            return Err(EncodeError::EndOfValueTag);
-        };
-        let contents = self.inner.encoded_len(mode)?;
-        let whole = size_behind(identifier, self.tag, mode, contents)?;
-        Ok(whole)
-    }
+    ghost can = { λ x. V.can_encode x.inner };
 
     #[inline(always)]
-    fn note_sizes(&self, mode: Mode, sizes: &mut Sizes) -> Result<usize, EncodeError> {
+    fn measured(&self, mode: Mode, sizes: &mut Sizes) -> Result<usize, EncodeError> {
         let Some(identifier) = self.tag.value_len() else {
             return Err(EncodeError::EndOfValueTag);
         };
@@ -273,15 +242,7 @@ impl<V: Values> Values for Constructed<V> {
         Ok(whole)
     }
 
-    fn write_encoded<W: io::Write>(&self, mode: Mode, target: &mut W) -> Result<(), WriteError> {
-        let mut sizes = Sizes::new();
-        let size = measure_contents(self.tag, &self.inner, mode, &mut sizes)?;
-        let mut why = slot();
-        let outcome = put_enclosed(self, size, mode, &mut sizes.left(), target, &mut why);
-        into_result(outcome, why)
-    }
-
-    fn write_known<W: io::Write>(
+    fn put<W: io::Write>(
         &self,
         mode: Mode,
         sizes: &mut SizesLeft<'_>,
@@ -294,5 +255,5 @@ impl<V: Values> Values for Constructed<V> {
         }
     }
 
-    ghost lawful = { λ x mode can. constructed_lawful x.tag (V.lawful x.inner mode can) };
+    ghost one = { λ x mode can. constructed_lawful x.tag (V.lawful x.inner mode can) };
 }

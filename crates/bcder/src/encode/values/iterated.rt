@@ -8,8 +8,8 @@ ghost use Rattle.bcder.specs.laws.Joined.{Joined_lawful};
 use crate::NoMemory;
 use crate::encode::sizes::{Sizes, SizesLeft};
 use crate::encode::slot::{Failed, store_refusal};
-use crate::encode::values::Values;
-use crate::encode::values::parts::{Parts, add_len, joined_len, write_joined, write_known_parts};
+use crate::encode::values::parts::{Parts, add_len, note_joined, write_known_parts};
+use crate::encode::values::{Encoder, Values};
 use crate::encode::{EncodeError, WriteError};
 use crate::mode::Mode;
 use std::io;
@@ -74,7 +74,8 @@ where
     ghost can_encode = { λ x. GivesOneList T.is_clone T.into_iter_gives T.IntoIter.next_gives
         T.IntoIter.can_next T.IntoIter.remaining T.Item.can_encode T.Item.means x.value };
 
-    fn parts_len(&self, mode: Mode) -> Result<Option<usize>, EncodeError> {
+    #[tactic(auto, using(crate::proofs::Noting::nothing_noted))]
+    fn note_parts(&self, mode: Mode, _sizes: &mut Sizes) -> Result<Option<usize>, EncodeError> {
         let items = match self.items() {
             Ok(items) => items,
             Err(_) => return Err(EncodeError::NoMemory),
@@ -108,36 +109,26 @@ where
     ghost all_lawful = { λ x mode can. runs_lawful can mode (λ v. T.Item.lawful v mode) };
 }
 
-impl<T: IntoIterator + Clone> Values for Iter<T>
+impl<T: IntoIterator + Clone> Encoder for Iter<T>
 where
     T::Item: Values + Drop,
 {
-    ghost means = { λ x mode. Joined (RunsMean T.is_clone T.into_iter_gives
+    ghost all = { λ x mode. Joined (RunsMean T.is_clone T.into_iter_gives
         T.IntoIter.next_gives (λ v. T.Item.means v mode) x.value) };
 
-    ghost may_lack = { λ x mode. RunsLack T.is_clone T.is_infallible T.into_iter_gives
+    ghost lacks = { λ x mode. RunsLack T.is_clone T.is_infallible T.into_iter_gives
         T.IntoIter.next_gives (λ v. T.Item.may_lack v mode) x.value };
 
-    ghost reads = { λ _ _. ReadsNone };
+    ghost takes = { λ _ _. ReadsNone };
 
-    ghost can_encode = { λ x. GivesOneList T.is_clone T.into_iter_gives T.IntoIter.next_gives
+    ghost can = { λ x. GivesOneList T.is_clone T.into_iter_gives T.IntoIter.next_gives
         T.IntoIter.can_next T.IntoIter.remaining T.Item.can_encode T.Item.means x.value };
 
-    fn encoded_len(&self, mode: Mode) -> Result<usize, EncodeError> {
-        joined_len(self, mode)
+    fn measured(&self, mode: Mode, sizes: &mut Sizes) -> Result<usize, EncodeError> {
+        note_joined(self, mode, sizes)
     }
 
-    #[tactic(auto, using(crate::proofs::Noting::nothing_noted))]
-    #[inline(always)]
-    fn note_sizes(&self, mode: Mode, _sizes: &mut Sizes) -> Result<usize, EncodeError> {
-        self.encoded_len(mode)
-    }
-
-    fn write_encoded<W: io::Write>(&self, mode: Mode, target: &mut W) -> Result<(), WriteError> {
-        write_joined(self, mode, target)
-    }
-
-    fn write_known<W: io::Write>(
+    fn put<W: io::Write>(
         &self,
         mode: Mode,
         sizes: &mut SizesLeft<'_>,
@@ -147,6 +138,6 @@ where
         write_known_parts(self, mode, sizes, target, why)
     }
 
-    ghost lawful = { λ x mode can.
+    ghost one = { λ x mode can.
         Joined_lawful (runs_lawful can mode (λ v. T.Item.lawful v mode)) };
 }

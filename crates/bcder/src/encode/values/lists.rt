@@ -7,10 +7,8 @@ ghost use Rattle.bcder.specs.laws.Joined.{EachOf_lawful, Joined_lawful};
 
 use crate::encode::sizes::{Sizes, SizesLeft};
 use crate::encode::slot::Failed;
-use crate::encode::values::Values;
-use crate::encode::values::parts::{
-    Parts, add_len, joined_len, note_joined, write_joined, write_known_parts,
-};
+use crate::encode::values::parts::{Parts, add_len, note_joined, write_known_parts};
+use crate::encode::values::{Encoder, Values};
 use crate::encode::{EncodeError, WriteError};
 use crate::mode::Mode;
 use std::io;
@@ -44,15 +42,6 @@ impl<'a, V: Values> Parts for Items<'a, V> {
 
     ghost can_encode = { λ x. All V.can_encode x.items.now };
 
-    fn parts_len(&self, mode: Mode) -> Result<Option<usize>, EncodeError> {
-        let mut sum = Some(0usize);
-        for item in self.items {
-            let len = item.encoded_len(mode)?;
-            sum = add_len(sum, len);
-        }
-        Ok(sum)
-    }
-
     #[inline(always)]
     fn note_parts(&self, mode: Mode, sizes: &mut Sizes) -> Result<Option<usize>, EncodeError> {
         let mut sum = Some(0usize);
@@ -80,29 +69,21 @@ impl<'a, V: Values> Parts for Items<'a, V> {
         EachOf_lawful mode (λ v. V.lawful v mode) x.items.now can };
 }
 
-impl<V: Values> Values for &'_ [V] {
-    ghost means = { λ x mode. Joined (EachOf (λ v. V.means v mode) x.now) };
+impl<V: Values> Encoder for &'_ [V] {
+    ghost all = { λ x mode. Joined (EachOf (λ v. V.means v mode) x.now) };
 
-    ghost may_lack = { λ x mode. Any (λ v. V.may_lack v mode) x.now };
+    ghost lacks = { λ x mode. Any (λ v. V.may_lack v mode) x.now };
 
-    ghost reads = { λ x mode. ReadsEach (λ v. V.reads v mode) x.now };
+    ghost takes = { λ x mode. ReadsEach (λ v. V.reads v mode) x.now };
 
-    ghost can_encode = { λ x. All V.can_encode x.now };
-
-    fn encoded_len(&self, mode: Mode) -> Result<usize, EncodeError> {
-        joined_len(&Items { items: *self }, mode)
-    }
+    ghost can = { λ x. All V.can_encode x.now };
 
     #[inline(always)]
-    fn note_sizes(&self, mode: Mode, sizes: &mut Sizes) -> Result<usize, EncodeError> {
+    fn measured(&self, mode: Mode, sizes: &mut Sizes) -> Result<usize, EncodeError> {
         note_joined(&Items { items: *self }, mode, sizes)
     }
 
-    fn write_encoded<W: io::Write>(&self, mode: Mode, target: &mut W) -> Result<(), WriteError> {
-        write_joined(&Items { items: *self }, mode, target)
-    }
-
-    fn write_known<W: io::Write>(
+    fn put<W: io::Write>(
         &self,
         mode: Mode,
         sizes: &mut SizesLeft<'_>,
@@ -112,33 +93,25 @@ impl<V: Values> Values for &'_ [V] {
         write_known_parts(&Items { items: *self }, mode, sizes, target, why)
     }
 
-    ghost lawful = { λ x mode can.
+    ghost one = { λ x mode can.
         Joined_lawful (EachOf_lawful mode (λ v. V.lawful v mode) x.now can) };
 }
 
-impl<V: Values> Values for Vec<V> {
-    ghost means = { λ x mode. Joined (EachOf (λ v. V.means v mode) x.items) };
+impl<V: Values> Encoder for Vec<V> {
+    ghost all = { λ x mode. Joined (EachOf (λ v. V.means v mode) x.items) };
 
-    ghost may_lack = { λ x mode. Any (λ v. V.may_lack v mode) x.items };
+    ghost lacks = { λ x mode. Any (λ v. V.may_lack v mode) x.items };
 
-    ghost reads = { λ x mode. ReadsEach (λ v. V.reads v mode) x.items };
+    ghost takes = { λ x mode. ReadsEach (λ v. V.reads v mode) x.items };
 
-    ghost can_encode = { λ x. All V.can_encode x.items };
-
-    fn encoded_len(&self, mode: Mode) -> Result<usize, EncodeError> {
-        self.as_slice().encoded_len(mode)
-    }
+    ghost can = { λ x. All V.can_encode x.items };
 
     #[inline(always)]
-    fn note_sizes(&self, mode: Mode, sizes: &mut Sizes) -> Result<usize, EncodeError> {
+    fn measured(&self, mode: Mode, sizes: &mut Sizes) -> Result<usize, EncodeError> {
         self.as_slice().note_sizes(mode, sizes)
     }
 
-    fn write_encoded<W: io::Write>(&self, mode: Mode, target: &mut W) -> Result<(), WriteError> {
-        self.as_slice().write_encoded(mode, target)
-    }
-
-    fn write_known<W: io::Write>(
+    fn put<W: io::Write>(
         &self,
         mode: Mode,
         sizes: &mut SizesLeft<'_>,
@@ -148,6 +121,6 @@ impl<V: Values> Values for Vec<V> {
         self.as_slice().write_known(mode, sizes, target, why)
     }
 
-    ghost lawful = { λ x mode can.
+    ghost one = { λ x mode can.
         Joined_lawful (EachOf_lawful mode (λ v. V.lawful v mode) x.items can) };
 }

@@ -9,8 +9,8 @@ ghost use Rattle.bcder.specs.laws.Joined.{EachOf_lawful, Joined_lawful};
 
 use crate::encode::sizes::{Sizes, SizesLeft};
 use crate::encode::slot::Failed;
-use crate::encode::values::Values;
-use crate::encode::values::parts::{Parts, add_len, joined_len, write_joined, write_known_parts};
+use crate::encode::values::parts::{Parts, add_len, note_joined, write_known_parts};
+use crate::encode::values::{Encoder, Values};
 use crate::encode::{EncodeError, WriteError};
 use crate::mode::Mode;
 use std::convert::AsSlice;
@@ -98,7 +98,8 @@ impl<'a, F: Fn(&U) -> V, U, V: Values + Drop> Parts for Mapped<'a, F, U, V> {
 
     ghost can_encode = { λ x. All (MayMap F.Fn x.f.now V.can_encode V.means) x.items.now };
 
-    fn parts_len(&self, mode: Mode) -> Result<Option<usize>, EncodeError> {
+    #[tactic(auto, using(crate::proofs::Noting::nothing_noted))]
+    fn note_parts(&self, mode: Mode, _sizes: &mut Sizes) -> Result<Option<usize>, EncodeError> {
         let mut sum = Some(0usize);
         for item in self.items {
             let len = item_len(self.f, item, mode)?;
@@ -125,43 +126,27 @@ impl<'a, F: Fn(&U) -> V, U, V: Values + Drop> Parts for Mapped<'a, F, U, V> {
         EachOf_lawful mode (item_lawful F.Fn x.f.now mode (λ v. V.lawful v mode)) x.items.now can };
 }
 
-impl<T: AsSlice<U>, F: Fn(&U) -> V, U, V: Values + Drop> Values for Slice<T, F, U, V> {
-    ghost means = { λ x mode.
+impl<T: AsSlice<U>, F: Fn(&U) -> V, U, V: Values + Drop> Encoder for Slice<T, F, U, V> {
+    ghost all = { λ x mode.
         Joined (EachOf (ItemMeans F.Fn x.f V.means mode) (T.items x.value)) };
 
-    ghost may_lack = { λ x mode. Any (ItemLacks F.Fn x.f V.may_lack mode) (T.items x.value) };
+    ghost lacks = { λ x mode. Any (ItemLacks F.Fn x.f V.may_lack mode) (T.items x.value) };
 
-    ghost reads = { λ _ _. ReadsNone };
+    ghost takes = { λ _ _. ReadsNone };
 
-    ghost can_encode = { λ x. All (MayMap F.Fn x.f V.can_encode V.means) (T.items x.value) };
+    ghost can = { λ x. All (MayMap F.Fn x.f V.can_encode V.means) (T.items x.value) };
 
-    fn encoded_len(&self, mode: Mode) -> Result<usize, EncodeError> {
+    fn measured(&self, mode: Mode, sizes: &mut Sizes) -> Result<usize, EncodeError> {
         let items = self.value.as_slice();
         let parts = Mapped {
             items,
             f: &self.f,
             marker: PhantomData,
         };
-        joined_len(&parts, mode)
+        note_joined(&parts, mode, sizes)
     }
 
-    #[tactic(auto, using(crate::proofs::Noting::nothing_noted))]
-    #[inline(always)]
-    fn note_sizes(&self, mode: Mode, _sizes: &mut Sizes) -> Result<usize, EncodeError> {
-        self.encoded_len(mode)
-    }
-
-    fn write_encoded<W: io::Write>(&self, mode: Mode, target: &mut W) -> Result<(), WriteError> {
-        let items = self.value.as_slice();
-        let parts = Mapped {
-            items,
-            f: &self.f,
-            marker: PhantomData,
-        };
-        write_joined(&parts, mode, target)
-    }
-
-    fn write_known<W: io::Write>(
+    fn put<W: io::Write>(
         &self,
         mode: Mode,
         sizes: &mut SizesLeft<'_>,
@@ -177,6 +162,6 @@ impl<T: AsSlice<U>, F: Fn(&U) -> V, U, V: Values + Drop> Values for Slice<T, F, 
         write_known_parts(&parts, mode, sizes, target, why)
     }
 
-    ghost lawful = { λ x mode can. Joined_lawful (EachOf_lawful mode
+    ghost one = { λ x mode can. Joined_lawful (EachOf_lawful mode
         (item_lawful F.Fn x.f mode (λ v. V.lawful v mode)) (T.items x.value) can) };
 }

@@ -10,7 +10,7 @@ ghost use Rattle.bcder.specs.calls.Noted.{noted};
 ghost use Rattle.bcder.specs.laws.Joined.{Then_lawful, NoValues_lawful};
 
 use crate::encode::sizes::{Sizes, SizesLeft};
-use crate::encode::slot::{Failed, into_result, slot};
+use crate::encode::slot::Failed;
 use crate::encode::values::Values;
 use crate::encode::{EncodeError, WriteError};
 use crate::mode::Mode;
@@ -26,21 +26,12 @@ pub(crate) trait Parts {
 
     ghost can_encode: { Self → Type 0 };
 
-    /// Returns the sum of the sizes, or `None` if it exceeds `usize`.
-    fn parts_len(&self, mode: Mode) -> Result<Option<usize>, EncodeError>
-        requires { can_encode self.now }
-        ensures { TellsSum (all self.now mode) (may_lack self.now mode) result };
-
-    /// Returns the sum of the sizes, and notes the sizes that length octets need.
-    #[inline(always)]
+    /// Returns the sum of the sizes, or `None` if it exceeds `usize`, and notes the sizes that
+    /// length octets need.
     fn note_parts(&self, mode: Mode, sizes: &mut Sizes) -> Result<Option<usize>, EncodeError>
         requires { can_encode self.now }
         ensures sized { TellsSum (all self.now mode) (may_lack self.now mode) result }
-        ensures noted { IfOk result (λ _. Notes (reads self.now mode) sizes.old sizes.new) }
-    {
-        sizes.close();
-        self.parts_len(mode)
-    }
+        ensures noted { IfOk result (λ _. Notes (reads self.now mode) sizes.old sizes.new) };
 
     /// Writes the parts, none of which is refused.
     fn write_parts<W: io::Write>(
@@ -61,17 +52,6 @@ pub(crate) trait Parts {
     ghost all_lawful: { (x : Self) (mode : Mode) → can_encode x → IsLawful mode (all x mode) };
 }
 
-/// Returns the size of the parts, or the refusal.
-pub(crate) fn joined_len<P: Parts>(parts: &P, mode: Mode) -> Result<usize, EncodeError>
-    requires { P.can_encode parts.now }
-    ensures { SizeOfValues (Joined (P.all parts.now mode)) (P.may_lack parts.now mode) result }
-{
-    match parts.parts_len(mode)? {
-        Some(len) => Ok(len),
-        None => Err(EncodeError::SizeOverflow),
-    }
-}
-
 /// Returns the size of the parts, or the refusal, and notes the sizes that length octets need.
 #[inline(always)]
 pub(crate) fn note_joined<P: Parts>(
@@ -88,39 +68,6 @@ pub(crate) fn note_joined<P: Parts>(
         Some(len) => Ok(len),
         None => Err(EncodeError::SizeOverflow),
     }
-}
-
-/// Returns the size of parts that are written next, or the refusal. Notes the sizes that their
-/// length octets need: none in CER, since no constructed value has a definite length.
-#[inline(always)]
-fn measure_joined<P: Parts>(parts: &P, mode: Mode, sizes: &mut Sizes) -> Result<usize, EncodeError>
-    requires can { P.can_encode parts.now }
-    requires none { noted sizes.old ≡ [] }
-    ensures sized { SizeOfValues
-        (Joined (P.all parts.now mode)) (P.may_lack parts.now mode) result }
-    ensures noted { IfOk result (λ _. MayRead (P.reads parts.now mode) (noted sizes.new)) }
-{
-    match mode {
-        Mode::Cer => joined_len(parts, mode),
-        Mode::Ber | Mode::Der => note_joined(parts, mode, sizes),
-    }
-}
-
-/// Writes the parts, if none of them is refused and the sum of their sizes fits.
-pub(crate) fn write_joined<P: Parts, W: io::Write>(
-    parts: &P,
-    mode: Mode,
-    target: &mut W,
-) -> Result<(), WriteError>
-    requires { P.can_encode parts.now }
-    ensures { WritesValues W.contents target
-        (Joined (P.all parts.now mode)) (P.may_lack parts.now mode) result }
-{
-    let mut sizes = Sizes::new();
-    measure_joined(parts, mode, &mut sizes)?;
-    let mut why = slot();
-    let outcome = parts.write_parts(mode, &mut sizes.left(), target, &mut why);
-    into_result(outcome, why)
 }
 
 /// Writes parts that are known to have an encoding.
@@ -166,14 +113,10 @@ impl Parts for End {
 
     ghost can_encode = { λ _. ⊤ };
 
-    fn parts_len(&self, _mode: Mode) -> Result<Option<usize>, EncodeError> {
-        Ok(Some(0))
-    }
-
     #[inline(always)]
     #[tactic(auto, using(crate::proofs::Noting::nothing_noted))]
-    fn note_parts(&self, mode: Mode, _sizes: &mut Sizes) -> Result<Option<usize>, EncodeError> {
-        self.parts_len(mode)
+    fn note_parts(&self, _mode: Mode, _sizes: &mut Sizes) -> Result<Option<usize>, EncodeError> {
+        Ok(Some(0))
     }
 
     #[tactic(auto, using(crate::proofs::Noting::none_read))]
@@ -205,15 +148,6 @@ impl<'a, V: Values, R: Parts> Parts for Chain<'a, V, R> {
     ghost reads = { λ x mode. ReadsThen (V.reads x.first.now mode) (R.reads x.rest mode) };
 
     ghost can_encode = { λ x. V.can_encode x.first.now × R.can_encode x.rest };
-
-    fn parts_len(&self, mode: Mode) -> Result<Option<usize>, EncodeError> {
-        let first = self.first.encoded_len(mode)?;
-        let rest = self.rest.parts_len(mode)?;
-        match rest {
-            Some(len) => Ok(first.checked_add(len)),
-            None => Ok(None),
-        }
-    }
 
     #[inline(always)]
     fn note_parts(&self, mode: Mode, sizes: &mut Sizes) -> Result<Option<usize>, EncodeError> {
@@ -248,10 +182,6 @@ impl<R: Parts> Parts for &'_ R {
     ghost reads = { λ x mode. R.reads x.now mode };
 
     ghost can_encode = { λ x. R.can_encode x.now };
-
-    fn parts_len(&self, mode: Mode) -> Result<Option<usize>, EncodeError> {
-        (**self).parts_len(mode)
-    }
 
     #[inline(always)]
     fn note_parts(&self, mode: Mode, sizes: &mut Sizes) -> Result<Option<usize>, EncodeError> {
@@ -294,27 +224,6 @@ impl<'a, A: Values, B: Values, C: Values, D: Values, R: Parts> Parts for Four<'a
 
     ghost can_encode = { λ x. A.can_encode x.a.now × (B.can_encode x.b.now
         × (C.can_encode x.c.now × (D.can_encode x.d.now × R.can_encode x.rest))) };
-
-    fn parts_len(&self, mode: Mode) -> Result<Option<usize>, EncodeError> {
-        let rest = &self.rest;
-        let rest = Chain {
-            first: self.d,
-            rest,
-        };
-        let rest = Chain {
-            first: self.c,
-            rest,
-        };
-        let rest = Chain {
-            first: self.b,
-            rest,
-        };
-        let all = Chain {
-            first: self.a,
-            rest,
-        };
-        all.parts_len(mode)
-    }
 
     #[inline(always)]
     fn note_parts(&self, mode: Mode, sizes: &mut Sizes) -> Result<Option<usize>, EncodeError> {

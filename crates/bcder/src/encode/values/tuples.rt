@@ -6,10 +6,8 @@ ghost use Rattle.bcder.specs.laws.Joined.{Then_lawful, NoValues_lawful, Joined_l
 
 use crate::encode::sizes::{Sizes, SizesLeft};
 use crate::encode::slot::Failed;
-use crate::encode::values::Values;
-use crate::encode::values::parts::{
-    Chain, End, Four, joined_len, note_joined, write_joined, write_known_parts,
-};
+use crate::encode::values::parts::{Chain, End, Four, note_joined, write_known_parts};
+use crate::encode::values::{Encoder, Values};
 use crate::encode::{EncodeError, WriteError};
 use crate::mode::Mode;
 use std::io;
@@ -34,32 +32,22 @@ macro_rules! parts {
     () => { End };
 }
 
-impl<A: Values> Values for (A,) {
-    ghost means = { λ x mode. Joined (Then (A.means x.0 mode) NoValues) };
+impl<A: Values> Encoder for (A,) {
+    ghost all = { λ x mode. Joined (Then (A.means x.0 mode) NoValues) };
 
-    ghost may_lack = { λ x mode. A.may_lack x.0 mode ⊎ ⊥ };
+    ghost lacks = { λ x mode. A.may_lack x.0 mode ⊎ ⊥ };
 
-    ghost reads = { λ x mode. ReadsThen (A.reads x.0 mode) ReadsNone };
+    ghost takes = { λ x mode. ReadsThen (A.reads x.0 mode) ReadsNone };
 
-    ghost can_encode = { λ x. A.can_encode x.0 × ⊤ };
-
-    fn encoded_len(&self, mode: Mode) -> Result<usize, EncodeError> {
-        let (a,) = self;
-        joined_len(&parts!(a), mode)
-    }
+    ghost can = { λ x. A.can_encode x.0 × ⊤ };
 
     #[inline(always)]
-    fn note_sizes(&self, mode: Mode, sizes: &mut Sizes) -> Result<usize, EncodeError> {
+    fn measured(&self, mode: Mode, sizes: &mut Sizes) -> Result<usize, EncodeError> {
         let (a,) = self;
         note_joined(&parts!(a), mode, sizes)
     }
 
-    fn write_encoded<W: io::Write>(&self, mode: Mode, target: &mut W) -> Result<(), WriteError> {
-        let (a,) = self;
-        write_joined(&parts!(a), mode, target)
-    }
-
-    fn write_known<W: io::Write>(
+    fn put<W: io::Write>(
         &self,
         mode: Mode,
         sizes: &mut SizesLeft<'_>,
@@ -70,37 +58,27 @@ impl<A: Values> Values for (A,) {
         write_known_parts(&parts!(a), mode, sizes, target, why)
     }
 
-    ghost lawful = { λ x mode can. Joined_lawful (Then_lawful (A.lawful x.0 mode can.0)
+    ghost one = { λ x mode can. Joined_lawful (Then_lawful (A.lawful x.0 mode can.0)
         (NoValues_lawful mode)) };
 }
 
-impl<A: Values, B: Values> Values for (A, B) {
-    ghost means = { λ x mode. Joined (Then (A.means x.0 mode) (Then (B.means x.1 mode) NoValues)) };
+impl<A: Values, B: Values> Encoder for (A, B) {
+    ghost all = { λ x mode. Joined (Then (A.means x.0 mode) (Then (B.means x.1 mode) NoValues)) };
 
-    ghost may_lack = { λ x mode. A.may_lack x.0 mode ⊎ (B.may_lack x.1 mode ⊎ ⊥) };
+    ghost lacks = { λ x mode. A.may_lack x.0 mode ⊎ (B.may_lack x.1 mode ⊎ ⊥) };
 
-    ghost reads = { λ x mode. ReadsThen (A.reads x.0 mode) (ReadsThen (B.reads x.1 mode)
+    ghost takes = { λ x mode. ReadsThen (A.reads x.0 mode) (ReadsThen (B.reads x.1 mode)
         ReadsNone) };
 
-    ghost can_encode = { λ x. A.can_encode x.0 × (B.can_encode x.1 × ⊤) };
-
-    fn encoded_len(&self, mode: Mode) -> Result<usize, EncodeError> {
-        let (a, b) = self;
-        joined_len(&parts!(a, b), mode)
-    }
+    ghost can = { λ x. A.can_encode x.0 × (B.can_encode x.1 × ⊤) };
 
     #[inline(always)]
-    fn note_sizes(&self, mode: Mode, sizes: &mut Sizes) -> Result<usize, EncodeError> {
+    fn measured(&self, mode: Mode, sizes: &mut Sizes) -> Result<usize, EncodeError> {
         let (a, b) = self;
         note_joined(&parts!(a, b), mode, sizes)
     }
 
-    fn write_encoded<W: io::Write>(&self, mode: Mode, target: &mut W) -> Result<(), WriteError> {
-        let (a, b) = self;
-        write_joined(&parts!(a, b), mode, target)
-    }
-
-    fn write_known<W: io::Write>(
+    fn put<W: io::Write>(
         &self,
         mode: Mode,
         sizes: &mut SizesLeft<'_>,
@@ -111,39 +89,29 @@ impl<A: Values, B: Values> Values for (A, B) {
         write_known_parts(&parts!(a, b), mode, sizes, target, why)
     }
 
-    ghost lawful = { λ x mode can. Joined_lawful (Then_lawful (A.lawful x.0 mode can.0)
+    ghost one = { λ x mode can. Joined_lawful (Then_lawful (A.lawful x.0 mode can.0)
         (Then_lawful (B.lawful x.1 mode can.1.0) (NoValues_lawful mode))) };
 }
 
-impl<A: Values, B: Values, C: Values> Values for (A, B, C) {
-    ghost means = { λ x mode. Joined (Then (A.means x.0 mode) (Then (B.means x.1 mode)
+impl<A: Values, B: Values, C: Values> Encoder for (A, B, C) {
+    ghost all = { λ x mode. Joined (Then (A.means x.0 mode) (Then (B.means x.1 mode)
         (Then (C.means x.2 mode) NoValues))) };
 
-    ghost may_lack = { λ x mode. A.may_lack x.0 mode ⊎ (B.may_lack x.1 mode ⊎
+    ghost lacks = { λ x mode. A.may_lack x.0 mode ⊎ (B.may_lack x.1 mode ⊎
         (C.may_lack x.2 mode ⊎ ⊥)) };
 
-    ghost reads = { λ x mode. ReadsThen (A.reads x.0 mode) (ReadsThen (B.reads x.1 mode)
+    ghost takes = { λ x mode. ReadsThen (A.reads x.0 mode) (ReadsThen (B.reads x.1 mode)
         (ReadsThen (C.reads x.2 mode) ReadsNone)) };
 
-    ghost can_encode = { λ x. A.can_encode x.0 × (B.can_encode x.1 × (C.can_encode x.2 × ⊤)) };
-
-    fn encoded_len(&self, mode: Mode) -> Result<usize, EncodeError> {
-        let (a, b, c) = self;
-        joined_len(&parts!(a, b, c), mode)
-    }
+    ghost can = { λ x. A.can_encode x.0 × (B.can_encode x.1 × (C.can_encode x.2 × ⊤)) };
 
     #[inline(always)]
-    fn note_sizes(&self, mode: Mode, sizes: &mut Sizes) -> Result<usize, EncodeError> {
+    fn measured(&self, mode: Mode, sizes: &mut Sizes) -> Result<usize, EncodeError> {
         let (a, b, c) = self;
         note_joined(&parts!(a, b, c), mode, sizes)
     }
 
-    fn write_encoded<W: io::Write>(&self, mode: Mode, target: &mut W) -> Result<(), WriteError> {
-        let (a, b, c) = self;
-        write_joined(&parts!(a, b, c), mode, target)
-    }
-
-    fn write_known<W: io::Write>(
+    fn put<W: io::Write>(
         &self,
         mode: Mode,
         sizes: &mut SizesLeft<'_>,
@@ -154,41 +122,31 @@ impl<A: Values, B: Values, C: Values> Values for (A, B, C) {
         write_known_parts(&parts!(a, b, c), mode, sizes, target, why)
     }
 
-    ghost lawful = { λ x mode can. Joined_lawful (Then_lawful (A.lawful x.0 mode can.0)
+    ghost one = { λ x mode can. Joined_lawful (Then_lawful (A.lawful x.0 mode can.0)
         (Then_lawful (B.lawful x.1 mode can.1.0) (Then_lawful (C.lawful x.2 mode can.1.1.0)
         (NoValues_lawful mode)))) };
 }
 
-impl<A: Values, B: Values, C: Values, D: Values> Values for (A, B, C, D) {
-    ghost means = { λ x mode. Joined (Then (A.means x.0 mode) (Then (B.means x.1 mode)
+impl<A: Values, B: Values, C: Values, D: Values> Encoder for (A, B, C, D) {
+    ghost all = { λ x mode. Joined (Then (A.means x.0 mode) (Then (B.means x.1 mode)
         (Then (C.means x.2 mode) (Then (D.means x.3 mode) NoValues)))) };
 
-    ghost may_lack = { λ x mode. A.may_lack x.0 mode ⊎ (B.may_lack x.1 mode ⊎
+    ghost lacks = { λ x mode. A.may_lack x.0 mode ⊎ (B.may_lack x.1 mode ⊎
         (C.may_lack x.2 mode ⊎ (D.may_lack x.3 mode ⊎ ⊥))) };
 
-    ghost reads = { λ x mode. ReadsThen (A.reads x.0 mode) (ReadsThen (B.reads x.1 mode)
+    ghost takes = { λ x mode. ReadsThen (A.reads x.0 mode) (ReadsThen (B.reads x.1 mode)
         (ReadsThen (C.reads x.2 mode) (ReadsThen (D.reads x.3 mode) ReadsNone))) };
 
-    ghost can_encode = { λ x. A.can_encode x.0 × (B.can_encode x.1 × (C.can_encode x.2 ×
+    ghost can = { λ x. A.can_encode x.0 × (B.can_encode x.1 × (C.can_encode x.2 ×
         (D.can_encode x.3 × ⊤))) };
 
-    fn encoded_len(&self, mode: Mode) -> Result<usize, EncodeError> {
-        let (a, b, c, d) = self;
-        joined_len(&parts!(a, b, c, d), mode)
-    }
-
     #[inline(always)]
-    fn note_sizes(&self, mode: Mode, sizes: &mut Sizes) -> Result<usize, EncodeError> {
+    fn measured(&self, mode: Mode, sizes: &mut Sizes) -> Result<usize, EncodeError> {
         let (a, b, c, d) = self;
         note_joined(&parts!(a, b, c, d), mode, sizes)
     }
 
-    fn write_encoded<W: io::Write>(&self, mode: Mode, target: &mut W) -> Result<(), WriteError> {
-        let (a, b, c, d) = self;
-        write_joined(&parts!(a, b, c, d), mode, target)
-    }
-
-    fn write_known<W: io::Write>(
+    fn put<W: io::Write>(
         &self,
         mode: Mode,
         sizes: &mut SizesLeft<'_>,
@@ -199,42 +157,32 @@ impl<A: Values, B: Values, C: Values, D: Values> Values for (A, B, C, D) {
         write_known_parts(&parts!(a, b, c, d), mode, sizes, target, why)
     }
 
-    ghost lawful = { λ x mode can. Joined_lawful (Then_lawful (A.lawful x.0 mode can.0)
+    ghost one = { λ x mode can. Joined_lawful (Then_lawful (A.lawful x.0 mode can.0)
         (Then_lawful (B.lawful x.1 mode can.1.0) (Then_lawful (C.lawful x.2 mode can.1.1.0)
         (Then_lawful (D.lawful x.3 mode can.1.1.1.0) (NoValues_lawful mode))))) };
 }
 
-impl<A: Values, B: Values, C: Values, D: Values, E: Values> Values for (A, B, C, D, E) {
-    ghost means = { λ x mode. Joined (Then (A.means x.0 mode) (Then (B.means x.1 mode)
+impl<A: Values, B: Values, C: Values, D: Values, E: Values> Encoder for (A, B, C, D, E) {
+    ghost all = { λ x mode. Joined (Then (A.means x.0 mode) (Then (B.means x.1 mode)
         (Then (C.means x.2 mode) (Then (D.means x.3 mode) (Then (E.means x.4 mode) NoValues))))) };
 
-    ghost may_lack = { λ x mode. A.may_lack x.0 mode ⊎ (B.may_lack x.1 mode ⊎
+    ghost lacks = { λ x mode. A.may_lack x.0 mode ⊎ (B.may_lack x.1 mode ⊎
         (C.may_lack x.2 mode ⊎ (D.may_lack x.3 mode ⊎ (E.may_lack x.4 mode ⊎ ⊥)))) };
 
-    ghost reads = { λ x mode. ReadsThen (A.reads x.0 mode) (ReadsThen (B.reads x.1 mode)
+    ghost takes = { λ x mode. ReadsThen (A.reads x.0 mode) (ReadsThen (B.reads x.1 mode)
         (ReadsThen (C.reads x.2 mode) (ReadsThen (D.reads x.3 mode)
         (ReadsThen (E.reads x.4 mode) ReadsNone)))) };
 
-    ghost can_encode = { λ x. A.can_encode x.0 × (B.can_encode x.1 × (C.can_encode x.2 ×
+    ghost can = { λ x. A.can_encode x.0 × (B.can_encode x.1 × (C.can_encode x.2 ×
         (D.can_encode x.3 × (E.can_encode x.4 × ⊤)))) };
 
-    fn encoded_len(&self, mode: Mode) -> Result<usize, EncodeError> {
-        let (a, b, c, d, e) = self;
-        joined_len(&parts!(a, b, c, d, e), mode)
-    }
-
     #[inline(always)]
-    fn note_sizes(&self, mode: Mode, sizes: &mut Sizes) -> Result<usize, EncodeError> {
+    fn measured(&self, mode: Mode, sizes: &mut Sizes) -> Result<usize, EncodeError> {
         let (a, b, c, d, e) = self;
         note_joined(&parts!(a, b, c, d, e), mode, sizes)
     }
 
-    fn write_encoded<W: io::Write>(&self, mode: Mode, target: &mut W) -> Result<(), WriteError> {
-        let (a, b, c, d, e) = self;
-        write_joined(&parts!(a, b, c, d, e), mode, target)
-    }
-
-    fn write_known<W: io::Write>(
+    fn put<W: io::Write>(
         &self,
         mode: Mode,
         sizes: &mut SizesLeft<'_>,
@@ -245,46 +193,36 @@ impl<A: Values, B: Values, C: Values, D: Values, E: Values> Values for (A, B, C,
         write_known_parts(&parts!(a, b, c, d, e), mode, sizes, target, why)
     }
 
-    ghost lawful = { λ x mode can. Joined_lawful (Then_lawful (A.lawful x.0 mode can.0)
+    ghost one = { λ x mode can. Joined_lawful (Then_lawful (A.lawful x.0 mode can.0)
         (Then_lawful (B.lawful x.1 mode can.1.0) (Then_lawful (C.lawful x.2 mode can.1.1.0)
         (Then_lawful (D.lawful x.3 mode can.1.1.1.0)
         (Then_lawful (E.lawful x.4 mode can.1.1.1.1.0) (NoValues_lawful mode)))))) };
 }
 
-impl<A: Values, B: Values, C: Values, D: Values, E: Values, F: Values> Values
+impl<A: Values, B: Values, C: Values, D: Values, E: Values, F: Values> Encoder
     for (A, B, C, D, E, F) {
-    ghost means = { λ x mode. Joined (Then (A.means x.0 mode) (Then (B.means x.1 mode)
+    ghost all = { λ x mode. Joined (Then (A.means x.0 mode) (Then (B.means x.1 mode)
         (Then (C.means x.2 mode) (Then (D.means x.3 mode) (Then (E.means x.4 mode)
         (Then (F.means x.5 mode) NoValues)))))) };
 
-    ghost may_lack = { λ x mode. A.may_lack x.0 mode ⊎ (B.may_lack x.1 mode ⊎
+    ghost lacks = { λ x mode. A.may_lack x.0 mode ⊎ (B.may_lack x.1 mode ⊎
         (C.may_lack x.2 mode ⊎ (D.may_lack x.3 mode ⊎ (E.may_lack x.4 mode ⊎
         (F.may_lack x.5 mode ⊎ ⊥))))) };
 
-    ghost reads = { λ x mode. ReadsThen (A.reads x.0 mode) (ReadsThen (B.reads x.1 mode)
+    ghost takes = { λ x mode. ReadsThen (A.reads x.0 mode) (ReadsThen (B.reads x.1 mode)
         (ReadsThen (C.reads x.2 mode) (ReadsThen (D.reads x.3 mode)
         (ReadsThen (E.reads x.4 mode) (ReadsThen (F.reads x.5 mode) ReadsNone))))) };
 
-    ghost can_encode = { λ x. A.can_encode x.0 × (B.can_encode x.1 × (C.can_encode x.2 ×
+    ghost can = { λ x. A.can_encode x.0 × (B.can_encode x.1 × (C.can_encode x.2 ×
         (D.can_encode x.3 × (E.can_encode x.4 × (F.can_encode x.5 × ⊤))))) };
 
-    fn encoded_len(&self, mode: Mode) -> Result<usize, EncodeError> {
-        let (a, b, c, d, e, f) = self;
-        joined_len(&parts!(a, b, c, d, e, f), mode)
-    }
-
     #[inline(always)]
-    fn note_sizes(&self, mode: Mode, sizes: &mut Sizes) -> Result<usize, EncodeError> {
+    fn measured(&self, mode: Mode, sizes: &mut Sizes) -> Result<usize, EncodeError> {
         let (a, b, c, d, e, f) = self;
         note_joined(&parts!(a, b, c, d, e, f), mode, sizes)
     }
 
-    fn write_encoded<W: io::Write>(&self, mode: Mode, target: &mut W) -> Result<(), WriteError> {
-        let (a, b, c, d, e, f) = self;
-        write_joined(&parts!(a, b, c, d, e, f), mode, target)
-    }
-
-    fn write_known<W: io::Write>(
+    fn put<W: io::Write>(
         &self,
         mode: Mode,
         sizes: &mut SizesLeft<'_>,
@@ -295,48 +233,38 @@ impl<A: Values, B: Values, C: Values, D: Values, E: Values, F: Values> Values
         write_known_parts(&parts!(a, b, c, d, e, f), mode, sizes, target, why)
     }
 
-    ghost lawful = { λ x mode can. Joined_lawful (Then_lawful (A.lawful x.0 mode can.0)
+    ghost one = { λ x mode can. Joined_lawful (Then_lawful (A.lawful x.0 mode can.0)
         (Then_lawful (B.lawful x.1 mode can.1.0) (Then_lawful (C.lawful x.2 mode can.1.1.0)
         (Then_lawful (D.lawful x.3 mode can.1.1.1.0)
         (Then_lawful (E.lawful x.4 mode can.1.1.1.1.0)
         (Then_lawful (F.lawful x.5 mode can.1.1.1.1.1.0) (NoValues_lawful mode))))))) };
 }
 
-impl<A: Values, B: Values, C: Values, D: Values, E: Values, F: Values, G: Values> Values
+impl<A: Values, B: Values, C: Values, D: Values, E: Values, F: Values, G: Values> Encoder
     for (A, B, C, D, E, F, G) {
-    ghost means = { λ x mode. Joined (Then (A.means x.0 mode) (Then (B.means x.1 mode)
+    ghost all = { λ x mode. Joined (Then (A.means x.0 mode) (Then (B.means x.1 mode)
         (Then (C.means x.2 mode) (Then (D.means x.3 mode) (Then (E.means x.4 mode)
         (Then (F.means x.5 mode) (Then (G.means x.6 mode) NoValues))))))) };
 
-    ghost may_lack = { λ x mode. A.may_lack x.0 mode ⊎ (B.may_lack x.1 mode ⊎
+    ghost lacks = { λ x mode. A.may_lack x.0 mode ⊎ (B.may_lack x.1 mode ⊎
         (C.may_lack x.2 mode ⊎ (D.may_lack x.3 mode ⊎ (E.may_lack x.4 mode ⊎
         (F.may_lack x.5 mode ⊎ (G.may_lack x.6 mode ⊎ ⊥)))))) };
 
-    ghost reads = { λ x mode. ReadsThen (A.reads x.0 mode) (ReadsThen (B.reads x.1 mode)
+    ghost takes = { λ x mode. ReadsThen (A.reads x.0 mode) (ReadsThen (B.reads x.1 mode)
         (ReadsThen (C.reads x.2 mode) (ReadsThen (D.reads x.3 mode)
         (ReadsThen (E.reads x.4 mode) (ReadsThen (F.reads x.5 mode)
         (ReadsThen (G.reads x.6 mode) ReadsNone)))))) };
 
-    ghost can_encode = { λ x. A.can_encode x.0 × (B.can_encode x.1 × (C.can_encode x.2 ×
+    ghost can = { λ x. A.can_encode x.0 × (B.can_encode x.1 × (C.can_encode x.2 ×
         (D.can_encode x.3 × (E.can_encode x.4 × (F.can_encode x.5 × (G.can_encode x.6 × ⊤)))))) };
 
-    fn encoded_len(&self, mode: Mode) -> Result<usize, EncodeError> {
-        let (a, b, c, d, e, f, g) = self;
-        joined_len(&parts!(a, b, c, d, e, f, g), mode)
-    }
-
     #[inline(always)]
-    fn note_sizes(&self, mode: Mode, sizes: &mut Sizes) -> Result<usize, EncodeError> {
+    fn measured(&self, mode: Mode, sizes: &mut Sizes) -> Result<usize, EncodeError> {
         let (a, b, c, d, e, f, g) = self;
         note_joined(&parts!(a, b, c, d, e, f, g), mode, sizes)
     }
 
-    fn write_encoded<W: io::Write>(&self, mode: Mode, target: &mut W) -> Result<(), WriteError> {
-        let (a, b, c, d, e, f, g) = self;
-        write_joined(&parts!(a, b, c, d, e, f, g), mode, target)
-    }
-
-    fn write_known<W: io::Write>(
+    fn put<W: io::Write>(
         &self,
         mode: Mode,
         sizes: &mut SizesLeft<'_>,
@@ -347,7 +275,7 @@ impl<A: Values, B: Values, C: Values, D: Values, E: Values, F: Values, G: Values
         write_known_parts(&parts!(a, b, c, d, e, f, g), mode, sizes, target, why)
     }
 
-    ghost lawful = { λ x mode can. Joined_lawful (Then_lawful (A.lawful x.0 mode can.0)
+    ghost one = { λ x mode can. Joined_lawful (Then_lawful (A.lawful x.0 mode can.0)
         (Then_lawful (B.lawful x.1 mode can.1.0) (Then_lawful (C.lawful x.2 mode can.1.1.0)
         (Then_lawful (D.lawful x.3 mode can.1.1.1.0)
         (Then_lawful (E.lawful x.4 mode can.1.1.1.1.0)
@@ -355,43 +283,33 @@ impl<A: Values, B: Values, C: Values, D: Values, E: Values, F: Values, G: Values
         (Then_lawful (G.lawful x.6 mode can.1.1.1.1.1.1.0) (NoValues_lawful mode)))))))) };
 }
 
-impl<A: Values, B: Values, C: Values, D: Values, E: Values, F: Values, G: Values, H: Values> Values
+impl<A: Values, B: Values, C: Values, D: Values, E: Values, F: Values, G: Values, H: Values> Encoder
     for (A, B, C, D, E, F, G, H) {
-    ghost means = { λ x mode. Joined (Then (A.means x.0 mode) (Then (B.means x.1 mode)
+    ghost all = { λ x mode. Joined (Then (A.means x.0 mode) (Then (B.means x.1 mode)
         (Then (C.means x.2 mode) (Then (D.means x.3 mode) (Then (E.means x.4 mode)
         (Then (F.means x.5 mode) (Then (G.means x.6 mode) (Then (H.means x.7 mode)
         NoValues)))))))) };
 
-    ghost may_lack = { λ x mode. A.may_lack x.0 mode ⊎ (B.may_lack x.1 mode ⊎
+    ghost lacks = { λ x mode. A.may_lack x.0 mode ⊎ (B.may_lack x.1 mode ⊎
         (C.may_lack x.2 mode ⊎ (D.may_lack x.3 mode ⊎ (E.may_lack x.4 mode ⊎
         (F.may_lack x.5 mode ⊎ (G.may_lack x.6 mode ⊎ (H.may_lack x.7 mode ⊎ ⊥))))))) };
 
-    ghost reads = { λ x mode. ReadsThen (A.reads x.0 mode) (ReadsThen (B.reads x.1 mode)
+    ghost takes = { λ x mode. ReadsThen (A.reads x.0 mode) (ReadsThen (B.reads x.1 mode)
         (ReadsThen (C.reads x.2 mode) (ReadsThen (D.reads x.3 mode)
         (ReadsThen (E.reads x.4 mode) (ReadsThen (F.reads x.5 mode)
         (ReadsThen (G.reads x.6 mode) (ReadsThen (H.reads x.7 mode) ReadsNone))))))) };
 
-    ghost can_encode = { λ x. A.can_encode x.0 × (B.can_encode x.1 × (C.can_encode x.2 ×
+    ghost can = { λ x. A.can_encode x.0 × (B.can_encode x.1 × (C.can_encode x.2 ×
         (D.can_encode x.3 × (E.can_encode x.4 × (F.can_encode x.5 × (G.can_encode x.6 ×
         (H.can_encode x.7 × ⊤))))))) };
 
-    fn encoded_len(&self, mode: Mode) -> Result<usize, EncodeError> {
-        let (a, b, c, d, e, f, g, h) = self;
-        joined_len(&parts!(a, b, c, d, e, f, g, h), mode)
-    }
-
     #[inline(always)]
-    fn note_sizes(&self, mode: Mode, sizes: &mut Sizes) -> Result<usize, EncodeError> {
+    fn measured(&self, mode: Mode, sizes: &mut Sizes) -> Result<usize, EncodeError> {
         let (a, b, c, d, e, f, g, h) = self;
         note_joined(&parts!(a, b, c, d, e, f, g, h), mode, sizes)
     }
 
-    fn write_encoded<W: io::Write>(&self, mode: Mode, target: &mut W) -> Result<(), WriteError> {
-        let (a, b, c, d, e, f, g, h) = self;
-        write_joined(&parts!(a, b, c, d, e, f, g, h), mode, target)
-    }
-
-    fn write_known<W: io::Write>(
+    fn put<W: io::Write>(
         &self,
         mode: Mode,
         sizes: &mut SizesLeft<'_>,
@@ -402,7 +320,7 @@ impl<A: Values, B: Values, C: Values, D: Values, E: Values, F: Values, G: Values
         write_known_parts(&parts!(a, b, c, d, e, f, g, h), mode, sizes, target, why)
     }
 
-    ghost lawful = { λ x mode can. Joined_lawful (Then_lawful (A.lawful x.0 mode can.0)
+    ghost one = { λ x mode can. Joined_lawful (Then_lawful (A.lawful x.0 mode can.0)
         (Then_lawful (B.lawful x.1 mode can.1.0) (Then_lawful (C.lawful x.2 mode can.1.1.0)
         (Then_lawful (D.lawful x.3 mode can.1.1.1.0)
         (Then_lawful (E.lawful x.4 mode can.1.1.1.1.0)
@@ -421,44 +339,34 @@ impl<
     G: Values,
     H: Values,
     I: Values,
-> Values for (A, B, C, D, E, F, G, H, I) {
-    ghost means = { λ x mode. Joined (Then (A.means x.0 mode) (Then (B.means x.1 mode)
+> Encoder for (A, B, C, D, E, F, G, H, I) {
+    ghost all = { λ x mode. Joined (Then (A.means x.0 mode) (Then (B.means x.1 mode)
         (Then (C.means x.2 mode) (Then (D.means x.3 mode) (Then (E.means x.4 mode)
         (Then (F.means x.5 mode) (Then (G.means x.6 mode) (Then (H.means x.7 mode)
         (Then (I.means x.8 mode) NoValues))))))))) };
 
-    ghost may_lack = { λ x mode. A.may_lack x.0 mode ⊎ (B.may_lack x.1 mode ⊎
+    ghost lacks = { λ x mode. A.may_lack x.0 mode ⊎ (B.may_lack x.1 mode ⊎
         (C.may_lack x.2 mode ⊎ (D.may_lack x.3 mode ⊎ (E.may_lack x.4 mode ⊎
         (F.may_lack x.5 mode ⊎ (G.may_lack x.6 mode ⊎ (H.may_lack x.7 mode ⊎
         (I.may_lack x.8 mode ⊎ ⊥)))))))) };
 
-    ghost reads = { λ x mode. ReadsThen (A.reads x.0 mode) (ReadsThen (B.reads x.1 mode)
+    ghost takes = { λ x mode. ReadsThen (A.reads x.0 mode) (ReadsThen (B.reads x.1 mode)
         (ReadsThen (C.reads x.2 mode) (ReadsThen (D.reads x.3 mode)
         (ReadsThen (E.reads x.4 mode) (ReadsThen (F.reads x.5 mode)
         (ReadsThen (G.reads x.6 mode) (ReadsThen (H.reads x.7 mode)
         (ReadsThen (I.reads x.8 mode) ReadsNone)))))))) };
 
-    ghost can_encode = { λ x. A.can_encode x.0 × (B.can_encode x.1 × (C.can_encode x.2 ×
+    ghost can = { λ x. A.can_encode x.0 × (B.can_encode x.1 × (C.can_encode x.2 ×
         (D.can_encode x.3 × (E.can_encode x.4 × (F.can_encode x.5 × (G.can_encode x.6 ×
         (H.can_encode x.7 × (I.can_encode x.8 × ⊤)))))))) };
 
-    fn encoded_len(&self, mode: Mode) -> Result<usize, EncodeError> {
-        let (a, b, c, d, e, f, g, h, i) = self;
-        joined_len(&parts!(a, b, c, d, e, f, g, h, i), mode)
-    }
-
     #[inline(always)]
-    fn note_sizes(&self, mode: Mode, sizes: &mut Sizes) -> Result<usize, EncodeError> {
+    fn measured(&self, mode: Mode, sizes: &mut Sizes) -> Result<usize, EncodeError> {
         let (a, b, c, d, e, f, g, h, i) = self;
         note_joined(&parts!(a, b, c, d, e, f, g, h, i), mode, sizes)
     }
 
-    fn write_encoded<W: io::Write>(&self, mode: Mode, target: &mut W) -> Result<(), WriteError> {
-        let (a, b, c, d, e, f, g, h, i) = self;
-        write_joined(&parts!(a, b, c, d, e, f, g, h, i), mode, target)
-    }
-
-    fn write_known<W: io::Write>(
+    fn put<W: io::Write>(
         &self,
         mode: Mode,
         sizes: &mut SizesLeft<'_>,
@@ -469,7 +377,7 @@ impl<
         write_known_parts(&parts!(a, b, c, d, e, f, g, h, i), mode, sizes, target, why)
     }
 
-    ghost lawful = { λ x mode can. Joined_lawful (Then_lawful (A.lawful x.0 mode can.0)
+    ghost one = { λ x mode can. Joined_lawful (Then_lawful (A.lawful x.0 mode can.0)
         (Then_lawful (B.lawful x.1 mode can.1.0) (Then_lawful (C.lawful x.2 mode can.1.1.0)
         (Then_lawful (D.lawful x.3 mode can.1.1.1.0)
         (Then_lawful (E.lawful x.4 mode can.1.1.1.1.0)
@@ -490,44 +398,34 @@ impl<
     H: Values,
     I: Values,
     J: Values,
-> Values for (A, B, C, D, E, F, G, H, I, J) {
-    ghost means = { λ x mode. Joined (Then (A.means x.0 mode) (Then (B.means x.1 mode)
+> Encoder for (A, B, C, D, E, F, G, H, I, J) {
+    ghost all = { λ x mode. Joined (Then (A.means x.0 mode) (Then (B.means x.1 mode)
         (Then (C.means x.2 mode) (Then (D.means x.3 mode) (Then (E.means x.4 mode)
         (Then (F.means x.5 mode) (Then (G.means x.6 mode) (Then (H.means x.7 mode)
         (Then (I.means x.8 mode) (Then (J.means x.9 mode) NoValues)))))))))) };
 
-    ghost may_lack = { λ x mode. A.may_lack x.0 mode ⊎ (B.may_lack x.1 mode ⊎
+    ghost lacks = { λ x mode. A.may_lack x.0 mode ⊎ (B.may_lack x.1 mode ⊎
         (C.may_lack x.2 mode ⊎ (D.may_lack x.3 mode ⊎ (E.may_lack x.4 mode ⊎
         (F.may_lack x.5 mode ⊎ (G.may_lack x.6 mode ⊎ (H.may_lack x.7 mode ⊎
         (I.may_lack x.8 mode ⊎ (J.may_lack x.9 mode ⊎ ⊥))))))))) };
 
-    ghost reads = { λ x mode. ReadsThen (A.reads x.0 mode) (ReadsThen (B.reads x.1 mode)
+    ghost takes = { λ x mode. ReadsThen (A.reads x.0 mode) (ReadsThen (B.reads x.1 mode)
         (ReadsThen (C.reads x.2 mode) (ReadsThen (D.reads x.3 mode)
         (ReadsThen (E.reads x.4 mode) (ReadsThen (F.reads x.5 mode)
         (ReadsThen (G.reads x.6 mode) (ReadsThen (H.reads x.7 mode)
         (ReadsThen (I.reads x.8 mode) (ReadsThen (J.reads x.9 mode) ReadsNone))))))))) };
 
-    ghost can_encode = { λ x. A.can_encode x.0 × (B.can_encode x.1 × (C.can_encode x.2 ×
+    ghost can = { λ x. A.can_encode x.0 × (B.can_encode x.1 × (C.can_encode x.2 ×
         (D.can_encode x.3 × (E.can_encode x.4 × (F.can_encode x.5 × (G.can_encode x.6 ×
         (H.can_encode x.7 × (I.can_encode x.8 × (J.can_encode x.9 × ⊤))))))))) };
 
-    fn encoded_len(&self, mode: Mode) -> Result<usize, EncodeError> {
-        let (a, b, c, d, e, f, g, h, i, j) = self;
-        joined_len(&parts!(a, b, c, d, e, f, g, h, i, j), mode)
-    }
-
     #[inline(always)]
-    fn note_sizes(&self, mode: Mode, sizes: &mut Sizes) -> Result<usize, EncodeError> {
+    fn measured(&self, mode: Mode, sizes: &mut Sizes) -> Result<usize, EncodeError> {
         let (a, b, c, d, e, f, g, h, i, j) = self;
         note_joined(&parts!(a, b, c, d, e, f, g, h, i, j), mode, sizes)
     }
 
-    fn write_encoded<W: io::Write>(&self, mode: Mode, target: &mut W) -> Result<(), WriteError> {
-        let (a, b, c, d, e, f, g, h, i, j) = self;
-        write_joined(&parts!(a, b, c, d, e, f, g, h, i, j), mode, target)
-    }
-
-    fn write_known<W: io::Write>(
+    fn put<W: io::Write>(
         &self,
         mode: Mode,
         sizes: &mut SizesLeft<'_>,
@@ -544,7 +442,7 @@ impl<
         )
     }
 
-    ghost lawful = { λ x mode can. Joined_lawful (Then_lawful (A.lawful x.0 mode can.0)
+    ghost one = { λ x mode can. Joined_lawful (Then_lawful (A.lawful x.0 mode can.0)
         (Then_lawful (B.lawful x.1 mode can.1.0) (Then_lawful (C.lawful x.2 mode can.1.1.0)
         (Then_lawful (D.lawful x.3 mode can.1.1.1.0)
         (Then_lawful (E.lawful x.4 mode can.1.1.1.1.0)
@@ -567,47 +465,37 @@ impl<
     I: Values,
     J: Values,
     K: Values,
-> Values for (A, B, C, D, E, F, G, H, I, J, K) {
-    ghost means = { λ x mode. Joined (Then (A.means x.0 mode) (Then (B.means x.1 mode)
+> Encoder for (A, B, C, D, E, F, G, H, I, J, K) {
+    ghost all = { λ x mode. Joined (Then (A.means x.0 mode) (Then (B.means x.1 mode)
         (Then (C.means x.2 mode) (Then (D.means x.3 mode) (Then (E.means x.4 mode)
         (Then (F.means x.5 mode) (Then (G.means x.6 mode) (Then (H.means x.7 mode)
         (Then (I.means x.8 mode) (Then (J.means x.9 mode) (Then (K.means x.10 mode)
         NoValues))))))))))) };
 
-    ghost may_lack = { λ x mode. A.may_lack x.0 mode ⊎ (B.may_lack x.1 mode ⊎
+    ghost lacks = { λ x mode. A.may_lack x.0 mode ⊎ (B.may_lack x.1 mode ⊎
         (C.may_lack x.2 mode ⊎ (D.may_lack x.3 mode ⊎ (E.may_lack x.4 mode ⊎
         (F.may_lack x.5 mode ⊎ (G.may_lack x.6 mode ⊎ (H.may_lack x.7 mode ⊎
         (I.may_lack x.8 mode ⊎ (J.may_lack x.9 mode ⊎ (K.may_lack x.10 mode ⊎ ⊥)))))))))) };
 
-    ghost reads = { λ x mode. ReadsThen (A.reads x.0 mode) (ReadsThen (B.reads x.1 mode)
+    ghost takes = { λ x mode. ReadsThen (A.reads x.0 mode) (ReadsThen (B.reads x.1 mode)
         (ReadsThen (C.reads x.2 mode) (ReadsThen (D.reads x.3 mode)
         (ReadsThen (E.reads x.4 mode) (ReadsThen (F.reads x.5 mode)
         (ReadsThen (G.reads x.6 mode) (ReadsThen (H.reads x.7 mode)
         (ReadsThen (I.reads x.8 mode) (ReadsThen (J.reads x.9 mode)
         (ReadsThen (K.reads x.10 mode) ReadsNone)))))))))) };
 
-    ghost can_encode = { λ x. A.can_encode x.0 × (B.can_encode x.1 × (C.can_encode x.2 ×
+    ghost can = { λ x. A.can_encode x.0 × (B.can_encode x.1 × (C.can_encode x.2 ×
         (D.can_encode x.3 × (E.can_encode x.4 × (F.can_encode x.5 × (G.can_encode x.6 ×
         (H.can_encode x.7 × (I.can_encode x.8 × (J.can_encode x.9 × (K.can_encode x.10 ×
         ⊤)))))))))) };
 
-    fn encoded_len(&self, mode: Mode) -> Result<usize, EncodeError> {
-        let (a, b, c, d, e, f, g, h, i, j, k) = self;
-        joined_len(&parts!(a, b, c, d, e, f, g, h, i, j, k), mode)
-    }
-
     #[inline(always)]
-    fn note_sizes(&self, mode: Mode, sizes: &mut Sizes) -> Result<usize, EncodeError> {
+    fn measured(&self, mode: Mode, sizes: &mut Sizes) -> Result<usize, EncodeError> {
         let (a, b, c, d, e, f, g, h, i, j, k) = self;
         note_joined(&parts!(a, b, c, d, e, f, g, h, i, j, k), mode, sizes)
     }
 
-    fn write_encoded<W: io::Write>(&self, mode: Mode, target: &mut W) -> Result<(), WriteError> {
-        let (a, b, c, d, e, f, g, h, i, j, k) = self;
-        write_joined(&parts!(a, b, c, d, e, f, g, h, i, j, k), mode, target)
-    }
-
-    fn write_known<W: io::Write>(
+    fn put<W: io::Write>(
         &self,
         mode: Mode,
         sizes: &mut SizesLeft<'_>,
@@ -624,7 +512,7 @@ impl<
         )
     }
 
-    ghost lawful = { λ x mode can. Joined_lawful (Then_lawful (A.lawful x.0 mode can.0)
+    ghost one = { λ x mode can. Joined_lawful (Then_lawful (A.lawful x.0 mode can.0)
         (Then_lawful (B.lawful x.1 mode can.1.0) (Then_lawful (C.lawful x.2 mode can.1.1.0)
         (Then_lawful (D.lawful x.3 mode can.1.1.1.0)
         (Then_lawful (E.lawful x.4 mode can.1.1.1.1.0)
@@ -650,48 +538,38 @@ impl<
     J: Values,
     K: Values,
     L: Values,
-> Values for (A, B, C, D, E, F, G, H, I, J, K, L) {
-    ghost means = { λ x mode. Joined (Then (A.means x.0 mode) (Then (B.means x.1 mode)
+> Encoder for (A, B, C, D, E, F, G, H, I, J, K, L) {
+    ghost all = { λ x mode. Joined (Then (A.means x.0 mode) (Then (B.means x.1 mode)
         (Then (C.means x.2 mode) (Then (D.means x.3 mode) (Then (E.means x.4 mode)
         (Then (F.means x.5 mode) (Then (G.means x.6 mode) (Then (H.means x.7 mode)
         (Then (I.means x.8 mode) (Then (J.means x.9 mode) (Then (K.means x.10 mode)
         (Then (L.means x.11 mode) NoValues)))))))))))) };
 
-    ghost may_lack = { λ x mode. A.may_lack x.0 mode ⊎ (B.may_lack x.1 mode ⊎
+    ghost lacks = { λ x mode. A.may_lack x.0 mode ⊎ (B.may_lack x.1 mode ⊎
         (C.may_lack x.2 mode ⊎ (D.may_lack x.3 mode ⊎ (E.may_lack x.4 mode ⊎
         (F.may_lack x.5 mode ⊎ (G.may_lack x.6 mode ⊎ (H.may_lack x.7 mode ⊎
         (I.may_lack x.8 mode ⊎ (J.may_lack x.9 mode ⊎ (K.may_lack x.10 mode ⊎
         (L.may_lack x.11 mode ⊎ ⊥))))))))))) };
 
-    ghost reads = { λ x mode. ReadsThen (A.reads x.0 mode) (ReadsThen (B.reads x.1 mode)
+    ghost takes = { λ x mode. ReadsThen (A.reads x.0 mode) (ReadsThen (B.reads x.1 mode)
         (ReadsThen (C.reads x.2 mode) (ReadsThen (D.reads x.3 mode)
         (ReadsThen (E.reads x.4 mode) (ReadsThen (F.reads x.5 mode)
         (ReadsThen (G.reads x.6 mode) (ReadsThen (H.reads x.7 mode)
         (ReadsThen (I.reads x.8 mode) (ReadsThen (J.reads x.9 mode)
         (ReadsThen (K.reads x.10 mode) (ReadsThen (L.reads x.11 mode) ReadsNone))))))))))) };
 
-    ghost can_encode = { λ x. A.can_encode x.0 × (B.can_encode x.1 × (C.can_encode x.2 ×
+    ghost can = { λ x. A.can_encode x.0 × (B.can_encode x.1 × (C.can_encode x.2 ×
         (D.can_encode x.3 × (E.can_encode x.4 × (F.can_encode x.5 × (G.can_encode x.6 ×
         (H.can_encode x.7 × (I.can_encode x.8 × (J.can_encode x.9 × (K.can_encode x.10 ×
         (L.can_encode x.11 × ⊤))))))))))) };
 
-    fn encoded_len(&self, mode: Mode) -> Result<usize, EncodeError> {
-        let (a, b, c, d, e, f, g, h, i, j, k, l) = self;
-        joined_len(&parts!(a, b, c, d, e, f, g, h, i, j, k, l), mode)
-    }
-
     #[inline(always)]
-    fn note_sizes(&self, mode: Mode, sizes: &mut Sizes) -> Result<usize, EncodeError> {
+    fn measured(&self, mode: Mode, sizes: &mut Sizes) -> Result<usize, EncodeError> {
         let (a, b, c, d, e, f, g, h, i, j, k, l) = self;
         note_joined(&parts!(a, b, c, d, e, f, g, h, i, j, k, l), mode, sizes)
     }
 
-    fn write_encoded<W: io::Write>(&self, mode: Mode, target: &mut W) -> Result<(), WriteError> {
-        let (a, b, c, d, e, f, g, h, i, j, k, l) = self;
-        write_joined(&parts!(a, b, c, d, e, f, g, h, i, j, k, l), mode, target)
-    }
-
-    fn write_known<W: io::Write>(
+    fn put<W: io::Write>(
         &self,
         mode: Mode,
         sizes: &mut SizesLeft<'_>,
@@ -708,7 +586,7 @@ impl<
         )
     }
 
-    ghost lawful = { λ x mode can. Joined_lawful (Then_lawful (A.lawful x.0 mode can.0)
+    ghost one = { λ x mode can. Joined_lawful (Then_lawful (A.lawful x.0 mode can.0)
         (Then_lawful (B.lawful x.1 mode can.1.0) (Then_lawful (C.lawful x.2 mode can.1.1.0)
         (Then_lawful (D.lawful x.3 mode can.1.1.1.0)
         (Then_lawful (E.lawful x.4 mode can.1.1.1.1.0)

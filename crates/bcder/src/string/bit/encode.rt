@@ -8,7 +8,8 @@ ghost use Rattle.bcder.specs.laws.Meanings.{BitsMean_lawful, primitive_lawful};
 
 use super::write::{bits_len, put_meant, write_bits};
 use crate::encode::sizes::{Sizes, SizesLeft};
-use crate::encode::slot::{Failed, store};
+use crate::encode::slot::Failed;
+use crate::encode::values::Encoder;
 use crate::encode::{EncodeError, PrimitiveContent, Values, WriteError};
 use crate::mode::Mode;
 use crate::tag::Tag;
@@ -109,41 +110,31 @@ impl<T: AsSlice<u8>> BitSliceEncoder<T> {
 
 /// Encodes the bits as one primitive value (8.6.2). Unused bits are written as they are in BER, and
 /// as zero in CER and DER (11.2.1). In CER there are at most 1000 contents octets (9.2).
-impl<T: AsSlice<u8>> Values for BitSliceEncoder<T> {
-    ghost means = { λ x mode. ValueMeans x.tag (primitive_meaning x.tag)
+impl<T: AsSlice<u8>> Encoder for BitSliceEncoder<T> {
+    ghost all = { λ x mode. ValueMeans x.tag (primitive_meaning x.tag)
         (BitsMean LongCerBitString mode
         (record { unused = x.unused; octets = T.items x.slice })) };
 
-    ghost reads = { λ _ _. ReadsNone };
-
-    fn encoded_len(&self, mode: Mode) -> Result<usize, EncodeError> {
-        self.contents().encode_as(self.tag).encoded_len(mode)
-    }
+    ghost takes = { λ _ _. ReadsNone };
 
     #[inline(always)]
     #[tactic(auto, using(crate::proofs::Noting::nothing_noted))]
-    fn note_sizes(&self, mode: Mode, _sizes: &mut Sizes) -> Result<usize, EncodeError> {
-        self.encoded_len(mode)
+    fn measured(&self, mode: Mode, _sizes: &mut Sizes) -> Result<usize, EncodeError> {
+        self.contents().encode_as(self.tag).encoded_len(mode)
     }
 
-    fn write_encoded<W: io::Write>(&self, mode: Mode, target: &mut W) -> Result<(), WriteError> {
-        self.contents()
-            .encode_as(self.tag)
-            .write_encoded(mode, target)
-    }
-
-    #[tactic(auto, using(crate::proofs::Noting::none_read))]
-    fn write_known<W: io::Write>(
+    fn put<W: io::Write>(
         &self,
         mode: Mode,
-        _sizes: &mut SizesLeft<'_>,
+        sizes: &mut SizesLeft<'_>,
         target: &mut W,
         why: &mut WriteError,
     ) -> Result<(), Failed> {
-        store(self.write_encoded(mode, target), why)
+        let value = self.contents().encode_as(self.tag);
+        value.write_known(mode, sizes, target, why)
     }
 
-    ghost lawful = { λ x mode can. primitive_lawful x.tag mode
+    ghost one = { λ x mode can. primitive_lawful x.tag mode
         (BitsMean_lawful LongCerBitString mode
         (record { unused = x.unused; octets = T.items x.slice })) };
 }

@@ -1,7 +1,7 @@
 //! Octet strings as encoders (X.690, 8.7, 9.2, 10.2).
 ghost use Rattle.std.specs.Prelude.{◌≡◌};
 ghost use Rattle.bcder.specs.x690.OctetString.{octet_string_tag};
-ghost use Rattle.bcder.specs.calls.Encoders.{HasEncoding, SizeOfValues, WritesValues, WritesParts};
+ghost use Rattle.bcder.specs.calls.Encoders.{HasEncoding, SizeOfValues, WritesParts};
 ghost use Rattle.bcder.specs.calls.Encoders.{into_result};
 ghost use Rattle.bcder.specs.calls.Noted.{ReadsNone};
 ghost use Rattle.bcder.specs.calls.StringMeaning.{StringMeans};
@@ -11,7 +11,7 @@ ghost use Rattle.bcder.specs.laws.StringMeanings.{StringMeans_lawful};
 use super::write::{octets_len, put_octets, put_string, string_len};
 use super::{OctetString, Octets};
 use crate::encode::sizes::{Sizes, SizesLeft};
-use crate::encode::slot::{into_result, slot};
+use crate::encode::values::Encoder;
 use crate::encode::{Constructed, EncodeError, Failed, Values, WriteError};
 use crate::mode::Mode;
 use crate::tag::Tag;
@@ -114,42 +114,19 @@ fn put<W: io::Write>(
     }
 }
 
-/// Writes the string, if it has an encoding.
-fn write<W: io::Write>(
-    string: &OctetString,
-    tag: Tag,
-    mode: Mode,
-    target: &mut W,
-) -> Result<(), WriteError>
-    ensures { WritesValues W.contents target (StringMeans tag string.now mode) ⊥ result }
-{
-    size_of(string, tag, mode)?;
-    let mut why = slot();
-    let outcome = put(string, tag, mode, target, &mut why);
-    into_result(outcome, why)
-}
+impl Encoder for OctetStringEncoder<OctetString> {
+    ghost all = { λ x mode. StringMeans x.tag x.value mode };
 
-impl Values for OctetStringEncoder<OctetString> {
-    ghost means = { λ x mode. StringMeans x.tag x.value mode };
-
-    ghost reads = { λ _ _. ReadsNone };
-
-    fn encoded_len(&self, mode: Mode) -> Result<usize, EncodeError> {
-        size_of(&self.value, self.tag, mode)
-    }
+    ghost takes = { λ _ _. ReadsNone };
 
     #[inline(always)]
     #[tactic(auto, using(crate::proofs::Noting::nothing_noted))]
-    fn note_sizes(&self, mode: Mode, _sizes: &mut Sizes) -> Result<usize, EncodeError> {
-        self.encoded_len(mode)
-    }
-
-    fn write_encoded<W: io::Write>(&self, mode: Mode, target: &mut W) -> Result<(), WriteError> {
-        write(&self.value, self.tag, mode, target)
+    fn measured(&self, mode: Mode, _sizes: &mut Sizes) -> Result<usize, EncodeError> {
+        size_of(&self.value, self.tag, mode)
     }
 
     #[tactic(auto, using(crate::proofs::Noting::none_read))]
-    fn write_known<W: io::Write>(
+    fn put<W: io::Write>(
         &self,
         mode: Mode,
         _sizes: &mut SizesLeft<'_>,
@@ -159,30 +136,22 @@ impl Values for OctetStringEncoder<OctetString> {
         put(&self.value, self.tag, mode, target, why)
     }
 
-    ghost lawful = { λ x mode can. StringMeans_lawful x.tag x.value mode };
+    ghost one = { λ x mode can. StringMeans_lawful x.tag x.value mode };
 }
 
-impl Values for OctetStringEncoder<&'_ OctetString> {
-    ghost means = { λ x mode. StringMeans x.tag x.value.now mode };
+impl Encoder for OctetStringEncoder<&'_ OctetString> {
+    ghost all = { λ x mode. StringMeans x.tag x.value.now mode };
 
-    ghost reads = { λ _ _. ReadsNone };
-
-    fn encoded_len(&self, mode: Mode) -> Result<usize, EncodeError> {
-        size_of(self.value, self.tag, mode)
-    }
+    ghost takes = { λ _ _. ReadsNone };
 
     #[inline(always)]
     #[tactic(auto, using(crate::proofs::Noting::nothing_noted))]
-    fn note_sizes(&self, mode: Mode, _sizes: &mut Sizes) -> Result<usize, EncodeError> {
-        self.encoded_len(mode)
-    }
-
-    fn write_encoded<W: io::Write>(&self, mode: Mode, target: &mut W) -> Result<(), WriteError> {
-        write(self.value, self.tag, mode, target)
+    fn measured(&self, mode: Mode, _sizes: &mut Sizes) -> Result<usize, EncodeError> {
+        size_of(self.value, self.tag, mode)
     }
 
     #[tactic(auto, using(crate::proofs::Noting::none_read))]
-    fn write_known<W: io::Write>(
+    fn put<W: io::Write>(
         &self,
         mode: Mode,
         _sizes: &mut SizesLeft<'_>,
@@ -192,5 +161,5 @@ impl Values for OctetStringEncoder<&'_ OctetString> {
         put(self.value, self.tag, mode, target, why)
     }
 
-    ghost lawful = { λ x mode can. StringMeans_lawful x.tag x.value.now mode };
+    ghost one = { λ x mode can. StringMeans_lawful x.tag x.value.now mode };
 }

@@ -7,8 +7,9 @@ ghost use Rattle.bcder.specs.calls.StringMeaning.{OctetsMean};
 ghost use Rattle.bcder.specs.laws.StringMeanings.{OctetsMean_lawful};
 
 use super::OctetString;
-use super::write::{octets_len, put_octets, write_octets};
+use super::write::{octets_len, put_octets};
 use crate::encode::sizes::{Sizes, SizesLeft};
+use crate::encode::values::Encoder;
 use crate::encode::{EncodeError, Failed, Values, WriteError};
 use crate::mode::Mode;
 use crate::tag::Tag;
@@ -52,27 +53,19 @@ impl<T: AsSlice<u8>> OctetSliceEncoder<T> {
     }
 }
 
-impl<T: AsSlice<u8>> Values for OctetSliceEncoder<T> {
-    ghost means = { λ x mode. OctetsMean x.tag (T.items x.slice) mode };
+impl<T: AsSlice<u8>> Encoder for OctetSliceEncoder<T> {
+    ghost all = { λ x mode. OctetsMean x.tag (T.items x.slice) mode };
 
-    ghost reads = { λ _ _. ReadsNone };
-
-    fn encoded_len(&self, mode: Mode) -> Result<usize, EncodeError> {
-        octets_len(self.tag, self.slice.as_slice(), mode)
-    }
+    ghost takes = { λ _ _. ReadsNone };
 
     #[inline(always)]
     #[tactic(auto, using(crate::proofs::Noting::nothing_noted))]
-    fn note_sizes(&self, mode: Mode, _sizes: &mut Sizes) -> Result<usize, EncodeError> {
-        self.encoded_len(mode)
-    }
-
-    fn write_encoded<W: io::Write>(&self, mode: Mode, target: &mut W) -> Result<(), WriteError> {
-        write_octets(self.tag, self.slice.as_slice(), mode, target)
+    fn measured(&self, mode: Mode, _sizes: &mut Sizes) -> Result<usize, EncodeError> {
+        octets_len(self.tag, self.slice.as_slice(), mode)
     }
 
     #[tactic(auto, using(crate::proofs::Noting::none_read))]
-    fn write_known<W: io::Write>(
+    fn put<W: io::Write>(
         &self,
         mode: Mode,
         _sizes: &mut SizesLeft<'_>,
@@ -82,5 +75,5 @@ impl<T: AsSlice<u8>> Values for OctetSliceEncoder<T> {
         put_octets(self.tag, self.slice.as_slice(), mode, target, why)
     }
 
-    ghost lawful = { λ x mode can. OctetsMean_lawful x.tag (T.items x.slice) mode };
+    ghost one = { λ x mode can. OctetsMean_lawful x.tag (T.items x.slice) mode };
 }

@@ -289,18 +289,3 @@ pub(super) fn put_octets<W: io::Write>(
         why,
     )
 }
-
-/// Writes octets as a string, if it has an encoding.
-pub(super) fn write_octets<W: io::Write>(
-    tag: Tag,
-    octets: &[u8],
-    mode: Mode,
-    target: &mut W,
-) -> Result<(), WriteError>
-    ensures { WritesValues W.contents target (OctetsMean tag octets.now mode) ⊥ result }
-{
-    octets_len(tag, octets, mode)?;
-    let mut why = slot();
-    let outcome = put_octets(tag, octets, mode, target, &mut why);
-    into_result(outcome, why)
-}

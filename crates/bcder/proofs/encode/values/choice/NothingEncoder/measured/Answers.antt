@@ -1,0 +1,6 @@
+use Rattle.std.proofs.Common.{refl}
+use Rattle.bcder.specs.calls.Joined.{nothing}
+use Rattle.bcder.proofs.encode.values.choice.NothingEncoder.measured.Goals as goal
+
+pub returns-clause-sized : goal.returns-clause-sized
+returns-clause-sized c = (nothing, refl, refl)

@@ -1,7 +1,0 @@
-use Rattle.std.proofs.Common.{drop}
-use Rattle.bcder.specs.calls.Joined.{EachOf}
-use Rattle.bcder.proofs.Joining.{SumSoFar}
-use Rattle.bcder.proofs.encode.values.lists.ItemsParts.parts_len.Given as goal
-
-abbrev pub invariant-loop-item : goal.invariant-loop-item
-invariant-loop-item g l = SumSoFar (EachOf (λ v. g.V.Values.means v l.mode) l.item-items) (EachOf (λ v. g.V.Values.means v l.mode) (drop l.item-index l.item-items)) l.sum

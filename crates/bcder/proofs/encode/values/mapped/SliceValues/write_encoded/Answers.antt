@@ -1,6 +1,0 @@
-use Rattle.std.proofs.Common.{subst, sym, All}
-use Rattle.bcder.specs.calls.Slices.{MayMap}
-use Rattle.bcder.proofs.encode.values.mapped.SliceValues.write_encoded.Goals as goal
-
-pub write_joined-requires : goal.write_joined-requires
-write_joined-requires g c = subst (All (MayMap g.F.Fn c.args.self.now.f g.V.Values.can_encode g.V.Values.means)) (sym c.as_slice-items.ensures) c.requires

@@ -1,0 +1,6 @@
+use Rattle.std.proofs.Common.{refl}
+use Rattle.bcder.specs.calls.Joined.{nothing}
+use Rattle.bcder.proofs.encode.values.parts.EndParts.note_parts.Goals as goal
+
+pub returns-clause-sized : goal.returns-clause-sized
+returns-clause-sized c = (nothing, refl, refl)
