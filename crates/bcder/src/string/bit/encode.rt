@@ -8,7 +8,7 @@ ghost use Rattle.bcder.specs.laws.Meanings.{BitsMean_lawful, primitive_lawful};
 
 use super::write::{bits_len, put_meant, write_bits};
 use crate::encode::sizes::{Sizes, SizesLeft};
-use crate::encode::slot::Failed;
+use crate::encode::slot::{Failed, store_refusal};
 use crate::encode::values::Encoder;
 use crate::encode::{EncodeError, PrimitiveContent, Values, WriteError};
 use crate::mode::Mode;
@@ -123,15 +123,19 @@ impl<T: AsSlice<u8>> Encoder for BitSliceEncoder<T> {
         self.contents().encode_as(self.tag).encoded_len(mode)
     }
 
+    #[tactic(auto, using(crate::proofs::Noting::none_read))]
     fn put<W: io::Write>(
         &self,
         mode: Mode,
-        sizes: &mut SizesLeft<'_>,
+        _sizes: &mut SizesLeft<'_>,
         target: &mut W,
         why: &mut WriteError,
     ) -> Result<(), Failed> {
-        let value = self.contents().encode_as(self.tag);
-        value.write_known(mode, sizes, target, why)
+        let contents = self.contents();
+        match contents.encoded_len(mode) {
+            Ok(len) => contents.write_value(self.tag, len, mode, target, why),
+            Err(error) => Err(store_refusal(why, error)),
+        }
     }
 
     ghost one = { λ x mode can. primitive_lawful x.tag mode
