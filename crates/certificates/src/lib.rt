@@ -10,8 +10,6 @@ mod certification_request;
 mod name;
 mod tbs_cert_list;
 mod tbs_certificate;
-#[cfg(test)]
-mod tests;
 mod time;
 mod validity;
 

@@ -1,8 +1,8 @@
-//! Tests. The key is that of RFC 8410, section 10.1; openssl made the certificate; the others are
-//! put together by hand.
-use crate::{Certificate, Name, SubjectPublicKeyInfo, Validity};
+//! The key is that of RFC 8410, section 10.1; openssl made the certificate; the others are put
+//! together by hand.
 use asn1::{decode, decode_octets, encode};
 use bcder::Mode;
+use certificates::{Certificate, Name, SubjectPublicKeyInfo, Validity};
 
 /// `C = US, O = A`.
 const NAME: &[u8] = &[
