@@ -17,6 +17,8 @@ pub use primitive::{Primitive, PrimitiveContent};
 pub use sizes::{Sizes, SizesLeft};
 #[doc(hidden)]
 pub use slot::Failed;
+#[doc(hidden)]
+pub use target::write_octets;
 pub use values::Values;
 pub use values::choice::{Choice2, Choice3, Nothing};
 pub use values::constructed::{Constructed, sequence, sequence_as, set, set_as};

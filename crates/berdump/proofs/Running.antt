@@ -7,7 +7,7 @@ use Rattle.std.specs.Str.Pattern.{FindsText, HasMatch}
 use Rattle.bcder.specs.declared.mode.Mode.{Mode}
 use Rattle.berdump.specs.declared.list.ListError.{ListError}
 use Rattle.berdump.specs.declared.list.ListError.TheVariants.{Refused, NoMemory, Target}
-use Rattle.berdump.specs.Front.{AppendsFront}
+use Rattle.bcder.specs.calls.Target.{AppendsFront}
 use Rattle.berdump.specs.Answers.{Listed, ListedInPart, CutOff, IsUnlisted}
 use Rattle.berdump.specs.Runs.{MayBegin, Ends, IsText, AreTexts, IsTextInPart, between, behind_lines, set_apart, AllWritten, WrittenInPart, OneWritten, OneInPart, IsBetween}
 use Rattle.berdump.proofs.Walking.{written_kept}

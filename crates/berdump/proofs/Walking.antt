@@ -16,7 +16,7 @@ use Rattle.berdump.specs.Listing.{heading, IsList, Holds, HoldsNone, IsListed, A
 use Rattle.berdump.specs.Opened.{behind_all, Completes, Goes, Fits, GoesOn}
 use Rattle.berdump.specs.declared.list.ListError.{ListError}
 use Rattle.berdump.specs.declared.list.ListError.TheVariants.{Refused, NoMemory, Target}
-use Rattle.berdump.specs.Front.{AppendsShorter}
+use Rattle.bcder.specs.calls.Target.{AppendsShorter}
 use Rattle.berdump.specs.Answers.{Stands, AllStand, Written, Listed, ListedInPart, IsUnlisted, IsUnwritten}
 use Rattle.berdump.specs.Walk.{IsAt}
 use Rattle.berdump.proofs.Fitting.{contents_are_here, fits_primitive, fits_definite, fits_indefinite, no_list_without_header}

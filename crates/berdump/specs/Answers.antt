@@ -7,7 +7,7 @@ use Rattle.bcder.specs.calls.ContentsLen.{length_of}
 use Rattle.berdump.specs.declared.heading.Heading.{Heading}
 use Rattle.berdump.specs.declared.list.ListError.{ListError}
 use Rattle.berdump.specs.declared.list.ListError.TheVariants.{Refused, NoMemory, Target}
-use Rattle.berdump.specs.Front.{AppendsFront, AppendsShorter}
+use Rattle.bcder.specs.calls.Target.{AppendsFront, AppendsShorter}
 use Rattle.berdump.specs.Lines.{AreLines}
 use Rattle.berdump.specs.Listing.{IsNoList, AreListed}
 

@@ -1,4 +1,3 @@
-pub mod Front
 pub mod Lines
 pub mod Listing
 pub mod Answers

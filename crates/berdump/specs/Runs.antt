@@ -3,7 +3,7 @@ use Rattle.std.specs.Prelude.{◌≡◌, ◌⊎◌, ℕ, Bool, true, false, List
 use Rattle.std.specs.Io.KnownBytes.{Appends}
 use Rattle.bcder.specs.declared.mode.Mode.{Mode}
 use Rattle.berdump.specs.declared.heading.Heading.{Heading}
-use Rattle.berdump.specs.Front.{AppendsFront}
+use Rattle.bcder.specs.calls.Target.{AppendsFront}
 use Rattle.berdump.specs.Lines.{AreLines}
 use Rattle.berdump.specs.Listing.{AreListed, IsNoList}
 use Rattle.berdump.specs.Answers.{AllStand, Listed, ListedInPart, CutOff}

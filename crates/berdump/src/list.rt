@@ -10,7 +10,7 @@ use crate::heading::Heading;
 use crate::held::{gone_into, held_in};
 use crate::note::add_note;
 use crate::opened::{Open, close};
-use crate::target::write_octets;
+use bcder::encode::write_octets;
 use bcder::plain::front_at;
 use bcder::{Mode, NoMemory};
 use std::alloc::Global;

@@ -13,7 +13,6 @@ mod note;
 mod opened;
 mod request;
 mod run;
-mod target;
 
 use std::io::{BufWriter, Read};
 use std::process::ExitCode;

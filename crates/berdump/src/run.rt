@@ -1,15 +1,15 @@
 //! Lists what was read: octets, or the blocks of a text (RFC 7468).
 ghost use Rattle.std.specs.Prelude.{◌≡◌, ◌≢◌, ◌++◌, [], IfSome, OnOk, OnErr};
 ghost use Rattle.std.specs.Io.KnownBytes.{Appends, Keeps};
-ghost use Rattle.berdump.specs.Front.{AppendsFront};
+ghost use Rattle.bcder.specs.calls.Target.{AppendsFront};
 ghost use Rattle.berdump.specs.Runs.{MayBegin, Ends, between, AllWritten, WrittenInPart};
 ghost use Rattle.berdump.specs.Runs.{OneWritten, OneInPart};
 
 use crate::list::{ListError, list};
 use crate::request::Request;
-use crate::target::write_octets;
 use base64::DecodeAllocError;
 use base64::engine::general_purpose::STANDARD;
+use bcder::encode::write_octets;
 use std::alloc::Global;
 use std::io;
 

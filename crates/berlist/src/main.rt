@@ -8,13 +8,13 @@
 ghost use Rattle.std.specs.Prelude.{◌≡◌, ℕ, List, OnOk, IfErr, codes, map, string_bytes};
 ghost use Rattle.bcder.specs.declared.mode.Mode.{Mode as TheMode};
 ghost use Rattle.berlist.specs.Answers.{Listed, IsUnlisted};
-ghost use Rattle.berlist.specs.Front.{AppendsFront};
+ghost use Rattle.bcder.specs.calls.Target.{AppendsFront};
 ghost use Rattle.berlist.specs.Requests.{Asks, AsksNothing, Tells, Ends};
 
 mod gather;
 mod request;
-mod target;
 
+use bcder::encode::write_octets;
 use bcder::{Mode, NoMemory};
 use std::alloc::Global;
 use std::error::Error;
@@ -87,7 +87,7 @@ pub fn list<W: io::Write>(
     let Some(lines) = gather::lines(alloc, mode, octets)? else {
         return Err(ListError::Refused);
     };
-    match target::write_octets(target, lines.as_bytes()) {
+    match write_octets(target, lines.as_bytes()) {
         Ok(()) => Ok(()),
         Err(error) => Err(ListError::Target(error)),
     }
@@ -97,7 +97,7 @@ pub fn list<W: io::Write>(
 fn tell<E: io::Write>(err: &mut E, message: &str)
     ensures { AppendsFront (E.contents err.old) (E.contents err.new) message.now }
 {
-    let _ = target::write_octets(err, message.as_bytes());
+    let _ = write_octets(err, message.as_bytes());
 }
 
 /// Lists on `out` what the arguments (without the name of the program) ask for, and returns the

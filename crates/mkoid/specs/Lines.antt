@@ -1,7 +1,7 @@
 -- The lines of arguments.
 use Rattle.std.specs.Prelude.{◌≡◌, ◌≢◌, ℕ, List, [], ◌∷◌, ◌++◌, Option, flat_map, codes, decimal}
 use Rattle.std.specs.Io.KnownBytes.{Appends}
-use Rattle.mkoid.specs.Front.{AppendsShorter}
+use Rattle.bcder.specs.calls.Target.{AppendsShorter}
 use Rattle.bcder.specs.declared.oid.text.OidError.{OidError}
 use Rattle.bcder.specs.calls.IdentifierText.{IsTextOf, RefusesText, error_text}
 

@@ -8,12 +8,11 @@
 ghost use Rattle.std.specs.Prelude.{◌≡◌, OnOk, OnErr, IfOk, IfErr, map, string_bytes};
 ghost use Rattle.std.specs.Io.KnownBytes.{Appends};
 ghost use Rattle.bcder.specs.calls.IdentifierText.{RefusesText, error_text};
-ghost use Rattle.mkoid.specs.Front.{AppendsShorter};
+ghost use Rattle.bcder.specs.calls.Target.{AppendsShorter};
 ghost use Rattle.mkoid.specs.Lines.{octets_line, refusal_line, IsNamed, WritesAll, WritesSome};
 ghost use Rattle.mkoid.specs.Lines.{WritesLine, WritesPart};
 
-mod target;
-
+use bcder::encode::write_octets;
 use bcder::oid::OidError;
 use bcder::{NoMemory, Oid};
 use std::alloc::Global;
@@ -66,10 +65,10 @@ fn write_refusal<W: io::Write>(arg: &str, error: &OidError, target: &mut W) -> R
     ensures err { OnErr result (AppendsShorter
         (W.contents target.old) (W.contents target.new) (refusal_line arg.now error.now)) }
 {
-    target::write_octets(target, arg.as_bytes())?;
-    target::write_octets(target, b": ".as_slice())?;
-    target::write_octets(target, text_of(error).as_bytes())?;
-    target::write_octets(target, b".\n".as_slice())
+    write_octets(target, arg.as_bytes())?;
+    write_octets(target, b": ".as_slice())?;
+    write_octets(target, text_of(error).as_bytes())?;
+    write_octets(target, b".\n".as_slice())
 }
 
 /// Writes the line of an argument. If memory runs out for an identifier, the line says so.
@@ -79,7 +78,7 @@ fn write_line<W: io::Write>(alloc: Global, arg: &str, target: &mut W) -> Result<
         (WritesPart arg.now (W.contents target.old) (W.contents target.new)) }
 {
     match line_of(alloc, arg) {
-        Ok(line) => target::write_octets(target, line.as_bytes()),
+        Ok(line) => write_octets(target, line.as_bytes()),
         Err(error) => write_refusal(arg, &error, target),
     }
 }

@@ -15,7 +15,7 @@ use std::io::{Error, ErrorKind, Write};
 ///
 /// Returns the target's error. A proper prefix of the octets was written then.
 #[inline(always)]
-pub(crate) fn write_octets<W: Write>(target: &mut W, octets: &[u8]) -> io::Result<()>
+pub fn write_octets<W: Write>(target: &mut W, octets: &[u8]) -> io::Result<()>
     ensures ok { OnOk result (Appended W.contents target octets.now) }
     ensures refused { OnErr result (AppendedShorter W.contents target octets.now) }
 {
