@@ -1,9 +1,8 @@
 /* bcder.h: reading BER, CER and DER (ITU-T X.690), accepted exactly as the rules say. C11 and C++.
  *
- * Every function stores its result where it returns BCDER_OK. bcder_value, bcder_check and
- * bcder_check_within store what was passed in every case but BCDER_UNKNOWN_RULES; all others store
- * nothing unless they return BCDER_OK, or `size` alone with BCDER_TOO_SMALL. No octet outside (data, len)
- * is read and each call ends. Nothing is kept between calls, so any number of threads may call. NULL with
+ * Every function stores its result where it returns BCDER_OK. bcder_value, bcder_check, bcder_check_within
+ * and bcder_check_on store what was passed in every case but BCDER_UNKNOWN_RULES; all others store nothing
+ * unless they return BCDER_OK, or `size` alone with BCDER_TOO_SMALL. No octet outside (data, len) is read and each call ends. Nothing is kept between calls, so any number of threads may call. NULL with
  * length 0 is no octets; no other pointer may be NULL. Where a result is stored must not overlap the
  * octets. docs/C.md says more. */
 #ifndef BCDER_H
@@ -86,6 +85,11 @@ uint8_t bcder_check(uint8_t rules, const uint8_t *data, size_t len, bcder_checke
 /* The same, for values of a depth of at most `levels`. TOO_DEEP: after `at` octets a value begins
  * inside `levels` others. It takes no more memory than values of that depth do. */
 uint8_t bcder_check_within(uint8_t rules, const uint8_t *data, size_t len, size_t levels, bcder_checked_t *checked);
+/* The same without memory: `stack` has room for `room` constructed values, one inside the other; with no room
+ * it may be NULL. What is in it before and after doesn't matter. TOO_DEEP: after `at` octets a constructed value
+ * begins inside `room` others. */
+uint8_t bcder_check_on(uint8_t rules, const uint8_t *data, size_t len, size_t *stack, size_t room,
+                       bcder_checked_t *checked);
 
 /* Goes to the next value or end, and stores it. `stack` has room for `room` open values, and belongs
  * to the walk until its end, as `walk` does; with no room it may be NULL. FINISHED: all octets were

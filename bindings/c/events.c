@@ -80,6 +80,26 @@ static void compare(int mode, const uint8_t *p, size_t n) {
   CHECK(w.at == stopped && memcmp(&w, &before, sizeof w) == 0 && memcmp(&e, &kept, sizeof e) == 0);
 }
 
+/* ---- a check in one call, with the same stack */
+
+static void check_on(int mode, const uint8_t *p, size_t n) {
+  uint8_t all = values(mode, p, n);
+  for (size_t room = 0; room <= 2; room++) {
+    size_t stack[2], at = stopped, met = 0, depth = 0;
+    uint8_t is = all == BCDER_FINISHED ? BCDER_OK : all;
+    for (size_t i = 0; i < count; i++) {
+      const ref_event *r = &wanted[i];
+      if (r->kind == BCDER_BEGIN && r->depth == room) { is = BCDER_TOO_DEEP; at = r->at; break; }
+      if (r->kind == BCDER_END) continue;
+      met++;
+      if (r->depth == depth) depth++;
+    }
+    bcder_checked_t c;
+    CHECK(bcder_check_on((uint8_t)mode, p, n, room == 0 ? NULL : stack, room, &c) == is);
+    CHECK(c.at == at && c.values == met && c.depth == depth);
+  }
+}
+
 /* ---- by hand */
 
 static void by_hand(void) {
@@ -98,6 +118,14 @@ static void by_hand(void) {
     CHECK(bcder_next(BCDER_DER, deep, 10, stack, 4, &d, &e) == BCDER_OK && e.depth == i && e.at == 2 * i);
   }
   CHECK(bcder_next(BCDER_DER, deep, 10, stack, 4, &d, &e) == BCDER_TOO_DEEP && d.at == 8 && d.depth == 4);
+
+  bcder_checked_t c;
+  CHECK(bcder_check_on(BCDER_DER, deep, 10, stack, 4, &c) == BCDER_TOO_DEEP && c.at == 8 && c.values == 4 && c.depth == 4);
+  size_t five[5];
+  CHECK(bcder_check_on(BCDER_DER, deep, 10, five, 5, &c) == BCDER_OK && c.at == 10 && c.values == 5 && c.depth == 5);
+  const uint8_t leaf[] = {0x30, 2, 0x05, 0, 0x05, 0};                   /* a primitive value needs no room */
+  CHECK(bcder_check_on(BCDER_DER, leaf, 6, five, 1, &c) == BCDER_OK && c.at == 6 && c.values == 3 && c.depth == 2);
+  CHECK(bcder_check_on(BCDER_DER, leaf + 4, 2, NULL, 0, &c) == BCDER_OK && c.at == 2 && c.values == 1 && c.depth == 1);
 
   const uint8_t flat[] = {0x05, 0x00, 0x30, 0x00};                      /* no room at all */
   bcder_walk_t f = {0, 4, 0};
@@ -135,6 +163,7 @@ int main(void) {
       for (uint32_t v = 0; v < (uint32_t)1 << (8 * n); v++, lists++) {
         uint8_t p[3] = {(uint8_t)v, (uint8_t)(v >> 8), (uint8_t)(v >> 16)};
         compare(mode, p, n);
+        check_on(mode, p, n);
       }
     }
   }

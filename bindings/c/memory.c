@@ -55,6 +55,10 @@ int main(void) {
     if (status == BCDER_OK && size == 0 && of_string > 0) break;
     if (status != BCDER_NO_MEMORY || size != 7) { printf("a string, with %ld allocations: status %d\n", of_string, status); return 1; }
   }
+  /* with a stack of the caller's there is none to be refused */
+  static size_t stack[LEVELS];
+  left = 0;
+  if (bcder_check_on(BCDER_BER, w, sizeof w, stack, LEVELS, &c) != BCDER_OK || c.depth != LEVELS) { printf("a stack isn't enough\n"); return 1; }
   /* a primitive value needs none */
   static const uint8_t null[] = {0x05, 0x00};
   left = 0;

@@ -301,6 +301,7 @@ static void statuses(void) {
     CHECK(bcder_value((uint8_t)rules, sequence, 5, &c) == BCDER_UNKNOWN_RULES);
     CHECK(bcder_check((uint8_t)rules, sequence, 5, &c) == BCDER_UNKNOWN_RULES);
     CHECK(bcder_check_within((uint8_t)rules, sequence, 5, 9, &c) == BCDER_UNKNOWN_RULES);
+    CHECK(bcder_check_on((uint8_t)rules, sequence, 5, &size, 1, &c) == BCDER_UNKNOWN_RULES);
     CHECK(bcder_bool((uint8_t)rules, sequence, 1, &truth) == BCDER_UNKNOWN_RULES);
     CHECK(bcder_bits((uint8_t)rules, sequence, 1, &unused) == BCDER_UNKNOWN_RULES);
   }
@@ -313,6 +314,7 @@ static void statuses(void) {
     CHECK(bcder_value(rules, NULL, 0, &c) == BCDER_ENDED && c.at == 0 && c.values == 0 && c.depth == 0);
     CHECK(bcder_check(rules, NULL, 0, &c) == BCDER_OK && c.at == 0 && c.values == 0 && c.depth == 0);
     CHECK(bcder_check_within(rules, NULL, 0, 0, &c) == BCDER_OK && c.at == 0 && c.values == 0 && c.depth == 0);
+    CHECK(bcder_check_on(rules, NULL, 0, NULL, 0, &c) == BCDER_OK && c.at == 0 && c.values == 0 && c.depth == 0);
     CHECK(bcder_bool(rules, NULL, 0, &truth) == BCDER_ABSENT);
     CHECK(bcder_bits(rules, NULL, 0, &unused) == BCDER_ABSENT);
   }
@@ -451,7 +453,8 @@ static void deep(void) {
   bcder_checked_t c;
   size_t n = 4 * (size_t)LEVELS;
   uint8_t *w = malloc(n);
-  CHECK(w != NULL);
+  size_t *stack = malloc(LEVELS * sizeof *stack);
+  CHECK(w != NULL && stack != NULL);
   for (size_t i = 0; i < LEVELS; i++) { w[2 * i] = 0x30; w[2 * i + 1] = 0x80; }
   memset(w + 2 * (size_t)LEVELS, 0, 2 * (size_t)LEVELS);
   for (uint8_t rules = BCDER_BER; rules <= BCDER_CER; rules++) {
@@ -460,6 +463,8 @@ static void deep(void) {
     CHECK(bcder_check_within(rules, w, n, LEVELS, &c) == BCDER_OK && c.depth == LEVELS);
     CHECK(bcder_check_within(rules, w, n, LEVELS - 1, &c) == BCDER_TOO_DEEP && c.depth == LEVELS - 1 && c.at == n / 2 - 2);
     CHECK(bcder_check(rules, w, n - 2, &c) == BCDER_ENDED && c.at == n - 2 && c.depth == LEVELS);
+    CHECK(bcder_check_on(rules, w, n, stack, LEVELS, &c) == BCDER_OK && c.at == n && c.values == LEVELS && c.depth == LEVELS);
+    CHECK(bcder_check_on(rules, w, n, stack, LEVELS - 1, &c) == BCDER_TOO_DEEP && c.depth == LEVELS - 1 && c.at == n / 2 - 2);
   }
   CHECK(bcder_check(BCDER_DER, w, n, &c) == BCDER_ABSENT && c.at == 0);
   free(w);
@@ -482,9 +487,12 @@ static void deep(void) {
     uint8_t wanted = rules == BCDER_CER ? BCDER_ABSENT : BCDER_OK;
     CHECK(bcder_check(rules, w + at, room - at, &c) == wanted);
     if (wanted == BCDER_OK) CHECK(c.at == room - at && c.values == LEVELS && c.depth == LEVELS);
+    CHECK(bcder_check_on(rules, w + at, room - at, stack, LEVELS, &c) == wanted);
+    if (wanted == BCDER_OK) CHECK(c.at == room - at && c.values == LEVELS && c.depth == LEVELS);
   }
   CHECK(bcder_check(BCDER_DER, w + at, room - at - 1, &c) == BCDER_BEYOND && c.at == 0);
   free(w);
+  free(stack);
   printf("deep values: %d levels of either form of length\n", LEVELS);
 }
 

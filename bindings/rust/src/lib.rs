@@ -56,6 +56,14 @@ mod ffi {
             levels: usize,
             checked: &mut Checked,
         ) -> u8;
+        pub fn bcder_check_on(
+            rules: u8,
+            data: *const u8,
+            len: usize,
+            stack: *mut usize,
+            room: usize,
+            checked: &mut Checked,
+        ) -> u8;
         pub fn bcder_bool(rules: u8, data: *const u8, len: usize, truth: &mut bool) -> u8;
         pub fn bcder_null(data: *const u8, len: usize) -> u8;
         pub fn bcder_i64(data: *const u8, len: usize, number: &mut i64) -> u8;
@@ -269,6 +277,30 @@ pub fn check_within(rules: Rules, data: &[u8], levels: usize) -> Result<Checked,
     // SAFETY: as in `check`.
     let status = unsafe {
         ffi::bcder_check_within(rules as u8, data.as_ptr(), data.len(), levels, &mut checked)
+    };
+    passed(status, checked.at)?;
+    Ok(Checked { values: checked.values, depth: checked.depth })
+}
+
+/// The same without memory, with room in a stack for as many constructed values, one inside the
+/// other, as it has numbers. What they are before and after doesn't matter.
+///
+/// # Errors
+///
+/// Those of [`check`], and [`ErrorKind::TooDeep`] at the first constructed value that is inside as
+/// many others. Memory doesn't run out.
+pub fn check_on(rules: Rules, data: &[u8], stack: &mut [usize]) -> Result<Checked, Error> {
+    let mut checked = ffi::Checked::default();
+    // SAFETY: as in `check`; the stack is an exclusive reference too.
+    let status = unsafe {
+        ffi::bcder_check_on(
+            rules as u8,
+            data.as_ptr(),
+            data.len(),
+            stack.as_mut_ptr(),
+            stack.len(),
+            &mut checked,
+        )
     };
     passed(status, checked.at)?;
     Ok(Checked { values: checked.values, depth: checked.depth })

@@ -1,5 +1,5 @@
 //! Expected values are worked by hand from X.690.
-use bcder_verified::{check, check_within, Checked, Class, Error, ErrorKind, Reader, Rules, Tag};
+use bcder_verified::{check, check_on, check_within, Checked, Class, Error, ErrorKind, Reader, Rules, Tag};
 
 fn refused<T>(kind: ErrorKind, offset: usize) -> Result<T, Error> {
     Err(Error { kind, offset })
@@ -21,6 +21,12 @@ fn lists_are_checked() {
     let three = [0x30, 4, 0x30, 2, 0x30, 0];
     assert_eq!(check_within(Rules::Der, &three, 3), Ok(Checked { values: 3, depth: 3 }));
     assert_eq!(check_within(Rules::Der, &three, 2), refused(ErrorKind::TooDeep, 4));
+    let mut stack = [7; 3];
+    assert_eq!(check_on(Rules::Der, &three, &mut stack), Ok(Checked { values: 3, depth: 3 }));
+    assert_eq!(check_on(Rules::Der, &three, &mut stack[..2]), refused(ErrorKind::TooDeep, 4));
+    assert_eq!(check_on(Rules::Ber, &indefinite, &mut stack[..1]), Ok(Checked { values: 2, depth: 2 }));
+    assert_eq!(check_on(Rules::Ber, &indefinite[..4], &mut stack), refused(ErrorKind::Ended, 4));
+    assert_eq!(check_on(Rules::Der, &[5, 0], &mut []), Ok(Checked { values: 1, depth: 1 }));
 }
 
 #[test]

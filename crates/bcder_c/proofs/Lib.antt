@@ -10,6 +10,7 @@ pub mod Stepping
 pub mod WholeSteps
 pub mod Standing
 pub mod Refusing
+pub mod Checking
 pub mod Magnitudes
 pub mod Storing
 pub mod Strings

@@ -114,7 +114,7 @@ refused_octets mode w os x p hs status o r due why ts h =
     let f = all_fail mode w os x p hs o r (stop_fails mode os x status (rest_octets mode w os x p hs o r) due why) in
     none_is _ (sym f ∙ list_complete mode w ts h)
 
-refusal : (mode : Mode) (x : List ℕ) (status : ℕ) → NoneBegins mode x status → IsRefusal status
+pub refusal : (mode : Mode) (x : List ℕ) (status : ℕ) → NoneBegins mode x status → IsRefusal status
 refusal mode x status (no_octets e s) = inr (inr s)
 refusal mode x status (no_header h s) = inl s
 refusal mode x status (goes_beyond g s) = inr (inl s)

@@ -19,7 +19,7 @@ use Rattle.bcder_c.specs.Values.{PassedValue, HasNoValue, RefusedValue, DeeperVa
 use Rattle.bcder_c.proofs.Reading.{after_both, last_apart}
 use Rattle.bcder_c.proofs.Walking.{open_pushed}
 
-deepest-append : (a b : List Heading) → deepest (a ++ b) ≡ max (deepest a) (deepest b)
+pub deepest-append : (a b : List Heading) → deepest (a ++ b) ≡ max (deepest a) (deepest b)
 deepest-append [] b = omega arith
 deepest-append (h ∷ a) b = omega (arith, deepest-append a b)
 

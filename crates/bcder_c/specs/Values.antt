@@ -1,12 +1,12 @@
 -- What is said of octets that begin with a value, or are values, and of those that don't or aren't.
-use Rattle.std.specs.Prelude.{◌≡◌, ℕ, ◌+◌, ◌^◌, ◌<◌, ◌≤◌, List, [], ◌∷◌, ◌++◌, length}
+use Rattle.std.specs.Prelude.{◌≡◌, ℕ, suc, ◌+◌, ◌^◌, ◌<◌, ◌≤◌, List, [], ◌∷◌, ◌++◌, length}
 use Rattle.bcder.specs.declared.mode.Mode.{Mode}
 use Rattle.bcder.specs.x690.Tree.{Tree, Trees}
 use Rattle.bcder.specs.x690.Preorder.{Heading, preorder, preorders}
 use Rattle.bcder.specs.x690.Encoding.{IsEncoding, AreEncodings}
 use Rattle.bcder_c.specs.declared.checked.Checked.{Checked}
 use Rattle.bcder_c.specs.Depth.{deepest}
-use Rattle.bcder_c.specs.Open.{Open, NoneBegins, NotAtEnd, HasHeader, Reaches, Tallied}
+use Rattle.bcder_c.specs.Open.{Open, NoneBegins, NotAtEnd, HasHeader, Step, Reaches, Tallied}
 use Rattle.bcder_c.specs.Status.{done, no_memory, too_deep}
 
 -- w begins with an encoding of a value, before the octets x, and it was told: its octets, the values in it, and their depth
@@ -125,3 +125,34 @@ pub data PassesWithin (Found Absent : Type 0) (mode : Mode) (levels : ℕ) (w : 
 -- all octets were passed as values no deeper than so many levels; or they aren't values, or one is deeper
 abbrev pub PassesAllWithin : Mode → ℕ → List ℕ → ℕ → Checked → Type 0
 PassesAllWithin mode levels w status c = PassesWithin (AllValues mode w c) (AreNoValues mode w) mode levels w status c
+
+-- ---- with room for so many open values
+
+-- inside the open values os, the octets x begin with a value that would be one more
+pub record OpensOneMore (mode : Mode) (os : List Open) (x : List ℕ) : Type 0 where
+  pub opened : List Open
+  pub rest : List ℕ
+  pub passed : List ℕ
+  pub met : List Heading
+  pub step : Step mode os x opened rest passed met
+  pub one_more : length opened ≡ suc (length os)
+
+-- a walk over w got to where a constructed value begins inside `room` others; c tells the octets that it passed, and the values that it met
+pub record NeedsRoom (mode : Mode) (room : ℕ) (w : List ℕ) (c : Checked) : Type 0 where
+  pub opened : List Open
+  pub rest : List ℕ
+  pub passed : List ℕ
+  pub met : List Heading
+  pub reaches : Reaches mode w opened rest passed met
+  pub at : c.at ≡ length passed
+  pub values : c.values ≡ length met
+  pub depth : c.depth ≡ deepest met
+  pub count : length opened ≡ room
+  pub no_end : NoneEnds mode opened rest
+  pub begins : OpensOneMore mode opened rest
+
+-- all octets were passed as values, of which no constructed one is inside `room` others; or they aren't values; or such a one begins
+pub data PassesAllOn (mode : Mode) (room : ℕ) (w : List ℕ) (status : ℕ) (c : Checked) : Type 0 where
+  all_passed : status ≡ done → AllValues mode w c → c.depth ≤ room + 1 → PassesAllOn mode room w status c
+  none_there : AreNoValues mode w → StopsAfter mode w c status → PassesAllOn mode room w status c
+  no_room : status ≡ too_deep → NeedsRoom mode room w c → PassesAllOn mode room w status c

@@ -7,6 +7,7 @@
 
 mod bits;
 mod buffer;
+mod check;
 mod checked;
 mod contents;
 mod heading;

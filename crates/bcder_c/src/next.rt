@@ -51,7 +51,7 @@ pub struct Event {
 }
 
 /// The kind of an end.
-const END: u8 = 2;
+pub(crate) const END: u8 = 2;
 
 /// What is kept for an open value of indefinite length.
 const NO_OFFSET: usize = usize::MAX;
@@ -215,7 +215,13 @@ fn enter(mode: Mode, octets: &[u8], stack: &mut [usize], walk: &mut Walk, event:
 }
 
 /// Goes to the next value or end, and stores it.
-fn advance(mode: Mode, octets: &[u8], stack: &mut [usize], walk: &mut Walk, event: &mut Event) -> u8
+pub(crate) fn advance(
+    mode: Mode,
+    octets: &[u8],
+    stack: &mut [usize],
+    walk: &mut Walk,
+    event: &mut Event,
+) -> u8
     ensures misused { result ≡ misused ↔ (MayStand octets.now stack.old walk.old → ⊥) }
     ensures advances { (os : _) (x : _) → StandsFor octets.now stack.old walk.old os x
         → Advances mode octets.now os x stack.old stack.new walk.old walk.new event.new result }
