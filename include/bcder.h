@@ -2,9 +2,10 @@
  *
  * Every function stores its result where it returns BCDER_OK. bcder_value, bcder_check, bcder_check_within
  * and bcder_check_on store what was passed in every case but BCDER_UNKNOWN_RULES; all others store nothing
- * unless they return BCDER_OK, or `size` alone with BCDER_TOO_SMALL. No octet outside (data, len) is read and each call ends. Nothing is kept between calls, so any number of threads may call. NULL with
- * length 0 is no octets; no other pointer may be NULL. Where a result is stored must not overlap the
- * octets. docs/C.md says more. */
+ * unless they return BCDER_OK, or `size` alone with BCDER_TOO_SMALL. No octet outside (data, len) is read,
+ * and each call ends. Nothing is kept between calls, so any number of threads may call. NULL with length 0
+ * is no octets; no other pointer may be NULL. Where a result is stored must not overlap the octets.
+ * docs/C.md says more. */
 #ifndef BCDER_H
 #define BCDER_H
 #include <stdbool.h>
