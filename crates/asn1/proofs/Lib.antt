@@ -36,3 +36,4 @@ pub mod SetTaken
 pub mod ToldApart
 pub mod Ascending
 pub mod DecodedBack
+pub mod Lawful

@@ -1,12 +1,16 @@
 -- A reader of what something is seen as, and of values that have other tags for the same.
-use Rattle.std.proofs.Common.{None}
+use Rattle.std.proofs.Common.{◌≡◌, ◌≢◌, Some, None, refl, sym, ◌∙◌}
 use Rattle.std.specs.Prelude.{Ok, Err}
+use Rattle.bcder.specs.declared.decode.content.State.TheVariants.{Open, Ended, Failed}
 use Rattle.bcder.specs.declared.decode.error.DecodeError.{DecodeError}
 use Rattle.bcder.specs.x690.Identifier.{Tag}
 use Rattle.bcder.specs.x690.Tree.{Tree}
+use Rattle.bcder.specs.calls.Cause.{cause_of, of_memory}
 use Rattle.bcder.specs.calls.Content.{Reading}
+use Rattle.bcder.specs.calls.Valued.{tag_of}
+use Rattle.bcder.proofs.Lemmas.{IsWithinOwed, header_of_tagged}
 use Rattle.asn1.specs.Types.{HasNoneOf, elsewhere, at_end, AllocatesFor, of_header, of_depth, MayHave, by_tags, by_end}
-use Rattle.asn1.specs.Types.{HasNoTyped, RefusesTyped, TakesNextTyped}
+use Rattle.asn1.specs.Types.{HasNoTyped, RefusesTyped, TakesTyped, TakesNextTyped}
 use Rattle.asn1.specs.Types as types
 
 module _ (Tags Others : Tag → Type 0) (to : (t : Tag) → Tags t → Others t) (back : (t : Tag) → Others t → Tags t) (c d : Reading) where
@@ -54,3 +58,35 @@ module _ {A V X : Type 0} (Tags Others : Tag → Type 0) (to : (t : Tag) → Tag
 module _ {A V X : Type 0} (Tags : Tag → Type 0) (Means : Tree → A → Type 0) (view : V → A) (c d : Reading) where
   pub refuses_seen : (e : DecodeError X) → TakesNextTyped Tags Means c (Err e) d → TakesNextTyped Tags (λ (t : Tree) (x : V). Means t (view x)) c (Err e) d
   refuses_seen e r = retagged_refuses Tags Tags (λ t p. p) (λ t p. p) Means view c d e r
+
+  pub value_seen : (x : V) → TakesNextTyped Tags Means {X = X} c (Ok (Some (view x))) d
+      → TakesNextTyped Tags (λ (t : Tree) (y : V). Means t (view y)) {X = X} c (Ok (Some x)) d
+  value_seen x r =
+      let v : TakesTyped Tags Means c (view x) d = r.value in
+      record {
+        value = record { tree = v.tree; octets = v.octets; has = v.has; means = v.means; stays = v.stays };
+        none = tt;
+        no_fault = r.no_fault;
+        refused = tt;
+        failed = tt;
+        mode = r.mode;
+        marked = r.marked;
+      }
+
+  -- a value was taken, and no memory was left for what holds it, so content was made to fail
+  pub refuses_taken : IsWithinOwed c → (x : A) → TakesNextTyped Tags Means {X = X} c (Ok (Some x)) d → (f : Reading) → (d.state ≢ Ended → f.state ≡ Failed)
+      → f.mode ≡ d.mode → f.marked ≡ d.marked → (e : DecodeError X) → cause_of e ≡ of_memory
+      → TakesNextTyped Tags (λ (t : Tree) (y : V). Means t (view y)) c (Err e) f
+  refuses_taken w x r f s m k e n =
+      let v : TakesTyped Tags Means c x d = r.value in
+      let h = header_of_tagged c w (tag_of v.tree) v.tree v.octets d.stream.rest (v.has.0, refl) in
+      let usable : d.state ≢ Ended = λ g. (let z : Open ≡ Ended = sym v.stays ∙ g in cc) in
+      record {
+        value = tt;
+        none = tt;
+        no_fault = tt;
+        refused = types.RefusesTyped.memory n (of_header (record { tag = tag_of v.tree; is_one = v.has.1; after = h.0; header = h.1 }));
+        failed = s usable;
+        mode = m ∙ r.mode;
+        marked = k ∙ r.marked;
+      }

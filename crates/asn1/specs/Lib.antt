@@ -21,3 +21,5 @@ pub mod Rearranging
 pub mod SetsLaws
 pub mod Sets
 pub mod Strings
+pub mod Lawfully
+pub mod EncodeOf

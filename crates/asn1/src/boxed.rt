@@ -1,41 +1,68 @@
-//! Fields in memory of their own.
+//! Values in memory of their own.
 ghost use Rattle.bcder.specs.calls.Views.{Moved};
-ghost use Rattle.asn1.specs.Types.{TookFields};
+ghost use Rattle.asn1.specs.Types.{TookNextTyped};
 
-use crate::{DecodeFields, Fields, Trace};
+use crate::{Decode, FixedTag, Trace, Type};
+use bcder::Tag;
 use bcder::decode::{Constructed, DecodeError, Source};
 use std::alloc::Global;
 
-/// Fields in memory of their own: the same values, told apart by the same.
-impl<F: Fields> Fields for Box<F> {
-    ghost Keys = { F.Keys };
+/// A value in memory of its own: it means the same, and is told apart by the same.
+impl<T: Type> Type for Box<T> {
+    ghost TAG = { T.TAG };
 
-    ghost keys = { λ x. F.keys x.value };
-
-    ghost takes = { λ mode ts x us. F.takes mode ts x.value us };
-
-    ghost keep_all = { F.keep_all };
-
-    fn count() -> usize {
-        F::count()
+    #[inline(always)]
+    fn tag() -> Tag {
+        T::tag()
     }
 
-    fn fields_are_one() {
-        F::fields_are_one();
+    fn name() -> &'static str {
+        T::name()
     }
+
+    fn expect<P: Trace>(path: &mut P) {
+        T::expect(path);
+    }
+
+    ghost tags = { T.tags };
+
+    ghost Key = { T.Key };
+
+    ghost key = { λ x. T.key x.value };
+
+    ghost means = { λ mode t x. T.means mode t x.value };
+
+    ghost keeps_all = { T.keeps_all };
+
+    fn values_are_one() {
+        T::values_are_one();
+    }
+
+    ghost tagged = { T.tagged };
+
+    ghost value_tags = { T.value_tags };
 }
 
-impl<S: Source, F: DecodeFields<S>> DecodeFields<S> for Box<F> {
-    fn trace_fields<P: Trace>(
+impl<T: FixedTag> FixedTag for Box<T> {
+    ghost fixed = { T.fixed };
+}
+
+impl<S: Source, T: Decode<S>> Decode<S> for Box<T> {
+    fn trace_opt_if<P: Trace>(
         alloc: Global,
         cons: &mut Constructed<'_, S>,
+        tag: Tag,
         path: &mut P,
-    ) -> Result<Box<F>, DecodeError<S::Error>> {
-        match F::trace_fields(alloc, cons, path) {
-            Ok(fields) => match Box::new(alloc, fields) {
-                Ok(boxed) => Ok(boxed),
-                Err(_) => Err(DecodeError::no_memory()),
+    ) -> Result<Option<Box<T>>, DecodeError<S::Error>> {
+        match T::trace_opt_if(alloc, cons, tag, path) {
+            Ok(Some(value)) => match Box::new(alloc, value) {
+                Ok(boxed) => Ok(Some(boxed)),
+                Err(_) => {
+                    cons.fail();
+                    Err(DecodeError::no_memory())
+                }
             },
+            Ok(None) => Ok(None),
             Err(error) => Err(error),
         }
     }

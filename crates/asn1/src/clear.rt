@@ -10,6 +10,7 @@ ghost use Rattle.asn1.specs.TagSets.{TagSet, IsIn, AreIn, BeginIn, no_tag, every
 
 mod any;
 mod bit_strings;
+mod boxed;
 mod choice;
 mod definition;
 mod fields;

@@ -98,13 +98,13 @@ impl<S: Source, T: Decode<S>, D: DefaultValue<T>> DecodeFields<S> for OrDefault<
         path: &mut P,
     ) -> Result<OrDefault<T, D>, DecodeError<S::Error>> {
         T::values_are_one();
+        let encoded = cons.next_err(ContentError::from_static("a default value is encoded"));
         match <Option<T>>::trace_fields(alloc, cons, path) {
             Ok(Some(value)) => {
                 let mode = cons.mode();
                 if is_left_out::<T, D>(mode, &value) {
                     path.note(Part::Field);
-                    let error = ContentError::from_static("a default value is encoded");
-                    return Err(cons.content_err(error));
+                    return Err(encoded);
                 }
                 Ok(OrDefault {
                     value,

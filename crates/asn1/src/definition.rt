@@ -1,7 +1,7 @@
 //! A user's own type, defined by another (X.680, 16.1).
 ghost use Rattle.std.specs.Prelude.{◌≡◌};
 
-use crate::{Decode, Trace, Type};
+use crate::{Decode, DecodeParts, Parts, Trace, Type};
 use bcder::Tag;
 use bcder::decode::{Constructed, DecodeError, Source};
 use std::alloc::Global;
@@ -29,39 +29,27 @@ pub trait Definition: Drop + Sized {
         ensures { parts result ≡ value };
 }
 
-impl<D: Definition> Type for D {
-    ghost TAG = { D.As.TAG };
+impl<D: Definition> Parts for D {
+    type As = D::As;
+
+    type Tags = D::As;
+
+    const NAME: &'static str = <D as Definition>::NAME;
+
+    const PARTS: &'static [&'static str] = <D as Definition>::PARTS;
+
+    ghost parts = { D.Definition.parts };
+
+    ghost typed = { ⟦<D::As as Type>⟧ };
 
     #[inline(always)]
-    fn tag() -> Tag {
-        <D::As>::tag()
+    fn from_parts(value: D::As) -> D {
+        <D as Definition>::from_parts(value)
     }
 
-    fn name() -> &'static str {
-        D::NAME
-    }
-
-    fn expect<P: Trace>(path: &mut P) {
-        <D::As>::expect(path);
-    }
-
-    ghost tags = { D.As.tags };
-
-    ghost Key = { D.As.Key };
-
-    ghost key = { λ x. D.As.key (D.parts x) };
-
-    ghost means = { λ mode t x. D.As.means mode t (D.parts x) };
-
-    ghost keeps_all = { D.As.keeps_all };
-
-    fn values_are_one() {
+    fn parts_are_one() {
         <D::As>::values_are_one();
     }
-
-    ghost tagged = { D.As.tagged };
-
-    ghost value_tags = { D.As.value_tags };
 }
 
 /// A [`Definition`] that is read from a source, because the type behind its `::=` is.
@@ -70,21 +58,14 @@ impl<D: Definition> Type for D {
 /// that the type is read without a look at its parts, so types can be nested to any depth.
 pub trait DecodeDefinition<S: Source>: Definition<As: Decode<S>> {}
 
-impl<S: Source, D: Definition + DecodeDefinition<S>> Decode<S> for D {
+impl<S: Source, D: Definition + DecodeDefinition<S>> DecodeParts<S> for D {
     #[inline(always)]
-    fn trace_opt_if<P: Trace>(
+    fn trace_parts<P: Trace>(
         alloc: Global,
         cons: &mut Constructed<'_, S>,
         tag: Tag,
         path: &mut P,
-    ) -> Result<Option<D>, DecodeError<S::Error>> {
-        match <D::As>::trace_opt_if(alloc, cons, tag, path) {
-            Ok(Some(parts)) => Ok(Some(D::from_parts(parts))),
-            Ok(None) => Ok(None),
-            Err(error) => {
-                path.name_part(D::PARTS);
-                Err(error)
-            }
-        }
+    ) -> Result<Option<D::As>, DecodeError<S::Error>> {
+        <D::As>::trace_opt_if(alloc, cons, tag, path)
     }
 }

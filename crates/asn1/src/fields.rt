@@ -47,7 +47,8 @@ pub trait DecodeFields<S: Source>: Fields {
     ///
     /// Returns an error if they do not stand in front of values up to the end of the content; if
     /// an earlier value was refused; if the source fails; if memory runs out. Which field it was,
-    /// and in which part of it, is noted in the path.
+    /// and in which part of it, is noted in the path. A missing value is refused at the position
+    /// where it is missing.
     fn trace_fields<P: Trace>(
         alloc: Global,
         cons: &mut Constructed<'_, S>,
@@ -100,7 +101,7 @@ impl<S: Source, T: Type + Decode<S>> DecodeFields<S> for T {
             Ok(None) => {
                 T::expect(path);
                 path.note(Part::Field);
-                Err(cons.content_err(ContentError::from_static("a value is missing")))
+                Err(cons.next_err(ContentError::from_static("a value is missing")))
             }
             Err(error) => {
                 path.note(Part::Field);

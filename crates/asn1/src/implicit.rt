@@ -7,8 +7,8 @@ ghost use Rattle.asn1.specs.Tags.{only_tagged};
 ghost use Rattle.asn1.specs.Markers.{IsFixed, only_fixed};
 
 use crate::{
-    Decode, Definition, Explicit, Fields, FromContents, Leaf, OctetStringRef, RestrictedStringRef,
-    Sequence, TagMarker, TaggedCharSet, Trace, Type,
+    Decode, Explicit, Fields, FromContents, Leaf, OctetStringRef, Parts, RestrictedStringRef,
+    Sequence, SequenceTag, TagMarker, TaggedCharSet, Trace, Type,
 };
 use bcder::decode::{Constructed, DecodeError, Source};
 use bcder::string::RestrictedString;
@@ -117,11 +117,15 @@ impl<M: TagMarker, T: Type> FixedTag for Explicit<M, T> {
     ghost fixed = { only_fixed };
 }
 
-impl<D: Definition> FixedTag for D
+impl FixedTag for SequenceTag {
+    ghost fixed = { only_fixed };
+}
+
+impl<D: Parts> FixedTag for D
 where
-    D::As: FixedTag,
+    D::Tags: FixedTag,
 {
-    ghost fixed = { D.As.fixed };
+    ghost fixed = { D.Tags.fixed };
 }
 
 /// An implicitly tagged type: a value of the type, with this tag in place of its own

@@ -22,6 +22,8 @@ mod leaves;
 mod lent;
 mod list;
 mod object_identifier;
+mod parts;
+mod parts_written;
 mod path;
 mod sequence;
 mod set;
@@ -54,6 +56,8 @@ pub use lent::{
 };
 pub use list::SequenceOf;
 pub use object_identifier::ObjectIdentifier;
+pub use parts::{DecodeParts, Parts, SequenceTag};
+pub use parts_written::{EncodeParts, UseParts};
 pub use path::Path;
 pub use sequence::Sequence;
 pub use set::Set;

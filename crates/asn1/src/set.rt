@@ -4,6 +4,7 @@ ghost use Rattle.std.specs.Prelude.{List, IsPermutation};
 ghost use Rattle.bcder.specs.declared.mode.Mode.TheVariants.{Ber};
 ghost use Rattle.bcder.specs.x690.Identifier.{set_tag};
 ghost use Rattle.bcder.specs.calls.Captured.{Kept};
+ghost use Rattle.bcder.specs.calls.Cause.{IsRefusal};
 ghost use Rattle.bcder.specs.calls.Views.{Moved};
 ghost use Rattle.asn1.specs.Types.{AreInside, Only, TookFields, TookNextTyped};
 ghost use Rattle.asn1.specs.Tags.{set_tagged, only_tagged};
@@ -15,10 +16,11 @@ ghost use Rattle.asn1.specs.Sets.{place as place_in_order, kept_place, Rise, Are
 ghost use Rattle.asn1.specs.Sets.{AreKeptByTag, IsUpTo, RefusesMembers};
 
 use crate::list::take_list;
+use crate::set_of::out_of_order;
 use crate::whole::decode_fields;
 use crate::writers::ByRef;
 use crate::{Any, Decode, DecodeFields, Fields, FixedTag, Trace, Type};
-use bcder::decode::{BytesSource, Constructed, ContentError, DecodeError, IntoSource, Source};
+use bcder::decode::{BytesSource, Constructed, ContentError, DecodeError, IntoSource, Pos, Source};
 use bcder::plain::front_at;
 use bcder::{Captured, Mode, Tag};
 use std::alloc::Global;
@@ -135,6 +137,22 @@ fn put_in_order(mode: Mode, values: &mut Vec<Any>) -> bool
     ascend(values.as_slice())
 }
 
+/// Refuses values at the first whose tag doesn't come after that of the one before.
+fn refuse_order<E>(values: Vec<Any>) -> DecodeError<E>
+    ensures { IsRefusal result }
+{
+    let mut least = 0;
+    for value in values {
+        let found = place_of(&value);
+        if found < least {
+            return out_of_order(value.into_captured());
+        }
+        least = found.saturating_add(1);
+    }
+    let error = ContentError::from_static("values of a set are out of order");
+    DecodeError::content(error, Pos::default())
+}
+
 /// Reads the fields that values are.
 fn read_members<F: DecodeFields<BytesSource>, E, P: Trace>(
     alloc: Global,
@@ -171,8 +189,7 @@ fn take_members<S: Source, F: DecodeFields<BytesSource>, P: Trace>(
     };
     let mode = cons.mode();
     if !put_in_order(mode, &mut values) {
-        let error = ContentError::from_static("values of a set are out of order");
-        return Err(cons.content_err(error));
+        return Err(refuse_order(values));
     }
     match read_members(alloc, mode, &values, path) {
         Ok(fields) => Ok(fields),

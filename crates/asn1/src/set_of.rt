@@ -2,6 +2,7 @@
 ghost use Rattle.std.specs.Prelude.{◌≡◌, ◌≢◌, true, false, refl, IfOk, IfErr};
 ghost use Rattle.bcder.specs.declared.mode.Mode.TheVariants.{Ber};
 ghost use Rattle.bcder.specs.x690.Identifier.{set_tag};
+ghost use Rattle.bcder.specs.calls.Cause.{IsRefusal};
 ghost use Rattle.bcder.specs.calls.Views.{Moved};
 ghost use Rattle.asn1.specs.Types.{AreInside, Only, TookFields, TookNextTyped};
 ghost use Rattle.asn1.specs.Keys.{list_key};
@@ -12,7 +13,7 @@ ghost use Rattle.asn1.specs.SetsOf.{IsNotAfter, AreSetOf, AnyOrder, in_any_order
 
 use crate::whole::decode_traced;
 use crate::{Decode, FixedTag, Part, Trace, Type};
-use bcder::decode::{BytesSource, Constructed, ContentError, DecodeError, Source};
+use bcder::decode::{BytesSource, Constructed, ContentError, DecodeError, IntoSource, Source};
 use bcder::{Captured, Mode, Tag};
 use bytes::Bytes;
 use std::alloc::Global;
@@ -100,6 +101,14 @@ fn may_follow(mode: Mode, last: &[u8], octets: &[u8]) -> bool
     mode.is_ber() || is_not_after(last, octets)
 }
 
+/// Refuses a value of a set where it begins.
+pub(crate) fn out_of_order<E>(captured: Captured) -> DecodeError<E>
+    ensures { IsRefusal result }
+{
+    let error = ContentError::from_static("values of a set are out of order");
+    captured.into_source().content_err(error).convert()
+}
+
 /// The value that captured octets encode.
 fn read_value<T: Decode<BytesSource>, E, P: Trace>(
     alloc: Global,
@@ -141,8 +150,7 @@ fn take_values<S: Source, T: Decode<BytesSource>, P: Trace>(
                 };
                 if !may_follow(mode, last.as_slice(), octets.as_slice()) {
                     path.note(Part::Item(all.len()));
-                    let error = ContentError::from_static("values of a set are out of order");
-                    return Err(cons.content_err(error));
+                    return Err(out_of_order(captured));
                 }
                 match read_value::<T, S::Error, P>(alloc, mode, captured, path) {
                     Ok(value) => {

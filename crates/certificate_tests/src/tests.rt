@@ -63,7 +63,7 @@ fn times_are_read_and_written(rt: HostRuntime) {
 const REFUSED: [(&[u8], &str); 3] = [
     (
         b"\x30\x12\x17\x0D261128000000Z\x02\x01\x05",
-        "Validity.not_after at octet 2: expected UTCTime or GeneralizedTime",
+        "Validity.not_after at octet 17: expected UTCTime or GeneralizedTime",
     ),
     (
         b"\x30\x20\x17\x0D26112800000AZ\x18\x0F21261128000000Z",
@@ -71,7 +71,7 @@ const REFUSED: [(&[u8], &str); 3] = [
     ),
     (
         b"\x30\x0F\x17\x0D261128000000Z",
-        "Validity.not_after at octet 2: expected UTCTime or GeneralizedTime",
+        "Validity.not_after at octet 17: expected UTCTime or GeneralizedTime",
     ),
 ];
 

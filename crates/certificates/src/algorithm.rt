@@ -1,15 +1,13 @@
 //! Algorithms, and the keys that belong to them.
 ghost use Rattle.std.specs.Prelude.{refl};
-ghost use Rattle.asn1.specs.Tags.{only_tagged, sequence_tagged};
-ghost use Rattle.nested.specs.Lawfully.{Lawfully, lawfully};
 
-use asn1::{Any, ByRef, Decode, Encode, ObjectIdentifier, Sequence, Trace, Type};
+use asn1::{
+    Any, ByRef, Decode, DecodeParts, Encode, EncodeParts, ObjectIdentifier, Parts, Sequence,
+    SequenceTag, Trace, Type, UseParts,
+};
 use bcder::decode::{Constructed, DecodeError, Source};
-use bcder::encode::{EncodeError, WriteError};
 use bcder::{BitString, Mode, Tag};
-use nested::{Parts, len_parts, parts_are_one, parts_are_read_back, take_parts, write_parts};
 use std::alloc::Global;
-use std::io;
 
 /// An algorithm, with what it is used with (RFC 5280, section 4.1.1.2).
 ///
@@ -31,9 +29,15 @@ type AlgorithmIdentifierParts = Sequence<(ObjectIdentifier, Option<Any>)>;
 impl Parts for AlgorithmIdentifier {
     type As = AlgorithmIdentifierParts;
 
+    type Tags = SequenceTag;
+
+    const NAME: &'static str = "AlgorithmIdentifier";
+
     const PARTS: &'static [&'static str] = &["algorithm", "parameters"];
 
     ghost parts = { λ x. (x.algorithm, x.parameters) };
+
+    ghost typed = { ⟦<AlgorithmIdentifierParts as Type>⟧ };
 
     fn from_parts(value: AlgorithmIdentifierParts) -> AlgorithmIdentifier {
         let Sequence((algorithm, parameters)) = value;
@@ -43,90 +47,38 @@ impl Parts for AlgorithmIdentifier {
         }
     }
 
-    ghost made = { λ v. (record { algorithm = v.0; parameters = v.1 }, refl) };
+    fn parts_are_one() {
+        <AlgorithmIdentifierParts>::values_are_one();
+    }
 }
 
-impl Type for AlgorithmIdentifier {
-    ghost TAG = { ⟦<AlgorithmIdentifierParts as Type>⟧.TAG };
-
-    fn tag() -> Tag {
-        <AlgorithmIdentifierParts>::tag()
-    }
-
-    fn name() -> &'static str {
-        "AlgorithmIdentifier"
-    }
-
-    ghost tags = { ⟦<AlgorithmIdentifierParts as Type>⟧.tags };
-
-    ghost Key = { ⟦<AlgorithmIdentifierParts as Type>⟧.Key };
-
-    ghost key = { λ x. ⟦<AlgorithmIdentifierParts as Type>⟧.key
-        (⟦<AlgorithmIdentifier as Parts>⟧.parts x) };
-
-    ghost means = { λ mode t x. ⟦<AlgorithmIdentifierParts as Type>⟧.means mode t
-        (⟦<AlgorithmIdentifier as Parts>⟧.parts x) };
-
-    ghost keeps_all = { ⟦<AlgorithmIdentifierParts as Type>⟧.keeps_all };
-
-    fn values_are_one() {
-        parts_are_one::<AlgorithmIdentifier>();
-    }
-
-    ghost tagged = { refl };
-
-    ghost value_tags = { only_tagged sequence_tagged };
-}
-
-impl<S: Source> Decode<S> for AlgorithmIdentifier {
-    fn trace_opt_if<P: Trace>(
+impl<S: Source> DecodeParts<S> for AlgorithmIdentifier {
+    fn trace_parts<P: Trace>(
         alloc: Global,
         cons: &mut Constructed<'_, S>,
         tag: Tag,
         path: &mut P,
-    ) -> Result<Option<AlgorithmIdentifier>, DecodeError<S::Error>> {
-        take_parts(alloc, cons, tag, path)
+    ) -> Result<Option<AlgorithmIdentifierParts>, DecodeError<S::Error>> {
+        <AlgorithmIdentifierParts>::trace_opt_if(alloc, cons, tag, path)
     }
 }
 
-impl Encode for AlgorithmIdentifier {
-    ghost writes = { λ tag x mode. Lawfully mode (⟦<AlgorithmIdentifierParts as Encode>⟧.writes tag
-        (⟦<AlgorithmIdentifier as Parts>⟧.parts x) mode) };
+impl EncodeParts for AlgorithmIdentifier {
+    ghost written = { ⟦<AlgorithmIdentifierParts as Encode>⟧ };
 
-    ghost may_lack = { λ x mode. ⟦<AlgorithmIdentifierParts as Encode>⟧.may_lack
-        (⟦<AlgorithmIdentifier as Parts>⟧.parts x) mode };
-
-    ghost is_clear = { λ x mode. ⟦<AlgorithmIdentifierParts as Encode>⟧.is_clear
-        (⟦<AlgorithmIdentifier as Parts>⟧.parts x) mode };
-
-    fn encoded_len_as(&self, tag: Tag, mode: Mode) -> Result<usize, EncodeError> {
-        len_parts(
+    fn give_parts<T, U: UseParts<T>>(&self, tag: Tag, to: U, target: &mut T) -> U::Out {
+        to.use_parts(
             &Sequence((ByRef(&self.algorithm), ByRef(&self.parameters))),
             tag,
-            mode,
-        )
-    }
-
-    fn write_encoded_as<W: io::Write>(
-        &self,
-        tag: Tag,
-        mode: Mode,
-        target: &mut W,
-    ) -> Result<(), WriteError> {
-        write_parts(
-            &Sequence((ByRef(&self.algorithm), ByRef(&self.parameters))),
-            tag,
-            mode,
             target,
         )
     }
 
-    fn is_read_back(tag: Tag, mode: Mode) {
-        parts_are_read_back::<AlgorithmIdentifier>(tag, mode);
+    fn are_read_back(tag: Tag, mode: Mode) {
+        <AlgorithmIdentifierParts>::is_read_back(tag, mode);
     }
 
-    ghost lawful = { λ tag x mode. lawfully mode (⟦<AlgorithmIdentifierParts as Encode>⟧.writes tag
-        (⟦<AlgorithmIdentifier as Parts>⟧.parts x) mode) };
+    ghost made = { λ v. (record { algorithm = v.0; parameters = v.1 }, refl) };
 }
 
 /// A public key, and the algorithm that it is of (RFC 5280, section 4.1.2.7).
@@ -149,9 +101,15 @@ type SubjectPublicKeyInfoParts = Sequence<(AlgorithmIdentifier, BitString)>;
 impl Parts for SubjectPublicKeyInfo {
     type As = SubjectPublicKeyInfoParts;
 
+    type Tags = SequenceTag;
+
+    const NAME: &'static str = "SubjectPublicKeyInfo";
+
     const PARTS: &'static [&'static str] = &["algorithm", "subject_public_key"];
 
     ghost parts = { λ x. (x.algorithm, x.subject_public_key) };
+
+    ghost typed = { ⟦<SubjectPublicKeyInfoParts as Type>⟧ };
 
     fn from_parts(value: SubjectPublicKeyInfoParts) -> SubjectPublicKeyInfo {
         let Sequence((algorithm, subject_public_key)) = value;
@@ -161,88 +119,36 @@ impl Parts for SubjectPublicKeyInfo {
         }
     }
 
-    ghost made = { λ v. (record { algorithm = v.0; subject_public_key = v.1 }, refl) };
+    fn parts_are_one() {
+        <SubjectPublicKeyInfoParts>::values_are_one();
+    }
 }
 
-impl Type for SubjectPublicKeyInfo {
-    ghost TAG = { ⟦<SubjectPublicKeyInfoParts as Type>⟧.TAG };
-
-    fn tag() -> Tag {
-        <SubjectPublicKeyInfoParts>::tag()
-    }
-
-    fn name() -> &'static str {
-        "SubjectPublicKeyInfo"
-    }
-
-    ghost tags = { ⟦<SubjectPublicKeyInfoParts as Type>⟧.tags };
-
-    ghost Key = { ⟦<SubjectPublicKeyInfoParts as Type>⟧.Key };
-
-    ghost key = { λ x. ⟦<SubjectPublicKeyInfoParts as Type>⟧.key
-        (⟦<SubjectPublicKeyInfo as Parts>⟧.parts x) };
-
-    ghost means = { λ mode t x. ⟦<SubjectPublicKeyInfoParts as Type>⟧.means mode t
-        (⟦<SubjectPublicKeyInfo as Parts>⟧.parts x) };
-
-    ghost keeps_all = { ⟦<SubjectPublicKeyInfoParts as Type>⟧.keeps_all };
-
-    fn values_are_one() {
-        parts_are_one::<SubjectPublicKeyInfo>();
-    }
-
-    ghost tagged = { refl };
-
-    ghost value_tags = { only_tagged sequence_tagged };
-}
-
-impl<S: Source> Decode<S> for SubjectPublicKeyInfo {
-    fn trace_opt_if<P: Trace>(
+impl<S: Source> DecodeParts<S> for SubjectPublicKeyInfo {
+    fn trace_parts<P: Trace>(
         alloc: Global,
         cons: &mut Constructed<'_, S>,
         tag: Tag,
         path: &mut P,
-    ) -> Result<Option<SubjectPublicKeyInfo>, DecodeError<S::Error>> {
-        take_parts(alloc, cons, tag, path)
+    ) -> Result<Option<SubjectPublicKeyInfoParts>, DecodeError<S::Error>> {
+        <SubjectPublicKeyInfoParts>::trace_opt_if(alloc, cons, tag, path)
     }
 }
 
-impl Encode for SubjectPublicKeyInfo {
-    ghost writes = { λ tag x mode. Lawfully mode (⟦<SubjectPublicKeyInfoParts as Encode>⟧.writes tag
-        (⟦<SubjectPublicKeyInfo as Parts>⟧.parts x) mode) };
+impl EncodeParts for SubjectPublicKeyInfo {
+    ghost written = { ⟦<SubjectPublicKeyInfoParts as Encode>⟧ };
 
-    ghost may_lack = { λ x mode. ⟦<SubjectPublicKeyInfoParts as Encode>⟧.may_lack
-        (⟦<SubjectPublicKeyInfo as Parts>⟧.parts x) mode };
-
-    ghost is_clear = { λ x mode. ⟦<SubjectPublicKeyInfoParts as Encode>⟧.is_clear
-        (⟦<SubjectPublicKeyInfo as Parts>⟧.parts x) mode };
-
-    fn encoded_len_as(&self, tag: Tag, mode: Mode) -> Result<usize, EncodeError> {
-        len_parts(
+    fn give_parts<T, U: UseParts<T>>(&self, tag: Tag, to: U, target: &mut T) -> U::Out {
+        to.use_parts(
             &Sequence((ByRef(&self.algorithm), ByRef(&self.subject_public_key))),
             tag,
-            mode,
-        )
-    }
-
-    fn write_encoded_as<W: io::Write>(
-        &self,
-        tag: Tag,
-        mode: Mode,
-        target: &mut W,
-    ) -> Result<(), WriteError> {
-        write_parts(
-            &Sequence((ByRef(&self.algorithm), ByRef(&self.subject_public_key))),
-            tag,
-            mode,
             target,
         )
     }
 
-    fn is_read_back(tag: Tag, mode: Mode) {
-        parts_are_read_back::<SubjectPublicKeyInfo>(tag, mode);
+    fn are_read_back(tag: Tag, mode: Mode) {
+        <SubjectPublicKeyInfoParts>::is_read_back(tag, mode);
     }
 
-    ghost lawful = { λ tag x mode. lawfully mode (⟦<SubjectPublicKeyInfoParts as Encode>⟧.writes tag
-        (⟦<SubjectPublicKeyInfo as Parts>⟧.parts x) mode) };
+    ghost made = { λ v. (record { algorithm = v.0; subject_public_key = v.1 }, refl) };
 }

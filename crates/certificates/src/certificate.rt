@@ -2,11 +2,9 @@
 ghost use Rattle.std.specs.Prelude.{refl};
 
 use crate::{AlgorithmIdentifier, TbsCertificate};
-use asn1::{ByRef, DecodeDefinition, Definition, Encode, EncodeDefinition, Sequence};
+use asn1::{ByRef, DecodeDefinition, Definition, EncodeDefinition, Sequence, UseParts};
 use bcder::decode::Source;
-use bcder::encode::{EncodeError, WriteError};
-use bcder::{BitString, Mode, Tag};
-use std::io;
+use bcder::{BitString, Tag};
 
 /// A certificate (RFC 5280, section 4.1).
 ///
@@ -54,27 +52,16 @@ impl Definition for Certificate {
 impl<S: Source> DecodeDefinition<S> for Certificate {}
 
 impl EncodeDefinition for Certificate {
-    fn len_parts(&self, tag: Tag, mode: Mode) -> Result<usize, EncodeError> {
-        Sequence((
-            ByRef(&self.tbs_certificate),
-            ByRef(&self.signature_algorithm),
-            ByRef(&self.signature_value),
-        ))
-        .encoded_len_as(tag, mode)
-    }
-
-    fn write_parts<W: io::Write>(
-        &self,
-        tag: Tag,
-        mode: Mode,
-        target: &mut W,
-    ) -> Result<(), WriteError> {
-        Sequence((
-            ByRef(&self.tbs_certificate),
-            ByRef(&self.signature_algorithm),
-            ByRef(&self.signature_value),
-        ))
-        .write_encoded_as(tag, mode, target)
+    fn give_parts<T, U: UseParts<T>>(&self, tag: Tag, to: U, target: &mut T) -> U::Out {
+        to.use_parts(
+            &Sequence((
+                ByRef(&self.tbs_certificate),
+                ByRef(&self.signature_algorithm),
+                ByRef(&self.signature_value),
+            )),
+            tag,
+            target,
+        )
     }
 
     ghost made = { λ v. (

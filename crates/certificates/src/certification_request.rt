@@ -1,19 +1,15 @@
 //! Requests for certificates.
 ghost use Rattle.std.specs.Prelude.{refl};
-ghost use Rattle.asn1.specs.Tags.{only_tagged, sequence_tagged};
-ghost use Rattle.nested.specs.Lawfully.{Lawfully, lawfully};
 
 use crate::{AlgorithmIdentifier, Name, SubjectPublicKeyInfo, Version};
 use asn1::{
-    Any, ByRef, Context, Decode, DecodeDefinition, Definition, Encode, EncodeDefinition, Implicit,
-    ObjectIdentifier, Sequence, SetOf, Trace, Type,
+    Any, ByRef, Context, Decode, DecodeDefinition, DecodeParts, Definition, Encode,
+    EncodeDefinition, EncodeParts, Implicit, ObjectIdentifier, Parts, Sequence, SequenceTag, SetOf,
+    Trace, Type, UseParts,
 };
 use bcder::decode::{Constructed, DecodeError, Source};
-use bcder::encode::{EncodeError, WriteError};
 use bcder::{BitString, Mode, Tag};
-use nested::{Parts, len_parts, parts_are_one, parts_are_read_back, take_parts, write_parts};
 use std::alloc::Global;
-use std::io;
 
 /// A request for a certificate (RFC 2986, section 4.2).
 ///
@@ -61,27 +57,16 @@ impl Definition for CertificationRequest {
 impl<S: Source> DecodeDefinition<S> for CertificationRequest {}
 
 impl EncodeDefinition for CertificationRequest {
-    fn len_parts(&self, tag: Tag, mode: Mode) -> Result<usize, EncodeError> {
-        Sequence((
-            ByRef(&self.certification_request_info),
-            ByRef(&self.signature_algorithm),
-            ByRef(&self.signature),
-        ))
-        .encoded_len_as(tag, mode)
-    }
-
-    fn write_parts<W: io::Write>(
-        &self,
-        tag: Tag,
-        mode: Mode,
-        target: &mut W,
-    ) -> Result<(), WriteError> {
-        Sequence((
-            ByRef(&self.certification_request_info),
-            ByRef(&self.signature_algorithm),
-            ByRef(&self.signature),
-        ))
-        .write_encoded_as(tag, mode, target)
+    fn give_parts<T, U: UseParts<T>>(&self, tag: Tag, to: U, target: &mut T) -> U::Out {
+        to.use_parts(
+            &Sequence((
+                ByRef(&self.certification_request_info),
+                ByRef(&self.signature_algorithm),
+                ByRef(&self.signature),
+            )),
+            tag,
+            target,
+        )
     }
 
     ghost made = { λ v. (
@@ -133,9 +118,15 @@ type CertificationRequestInfoParts = Sequence<
 impl Parts for CertificationRequestInfo {
     type As = CertificationRequestInfoParts;
 
+    type Tags = SequenceTag;
+
+    const NAME: &'static str = "CertificationRequestInfo";
+
     const PARTS: &'static [&'static str] = &["version", "subject", "subject_pk_info", "attributes"];
 
     ghost parts = { λ x. (x.version, x.subject, x.subject_pk_info, x.attributes) };
+
+    ghost typed = { ⟦<CertificationRequestInfoParts as Type>⟧ };
 
     fn from_parts(value: CertificationRequestInfoParts) -> CertificationRequestInfo {
         let Sequence((version, subject, subject_pk_info, attributes)) = value;
@@ -147,6 +138,42 @@ impl Parts for CertificationRequestInfo {
         }
     }
 
+    fn parts_are_one() {
+        <CertificationRequestInfoParts>::values_are_one();
+    }
+}
+
+impl<S: Source> DecodeParts<S> for CertificationRequestInfo {
+    fn trace_parts<P: Trace>(
+        alloc: Global,
+        cons: &mut Constructed<'_, S>,
+        tag: Tag,
+        path: &mut P,
+    ) -> Result<Option<CertificationRequestInfoParts>, DecodeError<S::Error>> {
+        <CertificationRequestInfoParts>::trace_opt_if(alloc, cons, tag, path)
+    }
+}
+
+impl EncodeParts for CertificationRequestInfo {
+    ghost written = { ⟦<CertificationRequestInfoParts as Encode>⟧ };
+
+    fn give_parts<T, U: UseParts<T>>(&self, tag: Tag, to: U, target: &mut T) -> U::Out {
+        to.use_parts(
+            &Sequence((
+                ByRef(&self.version),
+                ByRef(&self.subject),
+                ByRef(&self.subject_pk_info),
+                ByRef(&self.attributes),
+            )),
+            tag,
+            target,
+        )
+    }
+
+    fn are_read_back(tag: Tag, mode: Mode) {
+        <CertificationRequestInfoParts>::is_read_back(tag, mode);
+    }
+
     ghost made = { λ v. (
       record {
         version = v.0;
@@ -156,101 +183,6 @@ impl Parts for CertificationRequestInfo {
       },
       refl,
     ) };
-}
-
-impl Type for CertificationRequestInfo {
-    ghost TAG = { ⟦<CertificationRequestInfoParts as Type>⟧.TAG };
-
-    fn tag() -> Tag {
-        <CertificationRequestInfoParts>::tag()
-    }
-
-    fn name() -> &'static str {
-        "CertificationRequestInfo"
-    }
-
-    ghost tags = { ⟦<CertificationRequestInfoParts as Type>⟧.tags };
-
-    ghost Key = { ⟦<CertificationRequestInfoParts as Type>⟧.Key };
-
-    ghost key = { λ x. ⟦<CertificationRequestInfoParts as Type>⟧.key
-        (⟦<CertificationRequestInfo as Parts>⟧.parts x) };
-
-    ghost means = { λ mode t x. ⟦<CertificationRequestInfoParts as Type>⟧.means mode t
-        (⟦<CertificationRequestInfo as Parts>⟧.parts x) };
-
-    ghost keeps_all = { ⟦<CertificationRequestInfoParts as Type>⟧.keeps_all };
-
-    fn values_are_one() {
-        parts_are_one::<CertificationRequestInfo>();
-    }
-
-    ghost tagged = { refl };
-
-    ghost value_tags = { only_tagged sequence_tagged };
-}
-
-impl<S: Source> Decode<S> for CertificationRequestInfo {
-    fn trace_opt_if<P: Trace>(
-        alloc: Global,
-        cons: &mut Constructed<'_, S>,
-        tag: Tag,
-        path: &mut P,
-    ) -> Result<Option<CertificationRequestInfo>, DecodeError<S::Error>> {
-        take_parts(alloc, cons, tag, path)
-    }
-}
-
-impl Encode for CertificationRequestInfo {
-    ghost writes = { λ tag x mode. Lawfully mode
-        (⟦<CertificationRequestInfoParts as Encode>⟧.writes tag
-        (⟦<CertificationRequestInfo as Parts>⟧.parts x) mode) };
-
-    ghost may_lack = { λ x mode. ⟦<CertificationRequestInfoParts as Encode>⟧.may_lack
-        (⟦<CertificationRequestInfo as Parts>⟧.parts x) mode };
-
-    ghost is_clear = { λ x mode. ⟦<CertificationRequestInfoParts as Encode>⟧.is_clear
-        (⟦<CertificationRequestInfo as Parts>⟧.parts x) mode };
-
-    fn encoded_len_as(&self, tag: Tag, mode: Mode) -> Result<usize, EncodeError> {
-        len_parts(
-            &Sequence((
-                ByRef(&self.version),
-                ByRef(&self.subject),
-                ByRef(&self.subject_pk_info),
-                ByRef(&self.attributes),
-            )),
-            tag,
-            mode,
-        )
-    }
-
-    fn write_encoded_as<W: io::Write>(
-        &self,
-        tag: Tag,
-        mode: Mode,
-        target: &mut W,
-    ) -> Result<(), WriteError> {
-        write_parts(
-            &Sequence((
-                ByRef(&self.version),
-                ByRef(&self.subject),
-                ByRef(&self.subject_pk_info),
-                ByRef(&self.attributes),
-            )),
-            tag,
-            mode,
-            target,
-        )
-    }
-
-    fn is_read_back(tag: Tag, mode: Mode) {
-        parts_are_read_back::<CertificationRequestInfo>(tag, mode);
-    }
-
-    ghost lawful = { λ tag x mode. lawfully mode
-        (⟦<CertificationRequestInfoParts as Encode>⟧.writes tag
-        (⟦<CertificationRequestInfo as Parts>⟧.parts x) mode) };
 }
 
 /// What is said of the subject besides (RFC 2986, section 4.1).
@@ -290,18 +222,11 @@ impl Definition for Attribute {
 impl<S: Source> DecodeDefinition<S> for Attribute {}
 
 impl EncodeDefinition for Attribute {
-    fn len_parts(&self, tag: Tag, mode: Mode) -> Result<usize, EncodeError> {
-        Sequence((ByRef(&self.attribute_type), ByRef(&self.values))).encoded_len_as(tag, mode)
-    }
-
-    fn write_parts<W: io::Write>(
-        &self,
-        tag: Tag,
-        mode: Mode,
-        target: &mut W,
-    ) -> Result<(), WriteError> {
-        Sequence((ByRef(&self.attribute_type), ByRef(&self.values))).write_encoded_as(
-            tag, mode, target,
+    fn give_parts<T, U: UseParts<T>>(&self, tag: Tag, to: U, target: &mut T) -> U::Out {
+        to.use_parts(
+            &Sequence((ByRef(&self.attribute_type), ByRef(&self.values))),
+            tag,
+            target,
         )
     }
 

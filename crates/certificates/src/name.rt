@@ -1,18 +1,14 @@
 //! Names of issuers and subjects.
 ghost use Rattle.std.specs.Prelude.{refl};
-ghost use Rattle.asn1.specs.Tags.{only_tagged, sequence_tagged};
-ghost use Rattle.nested.specs.Lawfully.{Lawfully, lawfully};
 
 use asn1::{
-    Any, ByRef, Decode, DecodeDefinition, Definition, Encode, EncodeDefinition, ObjectIdentifier,
-    Sequence, SequenceOf, SetOf, Trace, Type,
+    Any, ByRef, Decode, DecodeDefinition, DecodeParts, Definition, Encode, EncodeDefinition,
+    EncodeParts, ObjectIdentifier, Parts, Sequence, SequenceOf, SequenceTag, SetOf, Trace, Type,
+    UseParts,
 };
 use bcder::decode::{Constructed, DecodeError, Source};
-use bcder::encode::{EncodeError, WriteError};
 use bcder::{Mode, Tag};
-use nested::{Parts, len_parts, parts_are_one, parts_are_read_back, take_parts, write_parts};
 use std::alloc::Global;
-use std::io;
 
 /// A name (RFC 5280, section 4.1.2.4).
 ///
@@ -34,7 +30,13 @@ type NameParts = SequenceOf<RelativeDistinguishedName>;
 impl Parts for Name {
     type As = NameParts;
 
+    type Tags = SequenceTag;
+
+    const NAME: &'static str = "Name";
+
     ghost parts = { λ x. x.rdn_sequence };
+
+    ghost typed = { ⟦<NameParts as Type>⟧ };
 
     fn from_parts(value: NameParts) -> Name {
         Name {
@@ -42,81 +44,34 @@ impl Parts for Name {
         }
     }
 
-    ghost made = { λ v. (record { rdn_sequence = v }, refl) };
+    fn parts_are_one() {
+        <NameParts>::values_are_one();
+    }
 }
 
-impl Type for Name {
-    ghost TAG = { ⟦<NameParts as Type>⟧.TAG };
-
-    fn tag() -> Tag {
-        <NameParts>::tag()
-    }
-
-    fn name() -> &'static str {
-        "Name"
-    }
-
-    ghost tags = { ⟦<NameParts as Type>⟧.tags };
-
-    ghost Key = { ⟦<NameParts as Type>⟧.Key };
-
-    ghost key = { λ x. ⟦<NameParts as Type>⟧.key
-        (⟦<Name as Parts>⟧.parts x) };
-
-    ghost means = { λ mode t x. ⟦<NameParts as Type>⟧.means mode t
-        (⟦<Name as Parts>⟧.parts x) };
-
-    ghost keeps_all = { ⟦<NameParts as Type>⟧.keeps_all };
-
-    fn values_are_one() {
-        parts_are_one::<Name>();
-    }
-
-    ghost tagged = { refl };
-
-    ghost value_tags = { only_tagged sequence_tagged };
-}
-
-impl<S: Source> Decode<S> for Name {
-    fn trace_opt_if<P: Trace>(
+impl<S: Source> DecodeParts<S> for Name {
+    fn trace_parts<P: Trace>(
         alloc: Global,
         cons: &mut Constructed<'_, S>,
         tag: Tag,
         path: &mut P,
-    ) -> Result<Option<Name>, DecodeError<S::Error>> {
-        take_parts(alloc, cons, tag, path)
+    ) -> Result<Option<NameParts>, DecodeError<S::Error>> {
+        <NameParts>::trace_opt_if(alloc, cons, tag, path)
     }
 }
 
-impl Encode for Name {
-    ghost writes = { λ tag x mode. Lawfully mode (⟦<NameParts as Encode>⟧.writes tag
-        (⟦<Name as Parts>⟧.parts x) mode) };
+impl EncodeParts for Name {
+    ghost written = { ⟦<NameParts as Encode>⟧ };
 
-    ghost may_lack = { λ x mode. ⟦<NameParts as Encode>⟧.may_lack
-        (⟦<Name as Parts>⟧.parts x) mode };
-
-    ghost is_clear = { λ x mode. ⟦<NameParts as Encode>⟧.is_clear
-        (⟦<Name as Parts>⟧.parts x) mode };
-
-    fn encoded_len_as(&self, tag: Tag, mode: Mode) -> Result<usize, EncodeError> {
-        len_parts(&self.rdn_sequence, tag, mode)
+    fn give_parts<T, U: UseParts<T>>(&self, tag: Tag, to: U, target: &mut T) -> U::Out {
+        to.use_parts(&self.rdn_sequence, tag, target)
     }
 
-    fn write_encoded_as<W: io::Write>(
-        &self,
-        tag: Tag,
-        mode: Mode,
-        target: &mut W,
-    ) -> Result<(), WriteError> {
-        write_parts(&self.rdn_sequence, tag, mode, target)
+    fn are_read_back(tag: Tag, mode: Mode) {
+        <NameParts>::is_read_back(tag, mode);
     }
 
-    fn is_read_back(tag: Tag, mode: Mode) {
-        parts_are_read_back::<Name>(tag, mode);
-    }
-
-    ghost lawful = { λ tag x mode. lawfully mode (⟦<NameParts as Encode>⟧.writes tag
-        (⟦<Name as Parts>⟧.parts x) mode) };
+    ghost made = { λ v. (record { rdn_sequence = v }, refl) };
 }
 
 /// One part of a name. It has one attribute or several.
@@ -165,18 +120,11 @@ impl Definition for AttributeTypeAndValue {
 impl<S: Source> DecodeDefinition<S> for AttributeTypeAndValue {}
 
 impl EncodeDefinition for AttributeTypeAndValue {
-    fn len_parts(&self, tag: Tag, mode: Mode) -> Result<usize, EncodeError> {
-        Sequence((ByRef(&self.attribute_type), ByRef(&self.value))).encoded_len_as(tag, mode)
-    }
-
-    fn write_parts<W: io::Write>(
-        &self,
-        tag: Tag,
-        mode: Mode,
-        target: &mut W,
-    ) -> Result<(), WriteError> {
-        Sequence((ByRef(&self.attribute_type), ByRef(&self.value))).write_encoded_as(
-            tag, mode, target,
+    fn give_parts<T, U: UseParts<T>>(&self, tag: Tag, to: U, target: &mut T) -> U::Out {
+        to.use_parts(
+            &Sequence((ByRef(&self.attribute_type), ByRef(&self.value))),
+            tag,
+            target,
         )
     }
 

@@ -1,17 +1,15 @@
 //! What is signed of a list of revoked certificates.
 ghost use Rattle.std.specs.Prelude.{refl};
-ghost use Rattle.asn1.specs.Tags.{only_tagged, sequence_tagged};
-ghost use Rattle.nested.specs.Lawfully.{Lawfully, lawfully};
 
 use crate::{AlgorithmIdentifier, Name, Time, Version};
-use asn1::{ByRef, Context, Decode, Encode, Explicit, Sequence, SequenceOf, Trace, Type};
+use asn1::{
+    ByRef, Context, Decode, DecodeParts, Encode, EncodeParts, Explicit, Parts, Sequence,
+    SequenceOf, SequenceTag, Trace, Type, UseParts,
+};
 use bcder::decode::{Constructed, DecodeError, Source};
-use bcder::encode::{EncodeError, WriteError};
 use bcder::{Integer, Mode, Tag};
 use extensions::Extensions;
-use nested::{Parts, len_parts, parts_are_one, parts_are_read_back, take_parts, write_parts};
 use std::alloc::Global;
-use std::io;
 
 /// What is signed of a list of revoked certificates (RFC 5280, section 5.1.2).
 ///
@@ -63,6 +61,10 @@ type TbsCertListParts = Sequence<
 impl Parts for TbsCertList {
     type As = TbsCertListParts;
 
+    type Tags = SequenceTag;
+
+    const NAME: &'static str = "TbsCertList";
+
     const PARTS: &'static [&'static str] = &[
         "version",
         "signature",
@@ -82,6 +84,8 @@ impl Parts for TbsCertList {
       x.revoked_certificates,
       x.crl_extensions,
     ) };
+
+    ghost typed = { ⟦<TbsCertListParts as Type>⟧ };
 
     fn from_parts(value: TbsCertListParts) -> TbsCertList {
         let Sequence(
@@ -106,6 +110,45 @@ impl Parts for TbsCertList {
         }
     }
 
+    fn parts_are_one() {
+        <TbsCertListParts>::values_are_one();
+    }
+}
+
+impl<S: Source> DecodeParts<S> for TbsCertList {
+    fn trace_parts<P: Trace>(
+        alloc: Global,
+        cons: &mut Constructed<'_, S>,
+        tag: Tag,
+        path: &mut P,
+    ) -> Result<Option<TbsCertListParts>, DecodeError<S::Error>> {
+        <TbsCertListParts>::trace_opt_if(alloc, cons, tag, path)
+    }
+}
+
+impl EncodeParts for TbsCertList {
+    ghost written = { ⟦<TbsCertListParts as Encode>⟧ };
+
+    fn give_parts<T, U: UseParts<T>>(&self, tag: Tag, to: U, target: &mut T) -> U::Out {
+        to.use_parts(
+            &Sequence((
+                ByRef(&self.version),
+                ByRef(&self.signature),
+                ByRef(&self.issuer),
+                ByRef(&self.this_update),
+                ByRef(&self.next_update),
+                ByRef(&self.revoked_certificates),
+                ByRef(&self.crl_extensions),
+            )),
+            tag,
+            target,
+        )
+    }
+
+    fn are_read_back(tag: Tag, mode: Mode) {
+        <TbsCertListParts>::is_read_back(tag, mode);
+    }
+
     ghost made = { λ v. (
       record {
         version = v.0;
@@ -118,105 +161,6 @@ impl Parts for TbsCertList {
       },
       refl,
     ) };
-}
-
-impl Type for TbsCertList {
-    ghost TAG = { ⟦<TbsCertListParts as Type>⟧.TAG };
-
-    fn tag() -> Tag {
-        <TbsCertListParts>::tag()
-    }
-
-    fn name() -> &'static str {
-        "TbsCertList"
-    }
-
-    ghost tags = { ⟦<TbsCertListParts as Type>⟧.tags };
-
-    ghost Key = { ⟦<TbsCertListParts as Type>⟧.Key };
-
-    ghost key = { λ x. ⟦<TbsCertListParts as Type>⟧.key
-        (⟦<TbsCertList as Parts>⟧.parts x) };
-
-    ghost means = { λ mode t x. ⟦<TbsCertListParts as Type>⟧.means mode t
-        (⟦<TbsCertList as Parts>⟧.parts x) };
-
-    ghost keeps_all = { ⟦<TbsCertListParts as Type>⟧.keeps_all };
-
-    fn values_are_one() {
-        parts_are_one::<TbsCertList>();
-    }
-
-    ghost tagged = { refl };
-
-    ghost value_tags = { only_tagged sequence_tagged };
-}
-
-impl<S: Source> Decode<S> for TbsCertList {
-    fn trace_opt_if<P: Trace>(
-        alloc: Global,
-        cons: &mut Constructed<'_, S>,
-        tag: Tag,
-        path: &mut P,
-    ) -> Result<Option<TbsCertList>, DecodeError<S::Error>> {
-        take_parts(alloc, cons, tag, path)
-    }
-}
-
-impl Encode for TbsCertList {
-    ghost writes = { λ tag x mode. Lawfully mode (⟦<TbsCertListParts as Encode>⟧.writes tag
-        (⟦<TbsCertList as Parts>⟧.parts x) mode) };
-
-    ghost may_lack = { λ x mode. ⟦<TbsCertListParts as Encode>⟧.may_lack
-        (⟦<TbsCertList as Parts>⟧.parts x) mode };
-
-    ghost is_clear = { λ x mode. ⟦<TbsCertListParts as Encode>⟧.is_clear
-        (⟦<TbsCertList as Parts>⟧.parts x) mode };
-
-    fn encoded_len_as(&self, tag: Tag, mode: Mode) -> Result<usize, EncodeError> {
-        len_parts(
-            &Sequence((
-                ByRef(&self.version),
-                ByRef(&self.signature),
-                ByRef(&self.issuer),
-                ByRef(&self.this_update),
-                ByRef(&self.next_update),
-                ByRef(&self.revoked_certificates),
-                ByRef(&self.crl_extensions),
-            )),
-            tag,
-            mode,
-        )
-    }
-
-    fn write_encoded_as<W: io::Write>(
-        &self,
-        tag: Tag,
-        mode: Mode,
-        target: &mut W,
-    ) -> Result<(), WriteError> {
-        write_parts(
-            &Sequence((
-                ByRef(&self.version),
-                ByRef(&self.signature),
-                ByRef(&self.issuer),
-                ByRef(&self.this_update),
-                ByRef(&self.next_update),
-                ByRef(&self.revoked_certificates),
-                ByRef(&self.crl_extensions),
-            )),
-            tag,
-            mode,
-            target,
-        )
-    }
-
-    fn is_read_back(tag: Tag, mode: Mode) {
-        parts_are_read_back::<TbsCertList>(tag, mode);
-    }
-
-    ghost lawful = { λ tag x mode. lawfully mode (⟦<TbsCertListParts as Encode>⟧.writes tag
-        (⟦<TbsCertList as Parts>⟧.parts x) mode) };
 }
 
 /// A certificate that is revoked (RFC 5280, section 5.1.2.6).
@@ -243,6 +187,10 @@ type RevokedCertificateParts = Sequence<(Integer, Time, Option<Extensions>)>;
 impl Parts for RevokedCertificate {
     type As = RevokedCertificateParts;
 
+    type Tags = SequenceTag;
+
+    const NAME: &'static str = "RevokedCertificate";
+
     const PARTS: &'static [&'static str] = &[
         "user_certificate",
         "revocation_date",
@@ -250,6 +198,8 @@ impl Parts for RevokedCertificate {
     ];
 
     ghost parts = { λ x. (x.user_certificate, x.revocation_date, x.crl_entry_extensions) };
+
+    ghost typed = { ⟦<RevokedCertificateParts as Type>⟧ };
 
     fn from_parts(value: RevokedCertificateParts) -> RevokedCertificate {
         let Sequence((user_certificate, revocation_date, crl_entry_extensions)) = value;
@@ -260,6 +210,41 @@ impl Parts for RevokedCertificate {
         }
     }
 
+    fn parts_are_one() {
+        <RevokedCertificateParts>::values_are_one();
+    }
+}
+
+impl<S: Source> DecodeParts<S> for RevokedCertificate {
+    fn trace_parts<P: Trace>(
+        alloc: Global,
+        cons: &mut Constructed<'_, S>,
+        tag: Tag,
+        path: &mut P,
+    ) -> Result<Option<RevokedCertificateParts>, DecodeError<S::Error>> {
+        <RevokedCertificateParts>::trace_opt_if(alloc, cons, tag, path)
+    }
+}
+
+impl EncodeParts for RevokedCertificate {
+    ghost written = { ⟦<RevokedCertificateParts as Encode>⟧ };
+
+    fn give_parts<T, U: UseParts<T>>(&self, tag: Tag, to: U, target: &mut T) -> U::Out {
+        to.use_parts(
+            &Sequence((
+                ByRef(&self.user_certificate),
+                ByRef(&self.revocation_date),
+                ByRef(&self.crl_entry_extensions),
+            )),
+            tag,
+            target,
+        )
+    }
+
+    fn are_read_back(tag: Tag, mode: Mode) {
+        <RevokedCertificateParts>::is_read_back(tag, mode);
+    }
+
     ghost made = { λ v. (
       record {
         user_certificate = v.0;
@@ -268,95 +253,4 @@ impl Parts for RevokedCertificate {
       },
       refl,
     ) };
-}
-
-impl Type for RevokedCertificate {
-    ghost TAG = { ⟦<RevokedCertificateParts as Type>⟧.TAG };
-
-    fn tag() -> Tag {
-        <RevokedCertificateParts>::tag()
-    }
-
-    fn name() -> &'static str {
-        "RevokedCertificate"
-    }
-
-    ghost tags = { ⟦<RevokedCertificateParts as Type>⟧.tags };
-
-    ghost Key = { ⟦<RevokedCertificateParts as Type>⟧.Key };
-
-    ghost key = { λ x. ⟦<RevokedCertificateParts as Type>⟧.key
-        (⟦<RevokedCertificate as Parts>⟧.parts x) };
-
-    ghost means = { λ mode t x. ⟦<RevokedCertificateParts as Type>⟧.means mode t
-        (⟦<RevokedCertificate as Parts>⟧.parts x) };
-
-    ghost keeps_all = { ⟦<RevokedCertificateParts as Type>⟧.keeps_all };
-
-    fn values_are_one() {
-        parts_are_one::<RevokedCertificate>();
-    }
-
-    ghost tagged = { refl };
-
-    ghost value_tags = { only_tagged sequence_tagged };
-}
-
-impl<S: Source> Decode<S> for RevokedCertificate {
-    fn trace_opt_if<P: Trace>(
-        alloc: Global,
-        cons: &mut Constructed<'_, S>,
-        tag: Tag,
-        path: &mut P,
-    ) -> Result<Option<RevokedCertificate>, DecodeError<S::Error>> {
-        take_parts(alloc, cons, tag, path)
-    }
-}
-
-impl Encode for RevokedCertificate {
-    ghost writes = { λ tag x mode. Lawfully mode (⟦<RevokedCertificateParts as Encode>⟧.writes tag
-        (⟦<RevokedCertificate as Parts>⟧.parts x) mode) };
-
-    ghost may_lack = { λ x mode. ⟦<RevokedCertificateParts as Encode>⟧.may_lack
-        (⟦<RevokedCertificate as Parts>⟧.parts x) mode };
-
-    ghost is_clear = { λ x mode. ⟦<RevokedCertificateParts as Encode>⟧.is_clear
-        (⟦<RevokedCertificate as Parts>⟧.parts x) mode };
-
-    fn encoded_len_as(&self, tag: Tag, mode: Mode) -> Result<usize, EncodeError> {
-        len_parts(
-            &Sequence((
-                ByRef(&self.user_certificate),
-                ByRef(&self.revocation_date),
-                ByRef(&self.crl_entry_extensions),
-            )),
-            tag,
-            mode,
-        )
-    }
-
-    fn write_encoded_as<W: io::Write>(
-        &self,
-        tag: Tag,
-        mode: Mode,
-        target: &mut W,
-    ) -> Result<(), WriteError> {
-        write_parts(
-            &Sequence((
-                ByRef(&self.user_certificate),
-                ByRef(&self.revocation_date),
-                ByRef(&self.crl_entry_extensions),
-            )),
-            tag,
-            mode,
-            target,
-        )
-    }
-
-    fn is_read_back(tag: Tag, mode: Mode) {
-        parts_are_read_back::<RevokedCertificate>(tag, mode);
-    }
-
-    ghost lawful = { λ tag x mode. lawfully mode (⟦<RevokedCertificateParts as Encode>⟧.writes tag
-        (⟦<RevokedCertificate as Parts>⟧.parts x) mode) };
 }

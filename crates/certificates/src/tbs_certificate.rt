@@ -1,20 +1,15 @@
 //! What is signed of a certificate.
 ghost use Rattle.std.specs.Prelude.{refl};
-ghost use Rattle.asn1.specs.Tags.{only_tagged, sequence_tagged};
-ghost use Rattle.nested.specs.Lawfully.{Lawfully, lawfully};
 
 use crate::{AlgorithmIdentifier, Name, SubjectPublicKeyInfo, Validity};
 use asn1::{
-    ByRef, Context, Decode, DefaultValue, Encode, Explicit, Implicit, OrDefault, Sequence, Trace,
-    Type,
+    ByRef, Context, Decode, DecodeParts, DefaultValue, Encode, EncodeParts, Explicit, Implicit,
+    OrDefault, Parts, Sequence, SequenceTag, Trace, Type, UseParts,
 };
 use bcder::decode::{Constructed, DecodeError, Source};
-use bcder::encode::{EncodeError, WriteError};
 use bcder::{BitString, Integer, Mode, NoMemory, Tag};
 use extensions::Extensions;
-use nested::{Parts, len_parts, parts_are_one, parts_are_read_back, take_parts, write_parts};
 use std::alloc::Global;
-use std::io;
 
 /// The version of a certificate: 0 is the first, 1 the second and 2 the third (RFC 5280, section
 /// 4.1.2.1).
@@ -110,6 +105,10 @@ type TbsCertificateParts = Sequence<
 impl Parts for TbsCertificate {
     type As = TbsCertificateParts;
 
+    type Tags = SequenceTag;
+
+    const NAME: &'static str = "TbsCertificate";
+
     const PARTS: &'static [&'static str] = &[
         "version",
         "serial_number",
@@ -135,6 +134,8 @@ impl Parts for TbsCertificate {
       x.subject_unique_id,
       x.extensions,
     ) };
+
+    ghost typed = { ⟦<TbsCertificateParts as Type>⟧ };
 
     fn from_parts(value: TbsCertificateParts) -> TbsCertificate {
         let Sequence(
@@ -165,6 +166,48 @@ impl Parts for TbsCertificate {
         }
     }
 
+    fn parts_are_one() {
+        <TbsCertificateParts>::values_are_one();
+    }
+}
+
+impl<S: Source> DecodeParts<S> for TbsCertificate {
+    fn trace_parts<P: Trace>(
+        alloc: Global,
+        cons: &mut Constructed<'_, S>,
+        tag: Tag,
+        path: &mut P,
+    ) -> Result<Option<TbsCertificateParts>, DecodeError<S::Error>> {
+        <TbsCertificateParts>::trace_opt_if(alloc, cons, tag, path)
+    }
+}
+
+impl EncodeParts for TbsCertificate {
+    ghost written = { ⟦<TbsCertificateParts as Encode>⟧ };
+
+    fn give_parts<T, U: UseParts<T>>(&self, tag: Tag, to: U, target: &mut T) -> U::Out {
+        to.use_parts(
+            &Sequence((
+                ByRef(&self.version),
+                ByRef(&self.serial_number),
+                ByRef(&self.signature),
+                ByRef(&self.issuer),
+                ByRef(&self.validity),
+                ByRef(&self.subject),
+                ByRef(&self.subject_public_key_info),
+                ByRef(&self.issuer_unique_id),
+                ByRef(&self.subject_unique_id),
+                ByRef(&self.extensions),
+            )),
+            tag,
+            target,
+        )
+    }
+
+    fn are_read_back(tag: Tag, mode: Mode) {
+        <TbsCertificateParts>::is_read_back(tag, mode);
+    }
+
     ghost made = { λ v. (
       record {
         version = v.0;
@@ -180,109 +223,4 @@ impl Parts for TbsCertificate {
       },
       refl,
     ) };
-}
-
-impl Type for TbsCertificate {
-    ghost TAG = { ⟦<TbsCertificateParts as Type>⟧.TAG };
-
-    fn tag() -> Tag {
-        <TbsCertificateParts>::tag()
-    }
-
-    fn name() -> &'static str {
-        "TbsCertificate"
-    }
-
-    ghost tags = { ⟦<TbsCertificateParts as Type>⟧.tags };
-
-    ghost Key = { ⟦<TbsCertificateParts as Type>⟧.Key };
-
-    ghost key = { λ x. ⟦<TbsCertificateParts as Type>⟧.key
-        (⟦<TbsCertificate as Parts>⟧.parts x) };
-
-    ghost means = { λ mode t x. ⟦<TbsCertificateParts as Type>⟧.means mode t
-        (⟦<TbsCertificate as Parts>⟧.parts x) };
-
-    ghost keeps_all = { ⟦<TbsCertificateParts as Type>⟧.keeps_all };
-
-    fn values_are_one() {
-        parts_are_one::<TbsCertificate>();
-    }
-
-    ghost tagged = { refl };
-
-    ghost value_tags = { only_tagged sequence_tagged };
-}
-
-impl<S: Source> Decode<S> for TbsCertificate {
-    fn trace_opt_if<P: Trace>(
-        alloc: Global,
-        cons: &mut Constructed<'_, S>,
-        tag: Tag,
-        path: &mut P,
-    ) -> Result<Option<TbsCertificate>, DecodeError<S::Error>> {
-        take_parts(alloc, cons, tag, path)
-    }
-}
-
-impl Encode for TbsCertificate {
-    ghost writes = { λ tag x mode. Lawfully mode (⟦<TbsCertificateParts as Encode>⟧.writes tag
-        (⟦<TbsCertificate as Parts>⟧.parts x) mode) };
-
-    ghost may_lack = { λ x mode. ⟦<TbsCertificateParts as Encode>⟧.may_lack
-        (⟦<TbsCertificate as Parts>⟧.parts x) mode };
-
-    ghost is_clear = { λ x mode. ⟦<TbsCertificateParts as Encode>⟧.is_clear
-        (⟦<TbsCertificate as Parts>⟧.parts x) mode };
-
-    fn encoded_len_as(&self, tag: Tag, mode: Mode) -> Result<usize, EncodeError> {
-        len_parts(
-            &Sequence((
-                ByRef(&self.version),
-                ByRef(&self.serial_number),
-                ByRef(&self.signature),
-                ByRef(&self.issuer),
-                ByRef(&self.validity),
-                ByRef(&self.subject),
-                ByRef(&self.subject_public_key_info),
-                ByRef(&self.issuer_unique_id),
-                ByRef(&self.subject_unique_id),
-                ByRef(&self.extensions),
-            )),
-            tag,
-            mode,
-        )
-    }
-
-    fn write_encoded_as<W: io::Write>(
-        &self,
-        tag: Tag,
-        mode: Mode,
-        target: &mut W,
-    ) -> Result<(), WriteError> {
-        write_parts(
-            &Sequence((
-                ByRef(&self.version),
-                ByRef(&self.serial_number),
-                ByRef(&self.signature),
-                ByRef(&self.issuer),
-                ByRef(&self.validity),
-                ByRef(&self.subject),
-                ByRef(&self.subject_public_key_info),
-                ByRef(&self.issuer_unique_id),
-                ByRef(&self.subject_unique_id),
-                ByRef(&self.extensions),
-            )),
-            tag,
-            mode,
-            target,
-        )
-    }
-
-    fn is_read_back(tag: Tag, mode: Mode) {
-        parts_are_read_back::<TbsCertificate>(tag, mode);
-    }
-
-    ghost lawful = { λ tag x mode. lawfully mode (⟦<TbsCertificateParts as Encode>⟧.writes tag
-        (⟦<TbsCertificate as Parts>⟧.parts x) mode) };
 }

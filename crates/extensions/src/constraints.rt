@@ -2,14 +2,12 @@
 ghost use Rattle.std.specs.Prelude.{false, refl};
 
 use asn1::{
-    ByRef, DecodeDefinition, DefaultValue, Definition, Encode, EncodeDefinition, OrDefault,
-    Sequence,
+    ByRef, DecodeDefinition, DefaultValue, Definition, EncodeDefinition, OrDefault, Sequence,
+    UseParts,
 };
 use bcder::decode::Source;
-use bcder::encode::{EncodeError, WriteError};
-use bcder::{Mode, NoMemory, Tag};
+use bcder::{NoMemory, Tag};
 use std::alloc::Global;
-use std::io;
 
 /// Whether a subject is an authority, and how many may follow it (RFC 5280, section 4.2.1.9).
 ///
@@ -39,17 +37,12 @@ impl Definition for BasicConstraints {
 impl<S: Source> DecodeDefinition<S> for BasicConstraints {}
 
 impl EncodeDefinition for BasicConstraints {
-    fn len_parts(&self, tag: Tag, mode: Mode) -> Result<usize, EncodeError> {
-        Sequence((ByRef(&self.ca), ByRef(&self.path_len))).encoded_len_as(tag, mode)
-    }
-
-    fn write_parts<W: io::Write>(
-        &self,
-        tag: Tag,
-        mode: Mode,
-        target: &mut W,
-    ) -> Result<(), WriteError> {
-        Sequence((ByRef(&self.ca), ByRef(&self.path_len))).write_encoded_as(tag, mode, target)
+    fn give_parts<T, U: UseParts<T>>(&self, tag: Tag, to: U, target: &mut T) -> U::Out {
+        to.use_parts(
+            &Sequence((ByRef(&self.ca), ByRef(&self.path_len))),
+            tag,
+            target,
+        )
     }
 
     ghost made = { λ v. (record { ca = v.0; path_len = v.1 }, refl) };

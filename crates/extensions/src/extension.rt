@@ -1,18 +1,13 @@
 //! Extensions.
 ghost use Rattle.std.specs.Prelude.{false, refl};
-ghost use Rattle.asn1.specs.Tags.{only_tagged, sequence_tagged};
-ghost use Rattle.nested.specs.Lawfully.{Lawfully, lawfully};
 
 use asn1::{
-    ByRef, Decode, DefaultValue, Encode, ObjectIdentifier, OrDefault, Sequence, SequenceOf, Trace,
-    Type,
+    ByRef, Decode, DecodeParts, DefaultValue, Encode, EncodeParts, ObjectIdentifier, OrDefault,
+    Parts, Sequence, SequenceOf, SequenceTag, Trace, Type, UseParts,
 };
 use bcder::decode::{Constructed, DecodeError, Source};
-use bcder::encode::{EncodeError, WriteError};
 use bcder::{Mode, NoMemory, OctetString, Tag};
-use nested::{Parts, len_parts, parts_are_one, parts_are_read_back, take_parts, write_parts};
 use std::alloc::Global;
-use std::io;
 
 /// An extension of a certificate (RFC 5280, section 4.1).
 ///
@@ -38,9 +33,15 @@ type ExtensionParts = Sequence<(ObjectIdentifier, OrDefault<bool, NotCritical>, 
 impl Parts for Extension {
     type As = ExtensionParts;
 
+    type Tags = SequenceTag;
+
+    const NAME: &'static str = "Extension";
+
     const PARTS: &'static [&'static str] = &["id", "critical", "value"];
 
     ghost parts = { λ x. (x.id, x.critical, x.value) };
+
+    ghost typed = { ⟦<ExtensionParts as Type>⟧ };
 
     fn from_parts(value: ExtensionParts) -> Extension {
         let Sequence((id, critical, value)) = value;
@@ -51,90 +52,38 @@ impl Parts for Extension {
         }
     }
 
-    ghost made = { λ v. (record { id = v.0; critical = v.1; value = v.2 }, refl) };
+    fn parts_are_one() {
+        <ExtensionParts>::values_are_one();
+    }
 }
 
-impl Type for Extension {
-    ghost TAG = { ⟦<ExtensionParts as Type>⟧.TAG };
-
-    fn tag() -> Tag {
-        <ExtensionParts>::tag()
-    }
-
-    fn name() -> &'static str {
-        "Extension"
-    }
-
-    ghost tags = { ⟦<ExtensionParts as Type>⟧.tags };
-
-    ghost Key = { ⟦<ExtensionParts as Type>⟧.Key };
-
-    ghost key = { λ x. ⟦<ExtensionParts as Type>⟧.key
-        (⟦<Extension as Parts>⟧.parts x) };
-
-    ghost means = { λ mode t x. ⟦<ExtensionParts as Type>⟧.means mode t
-        (⟦<Extension as Parts>⟧.parts x) };
-
-    ghost keeps_all = { ⟦<ExtensionParts as Type>⟧.keeps_all };
-
-    fn values_are_one() {
-        parts_are_one::<Extension>();
-    }
-
-    ghost tagged = { refl };
-
-    ghost value_tags = { only_tagged sequence_tagged };
-}
-
-impl<S: Source> Decode<S> for Extension {
-    fn trace_opt_if<P: Trace>(
+impl<S: Source> DecodeParts<S> for Extension {
+    fn trace_parts<P: Trace>(
         alloc: Global,
         cons: &mut Constructed<'_, S>,
         tag: Tag,
         path: &mut P,
-    ) -> Result<Option<Extension>, DecodeError<S::Error>> {
-        take_parts(alloc, cons, tag, path)
+    ) -> Result<Option<ExtensionParts>, DecodeError<S::Error>> {
+        <ExtensionParts>::trace_opt_if(alloc, cons, tag, path)
     }
 }
 
-impl Encode for Extension {
-    ghost writes = { λ tag x mode. Lawfully mode (⟦<ExtensionParts as Encode>⟧.writes tag
-        (⟦<Extension as Parts>⟧.parts x) mode) };
+impl EncodeParts for Extension {
+    ghost written = { ⟦<ExtensionParts as Encode>⟧ };
 
-    ghost may_lack = { λ x mode. ⟦<ExtensionParts as Encode>⟧.may_lack
-        (⟦<Extension as Parts>⟧.parts x) mode };
-
-    ghost is_clear = { λ x mode. ⟦<ExtensionParts as Encode>⟧.is_clear
-        (⟦<Extension as Parts>⟧.parts x) mode };
-
-    fn encoded_len_as(&self, tag: Tag, mode: Mode) -> Result<usize, EncodeError> {
-        len_parts(
+    fn give_parts<T, U: UseParts<T>>(&self, tag: Tag, to: U, target: &mut T) -> U::Out {
+        to.use_parts(
             &Sequence((ByRef(&self.id), ByRef(&self.critical), ByRef(&self.value))),
             tag,
-            mode,
-        )
-    }
-
-    fn write_encoded_as<W: io::Write>(
-        &self,
-        tag: Tag,
-        mode: Mode,
-        target: &mut W,
-    ) -> Result<(), WriteError> {
-        write_parts(
-            &Sequence((ByRef(&self.id), ByRef(&self.critical), ByRef(&self.value))),
-            tag,
-            mode,
             target,
         )
     }
 
-    fn is_read_back(tag: Tag, mode: Mode) {
-        parts_are_read_back::<Extension>(tag, mode);
+    fn are_read_back(tag: Tag, mode: Mode) {
+        <ExtensionParts>::is_read_back(tag, mode);
     }
 
-    ghost lawful = { λ tag x mode. lawfully mode (⟦<ExtensionParts as Encode>⟧.writes tag
-        (⟦<Extension as Parts>⟧.parts x) mode) };
+    ghost made = { λ v. (record { id = v.0; critical = v.1; value = v.2 }, refl) };
 }
 
 /// All extensions of a certificate.

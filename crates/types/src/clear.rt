@@ -10,14 +10,13 @@ use asn1::laws::{each_value_is_decoded, is_decoded_back, round_trip};
 use asn1::{
     Any, ByRef, Choice2, Choice3, Choice4, Clear, ClearDefinition, Context, DecodeDefinition,
     DefaultValue, Definition, Encode, EncodeDefinition, Explicit, Implicit, ObjectIdentifier,
-    OctetStringRef, OrDefault, Sequence, SequenceOf, Set, SetOf, Type, Utf8StringRef,
+    OctetStringRef, OrDefault, Sequence, SequenceOf, Set, SetOf, Type, UseParts, Utf8StringRef,
 };
 use bcder::decode::Source;
-use bcder::encode::{EncodeError, WriteError};
+use bcder::encode::EncodeError;
 use bcder::string::Utf8String;
 use bcder::{BitString, Integer, Mode, NoMemory, OctetString, Tag, Unsigned};
 use std::alloc::Global;
-use std::io;
 
 /// `BasicConstraints ::= SEQUENCE { cA BOOLEAN DEFAULT FALSE, pathLen INTEGER OPTIONAL }`.
 #[derive(Debug, Drop)]
@@ -56,17 +55,12 @@ impl Definition for Constraints {
 impl<S: Source> DecodeDefinition<S> for Constraints {}
 
 impl EncodeDefinition for Constraints {
-    fn len_parts(&self, tag: Tag, mode: Mode) -> Result<usize, EncodeError> {
-        Sequence((ByRef(&self.ca), ByRef(&self.path_len))).encoded_len_as(tag, mode)
-    }
-
-    fn write_parts<W: io::Write>(
-        &self,
-        tag: Tag,
-        mode: Mode,
-        target: &mut W,
-    ) -> Result<(), WriteError> {
-        Sequence((ByRef(&self.ca), ByRef(&self.path_len))).write_encoded_as(tag, mode, target)
+    fn give_parts<T, U: UseParts<T>>(&self, tag: Tag, to: U, target: &mut T) -> U::Out {
+        to.use_parts(
+            &Sequence((ByRef(&self.ca), ByRef(&self.path_len))),
+            tag,
+            target,
+        )
     }
 
     ghost made = { λ v. (record { ca = v.0; path_len = v.1 }, refl) };

@@ -4,13 +4,11 @@ ghost use Rattle.asn1.specs.declared.choice.Choice2.TheVariants.{One, Two};
 
 use crate::rows::{Read, reads, takes, writes};
 use asn1::{
-    ByRef, Choice2, Context, DecodeDefinition, Definition, Encode, EncodeDefinition, EncodeFields,
-    Explicit, OctetStringRef, Sequence,
+    ByRef, Choice2, Context, DecodeDefinition, Definition, Encode, EncodeDefinition, Explicit,
+    OctetStringRef, Sequence, UseParts,
 };
 use bcder::decode::{SliceSource, Source};
-use bcder::encode::{EncodeError, WriteError};
 use bcder::{Mode, Tag};
-use std::io;
 
 /// `Validity ::= SEQUENCE { from INTEGER, until INTEGER OPTIONAL }`.
 #[derive(Debug, Drop)]
@@ -33,17 +31,12 @@ impl Definition for Validity {
 impl<S: Source> DecodeDefinition<S> for Validity {}
 
 impl EncodeDefinition for Validity {
-    fn len_parts(&self, tag: Tag, mode: Mode) -> Result<usize, EncodeError> {
-        Sequence((ByRef(&self.from), ByRef(&self.until))).encoded_len_as(tag, mode)
-    }
-
-    fn write_parts<W: io::Write>(
-        &self,
-        tag: Tag,
-        mode: Mode,
-        target: &mut W,
-    ) -> Result<(), WriteError> {
-        Sequence((ByRef(&self.from), ByRef(&self.until))).write_encoded_as(tag, mode, target)
+    fn give_parts<T, U: UseParts<T>>(&self, tag: Tag, to: U, target: &mut T) -> U::Out {
+        to.use_parts(
+            &Sequence((ByRef(&self.from), ByRef(&self.until))),
+            tag,
+            target,
+        )
     }
 
     ghost made = { λ value. (record { from = value.0; until = value.1 }, refl) };
@@ -74,22 +67,10 @@ impl Definition for Answer {
 impl<S: Source> DecodeDefinition<S> for Answer {}
 
 impl EncodeDefinition for Answer {
-    fn len_parts(&self, _tag: Tag, mode: Mode) -> Result<usize, EncodeError> {
+    fn give_parts<T, U: UseParts<T>>(&self, _tag: Tag, to: U, target: &mut T) -> U::Out {
         match self {
-            Answer::Yes(yes) => yes.len_fields(mode),
-            Answer::Many(many) => many.len_fields(mode),
-        }
-    }
-
-    fn write_parts<W: io::Write>(
-        &self,
-        _tag: Tag,
-        mode: Mode,
-        target: &mut W,
-    ) -> Result<(), WriteError> {
-        match self {
-            Answer::Yes(yes) => yes.write_fields(mode, target),
-            Answer::Many(many) => many.write_fields(mode, target),
+            Answer::Yes(yes) => to.use_alternative(yes, target),
+            Answer::Many(many) => to.use_alternative(many, target),
         }
     }
 
@@ -117,17 +98,8 @@ impl Definition for Wrapped {
 impl<S: Source> DecodeDefinition<S> for Wrapped {}
 
 impl EncodeDefinition for Wrapped {
-    fn len_parts(&self, tag: Tag, mode: Mode) -> Result<usize, EncodeError> {
-        Sequence(ByRef(&self.number)).encoded_len_as(tag, mode)
-    }
-
-    fn write_parts<W: io::Write>(
-        &self,
-        tag: Tag,
-        mode: Mode,
-        target: &mut W,
-    ) -> Result<(), WriteError> {
-        Sequence(ByRef(&self.number)).write_encoded_as(tag, mode, target)
+    fn give_parts<T, U: UseParts<T>>(&self, tag: Tag, to: U, target: &mut T) -> U::Out {
+        to.use_parts(&Sequence(ByRef(&self.number)), tag, target)
     }
 
     ghost made = { λ value. (record { number = value }, refl) };

@@ -1,8 +1,9 @@
 //! Errors that say in which part of a value something was refused.
 //!
 //! Positions are counted by hand. A header is refused where it begins; one of the wrong form, and a
-//! value behind the last field, behind the header; contents octets at the first of them. What is
-//! missing, out of order, or a default, is refused where the content around it begins.
+//! value behind the last field, behind the header; contents octets at the first of them. A value
+//! that is out of order, or a default, is refused where it begins, and a missing one where it is
+//! missing.
 ghost use Rattle.std.specs.Prelude.{false};
 ghost use Rattle.asn1.specs.declared.choice.Choice2.TheVariants.{One, Two};
 
@@ -263,12 +264,12 @@ const REPORTS: [Read<'static>; 13] = [
     (
         Mode::Der,
         &[0x30, 0x08, 0x30, 0x03, 0x02, 0x01, 0x01, 0x01, 0x01, 0x00],
-        "Report.exact at octet 2: a default value is encoded",
+        "Report.exact at octet 7: a default value is encoded",
     ),
     (
         Mode::Ber,
         &[0x30, 0x08, 0x30, 0x03, 0x02, 0x01, 0x01, 0x01, 0x01, 0x00],
-        "Report.others at octet 2: expected SEQUENCE",
+        "Report.others at octet 10: expected SEQUENCE",
     ),
     // 02 is no BOOLEAN of DER
     (
@@ -297,7 +298,7 @@ const REPORTS: [Read<'static>; 13] = [
     (
         Mode::Der,
         &[0x30, 0x07, 0x30, 0x03, 0x02, 0x01, 0x01, 0x30, 0x00],
-        "Report.answer at octet 2: expected [0]",
+        "Report.answer at octet 9: expected [0]",
     ),
     (
         Mode::Der,
@@ -356,7 +357,7 @@ const UNNAMED: [Read<'static>; 2] = [
     (
         Mode::Der,
         &[0x30, 0x05, 0x30, 0x03, 0x02, 0x01, 0x01],
-        ".1 at octet 2: expected BOOLEAN",
+        ".1 at octet 7: expected BOOLEAN",
     ),
     (
         Mode::Der,
@@ -403,7 +404,7 @@ const SETS: [Read<'static>; 4] = [
     (
         Mode::Der,
         &[0x31, 0x05, 0x30, 0x03, 0x01, 0x01, 0xFF],
-        "[0].1 at octet 4: expected a value",
+        "[0].1 at octet 7: expected a value",
     ),
     // two values, the second of which comes before the first
     (
@@ -412,7 +413,7 @@ const SETS: [Read<'static>; 4] = [
             0x31, 0x0E, 0x30, 0x05, 0x01, 0x01, 0xFF, 0x05, 0x00, 0x30, 0x05, 0x01, 0x01, 0x00,
             0x05, 0x00,
         ],
-        "[1] at octet 2: values of a set are out of order",
+        "[1] at octet 9: values of a set are out of order",
     ),
     (Mode::Der, &[0x30, 0x00], "at octet 0: expected SET"),
 ];
@@ -422,7 +423,7 @@ const PAIRS: [Read<'static>; 2] = [
     (
         Mode::Der,
         &[0x30, 0x05, 0x30, 0x03, 0x02, 0x01, 0x01],
-        "[0].1 at octet 4: expected BOOLEAN",
+        "[0].1 at octet 7: expected BOOLEAN",
     ),
     (
         Mode::Der,
@@ -446,21 +447,21 @@ const FIVE: [Read<'static>; 4] = [
     (
         Mode::Der,
         &[0x30, 0x03, 0x02, 0x01, 0x01],
-        ".1 at octet 2: expected BOOLEAN",
+        ".1 at octet 5: expected BOOLEAN",
     ),
     (
         Mode::Der,
         &[
             0x30, 0x09, 0x02, 0x01, 0x01, 0x01, 0x01, 0xFF, 0x02, 0x01, 0x01,
         ],
-        ".3 at octet 2: expected BOOLEAN",
+        ".3 at octet 11: expected BOOLEAN",
     ),
     (
         Mode::Der,
         &[
             0x30, 0x0C, 0x02, 0x01, 0x01, 0x01, 0x01, 0xFF, 0x02, 0x01, 0x01, 0x01, 0x01, 0xFF,
         ],
-        ".4 at octet 2: expected INTEGER",
+        ".4 at octet 14: expected INTEGER",
     ),
 ];
 
@@ -481,30 +482,36 @@ const LISTS: [Read<'static>; 2] = [
     ),
 ];
 
-/// Rows for `SET { BOOLEAN, INTEGER (0..255) }`. Positions count from its first value, in order.
-const MEMBERS: [Read<'static>; 3] = [
+/// Rows for `SET { BOOLEAN, INTEGER (0..255) }`. Positions in fields count from the first value, in
+/// order.
+const MEMBERS: [Read<'static>; 4] = [
     (
         Mode::Der,
         &[0x31, 0x03, 0x01, 0x01, 0xFF],
-        ".1 at octet 0: expected INTEGER",
+        ".1 at octet 3: expected INTEGER",
     ),
     (
         Mode::Ber,
         &[0x31, 0x07, 0x02, 0x02, 0x01, 0x00, 0x01, 0x01, 0xFF],
         ".1 at octet 5: no integer of this type",
     ),
-    // out of order
+    // out of order, and the same tag twice
     (
         Mode::Der,
         &[0x31, 0x06, 0x02, 0x01, 0x01, 0x01, 0x01, 0xFF],
-        "at octet 2: values of a set are out of order",
+        "at octet 5: values of a set are out of order",
+    ),
+    (
+        Mode::Ber,
+        &[0x31, 0x06, 0x01, 0x01, 0xFF, 0x01, 0x01, 0x00],
+        "at octet 5: values of a set are out of order",
     ),
 ];
 
 #[test]
 fn fields_within_fields_are_counted(rt: HostRuntime) {
     let alloc = rt.alloc();
-    explains::<Sequence<((u8, bool), Box<(u8, bool)>, u8)>>(&rt, alloc, &FIVE);
+    explains::<Sequence<((u8, bool), (u8, bool), u8)>>(&rt, alloc, &FIVE);
     explains::<SequenceOf<Explicit<Context<0>, SequenceOf<u8>>>>(&rt, alloc, &LISTS);
     explains::<Set<(bool, u8)>>(&rt, alloc, &MEMBERS);
 }

@@ -14,6 +14,8 @@ mod boxed;
 mod choices;
 mod clear;
 #[cfg(test)]
+mod cut;
+#[cfg(test)]
 mod defaults;
 #[cfg(test)]
 mod definitions;
@@ -41,6 +43,9 @@ mod rows;
 #[cfg(test)]
 mod sets;
 #[cfg(test)]
+mod sources;
+#[cfg(test)]
 mod strings;
+pub mod trees;
 #[cfg(test)]
 mod tuples;

@@ -82,13 +82,18 @@ enum NoFilter {
     NoMemory,
 }
 
+/// Reads one level.
+fn level_of(alloc: Global, value: Any) -> Result<Level, DecodeError<Infallible>> {
+    value.decode_as::<Level>(alloc)
+}
+
 /// Reads a filter of at most this many levels.
 #[cycle(filter)]
 fn filter_of(alloc: Global, value: Any, levels: u32) -> Result<Filter, NoFilter> {
     if levels == 0 {
         return Err(NoFilter::TooDeep);
     }
-    match value.decode_as::<Level>(alloc) {
+    match level_of(alloc, value) {
         Ok(Level::And(parts)) => match filters_of(alloc, parts, levels - 1) {
             Ok(filters) => Ok(Filter::And(filters)),
             Err(error) => Err(error),

@@ -1,4 +1,5 @@
 //! Rows of data, and the loops over them.
+use crate::cut::{Cut, IsCut};
 use asn1::{Decode, Encode, decode, decode_octets, encode};
 use bcder::Mode;
 use bcder::decode::{DecodeError, SliceSource, Source};
@@ -60,6 +61,41 @@ pub fn explains<'a, T: Decode<SliceSource<'a>>>(rt: &impl Abort, alloc: Global, 
             Err(error) => done(rt, format!(in alloc; "{error}")),
         };
         is_shown(rt, *mode, octets, found.as_str(), wanted);
+    }
+}
+
+/// Reads octets over a source that fails behind the first `end` of them.
+fn read_cut<T: Decode<Cut>>(
+    rt: &impl Abort,
+    alloc: Global,
+    mode: Mode,
+    octets: &[u8],
+    end: usize,
+    whole: bool,
+) -> Result<T, DecodeError<IsCut>> {
+    let octets = done(rt, octets.to_vec(alloc));
+    decode::<T, Cut>(alloc, mode, Cut::new(octets, end, whole))
+}
+
+/// Asserts that an error is that of the source.
+fn is_of_source(rt: &impl Abort, mode: Mode, octets: &[u8], end: usize, found: bool) {
+    assert!(rt; found, "{octets:?} in {mode:?}, cut at {end}");
+}
+
+/// Reads the octets of each row over sources that fail at each of them, and behind the last: the
+/// error is that of the source. Over one that fails later, the value is as the row shows it.
+pub fn fails<T: Decode<Cut> + Debug>(rt: &impl Abort, alloc: Global, rows: &[Read<'_>]) {
+    for (mode, octets, wanted) in rows {
+        for whole in [false, true] {
+            for end in 0..octets.len().saturating_add(1) {
+                let read = read_cut::<T>(rt, alloc, *mode, octets, end, whole);
+                let found = read.is_err_and(|error| error.is_source());
+                is_of_source(rt, *mode, octets, end, found);
+            }
+            let read = read_cut::<T>(rt, alloc, *mode, octets, usize::MAX, whole).ok();
+            let found = shown(rt, alloc, read, "refused");
+            is_shown(rt, *mode, octets, found.as_str(), wanted);
+        }
     }
 }
 

@@ -170,28 +170,3 @@ impl<F: ClearFields> ClearFields for ByRef<'_, F> {
         F::are_told_apart(mode);
     }
 }
-
-/// Fields in memory of their own.
-impl<F: ClearFields> ClearFields for Box<F> {
-    ghost first_tags = { F.first_tags };
-
-    ghost may_be_none = { F.may_be_none };
-
-    ghost barred_tags = { F.barred_tags };
-
-    ghost tag_set = { F.tag_set };
-
-    ghost ascend = { F.ascend };
-
-    ghost distinct = { F.distinct };
-
-    ghost always_clear = { F.always_clear };
-
-    fn are_clear_in(&self, mode: Mode) -> bool {
-        (**self).are_clear_in(mode)
-    }
-
-    fn are_told_apart(mode: Mode) {
-        F::are_told_apart(mode);
-    }
-}

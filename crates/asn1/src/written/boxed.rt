@@ -1,30 +1,33 @@
-//! Fields in memory of their own, written.
-use crate::writers::EncodeFields;
-use bcder::Mode;
+//! Values in memory of their own, written.
+use crate::writers::Encode;
 use bcder::encode::{EncodeError, WriteError};
+use bcder::{Mode, Tag};
 use std::io;
 
 /// What is in the box is written.
-impl<F: EncodeFields> EncodeFields for Box<F> {
-    ghost lays = { λ x mode. F.lays x.value mode };
+impl<T: Encode> Encode for Box<T> {
+    ghost writes = { λ tag x mode. T.writes tag x.value mode };
 
-    ghost may_lack = { λ x mode. F.may_lack x.value mode };
+    ghost may_lack = { λ x mode. T.may_lack x.value mode };
 
-    ghost is_clear = { λ x mode. F.is_clear x.value mode };
+    ghost is_clear = { λ x mode. T.is_clear x.value mode };
 
-    ghost may_precede = { λ x mode us. F.may_precede x.value mode us };
-
-    fn len_fields(&self, mode: Mode) -> Result<usize, EncodeError> {
-        (**self).len_fields(mode)
+    fn encoded_len_as(&self, tag: Tag, mode: Mode) -> Result<usize, EncodeError> {
+        (**self).encoded_len_as(tag, mode)
     }
 
-    fn write_fields<W: io::Write>(&self, mode: Mode, target: &mut W) -> Result<(), WriteError> {
-        (**self).write_fields(mode, target)
+    fn write_encoded_as<W: io::Write>(
+        &self,
+        tag: Tag,
+        mode: Mode,
+        target: &mut W,
+    ) -> Result<(), WriteError> {
+        (**self).write_encoded_as(tag, mode, target)
     }
 
-    fn are_read_back(mode: Mode) {
-        F::are_read_back(mode);
+    fn is_read_back(tag: Tag, mode: Mode) {
+        T::is_read_back(tag, mode);
     }
 
-    ghost lawful = { λ x mode. F.lawful x.value mode };
+    ghost lawful = { λ tag x mode. T.lawful tag x.value mode };
 }

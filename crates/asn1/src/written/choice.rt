@@ -1,10 +1,10 @@
 //! CHOICE, written (X.690, 8.13).
 ghost use Rattle.asn1.specs.ChoicesWritten.{WritesEither, EitherLacks, IsClearEither};
 ghost use Rattle.asn1.specs.ChoicesWritten.{either_lawful, made_of_three, made_of_four};
-ghost use Rattle.bcder.specs.calls.Encoders.{SizeOfValues, WritesValues};
 
 use crate::definition_written::EncodeDefinition;
-use crate::writers::{Encode, EncodeFields};
+use crate::parts_written::UseParts;
+use crate::writers::Encode;
 use crate::{Choice2, Choice3, Choice4, Type};
 use bcder::encode::{EncodeError, WriteError};
 use bcder::{Mode, Tag};
@@ -52,24 +52,11 @@ impl<A: Encode, B: Encode> Encode for Choice2<A, B> {
 
 /// The value that it holds (X.690, 8.13).
 impl<A: Encode, B: Encode, C: Encode> EncodeDefinition for Choice3<A, B, C> {
-    fn len_parts(&self, _tag: Tag, mode: Mode) -> Result<usize, EncodeError> {
+    fn give_parts<T, U: UseParts<T>>(&self, _tag: Tag, to: U, target: &mut T) -> U::Out {
         match self {
-            Choice3::One(one) => one.len_fields(mode),
-            Choice3::Two(two) => two.len_fields(mode),
-            Choice3::Three(three) => three.len_fields(mode),
-        }
-    }
-
-    fn write_parts<W: io::Write>(
-        &self,
-        _tag: Tag,
-        mode: Mode,
-        target: &mut W,
-    ) -> Result<(), WriteError> {
-        match self {
-            Choice3::One(one) => one.write_fields(mode, target),
-            Choice3::Two(two) => two.write_fields(mode, target),
-            Choice3::Three(three) => three.write_fields(mode, target),
+            Choice3::One(one) => to.use_alternative(one, target),
+            Choice3::Two(two) => to.use_alternative(two, target),
+            Choice3::Three(three) => to.use_alternative(three, target),
         }
     }
 
@@ -78,26 +65,12 @@ impl<A: Encode, B: Encode, C: Encode> EncodeDefinition for Choice3<A, B, C> {
 
 /// The value that it holds.
 impl<A: Encode, B: Encode, C: Encode, D: Encode> EncodeDefinition for Choice4<A, B, C, D> {
-    fn len_parts(&self, _tag: Tag, mode: Mode) -> Result<usize, EncodeError> {
+    fn give_parts<T, U: UseParts<T>>(&self, _tag: Tag, to: U, target: &mut T) -> U::Out {
         match self {
-            Choice4::One(one) => one.len_fields(mode),
-            Choice4::Two(two) => two.len_fields(mode),
-            Choice4::Three(three) => three.len_fields(mode),
-            Choice4::Four(four) => four.len_fields(mode),
-        }
-    }
-
-    fn write_parts<W: io::Write>(
-        &self,
-        _tag: Tag,
-        mode: Mode,
-        target: &mut W,
-    ) -> Result<(), WriteError> {
-        match self {
-            Choice4::One(one) => one.write_fields(mode, target),
-            Choice4::Two(two) => two.write_fields(mode, target),
-            Choice4::Three(three) => three.write_fields(mode, target),
-            Choice4::Four(four) => four.write_fields(mode, target),
+            Choice4::One(one) => to.use_alternative(one, target),
+            Choice4::Two(two) => to.use_alternative(two, target),
+            Choice4::Three(three) => to.use_alternative(three, target),
+            Choice4::Four(four) => to.use_alternative(four, target),
         }
     }
 

@@ -1,6 +1,5 @@
 use Rattle.std.proofs.Common.{◌≡◌, true, false, rules}
 use Rattle.bcder.specs.x690.Identifier.{null_tag}
-use Rattle.bcder.specs.calls.Cause.{IsRefusal}
 use Rattle.bcder.specs.calls.Views.{of_constructed}
 use Rattle.asn1.proofs.SetTaken.{keeps_none, refuses_order, reads_set, refuses_members}
 use Rattle.asn1.proofs.set.take_members.Goals as goal
@@ -13,9 +12,8 @@ returns-in-Err-clause-took g c =
 pub returns-then-not-put_in_order-clause-took : goal.returns-then-not-put_in_order-clause-took
 returns-then-not-put_in_order-clause-took g c =
     let t : c.put_in_order.result ≡ false = search rules in
-    let a : IsRefusal c.content_err.result = search rules in
     refuses_order null_tag g.F.Fields.takes (of_constructed g.S.Source.stream c.args.cons.now) (of_constructed g.S.Source.stream c.take_list.new.cons)
-    c.in-Ok.values.items c.in-Ok.ensures.took c.mode-mode.result c.mode-mode.ensures c.content_err.result (c.put_in_order.ensures.no t) a
+    c.in-Ok.values.items c.in-Ok.ensures.took c.mode-mode.result c.mode-mode.ensures c.refuse_order.result (c.put_in_order.ensures.no t) c.refuse_order.ensures
 
 pub returns-in-Ok-read_members-clause-took : goal.returns-in-Ok-read_members-clause-took
 returns-in-Ok-read_members-clause-took g c =

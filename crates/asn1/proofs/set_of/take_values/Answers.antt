@@ -4,7 +4,6 @@ use Rattle.std.specs.declared.vec.Vec.{Vec}
 use Rattle.std.specs.declared.alloc.Global.{Global}
 use Rattle.bcder.specs.declared.mode.Mode.TheVariants.{Ber}
 use Rattle.bcder.specs.calls.Views.{of_constructed}
-use Rattle.bcder.specs.calls.Cause.{IsRefusal}
 use Rattle.bcder.specs.calls.CapturingValues.{CapturesNext}
 use Rattle.bcder.specs.laws.Moved.{untouched_is_moved, moved_carries, moved_twice_is_moved}
 use Rattle.bcder.proofs.Lemmas.{constructed_is_within_owed, constructed_is_not_octets}
@@ -97,9 +96,8 @@ returns-then-not-may_follow-clause-took g c =
     c.may_follow.ensures.none t
     (subst (λ y. IsNotAfter y c.as_slice-in-Ok-Some.result.now) (sym c.as_slice.ensures)
     (subst (IsNotAfter last) (sym (c.as_slice-in-Ok-Some.ensures ∙ o)) z)) in
-    let a : IsRefusal c.content_err.result = search rules in
-    refuses_seen (AreSetOf i.mode Tags (g.T.Type.means i.mode)) (λ (z : Vec g.row.T.Denot Global). z.items) i e c.content_err.result
-    (refuses_order Tags (g.T.Type.means i.mode) i xs last d e r w m n.mode c.content_err.result k n.captured ne f a n.marked)
+    refuses_seen (AreSetOf i.mode Tags (g.T.Type.means i.mode)) (λ (z : Vec g.row.T.Denot Global). z.items) i e c.out_of_order.result
+    (refuses_order Tags (g.T.Type.means i.mode) i xs last d e r w m n.mode c.out_of_order.result k n.captured ne f c.out_of_order.ensures n.marked)
 
 pub returns-in-Err-read_value-clause-took : goal.returns-in-Err-read_value-clause-took
 returns-in-Err-read_value-clause-took g c =

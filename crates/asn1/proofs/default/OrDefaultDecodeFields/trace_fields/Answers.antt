@@ -16,12 +16,12 @@ returns-then-is_left_out-clause-took g c =
     rw c.in-Ok-Some.field-0-is at c.in-Ok-Some.ensures.took in
     let yes = c.is_left_out.ensures.yes c.if-is_left_out.true in
     let ne : i.mode ≢ Ber = subst (λ z. z ≢ Ber) (c.mode-mode.ensures ∙ r.mode) yes.0 in
-    let refusal : IsRefusal c.content_err.result = search rules in
+    let refusal : IsRefusal c.next_err-encoded.result = search rules in
     refuses_default i.mode Tags (g.T.Type.means i.mode) g.T.Type.key (g.T.Type.key g.D.DefaultValue.default) (λ x. x) i d (c.values_are_one.ensures.one i.mode)
     ne c.in-Ok-Some.value r yes.1 _ refusal
 
-pub returns-else-is_left_out-clause-took : goal.returns-else-is_left_out-clause-took
-returns-else-is_left_out-clause-took g c =
+pub returns-in-Ok-Some-clause-took : goal.returns-in-Ok-Some-clause-took
+returns-in-Ok-Some-clause-took g c =
     let Tags = g.T.Type.tags g.T.Type.TAG in
     let i = of_constructed g.S.Source.stream c.args.cons.now in
     let d = of_constructed g.S.Source.stream c.trace_fields.new.cons in
@@ -40,8 +40,8 @@ returns-in-Ok-clause-took g c =
     rw c.in-Ok-None.field-0-is at c.in-Ok-None.ensures.took in
     reads_left_out i.mode Tags (g.T.Type.means i.mode) g.T.Type.key (g.T.Type.key g.D.DefaultValue.default) (λ x. x) i d _ r c.in-Ok.ensures
 
-pub returns-in-Err-clause-took : goal.returns-in-Err-clause-took
-returns-in-Err-clause-took g c =
+pub returns-clause-took : goal.returns-clause-took
+returns-clause-took g c =
     let Tags = g.T.Type.tags g.T.Type.TAG in
     let i = of_constructed g.S.Source.stream c.args.cons.now in
     let d = of_constructed g.S.Source.stream c.trace_fields.new.cons in

@@ -1,0 +1,19 @@
+-- What a type that writes itself says of its values: the members of `Encode` and of `Type`.
+use Rattle.bcder.specs.declared.mode.Mode.{Mode}
+use Rattle.bcder.specs.x690.Identifier.{Tag}
+use Rattle.bcder.specs.x690.Tree.{Tree}
+use Rattle.bcder.specs.calls.Meaning.{Meaning}
+
+-- as `⟦<A as Encode>⟧` has them
+abbrev pub EncodeOf : Type 0 → Type 1
+EncodeOf A = record {
+  TAG : Tag;
+  tags : Tag → Tag → Type 0;
+  Key : Type 0;
+  key : A → Key;
+  means : Mode → Tree → A → Type 0;
+  keeps_all : Type 0;
+  writes : Tag → A → Mode → Meaning → Type 0;
+  may_lack : A → Mode → Type 0;
+  is_clear : A → Mode → Type 0;
+}
