@@ -23,3 +23,4 @@ pub mod Sets
 pub mod Strings
 pub mod Lawfully
 pub mod EncodeOf
+pub mod ClearOf

@@ -19,6 +19,7 @@ mod leaf;
 mod lent;
 mod lists;
 mod numbers;
+mod parts;
 mod plain;
 mod sets;
 mod strings;
@@ -29,6 +30,7 @@ use crate::writers::{Encode, EncodeFields};
 use bcder::Mode;
 pub use definition::ClearDefinition;
 pub use leaf::ClearContents;
+pub use parts::ClearParts;
 
 /// A type whose values are read back as they were written, if its tags are distinct.
 ///

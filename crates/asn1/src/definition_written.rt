@@ -12,8 +12,8 @@ pub trait EncodeDefinition: Definition<As: Encode> {
     /// Gives the value's parts to what is done with them, in one line.
     fn give_parts<T, U: UseParts<T>>(&self, tag: Tag, to: U, target: &mut T) -> U::Out
         ensures { U.does to
-            (λ mode. Lawfully mode (Self.As.writes tag (Self.parts self.now) mode))
-            (λ mode. Self.As.may_lack (Self.parts self.now) mode) target.old target.new result };
+            (Lawfully (U.mode to) (Self.As.writes tag (Self.parts self.now) (U.mode to)))
+            (Self.As.may_lack (Self.parts self.now) (U.mode to)) target.old target.new result };
 
     /// The value that has these parts.
     ghost made: { (value : Self.As) → ((x : Self) × (Self.Definition.parts x ≡ value)) };

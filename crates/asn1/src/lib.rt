@@ -41,7 +41,7 @@ mod written;
 pub use additions::ExtensionAdditions;
 pub use any::Any;
 pub use choice::{Choice2, Choice3, Choice4};
-pub use clear::{Clear, ClearContents, ClearDefinition, ClearFields};
+pub use clear::{Clear, ClearContents, ClearDefinition, ClearFields, ClearParts};
 pub use default::{DefaultValue, OrDefault};
 pub use definition::{DecodeDefinition, Definition};
 pub use definition_written::EncodeDefinition;

@@ -18,20 +18,21 @@ pub trait UseParts<T>: Drop + Sized {
     /// What it returns.
     type Out;
 
-    /// What it does to a target with parts, of which this is written in a mode, or memory may run
-    /// out.
-    ghost does: { Self → (Rules → Meaning → Type 0) → (Rules → Type 0) → T → T → Self.Out
-        → Type 0 };
+    /// The mode in which it is done.
+    ghost mode: { Self → Rules };
+
+    /// What it does to a target with parts, of which this is written, or memory may run out.
+    ghost does: { Self → (Meaning → Type 0) → Type 0 → T → T → Self.Out → Type 0 };
 
     /// Does it with parts, which are written with the tag.
     fn use_parts<E: Encode>(self, parts: &E, tag: Tag, target: &mut T) -> Self::Out
-        ensures { does self (λ mode. Lawfully mode (E.writes tag parts.now mode))
-            (λ mode. E.may_lack parts.now mode) target.old target.new result };
+        ensures { does self (Lawfully (mode self) (E.writes tag parts.now (mode self)))
+            (E.may_lack parts.now (mode self)) target.old target.new result };
 
     /// Does it with a value of one type of a CHOICE, which is written with its own tag.
     final fn use_alternative<E: Encode>(self, value: &E, target: &mut T) -> Self::Out
-        ensures { does self (λ mode. Lawfully mode (E.writes E.TAG value.now mode))
-            (λ mode. E.may_lack value.now mode) target.old target.new result }
+        ensures { does self (Lawfully (mode self) (E.writes E.TAG value.now (mode self)))
+            (E.may_lack value.now (mode self)) target.old target.new result }
     {
         self.use_parts(value, E::tag(), target)
     }
@@ -45,8 +46,8 @@ pub trait EncodeParts: Parts {
     /// Gives the parts to what is done with them, in one line.
     fn give_parts<T, U: UseParts<T>>(&self, tag: Tag, to: U, target: &mut T) -> U::Out
         ensures { U.does to
-            (λ mode. Lawfully mode (written.writes tag (Self.parts self.now) mode))
-            (λ mode. written.may_lack (Self.parts self.now) mode) target.old target.new result };
+            (Lawfully (U.mode to) (written.writes tag (Self.parts self.now) (U.mode to)))
+            (written.may_lack (Self.parts self.now) (U.mode to)) target.old target.new result };
 
     /// A law: what is written is read back. It calls `is_read_back` of the type behind the `::=`.
     fn are_read_back(tag: Tag, mode: Mode)
@@ -96,7 +97,9 @@ struct Measuring {
 impl UseParts<()> for Measuring {
     type Out = Result<usize, EncodeError>;
 
-    ghost does = { λ m writes lacks _ _ r. SizeOfValues (writes m.mode) (lacks m.mode) r };
+    ghost mode = { λ m. m.mode };
+
+    ghost does = { λ _ writes lacks _ _ r. SizeOfValues writes lacks r };
 
     fn use_parts<E: Encode>(
         self,
@@ -117,8 +120,10 @@ struct Writing {
 impl<W: io::Write> UseParts<W> for Writing {
     type Out = Result<(), WriteError>;
 
-    ghost does = { λ m writes lacks old new r. Writes encoded_octets (writes m.mode)
-        (lacks m.mode) (W.contents old) (W.contents new) r };
+    ghost mode = { λ m. m.mode };
+
+    ghost does = { λ _ writes lacks old new r. Writes encoded_octets writes lacks
+        (W.contents old) (W.contents new) r };
 
     fn use_parts<E: Encode>(self, parts: &E, tag: Tag, target: &mut W) -> Result<(), WriteError> {
         write_parts(parts, tag, self.mode, target)

@@ -5,14 +5,16 @@ ghost use Rattle.bcder.specs.declared.mode.Mode.TheVariants.{Der};
 ghost use Rattle.bcder.specs.x690.BitString.{IsBits, MayHave};
 ghost use Rattle.bcder.specs.x690.ObjectIdentifier.{IsComplete};
 ghost use Rattle.asn1.specs.Decoded.{IsDecodedBack};
+ghost use Rattle.asn1.specs.TagSets.{only_in};
 
 use asn1::laws::{each_value_is_decoded, is_decoded_back, round_trip};
 use asn1::{
-    Any, ByRef, Choice2, Choice3, Choice4, Clear, ClearDefinition, Context, DecodeDefinition,
-    DefaultValue, Definition, Encode, EncodeDefinition, Explicit, Implicit, ObjectIdentifier,
-    OctetStringRef, OrDefault, Sequence, SequenceOf, Set, SetOf, Type, UseParts, Utf8StringRef,
+    Any, ByRef, Choice2, Choice3, Choice4, Clear, ClearDefinition, ClearParts, Context,
+    DecodeDefinition, DecodeParts, DefaultValue, Definition, Encode, EncodeDefinition, EncodeParts,
+    Explicit, Implicit, ObjectIdentifier, OctetStringRef, OrDefault, Parts, Sequence, SequenceOf,
+    SequenceTag, Set, SetOf, Trace, Type, UseParts, Utf8StringRef,
 };
-use bcder::decode::Source;
+use bcder::decode::{Constructed, DecodeError, Source};
 use bcder::encode::EncodeError;
 use bcder::string::Utf8String;
 use bcder::{BitString, Integer, Mode, NoMemory, OctetString, Tag, Unsigned};
@@ -75,6 +77,84 @@ impl ClearDefinition for Constraints {
 /// Encodes constraints and decodes them: they are the same.
 fn constraints_again(alloc: Global, mode: Mode, x: &Constraints) -> Result<Constraints, EncodeError>
     ensures { IfOk result (λ y. ⟦<Constraints as Type>⟧.key y ≡ ⟦<Constraints as Type>⟧.key x.now) }
+{
+    round_trip(alloc, mode, x)
+}
+
+/// `Span ::= SEQUENCE { from INTEGER, until INTEGER OPTIONAL }`, a struct inside another.
+#[derive(Debug, Drop)]
+struct Span {
+    from: u32,
+    until: Option<u32>,
+}
+
+/// What defines [`Span`].
+type SpanParts = Sequence<(u32, Option<u32>)>;
+
+impl Parts for Span {
+    type As = SpanParts;
+
+    type Tags = SequenceTag;
+
+    ghost parts = { λ x. (x.from, x.until) };
+
+    ghost typed = { ⟦<SpanParts as Type>⟧ };
+
+    fn from_parts(value: SpanParts) -> Span {
+        let Sequence((from, until)) = value;
+        Span { from, until }
+    }
+
+    fn parts_are_one() {
+        <SpanParts>::values_are_one();
+    }
+}
+
+impl<S: Source> DecodeParts<S> for Span {
+    fn trace_parts<P: Trace>(
+        alloc: Global,
+        cons: &mut Constructed<'_, S>,
+        tag: Tag,
+        path: &mut P,
+    ) -> Result<Option<SpanParts>, DecodeError<S::Error>> {
+        <SpanParts>::trace_opt_if(alloc, cons, tag, path)
+    }
+}
+
+impl EncodeParts for Span {
+    ghost written = { ⟦<SpanParts as Encode>⟧ };
+
+    fn give_parts<T, U: UseParts<T>>(&self, tag: Tag, to: U, target: &mut T) -> U::Out {
+        to.use_parts(
+            &Sequence((ByRef(&self.from), ByRef(&self.until))),
+            tag,
+            target,
+        )
+    }
+
+    fn are_read_back(tag: Tag, mode: Mode) {
+        <SpanParts>::is_read_back(tag, mode);
+    }
+
+    ghost made = { λ v. (record { from = v.0; until = v.1 }, refl) };
+}
+
+impl ClearParts for Span {
+    ghost cleared = { ⟦<SpanParts as Clear>⟧ };
+
+    fn parts_are_clear_in(&self, mode: Mode) -> bool {
+        Sequence((ByRef(&self.from), ByRef(&self.until))).is_clear_in(mode)
+    }
+
+    ghost in_its_set = { only_in };
+}
+
+/// `SEQUENCE { spans SEQUENCE OF Span, last BOOLEAN }`.
+type Spans = Sequence<(SequenceOf<Span>, bool)>;
+
+/// Encodes structs inside others and decodes them.
+fn spans_again(alloc: Global, mode: Mode, x: &Spans) -> Result<Spans, EncodeError>
+    ensures { IfOk result (λ y. ⟦<Spans as Type>⟧.key y ≡ ⟦<Spans as Type>⟧.key x.now) }
 {
     round_trip(alloc, mode, x)
 }
@@ -224,10 +304,11 @@ fn identifier_comes_back(mode: Mode, x: &ObjectIdentifier) -> bool
 #[cfg(test)]
 mod tests {
     use super::{
-        Ascending, Boxed, Constraints, Lent, OneOfFour, OneOfThree, Open, bits_again,
+        Ascending, Boxed, Constraints, Lent, OneOfFour, OneOfThree, Open, Spans, bits_again,
         bits_come_back, boxed_again, constraints_again, identifier_comes_back,
         lent_octets_are_decoded, numbers_again, octets_again, one_of_four_again,
-        one_of_three_again, open_again, set_again, set_of_again, told_again, told_if_clear,
+        one_of_three_again, open_again, set_again, set_of_again, spans_again, told_again,
+        told_if_clear,
     };
     use crate::rows::writes;
     use asn1::laws::is_decoded_back;
@@ -261,6 +342,17 @@ mod tests {
             assert_eq!(rt; y.path_len, Some(3));
             assert!(rt; y.ca.value);
         }
+    }
+
+    #[test]
+    fn structs_inside_others_come_back(rt: HostRuntime) {
+        let octets: &[u8] = &[
+            0x30, 0x12, 0x30, 0x0D, 0x30, 0x03, 0x02, 0x01, 0x05, 0x30, 0x06, 0x02, 0x01, 0x05,
+            0x02, 0x01, 0x07, 0x01, 0x01, 0xFF,
+        ];
+        let x = read::<Spans>(&rt, rt.alloc(), Mode::Der, octets);
+        let y = spans_again(rt.alloc(), Mode::Der, &x).expect(&rt, "refused");
+        writes(&rt, rt.alloc(), &y, Mode::Der, octets);
     }
 
     #[test]

@@ -1,7 +1,7 @@
 //! A user's own type.
 ghost use Rattle.std.specs.Prelude.{Decides, IsTrue};
 
-use crate::clear::Clear;
+use crate::clear::{Clear, ClearParts};
 use crate::{Definition, EncodeDefinition};
 use bcder::Mode;
 
@@ -15,16 +15,12 @@ pub trait ClearDefinition: EncodeDefinition + Definition<As: Clear> {
             → IsTrue result };
 }
 
-impl<D: Definition + EncodeDefinition + ClearDefinition> Clear for D {
-    ghost tag_set = { D.As.tag_set };
+impl<D: Definition + EncodeDefinition + ClearDefinition> ClearParts for D {
+    ghost cleared = { ⟦<D::As as Clear>⟧ };
 
-    ghost distinct = { D.As.distinct };
-
-    ghost always_clear = { D.As.always_clear };
-
-    fn is_clear_in(&self, mode: Mode) -> bool {
-        self.parts_are_clear_in(mode)
+    fn parts_are_clear_in(&self, mode: Mode) -> bool {
+        <D as ClearDefinition>::parts_are_clear_in(self, mode)
     }
 
-    ghost in_set = { D.As.in_set };
+    ghost in_its_set = { D.As.in_set };
 }
