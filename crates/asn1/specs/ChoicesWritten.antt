@@ -11,10 +11,10 @@ use Rattle.asn1.specs.declared.choice.Choice4.{Choice4}
 use Rattle.asn1.specs.declared.choice.Choice4.TheVariants as four
 use Rattle.asn1.specs.Choices.{three_in_two, four_in_two}
 
--- what is written of the value in it
+-- what is written of the value in it (a `search` that knows which it is does not look below a binder: so no meaning is bound here)
 abbrev pub WritesEither : {A B : Type 0} → (A → Meaning → Type 0) → (B → Meaning → Type 0) → Choice2 A B → Meaning → Type 0
-WritesEither M N (One a) m = M a m
-WritesEither M N (Two b) m = N b m
+WritesEither M N (One a) = M a
+WritesEither M N (Two b) = N b
 
 abbrev pub EitherLacks : {A B : Type 0} → (A → Type 0) → (B → Type 0) → Choice2 A B → Type 0
 EitherLacks P Q (One a) = P a

@@ -16,6 +16,7 @@ mod sources;
 mod spare;
 mod strings;
 mod taken;
+mod types;
 mod wrapped;
 
 use anyhow::Error;
@@ -30,6 +31,7 @@ fn main(rt: HostRuntime) -> Result<(), Error> {
     captured::run(&rt)?;
     encoded::run(&rt)?;
     wrapped::run(&rt)?;
+    types::run(&rt)?;
     spare::run(&rt)?;
     encoded::run_beyond_memory(&rt)
 }

@@ -8,6 +8,7 @@ mod values;
 mod written;
 
 use crate::end::{End, tell};
+use crate::types;
 use anyhow::Error;
 use bcder::{Captured, OctetString};
 use read::Tally;
@@ -49,6 +50,7 @@ struct Ends {
     several: [(&'static str, bool); 4],
     values: [(&'static str, bool); 9],
     sources: [(&'static str, bool); 5],
+    types: [(&'static str, bool); 1],
     control: Tally,
 }
 
@@ -67,6 +69,10 @@ impl Ends {
             several: written::several_ends(octets),
             values: values::ends(things, text),
             sources: values::source_ends(given_up),
+            types: [(
+                "types of numbers and of lent octets",
+                types::is_plain_again(alloc, octets),
+            )],
             control: read::control(alloc),
         }
     }
@@ -79,6 +85,7 @@ impl Ends {
         tell_all(rt, &self.several)?;
         tell_all(rt, &self.values)?;
         tell_all(rt, &self.sources)?;
+        tell_all(rt, &self.types)?;
         self.control.tell(rt)
     }
 }

@@ -9,7 +9,7 @@ ghost use Rattle.asn1.specs.TagSets.{only_in};
 
 use asn1::laws::{each_value_is_decoded, is_decoded_back, round_trip};
 use asn1::{
-    Any, ByRef, Choice2, Choice3, Choice4, Clear, ClearDefinition, ClearParts, Context,
+    Any, ByRef, Choice2, Choice3, Choice4, Clear, ClearDefinition, ClearParts, Context, Decode,
     DecodeDefinition, DecodeParts, DefaultValue, Definition, Encode, EncodeDefinition, EncodeParts,
     Explicit, Implicit, ObjectIdentifier, OctetStringRef, OrDefault, Parts, Sequence, SequenceOf,
     SequenceTag, Set, SetOf, Trace, Type, UseParts, Utf8StringRef,
