@@ -61,8 +61,8 @@ module _ {A V X : Type 0} {lacks : Bool} (Tags : Tag → Type 0) (Means : Tree �
       → TakesNextTyped Tags (λ (t : Tree) (x : V). Means t (view x)) lacks c (Err e) d
   refuses_seen e r = retagged_refuses Tags Tags (λ t p. p) (λ t p. p) Means view c d e r
 
-  pub value_seen : (x : V) → TakesNextTyped Tags Means lacks {X = X} c (Ok (Some (view x))) d
-      → TakesNextTyped Tags (λ (t : Tree) (y : V). Means t (view y)) lacks {X = X} c (Ok (Some x)) d
+  pub value_seen : {may : Bool} (x : V) → TakesNextTyped Tags Means lacks {X = X} c (Ok (Some (view x))) d
+      → TakesNextTyped Tags (λ (t : Tree) (y : V). Means t (view y)) may {X = X} c (Ok (Some x)) d
   value_seen x r =
       let v : TakesTyped Tags Means c (view x) d = r.value in
       record {
