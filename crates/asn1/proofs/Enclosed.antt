@@ -16,9 +16,10 @@ use Rattle.bcder.specs.calls.Valued as valued
 use Rattle.bcder.specs.laws.Moved.{untouched_is_moved}
 use Rattle.bcder.proofs.Lemmas.{IsWithinOwed, as_many_are_no_fewer, done_is_at_its_end, grew_in_between}
 use Rattle.bcder.proofs.Lemmas.{header_is_there, refused_behind_header, or_false, next_tree, no_tree, primitive_in_front}
+use Rattle.asn1.specs.Memory.{refusal_is_not}
 use Rattle.asn1.specs.Types.{AreInside, Only, TakesFields, HoldsNoFields, RefusesFields, ReadsFields, RefusesTyped, TakesNextTyped}
 use Rattle.asn1.specs.Types as types
-use Rattle.asn1.proofs.Lacking.{refusal_is_not, header_is_not, end_is_not, fields_lack, next_may}
+use Rattle.asn1.proofs.Lacking.{header_is_not, end_is_not, fields_lack, next_may}
 use Rattle.asn1.proofs.Reading.{failed_holds_none, none_held_at_end, none_not_inside}
 use Rattle.asn1.proofs.Typed.{next_typed, typed_header}
 

@@ -1,13 +1,14 @@
 -- Readers for which memory may run out, or not.
-use Rattle.std.proofs.Common.{◌≡◌, Bool, true, false, ◌||◌, Option, refl, sym, ◌∙◌, subst}
+use Rattle.std.proofs.Common.{◌≡◌, Bool, true, false, ◌||◌, Option, refl, sym, ◌∙◌}
 use Rattle.std.specs.Prelude.{Result, Ok, Err, IfErr}
 use Rattle.bcder.specs.declared.decode.error.DecodeError.{DecodeError}
 use Rattle.bcder.specs.x690.Identifier.{Tag}
 use Rattle.bcder.specs.x690.Tree.{Tree, Trees}
 use Rattle.bcder.specs.calls.Calls.{RefusesEnd, left_failed, source_failed, left_open}
-use Rattle.bcder.specs.calls.Cause.{Cause, cause_of, of_source, of_memory, IsOfContent, IsRefusal}
+use Rattle.bcder.specs.calls.Cause.{cause_of, of_memory}
 use Rattle.bcder.specs.calls.Content.{Reading, Asked, RefusesHeader}
 use Rattle.bcder.specs.calls.Content as content
+use Rattle.asn1.specs.Memory.{refusal_is_not, source_is_not}
 use Rattle.asn1.specs.Types.{RefusesFields, RefusesTyped, TakesNextTyped}
 use Rattle.asn1.specs.Types as types
 
@@ -24,27 +25,21 @@ second_lacks false m h = h
 -- ---- errors that are not out of memory
 
 module _ {X : Type 0} (e : DecodeError X) (s : cause_of e ≡ of_memory) where
-  pub refusal_is_not : IsRefusal e → ⊥
-  refusal_is_not a = subst IsOfContent s a
-
-  source_is_not : cause_of e ≡ of_source → ⊥
-  source_is_not f = (let x = sym f ∙ s in cc)
-
   pub header_is_not : {asked : Asked} {c d : Reading} → RefusesHeader cause_of asked c e d → ⊥
-  header_is_not (content.RefusesHeader.failed q a) = refusal_is_not a
-  header_is_not (content.RefusesHeader.source f g) = source_is_not f
+  header_is_not (content.RefusesHeader.failed q a) = refusal_is_not e s a
+  header_is_not (content.RefusesHeader.source f g) = source_is_not e s f
   header_is_not (content.RefusesHeader.nothing n a) = (let x = sym a.named ∙ s in cc)
 
   pub end_is_not : {c d : Reading} → RefusesEnd cause_of c e d → ⊥
-  end_is_not (left_failed q a) = refusal_is_not a
-  end_is_not (source_failed f g) = source_is_not f
-  end_is_not (left_open n a) = refusal_is_not a
+  end_is_not (left_failed q a) = refusal_is_not e s a
+  end_is_not (source_failed f g) = source_is_not e s f
+  end_is_not (left_open n a) = refusal_is_not e s a
 
   -- where fields were refused so, it may have run out for them
   pub fields_lack : {T : Type 0} {Takes : Trees → T → Trees → Type 0} {lacks : Bool} {c d : Reading} → RefusesFields Takes lacks c e d → lacks ≡ true
-  fields_lack (types.RefusesFields.source f g) = absurd (source_is_not f)
+  fields_lack (types.RefusesFields.source f g) = absurd (source_is_not e s f)
   fields_lack (types.RefusesFields.memory f l) = l
-  fields_lack (types.RefusesFields.broken n a) = absurd (refusal_is_not a)
+  fields_lack (types.RefusesFields.broken n a) = absurd (refusal_is_not e s a)
 
 -- ---- the same reader, where memory runs out only if it may
 

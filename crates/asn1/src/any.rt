@@ -115,7 +115,7 @@ impl Any {
             IsValueOf self.mode (T.tags T.TAG) (T.means self.mode) self.octets x) }
         ensures refused { IfErr result (λ e.
             RefusesAll self.mode (T.tags T.TAG) (T.means self.mode) T.may_lack (kept_stream self)
-                e) }
+            e) }
     {
         let mode = self.mode;
         decode(alloc, mode, self.captured)
