@@ -121,7 +121,8 @@ module _ {A B : Type 0} (P : Tag → Type 0) (M : Mode → Tree → A → Type 0
   one_refused f (types.RefusesTyped.broken n z) =
       types.RefusesTyped.broken (record { usable = n.usable; value = no_value n; absent = one_may n.absent }) z
 
-  pub fails_one : {X : Type 0} (f : DecodeError X) → TakesNextTyped P (M c.mode) a_lacks c (Err f) d → TakesNextTyped (EitherTag P Q) Means (a_lacks || b_lacks) c (Err f) d
+  pub fails_one : {X : Type 0} (f : DecodeError X) → TakesNextTyped P (M c.mode) a_lacks c (Err f) d
+      → TakesNextTyped (EitherTag P Q) Means (a_lacks || b_lacks) c (Err f) d
   fails_one f n = record { value = tt; none = tt; no_fault = tt; refused = one_refused f n.refused; failed = n.failed; mode = n.mode; marked = n.marked }
 
   -- ---- none of the first type, and what the second returns
@@ -288,7 +289,8 @@ module _ {A B : Type 0} (P : Tag → Type 0) (M : Mode → Tree → A → Type 0
     in_mode : (o : _) → TakesNextTyped Q (N d.mode) b_lacks {X = X} d o e → TakesNextTyped Q (N c.mode) b_lacks {X = X} d o e
     in_mode o h = subst (λ z. TakesNextTyped Q (N z) b_lacks {X = X} d o e) n.mode h
 
-    pub next_two : (b : B) → TakesNextTyped Q (N d.mode) b_lacks {X = X} d (Ok (Some b)) e → TakesNextTyped (EitherTag P Q) Means (a_lacks || b_lacks) {X = X} c (Ok (Some (Two b))) e
+    pub next_two : (b : B) → TakesNextTyped Q (N d.mode) b_lacks {X = X} d (Ok (Some b)) e
+        → TakesNextTyped (EitherTag P Q) Means (a_lacks || b_lacks) {X = X} c (Ok (Some (Two b))) e
     next_two b k =
         let h = in_mode (Ok (Some b)) k in
         record {
@@ -301,7 +303,8 @@ module _ {A B : Type 0} (P : Tag → Type 0) (M : Mode → Tree → A → Type 0
           marked = h.marked ∙ n.marked;
         }
 
-    pub next_neither : AreTags Q → Moves d e → TakesNextTyped Q (N d.mode) b_lacks {X = X} d (Ok None) e → TakesNextTyped (EitherTag P Q) Means (a_lacks || b_lacks) {X = X} c (Ok None) e
+    pub next_neither : AreTags Q → Moves d e → TakesNextTyped Q (N d.mode) b_lacks {X = X} d (Ok None) e
+        → TakesNextTyped (EitherTag P Q) Means (a_lacks || b_lacks) {X = X} c (Ok None) e
     next_neither i q k =
         let h = in_mode (Ok None) k in
         record {

@@ -59,7 +59,8 @@ module _ {T K : Type 0} (mode : Mode) (Tags : Tag → Type 0) (Means : Tree → 
           → ReadsFields Takes (l || m) {X = X} c (Ok x) d
       reads_given x r n = record { value = given x r.value n; no_fault = r.no_fault; refused = tt; mode = r.mode; marked = r.marked }
 
-      pub reads_left_out : (x : V) → ReadsFields (IsOptional Tags Means) l {X = X} c (Ok None) d → key (view x) ≡ default → ReadsFields Takes (l || m) {X = X} c (Ok x) d
+      pub reads_left_out : (x : V) → ReadsFields (IsOptional Tags Means) l {X = X} c (Ok None) d → key (view x) ≡ default
+          → ReadsFields Takes (l || m) {X = X} c (Ok x) d
       reads_left_out x r is = record { value = left_out x r.value is; no_fault = r.no_fault; refused = tt; mode = r.mode; marked = r.marked }
 
       pub refuses_default : MeansOne Means key → mode ≢ Ber → (x : T) → ReadsFields (IsOptional Tags Means) l {X = X} c (Ok (Some x)) d → key x ≡ default

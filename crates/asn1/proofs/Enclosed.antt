@@ -241,7 +241,8 @@ module _ {C T X : Type 0} (view : C → Reading) (post : Tag → MutBor C → Re
         stopped : RefusesTake same Whole None (tagged tag) c e d → TakesNextTyped (Only tag) (Inside c.mode) true c (Err e) d
         stopped q = next_whole (Err e) (record { value = tt; shorter = tt; none = tt; refused = q; failed = n.failed; mode = n.mode })
 
-        no_memory : (f : RefusesFront cause_of view post (tagged tag) c e d) → cause_of e ≡ of_memory → TakesNextTyped (Only tag) (Inside c.mode) true c (Err e) d
+        no_memory : (f : RefusesFront cause_of view post (tagged tag) c e d) → cause_of e ≡ of_memory
+            → TakesNextTyped (Only tag) (Inside c.mode) true c (Err e) d
         no_memory f s = record {
           value = tt;
           none = tt;

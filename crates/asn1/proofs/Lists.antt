@@ -115,7 +115,8 @@ module _ {T X : Type 0} {lacks : Bool} (Tags : Tag → Type 0) (Means : Mode →
   pub shorter_list : (x : T) → TakesNextTyped Tags (Means d.mode) lacks {X = X} d (Ok (Some x)) e → length e.stream.rest + 2 ≤ length d.stream.rest
   shorter_list x n = shorter_by_a_value d e (passes Tags (Means d.mode) d e w m n.mode x n.value)
 
-  pub reads_list : AreTags Tags → TakesNextTyped Tags (Means d.mode) lacks {X = X} d (Ok None) e → ReadsFields (AreList Tags (Means c.mode)) true {X = X} c (Ok l) e
+  pub reads_list : AreTags Tags → TakesNextTyped Tags (Means d.mode) lacks {X = X} d (Ok None) e
+      → ReadsFields (AreList Tags (Means c.mode)) true {X = X} c (Ok l) e
   reads_list v k =
       let n = in_mode (Ok None) k in
       record {
@@ -126,7 +127,8 @@ module _ {T X : Type 0} {lacks : Bool} (Tags : Tag → Type 0) (Means : Mode →
         marked = n.marked ∙ r.marked;
       }
 
-  pub refuses_list : AreTags Tags → (f : DecodeError X) → TakesNextTyped Tags (Means d.mode) lacks d (Err f) e → ReadsFields (AreList Tags (Means c.mode)) true c (Err f) e
+  pub refuses_list : AreTags Tags → (f : DecodeError X) → TakesNextTyped Tags (Means d.mode) lacks d (Err f) e
+      → ReadsFields (AreList Tags (Means c.mode)) true c (Err f) e
   refuses_list v f k =
       let n = in_mode (Err f) k in
       record {
@@ -139,10 +141,17 @@ module _ {T X : Type 0} {lacks : Bool} (Tags : Tag → Type 0) (Means : Mode →
 
   pub keeps_no_list : (f : DecodeError X) → cause_of f ≡ of_memory → (x : T) → TakesNextTyped Tags (Means d.mode) lacks {X = X} d (Ok (Some x)) e
       → ReadsFields (AreList Tags (Means c.mode)) true c (Err f) e
-  keeps_no_list f a x n = record { value = tt; no_fault = tt; refused = types.RefusesFields.memory a refl; mode = n.mode ∙ r.mode; marked = n.marked ∙ r.marked }
+  keeps_no_list f a x n = record {
+    value = tt;
+    no_fault = tt;
+    refused = types.RefusesFields.memory a refl;
+    mode = n.mode ∙ r.mode;
+    marked = n.marked ∙ r.marked;
+  }
 
 -- the same of a vector
-pub list_as_fields : {T X : Type 0} {lacks : Bool} (Tags : Tag → Type 0) (Means : Mode → Tree → T → Type 0) (c d : Reading) (r : Result (Vec T Global) (DecodeError X))
+pub list_as_fields : {T X : Type 0} {lacks : Bool} (Tags : Tag → Type 0) (Means : Mode → Tree → T → Type 0) (c d : Reading)
+    (r : Result (Vec T Global) (DecodeError X))
     → ReadsFields (AreList Tags (Means c.mode)) lacks c (items_of r) d
     → ReadsFields (λ (ts : Trees) (y : Vec T Global) (us : Trees). AreList Tags (Means c.mode) ts y.items us) lacks c r d
 list_as_fields Tags Means c d (Ok x) h = reads_seen (AreList Tags (Means c.mode)) (λ (z : Vec _ Global). z.items) c d x h

@@ -53,4 +53,12 @@ module _ {T K : Type 0} (Tags : Tag → Type 0) (Means : Tree → T → Type 0) 
         let a = returned y d t.value in
         record { value = a.0; rest = a.1; stays = t.value.stays; no_fault = t.no_fault; fails = tt; mode = t.mode; marked = t.marked }
     taken_back {X} lacks (Ok None) d t = absurd (not_none d t.none)
-    taken_back {X} lacks (Err f) d t = record { value = tt; rest = tt; stays = tt; no_fault = tt; fails = refused f d t.refused; mode = t.mode; marked = t.marked }
+    taken_back {X} lacks (Err f) d t = record {
+      value = tt;
+      rest = tt;
+      stays = tt;
+      no_fault = tt;
+      fails = refused f d t.refused;
+      mode = t.mode;
+      marked = t.marked;
+    }

@@ -106,7 +106,8 @@ module _ {T : Type 0} (Tags : Tag → Type 0) (Means : Tree → T → Type 0) wh
 -- the same of a parameter, from entry to exit
 abbrev pub TookNextTyped : {S T X : Type 0} → (S → Stream) → Both (MutBor (Constructed S)) (MutBor (Constructed S)) → (Tag → Type 0)
     → (Mode → Tree → T → Type 0) → Bool → Result (Option T) (DecodeError X) → Type 0
-TookNextTyped stream c Tags Means may_lack r = TakesNextTyped Tags (Means (before stream c).mode) may_lack (before stream c) r (after stream c)
+TookNextTyped stream c Tags Means may_lack r =
+    TakesNextTyped Tags (Means (before stream c).mode) may_lack (before stream c) r (after stream c)
 
 -- ---- fields: of values ts they take some from the front, as x, and leave us
 
@@ -185,7 +186,8 @@ items_of (Err e) = Err e
 -- as many values as have one of the tags were taken, for which memory may run out
 abbrev pub TookList : {S T X : Type 0} → (S → Stream) → Both (MutBor (Constructed S)) (MutBor (Constructed S)) → (Tag → Type 0)
     → (Mode → Tree → T → Type 0) → Result (Vec T Global) (DecodeError X) → Type 0
-TookList stream c Tags Means r = ReadsFields (AreList Tags (Means (before stream c).mode)) true (before stream c) (items_of r) (after stream c)
+TookList stream c Tags Means r =
+    ReadsFields (AreList Tags (Means (before stream c).mode)) true (before stream c) (items_of r) (after stream c)
 
 -- fields of a pair
 abbrev pub Pair : {A B : Type 0} → (Trees → A → Trees → Type 0) → (Trees → B → Trees → Type 0) → Trees → A × B → Trees → Type 0

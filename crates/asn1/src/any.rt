@@ -105,8 +105,8 @@ impl Any {
     ///
     /// # Errors
     ///
-    /// Returns an error if it is no value of the type, or if memory runs out, which only a type that
-    /// may lack it returns.
+    /// Returns an error if it is no value of the type, or if memory runs out, which only a type
+    /// that may lack it returns.
     pub fn decode_as<T: Type + Decode<BytesSource>>(
         self,
         alloc: Global,

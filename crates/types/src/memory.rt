@@ -46,7 +46,13 @@ where
 }
 
 /// `SEQUENCE { which CHOICE { INTEGER, BOOLEAN }, [0] EXPLICIT INTEGER, [1] IMPLICIT INTEGER }`.
-type Mixed = Sequence<(Choice2<u8, bool>, Explicit<Context<0>, i64>, Implicit<Context<1>, u128>)>;
+type Mixed = Sequence<
+    (
+        Choice2<u8, bool>,
+        Explicit<Context<0>, i64>,
+        Implicit<Context<1>, u128>,
+    ),
+>;
 
 /// Takes such a value from content, if one comes next. It never runs out of memory.
 #[tactic(auto, using(asn1::specs::Memory::takes_without))]

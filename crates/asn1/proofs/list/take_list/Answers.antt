@@ -57,7 +57,8 @@ returns-in-Ok-None-clause-took g c =
     let w = constructed_is_within_owed g.S.Source.stream g.met.S.Source.sound c.loop-value.cons in
     let m = c.trace_opt_from.ensures.moves d (untouched_is_moved d) in
     let v : AreTags Tags = record { own = g.T.Type.TAG; is_own = g.met.T.Type.tagged; value_tags = g.met.T.Type.value_tags } in
-    let n : TakesNextTyped Tags (g.T.Type.means d.mode) g.T.Decode.may_lack {X = g.row.S-Error.Denot} d (Ok None) e = rw c.in-Ok-None.field-0-is at c.in-Ok-None.ensures.took in
+    let n : TakesNextTyped Tags (g.T.Type.means d.mode) g.T.Decode.may_lack {X = g.row.S-Error.Denot} d (Ok None) e =
+    rw c.in-Ok-None.field-0-is at c.in-Ok-None.ensures.took in
     reads_list Tags g.T.Type.means i c.loop-value.all.items d e r w m v n
 
 pub returns-in-Err-clause-moves : goal.returns-in-Err-clause-moves

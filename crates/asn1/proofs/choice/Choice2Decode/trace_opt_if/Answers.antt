@@ -39,7 +39,8 @@ returns-in-Ok-Some-trace_opt_from-clause-took g c =
     let x = constructed_is_within_owed g.S.Source.stream g.met.S.Source.sound c.trace_opt_from.new.cons in
     let m = c.trace_opt_from.ensures.moves i (untouched_is_moved i) in
     let v : AreTags P = record { own = g.A.Type.TAG; is_own = g.met.A.Type.tagged; value_tags = g.met.A.Type.value_tags } in
-    let n : TakesNextTyped P (g.A.Type.means i.mode) g.A.Decode.may_lack {X = g.row.S-Error.Denot} i (Ok None) j = rw c.in-Ok-None.field-0-is at c.in-Ok-None.ensures.took in
+    let n : TakesNextTyped P (g.A.Type.means i.mode) g.A.Decode.may_lack {X = g.row.S-Error.Denot} i (Ok None) j =
+    rw c.in-Ok-None.field-0-is at c.in-Ok-None.ensures.took in
     let h : TakesNextTyped Q (g.B.Type.means j.mode) g.B.Decode.may_lack {X = g.row.S-Error.Denot} j (Ok (Some c.in-Ok-Some-trace_opt_from.two)) k =
     rw c.in-Ok-Some-trace_opt_from.field-0-is at c.in-Ok-Some-trace_opt_from.ensures.took in
     next_two P g.A.Type.means Q g.B.Type.means g.A.Decode.may_lack g.B.Decode.may_lack i j w m v n x k c.in-Ok-Some-trace_opt_from.two h
@@ -57,7 +58,8 @@ returns-in-Ok-None-trace_opt_from-clause-took g c =
     let q = c.trace_opt_from-2.ensures.moves j (untouched_is_moved j) in
     let v : AreTags P = record { own = g.A.Type.TAG; is_own = g.met.A.Type.tagged; value_tags = g.met.A.Type.value_tags } in
     let u : AreTags Q = record { own = g.B.Type.TAG; is_own = g.met.B.Type.tagged; value_tags = g.met.B.Type.value_tags } in
-    let n : TakesNextTyped P (g.A.Type.means i.mode) g.A.Decode.may_lack {X = g.row.S-Error.Denot} i (Ok None) j = rw c.in-Ok-None.field-0-is at c.in-Ok-None.ensures.took in
+    let n : TakesNextTyped P (g.A.Type.means i.mode) g.A.Decode.may_lack {X = g.row.S-Error.Denot} i (Ok None) j =
+    rw c.in-Ok-None.field-0-is at c.in-Ok-None.ensures.took in
     let h : TakesNextTyped Q (g.B.Type.means j.mode) g.B.Decode.may_lack {X = g.row.S-Error.Denot} j (Ok None) k =
     rw c.in-Ok-None-trace_opt_from.field-0-is at c.in-Ok-None-trace_opt_from.ensures.took in
     next_neither P g.A.Type.means Q g.B.Type.means g.A.Decode.may_lack g.B.Decode.may_lack i j w m v n x k u q h
@@ -75,5 +77,7 @@ returns-in-Err-trace_opt_from-clause-took g c =
     let q = c.trace_opt_from-2.ensures.moves j (untouched_is_moved j) in
     let u : AreTags Q = record { own = g.B.Type.TAG; is_own = g.met.B.Type.tagged; value_tags = g.met.B.Type.value_tags } in
     let v : AreTags P = record { own = g.A.Type.TAG; is_own = g.met.A.Type.tagged; value_tags = g.met.A.Type.value_tags } in
-    let n : TakesNextTyped P (g.A.Type.means i.mode) g.A.Decode.may_lack {X = g.row.S-Error.Denot} i (Ok None) j = rw c.in-Ok-None.field-0-is at c.in-Ok-None.ensures.took in
-    fails_two P g.A.Type.means Q g.B.Type.means g.A.Decode.may_lack g.B.Decode.may_lack i j w m v n x k u q c.in-Err-trace_opt_from.error c.in-Err-trace_opt_from.ensures.took
+    let n : TakesNextTyped P (g.A.Type.means i.mode) g.A.Decode.may_lack {X = g.row.S-Error.Denot} i (Ok None) j =
+    rw c.in-Ok-None.field-0-is at c.in-Ok-None.ensures.took in
+    fails_two P g.A.Type.means Q g.B.Type.means g.A.Decode.may_lack g.B.Decode.may_lack i j w m v n x k u q c.in-Err-trace_opt_from.error
+    c.in-Err-trace_opt_from.ensures.took
