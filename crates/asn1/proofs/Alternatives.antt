@@ -1,5 +1,5 @@
 -- One of two types.
-use Rattle.std.proofs.Common.{◌≡◌, ◌≢◌, ℕ, ◌++◌, ap, List, length, Some, None, refl, sym, ◌∙◌, subst, inl, inr}
+use Rattle.std.proofs.Common.{◌≡◌, ◌≢◌, ℕ, Bool, ◌||◌, ◌++◌, ap, List, length, Some, None, refl, sym, ◌∙◌, subst, inl, inr}
 use Rattle.std.specs.Prelude.{Ok, Err}
 use Rattle.bcder.specs.declared.mode.Mode.{Mode}
 use Rattle.bcder.specs.declared.decode.error.DecodeError.{DecodeError}
@@ -20,6 +20,7 @@ use Rattle.asn1.specs.declared.choice.Choice2.TheVariants.{One, Two}
 use Rattle.asn1.specs.Types.{HasTagged, AreEvery, HasNoneOf, elsewhere, at_end, AllocatesFor, of_header, of_depth, MayHave, by_tags, by_end, TakesTyped, HasNoTyped, RefusesTyped, TakesNextTyped}
 use Rattle.asn1.specs.Types as types
 use Rattle.asn1.specs.Choices.{EitherTag, IsChoice}
+use Rattle.asn1.proofs.Lacking.{first_lacks, second_lacks}
 use Rattle.asn1.proofs.Reading.{Alike, alike_back, none_alike, other_of_value, AreTags, absent_at_end, encoded_tag, no_value_at_end}
 
 -- ---- what stands in front of content stands in front of its like
@@ -84,8 +85,8 @@ done_has_not_failed : (d : Reading) → IsDone d → d.state ≡ Failed → ⊥
 done_has_not_failed d (inl s) e = let x : Ended ≡ Failed = sym s ∙ e in cc
 done_has_not_failed d (inr s) e = open_has_not_failed d.state s.0 e
 
-module _ {A B : Type 0} (P : Tag → Type 0) (M : Mode → Tree → A → Type 0) (Q : Tag → Type 0) (N : Mode → Tree → B → Type 0) (c d : Reading)
-    (w : IsWithinOwed c) where
+module _ {A B : Type 0} (P : Tag → Type 0) (M : Mode → Tree → A → Type 0) (Q : Tag → Type 0) (N : Mode → Tree → B → Type 0)
+    (a_lacks b_lacks : Bool) (c d : Reading) (w : IsWithinOwed c) where
   abbrev Means : Tree → Choice2 A B → Type 0
   Means = IsChoice P (M c.mode) Q (N c.mode)
 
@@ -105,27 +106,28 @@ module _ {A B : Type 0} (P : Tag → Type 0) (M : Mode → Tree → A → Type 0
   one_may (by_tags f) = by_tags (λ rest g. f rest (λ t p. g t (inl p)))
   one_may (by_end f e) = by_end (λ t g. inl (f t g)) e
 
-  pub next_one : {X : Type 0} (a : A) → TakesNextTyped P (M c.mode) {X = X} c (Ok (Some a)) d
-      → TakesNextTyped (EitherTag P Q) Means {X = X} c (Ok (Some (One a))) d
+  pub next_one : {X : Type 0} (a : A) → TakesNextTyped P (M c.mode) a_lacks {X = X} c (Ok (Some a)) d
+      → TakesNextTyped (EitherTag P Q) Means (a_lacks || b_lacks) {X = X} c (Ok (Some (One a))) d
   next_one a n = record { value = one_taken a n.value; none = tt; no_fault = n.no_fault; refused = tt; failed = tt; mode = n.mode; marked = n.marked }
 
   one_allocates : AllocatesFor P c → AllocatesFor (EitherTag P Q) c
   one_allocates (of_header h) = of_header (record { tag = h.tag; is_one = inl h.is_one; after = h.after; header = h.header })
   one_allocates (of_depth f h) = of_depth (λ t g. inl (f t g)) h
 
-  one_refused : {X : Type 0} (f : DecodeError X) → RefusesTyped P (M c.mode) c f d → RefusesTyped (EitherTag P Q) Means c f d
+  one_refused : {X : Type 0} (f : DecodeError X) → RefusesTyped P (M c.mode) a_lacks c f d → RefusesTyped (EitherTag P Q) Means (a_lacks || b_lacks) c f d
   one_refused f (types.RefusesTyped.failed s z) = types.RefusesTyped.failed s z
   one_refused f (types.RefusesTyped.source s g) = types.RefusesTyped.source s g
-  one_refused f (types.RefusesTyped.memory s h) = types.RefusesTyped.memory s (one_allocates h)
+  one_refused f (types.RefusesTyped.memory s m h) = types.RefusesTyped.memory s (first_lacks a_lacks b_lacks m) (one_allocates h)
   one_refused f (types.RefusesTyped.broken n z) =
       types.RefusesTyped.broken (record { usable = n.usable; value = no_value n; absent = one_may n.absent }) z
 
-  pub fails_one : {X : Type 0} (f : DecodeError X) → TakesNextTyped P (M c.mode) c (Err f) d → TakesNextTyped (EitherTag P Q) Means c (Err f) d
+  pub fails_one : {X : Type 0} (f : DecodeError X) → TakesNextTyped P (M c.mode) a_lacks c (Err f) d
+      → TakesNextTyped (EitherTag P Q) Means (a_lacks || b_lacks) c (Err f) d
   fails_one f n = record { value = tt; none = tt; no_fault = tt; refused = one_refused f n.refused; failed = n.failed; mode = n.mode; marked = n.marked }
 
   -- ---- none of the first type, and what the second returns
 
-  module _ {X : Type 0} (m : Moves c d) (v : AreTags P) (n : TakesNextTyped P (M c.mode) {X = X} c (Ok None) d) (x : IsWithinOwed d) (e : Reading) where
+  module _ {X : Type 0} (m : Moves c d) (v : AreTags P) (n : TakesNextTyped P (M c.mode) a_lacks {X = X} c (Ok None) d) (x : IsWithinOwed d) (e : Reading) where
     -- content is as it was
     module _ (s : (t : Tag) → P t → HasNone (tagged t) c d) where
       same : Alike c d
@@ -193,11 +195,11 @@ module _ {A B : Type 0} (P : Tag → Type 0) (M : Mode → Tree → A → Type 0
           of_header (record { tag = h.tag; is_one = inr h.is_one; after = h.after; header = header_there d c back (tagged h.tag) h.after h.header })
       two_allocates (of_depth f h) = of_depth (λ t g. inr (f t g)) (deep_there d c back h)
 
-      two_refused : (f : DecodeError X) → RefusesTyped Q (N c.mode) d f e → RefusesTyped (EitherTag P Q) Means c f e
+      two_refused : (f : DecodeError X) → RefusesTyped Q (N c.mode) b_lacks d f e → RefusesTyped (EitherTag P Q) Means (a_lacks || b_lacks) c f e
       two_refused f (types.RefusesTyped.failed g z) = types.RefusesTyped.failed (sym same.state ∙ g) z
       two_refused f (types.RefusesTyped.source g h) =
           types.RefusesTyped.source g (grew_in_between _ _ _ _ (as_many_are_no_fewer _ _ n.no_fault) h refl)
-      two_refused f (types.RefusesTyped.memory g h) = types.RefusesTyped.memory g (two_allocates h)
+      two_refused f (types.RefusesTyped.memory g r h) = types.RefusesTyped.memory g (second_lacks a_lacks b_lacks r) (two_allocates h)
       two_refused f (types.RefusesTyped.broken h z) =
           let none : HasNoTyped (EitherTag P Q) Means c = record {
             usable = sym same.state ∙ h.usable;
@@ -250,19 +252,19 @@ module _ {A B : Type 0} (P : Tag → Type 0) (M : Mode → Tree → A → Type 0
           })
 
       -- so the second type fails only for the source
-      fails_at_end : AreTags Q → Moves d e → (f : DecodeError X) → e.state ≡ Failed → RefusesTyped Q (N c.mode) d f e
-          → RefusesTyped (EitherTag P Q) Means c f e
+      fails_at_end : AreTags Q → Moves d e → (f : DecodeError X) → e.state ≡ Failed → RefusesTyped Q (N c.mode) b_lacks d f e
+          → RefusesTyped (EitherTag P Q) Means (a_lacks || b_lacks) c f e
       fails_at_end i q f y (types.RefusesTyped.failed g r) = absurd (done_has_not_failed d z.missing.1 g)
       fails_at_end i q f y (types.RefusesTyped.source g h) =
           types.RefusesTyped.source g (grew_in_between _ _ _ _ (as_many_are_no_fewer _ _ n.no_fault) h refl)
-      fails_at_end i q f y (types.RefusesTyped.memory g (of_header h)) = absurd (no_header ends)
+      fails_at_end i q f y (types.RefusesTyped.memory g u (of_header h)) = absurd (no_header ends)
         where
           no_header : EndsBefore d d.stream.rest → ⊥
           no_header (inl r) = not_ended q y r
           no_header (inr r) =
               let a = absent_at_end d x form d.stream.rest r.1 in
               header_is_there h.tag d h.after a.0 r.0 h.header (inr (r.0, a.1 h.tag (i.value_tags h.tag h.is_one)))
-      fails_at_end i q f y (types.RefusesTyped.memory g (of_depth r h)) = absurd (h.some.none d.stream.rest ends)
+      fails_at_end i q f y (types.RefusesTyped.memory g u (of_depth r h)) = absurd (h.some.none d.stream.rest ends)
       fails_at_end i q f y (types.RefusesTyped.broken h r) = absurd (not_there h.absent ends)
         where
           not_there : MayHave Q d → EndsBefore d d.stream.rest → ⊥
@@ -275,19 +277,20 @@ module _ {A B : Type 0} (P : Tag → Type 0) (M : Mode → Tree → A → Type 0
     two_there (elsewhere s) b h = two_taken s b h
     two_there (at_end every k z) b h = absurd (no_value_at_end d x (form every k z) d.stream.rest (ends every k z) h.tree h.octets e.stream.rest h.has.0)
 
-    neither : AreTags Q → Moves d e → HasNoneOf P c d → TakesNextTyped Q (N c.mode) {X = X} d (Ok None) e → HasNoneOf (EitherTag P Q) c e
+    neither : AreTags Q → Moves d e → HasNoneOf P c d → TakesNextTyped Q (N c.mode) b_lacks {X = X} d (Ok None) e → HasNoneOf (EitherTag P Q) c e
     neither i q (elsewhere s) h = neither_there s i q h.mode h.none
     neither i q (at_end every k z) h = neither_at_end every k z i q h.mode h.marked h.no_fault h.none
 
-    two_fails : AreTags Q → Moves d e → HasNoneOf P c d → (f : DecodeError X) → TakesNextTyped Q (N c.mode) d (Err f) e
-        → RefusesTyped (EitherTag P Q) Means c f e
+    two_fails : AreTags Q → Moves d e → HasNoneOf P c d → (f : DecodeError X) → TakesNextTyped Q (N c.mode) b_lacks d (Err f) e
+        → RefusesTyped (EitherTag P Q) Means (a_lacks || b_lacks) c f e
     two_fails i q (elsewhere s) f h = two_refused s f h.refused
     two_fails i q (at_end every k z) f h = fails_at_end every k z i q f h.failed h.refused
 
-    in_mode : (o : _) → TakesNextTyped Q (N d.mode) {X = X} d o e → TakesNextTyped Q (N c.mode) {X = X} d o e
-    in_mode o h = subst (λ z. TakesNextTyped Q (N z) {X = X} d o e) n.mode h
+    in_mode : (o : _) → TakesNextTyped Q (N d.mode) b_lacks {X = X} d o e → TakesNextTyped Q (N c.mode) b_lacks {X = X} d o e
+    in_mode o h = subst (λ z. TakesNextTyped Q (N z) b_lacks {X = X} d o e) n.mode h
 
-    pub next_two : (b : B) → TakesNextTyped Q (N d.mode) {X = X} d (Ok (Some b)) e → TakesNextTyped (EitherTag P Q) Means {X = X} c (Ok (Some (Two b))) e
+    pub next_two : (b : B) → TakesNextTyped Q (N d.mode) b_lacks {X = X} d (Ok (Some b)) e
+        → TakesNextTyped (EitherTag P Q) Means (a_lacks || b_lacks) {X = X} c (Ok (Some (Two b))) e
     next_two b k =
         let h = in_mode (Ok (Some b)) k in
         record {
@@ -300,7 +303,8 @@ module _ {A B : Type 0} (P : Tag → Type 0) (M : Mode → Tree → A → Type 0
           marked = h.marked ∙ n.marked;
         }
 
-    pub next_neither : AreTags Q → Moves d e → TakesNextTyped Q (N d.mode) {X = X} d (Ok None) e → TakesNextTyped (EitherTag P Q) Means {X = X} c (Ok None) e
+    pub next_neither : AreTags Q → Moves d e → TakesNextTyped Q (N d.mode) b_lacks {X = X} d (Ok None) e
+        → TakesNextTyped (EitherTag P Q) Means (a_lacks || b_lacks) {X = X} c (Ok None) e
     next_neither i q k =
         let h = in_mode (Ok None) k in
         record {
@@ -313,8 +317,8 @@ module _ {A B : Type 0} (P : Tag → Type 0) (M : Mode → Tree → A → Type 0
           marked = h.marked ∙ n.marked;
         }
 
-    pub fails_two : AreTags Q → Moves d e → (f : DecodeError X) → TakesNextTyped Q (N d.mode) d (Err f) e
-        → TakesNextTyped (EitherTag P Q) Means c (Err f) e
+    pub fails_two : AreTags Q → Moves d e → (f : DecodeError X) → TakesNextTyped Q (N d.mode) b_lacks d (Err f) e
+        → TakesNextTyped (EitherTag P Q) Means (a_lacks || b_lacks) c (Err f) e
     fails_two i q f k =
         let h = in_mode (Err f) k in
         record {

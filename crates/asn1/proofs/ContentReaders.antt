@@ -1,5 +1,5 @@
 -- Readers of the content of values of either form, as readers of types.
-use Rattle.std.proofs.Common.{◌≡◌, ◌≢◌, ℕ, List, Option, None, refl, sym, ◌∙◌, subst, inl, inr}
+use Rattle.std.proofs.Common.{◌≡◌, ◌≢◌, ℕ, true, List, Option, None, refl, sym, ◌∙◌, subst, inl, inr}
 use Rattle.std.specs.Prelude.{◌⊎◌, Result, Ok, Err, IsErrAnd}
 use Rattle.std.specs.Borrow.{MutBor}
 use Rattle.bcder.specs.declared.mode.Mode.{Mode}
@@ -30,7 +30,7 @@ module _ {S T X : Type 0} (stream : S → Stream) (sound : (x : S) → IsSound (
     → ReadsAny Means (of_content stream p.now) r (of_content stream q.now)) (c d : Constructed S) where
   pub takes_content : (r : Result (Option T) (DecodeError X))
       → TakesNext (of_content stream) post None (tagged tag) (of_constructed stream c) r (of_constructed stream d)
-      → TakesNextTyped (Only tag) (Means (of_constructed stream c).mode) (of_constructed stream c) r (of_constructed stream d)
+      → TakesNextTyped (Only tag) (Means (of_constructed stream c).mode) true (of_constructed stream c) r (of_constructed stream d)
   takes_content r h =
       let i = of_constructed stream c in
       let j = of_constructed stream d in

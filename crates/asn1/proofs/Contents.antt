@@ -1,5 +1,5 @@
 -- Primitive values, read as what their contents octets mean.
-use Rattle.std.proofs.Common.{◌≡◌, ℕ, List, Option, Some, None, refl, sym, subst, inl, inr}
+use Rattle.std.proofs.Common.{◌≡◌, ℕ, Bool, true, false, List, Option, Some, None, refl, sym, subst, inl, inr}
 use Rattle.std.specs.Prelude.{◌⊎◌, Result, Ok, Err}
 use Rattle.bcder.specs.declared.decode.error.DecodeError.{DecodeError}
 use Rattle.bcder.specs.x690.Identifier.{Tag}
@@ -18,8 +18,12 @@ use Rattle.asn1.proofs.Typed.{none_of_one, typed_header}
 same_contents : (t u : Tag) (v w : List ℕ) → ◌≡◌ {A = Tree} (primitive t v) (primitive u w) → v ≡ w
 same_contents t u v w e = cc
 
-module _ {T X : Type 0} (tag : Tag) (Means : List ℕ → T → Type 0) (Refuses : List ℕ → DecodeError X → Type 0)
-    (nothing : (v : List ℕ) (e : DecodeError X) → Refuses v e → MeanNothing Means v e ⊎ (cause_of e ≡ of_memory)) (c d : Reading) (w : IsWithinOwed c) where
+-- the octets mean nothing, or memory ran out for them, if it may
+abbrev pub NothingOrLacking : {T X : Type 0} → Bool → (List ℕ → T → Type 0) → List ℕ → DecodeError X → Type 0
+NothingOrLacking lacks Means v e = MeanNothing Means v e ⊎ (cause_of e ≡ of_memory) × (lacks ≡ true)
+
+module _ {T X : Type 0} (tag : Tag) (Means : List ℕ → T → Type 0) (lacks : Bool) (Refuses : List ℕ → DecodeError X → Type 0)
+    (nothing : (v : List ℕ) (e : DecodeError X) → Refuses v e → NothingOrLacking lacks Means v e) (c d : Reading) (w : IsWithinOwed c) where
   leaf_taken : (x : T) → TakesAs tag Means Refuses c x d → TakesTyped (Only tag) (IsLeaf Means) c x d
   leaf_taken x h = record { tree = primitive tag h.contents; octets = h.octets; has = (h.has, refl); means = h.means; stays = h.stays }
 
@@ -34,23 +38,23 @@ module _ {T X : Type 0} (tag : Tag) (Means : List ℕ → T → Type 0) (Refuses
       n x (subst (λ s. Means s x) (sym (same_contents tag t z y e.tree)) k)
   nothing_leaf z v rest p n (constructed t ts) u behind x h k = k
 
-  refused_contents : (z v rest : List ℕ) (e : DecodeError X) → HasPrimitive tag c z v rest → MeanNothing Means z e ⊎ (cause_of e ≡ of_memory)
-      → RefusesTyped (Only tag) (IsLeaf Means) c e d
+  refused_contents : (z v rest : List ℕ) (e : DecodeError X) → HasPrimitive tag c z v rest → NothingOrLacking lacks Means z e
+      → RefusesTyped (Only tag) (IsLeaf Means) lacks c e d
   refused_contents z v rest e p (inl n) =
       let h = header_of_tagged c w tag (primitive tag z) v rest (p, refl) in
       types.RefusesTyped.broken
       (record { usable = p.usable; value = nothing_leaf z v rest p n.0; absent = by_tags (λ x f. header_is_there tag c h.0 x p.usable h.1 (f tag refl)) }) n.1
   refused_contents z v rest e p (inr m) =
-      (let h = header_of_tagged c w tag (primitive tag z) v rest (p, refl) in types.RefusesTyped.memory m (typed_header tag c h.0 h.1))
+      (let h = header_of_tagged c w tag (primitive tag z) v rest (p, refl) in types.RefusesTyped.memory m.0 m.1 (typed_header tag c h.0 h.1))
 
-  leaf_refused : (e : DecodeError X) → RefusesAs tag Means Refuses c e d → RefusesTyped (Only tag) (IsLeaf Means) c e d
+  leaf_refused : (e : DecodeError X) → RefusesAs tag Means Refuses c e d → RefusesTyped (Only tag) (IsLeaf Means) lacks c e d
   leaf_refused e (typed.RefusesAs.failed s a) = types.RefusesTyped.failed s a
   leaf_refused e (typed.RefusesAs.source s g) = types.RefusesTyped.source s g
   leaf_refused e (typed.RefusesAs.broken b a) =
       types.RefusesTyped.broken (record { usable = b.usable; value = broken_leaf b; absent = by_tags (λ rest f. b.absent rest (f tag refl)) }) a.refused
   leaf_refused e (typed.RefusesAs.refused z v rest p n) = refused_contents z v rest e p (nothing z e n)
 
-  pub next_leaf : (r : Result (Option T) (DecodeError X)) → TakesNextAs tag Means Refuses c r d → TakesNextTyped (Only tag) (IsLeaf Means) c r d
+  pub next_leaf : (r : Result (Option T) (DecodeError X)) → TakesNextAs tag Means Refuses c r d → TakesNextTyped (Only tag) (IsLeaf Means) lacks c r d
   next_leaf (Ok (Some x)) n = record {
     value = leaf_taken x n.value;
     none = tt;
@@ -72,6 +76,5 @@ module _ {T X : Type 0} (tag : Tag) (Means : List ℕ → T → Type 0) (Refuses
   next_leaf (Err e) n = record { value = tt; none = tt; no_fault = tt; refused = leaf_refused e n.refused; failed = n.failed; mode = n.mode; marked = n.marked }
 
 -- where octets are refused only as they mean nothing
-pub or_nothing : {T X : Type 0} (Means : List ℕ → T → Type 0) (v : List ℕ) (e : DecodeError X) → MeanNothing Means v e
-    → MeanNothing Means v e ⊎ (cause_of e ≡ of_memory)
+pub or_nothing : {T X : Type 0} (Means : List ℕ → T → Type 0) (v : List ℕ) (e : DecodeError X) → MeanNothing Means v e → NothingOrLacking false Means v e
 or_nothing Means v e n = inl n

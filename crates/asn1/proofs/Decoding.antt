@@ -1,5 +1,5 @@
 -- All values of a source, where they are fields, or one value.
-use Rattle.std.proofs.Common.{◌≡◌, ◌≢◌, ℕ, List, [], ◌++◌, refl, sym, ◌∙◌, ap, append-nil, subst, inl, inr}
+use Rattle.std.proofs.Common.{◌≡◌, ◌≢◌, ℕ, Bool, List, [], ◌++◌, refl, sym, ◌∙◌, ap, append-nil, subst, inl, inr}
 use Rattle.std.specs.Prelude.{Result, Ok, Err, IfOk, IfErr}
 use Rattle.std.specs.Borrow.{MutBor}
 use Rattle.bcder.specs.declared.mode.Mode.{Mode}
@@ -108,16 +108,16 @@ module _ {T : Type 0} (mode : Mode) (Takes : Trees → T → Trees → Type 0) (
 -- ---- what a closure that takes fields decodes
 
 module _ {C T X : Type 0} (view : C → Reading) (post : MutBor C → Result T (DecodeError X) → MutBor C → Type 0) (mode : Mode)
-    (Takes : Mode → Trees → T → Trees → Type 0)
+    (Takes : Mode → Trees → T → Trees → Type 0) (lacks : Bool)
     (reads : (p : MutBor C) (r : Result T (DecodeError X)) (q : MutBor C) → post p r q
-    → ReadsFields (Takes (view p.now).mode) (view p.now) r (view q.now))
+    → ReadsFields (Takes (view p.now).mode) lacks (view p.now) r (view q.now))
     (s : Stream) where
   answered_fields : (i j : Reading) (r : Result T (DecodeError X)) → Answered {R = Result T (DecodeError X)} view post i r j → i.mode ≡ mode
-      → ReadsFields (Takes mode) i r j
+      → ReadsFields (Takes mode) lacks i r j
   answered_fields i j r a e =
-      subst (λ z. ReadsFields (Takes z) i r j) e
-      (subst (λ z. ReadsFields (Takes z.mode) z r j) a.handed_is
-      (subst (λ z. ReadsFields (Takes (view a.handed.now).mode) (view a.handed.now) r z) a.left_is (reads a.handed r a.left a.called)))
+      subst (λ z. ReadsFields (Takes z) lacks i r j) e
+      (subst (λ z. ReadsFields (Takes z.mode) lacks z r j) a.handed_is
+      (subst (λ z. ReadsFields (Takes (view a.handed.now).mode) lacks (view a.handed.now) r z) a.left_is (reads a.handed r a.left a.called)))
 
   decoded_fields : (x : T) → DecodesWhole view post s mode x → AreFields mode (Takes mode) s.rest x
   decoded_fields x d =
@@ -127,21 +127,21 @@ module _ {C T X : Type 0} (view : C → Reading) (post : MutBor C → Result T (
       (ap (λ (z : Stream). z.rest) h.leaves ∙ d.none_left)
 
   module _ (e : DecodeError X) where
-    fields_refused : (i j : Reading) (later : Stream) → HandsAll s mode i j later → RefusesFields (Takes mode) i e j
-        → RefusesFieldsOf mode (Takes mode) s e
+    fields_refused : (i j : Reading) (later : Stream) → HandsAll s mode i j later → RefusesFields (Takes mode) lacks i e j
+        → RefusesFieldsOf mode (Takes mode) lacks s e
     fields_refused i j later h (types.RefusesFields.source c g) =
         decoded.RefusesFieldsOf.source later c
         (grew_in_between _ _ _ _ (as_many_are_no_fewer _ _ (ap (λ (z : Stream). z.faults) h.over.stream)) g (ap (λ (z : Stream). z.faults) h.leaves))
-    fields_refused i j later h (types.RefusesFields.memory c) = decoded.RefusesFieldsOf.memory c
+    fields_refused i j later h (types.RefusesFields.memory c l) = decoded.RefusesFieldsOf.memory c l
     fields_refused i j later h (types.RefusesFields.broken n a) = decoded.RefusesFieldsOf.broken (no_fields mode (Takes mode) s i h.over n) a
 
     closure_refused : (i j : Reading) (later : Stream) → HandsAll s mode i j later → RefusesOn cause_of view post i e j
-        → RefusesFieldsOf mode (Takes mode) s e
+        → RefusesFieldsOf mode (Takes mode) lacks s e
     closure_refused i j later h (decoding.RefusesOn.by_closure a) = fields_refused i j later h (answered_fields i j (Err e) a h.over.mode).refused
     closure_refused i j later h (decoding.RefusesOn.left_failed x a f c) =
         decoded.RefusesFieldsOf.broken (failed_not_all mode (Takes mode) s i h.over j f x (answered_fields i j (Ok x) a h.over.mode).value) c
 
-    decoding_refused : RefusesWhole view post s mode e → RefusesFieldsOf mode (Takes mode) s e
+    decoding_refused : RefusesWhole view post s mode e → RefusesFieldsOf mode (Takes mode) lacks s e
     decoding_refused (all.RefusesWhole.by_decoding later d) = closure_refused d.handed d.left later d.hands d.refuses
     decoding_refused (all.RefusesWhole.by_rest x left later d (all.RefusesRest.octets_left n a p f)) =
         let r = answered_fields d.handed d.left (Ok x) d.answered d.hands.over.mode in
@@ -158,7 +158,7 @@ module _ {C T X : Type 0} (view : C → Reading) (post : MutBor C → Result T (
   decoded_all (Ok x) h = decoded_fields x h
   decoded_all (Err e) h = tt
 
-  pub refused_all : (r : Result T (DecodeError X)) → IfErr r (λ e. RefusesWhole view post s mode e) → IfErr r (λ e. RefusesFieldsOf mode (Takes mode) s e)
+  pub refused_all : (r : Result T (DecodeError X)) → IfErr r (λ e. RefusesWhole view post s mode e) → IfErr r (λ e. RefusesFieldsOf mode (Takes mode) lacks s e)
   refused_all (Ok x) h = tt
   refused_all (Err e) h = decoding_refused e h
 
@@ -180,9 +180,10 @@ module _ {T : Type 0} (mode : Mode) (Tags : Tag → Type 0) (Means : Tree → T 
     taken = record { tree = v.tree; are = refl; tagged = v.tagged; means = v.means };
   }
 
-  none_refused : {X : Type 0} (s : Stream) (e : DecodeError X) → RefusesFieldsOf mode (IsMember Tags Means) s e → RefusesAll mode Tags Means s e
+  none_refused : {X : Type 0} {lacks : Bool} (s : Stream) (e : DecodeError X) → RefusesFieldsOf mode (IsMember Tags Means) lacks s e
+      → RefusesAll mode Tags Means lacks s e
   none_refused s e (decoded.RefusesFieldsOf.source later c g) = decoded.RefusesAll.source later c g
-  none_refused s e (decoded.RefusesFieldsOf.memory c) = decoded.RefusesAll.memory c
+  none_refused s e (decoded.RefusesFieldsOf.memory c l) = decoded.RefusesAll.memory c l
   none_refused s e (decoded.RefusesFieldsOf.broken n a) = decoded.RefusesAll.broken (λ x v. n x (as_fields s.rest x v)) a
 
   module _ {X : Type 0} (s : Stream) where
@@ -191,7 +192,7 @@ module _ {T : Type 0} (mode : Mode) (Tags : Tag → Type 0) (Means : Tree → T 
     one_decoded (Ok x) h = value_of s.rest x h
     one_decoded (Err e) h = tt
 
-    pub one_refused : (r : Result T (DecodeError X)) → IfErr r (λ e. RefusesFieldsOf mode (IsMember Tags Means) s e)
-        → IfErr r (λ e. RefusesAll mode Tags Means s e)
-    one_refused (Ok x) h = tt
-    one_refused (Err e) h = none_refused s e h
+    pub one_refused : (lacks : Bool) (r : Result T (DecodeError X)) → IfErr r (λ e. RefusesFieldsOf mode (IsMember Tags Means) lacks s e)
+        → IfErr r (λ e. RefusesAll mode Tags Means lacks s e)
+    one_refused lacks (Ok x) h = tt
+    one_refused lacks (Err e) h = none_refused s e h

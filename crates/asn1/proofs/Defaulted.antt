@@ -1,5 +1,5 @@
 -- Values that may be left out, and then are the default, by values that may be left out.
-use Rattle.std.proofs.Common.{◌≡◌, ◌≢◌, Option, Some, None, refl, sym, ◌∙◌, subst, inl, inr}
+use Rattle.std.proofs.Common.{◌≡◌, ◌≢◌, Bool, true, ◌||◌, Option, Some, None, refl, sym, ◌∙◌, subst, inl, inr}
 use Rattle.std.specs.Prelude.{Ok, Err}
 use Rattle.bcder.specs.declared.mode.Mode.{Mode}
 use Rattle.bcder.specs.declared.mode.Mode.TheVariants.{Ber}
@@ -13,6 +13,7 @@ use Rattle.asn1.specs.Types.{IsMember, BeginWithout, IsOptional, TakesFields, Ho
 use Rattle.asn1.specs.Types as types
 use Rattle.asn1.specs.Defaults.{IsDefaulted}
 use Rattle.asn1.specs.Keys.{MeansOne, TakeOne, LeaveEncodings, AreTakenOnce}
+use Rattle.asn1.proofs.Lacking.{first_lacks, second_lacks}
 use Rattle.asn1.proofs.Members.{begins}
 use Rattle.asn1.proofs.Ones.{Once, one_member, member_left, member_once}
 use Rattle.asn1.proofs.Reading.{held_once}
@@ -47,21 +48,23 @@ module _ {T K : Type 0} (mode : Mode) (Tags : Tag → Type 0) (Means : Tree → 
         let b = f.before us (f.behind ts us None k (g.0, g.1.0)) in
         begins Tags Means ts us x (subst (λ z. IsMember Tags Means z x us) (held_once c b.0 ts b.1 k) b.2) g.0
 
-    refused : {X : Type 0} (e : DecodeError X) → RefusesFields (IsOptional Tags Means) c e d → RefusesFields Takes c e d
-    refused e (types.RefusesFields.source s g) = types.RefusesFields.source s g
-    refused e (types.RefusesFields.memory s) = types.RefusesFields.memory s
-    refused e (types.RefusesFields.broken n a) = types.RefusesFields.broken (λ ts us y k g. let o = as_optional ts us (view y) g in n ts us o.0 k o.1) a
+    -- memory may run out for the value, or for the default
+    module _ (l m : Bool) {X : Type 0} where
+      refused : (e : DecodeError X) → RefusesFields (IsOptional Tags Means) l c e d → RefusesFields Takes (l || m) c e d
+      refused e (types.RefusesFields.source s g) = types.RefusesFields.source s g
+      refused e (types.RefusesFields.memory s h) = types.RefusesFields.memory s (first_lacks l m h)
+      refused e (types.RefusesFields.broken n a) = types.RefusesFields.broken (λ ts us y k g. let o = as_optional ts us (view y) g in n ts us o.0 k o.1) a
 
-    module _ {X : Type 0} where
-      pub reads_given : (x : V) → ReadsFields (IsOptional Tags Means) {X = X} c (Ok (Some (view x))) d → (mode ≢ Ber → key (view x) ≢ default)
-          → ReadsFields Takes {X = X} c (Ok x) d
+      pub reads_given : (x : V) → ReadsFields (IsOptional Tags Means) l {X = X} c (Ok (Some (view x))) d → (mode ≢ Ber → key (view x) ≢ default)
+          → ReadsFields Takes (l || m) {X = X} c (Ok x) d
       reads_given x r n = record { value = given x r.value n; no_fault = r.no_fault; refused = tt; mode = r.mode; marked = r.marked }
 
-      pub reads_left_out : (x : V) → ReadsFields (IsOptional Tags Means) {X = X} c (Ok None) d → key (view x) ≡ default → ReadsFields Takes {X = X} c (Ok x) d
+      pub reads_left_out : (x : V) → ReadsFields (IsOptional Tags Means) l {X = X} c (Ok None) d → key (view x) ≡ default
+          → ReadsFields Takes (l || m) {X = X} c (Ok x) d
       reads_left_out x r is = record { value = left_out x r.value is; no_fault = r.no_fault; refused = tt; mode = r.mode; marked = r.marked }
 
-      pub refuses_default : MeansOne Means key → mode ≢ Ber → (x : T) → ReadsFields (IsOptional Tags Means) {X = X} c (Ok (Some x)) d → key x ≡ default
-          → (e : DecodeError X) → IsRefusal e → ReadsFields Takes c (Err e) d
+      pub refuses_default : MeansOne Means key → mode ≢ Ber → (x : T) → ReadsFields (IsOptional Tags Means) l {X = X} c (Ok (Some x)) d → key x ≡ default
+          → (e : DecodeError X) → IsRefusal e → ReadsFields Takes (l || m) c (Err e) d
       refuses_default one ne x r is e a = record {
         value = tt;
         no_fault = tt;
@@ -70,11 +73,11 @@ module _ {T K : Type 0} (mode : Mode) (Tags : Tag → Type 0) (Means : Tree → 
         marked = r.marked;
       }
 
-      pub no_memory : {o : Option T} → ReadsFields (IsOptional Tags Means) {X = X} c (Ok o) d → (e : DecodeError X) → cause_of e ≡ of_memory
-          → ReadsFields Takes c (Err e) d
-      no_memory r e a = record { value = tt; no_fault = tt; refused = types.RefusesFields.memory a; mode = r.mode; marked = r.marked }
+      pub no_memory : {o : Option T} → ReadsFields (IsOptional Tags Means) l {X = X} c (Ok o) d → (e : DecodeError X) → cause_of e ≡ of_memory
+          → m ≡ true → ReadsFields Takes (l || m) c (Err e) d
+      no_memory r e a h = record { value = tt; no_fault = tt; refused = types.RefusesFields.memory a (second_lacks l m h); mode = r.mode; marked = r.marked }
 
-      pub refuses_defaulted : (e : DecodeError X) → ReadsFields (IsOptional Tags Means) c (Err e) d → ReadsFields Takes c (Err e) d
+      pub refuses_defaulted : (e : DecodeError X) → ReadsFields (IsOptional Tags Means) l c (Err e) d → ReadsFields Takes (l || m) c (Err e) d
       refuses_defaulted e r = record { value = tt; no_fault = tt; refused = refused e r.refused; mode = r.mode; marked = r.marked }
 
   -- ---- laws

@@ -1,6 +1,6 @@
 -- What is inside a constructed value.
-use Rattle.std.proofs.Common.{◌≡◌, ◌≢◌, ℕ, false, List, Option, Some, None, refl, sym, ◌∙◌, subst, inl, inr}
-use Rattle.std.specs.Prelude.{◌⊎◌, Result, Ok, Err}
+use Rattle.std.proofs.Common.{◌≡◌, ◌≢◌, ℕ, Bool, true, false, List, Option, Some, None, refl, sym, ◌∙◌, subst, inl, inr}
+use Rattle.std.specs.Prelude.{◌⊎◌, Result, Ok, Err, IfErr}
 use Rattle.std.specs.Borrow.{MutBor}
 use Rattle.bcder.specs.declared.mode.Mode.{Mode}
 use Rattle.bcder.specs.declared.decode.error.DecodeError.{DecodeError}
@@ -16,8 +16,10 @@ use Rattle.bcder.specs.calls.Valued as valued
 use Rattle.bcder.specs.laws.Moved.{untouched_is_moved}
 use Rattle.bcder.proofs.Lemmas.{IsWithinOwed, as_many_are_no_fewer, done_is_at_its_end, grew_in_between}
 use Rattle.bcder.proofs.Lemmas.{header_is_there, refused_behind_header, or_false, next_tree, no_tree, primitive_in_front}
+use Rattle.asn1.specs.Memory.{refusal_is_not}
 use Rattle.asn1.specs.Types.{AreInside, Only, TakesFields, HoldsNoFields, RefusesFields, ReadsFields, RefusesTyped, TakesNextTyped}
 use Rattle.asn1.specs.Types as types
+use Rattle.asn1.proofs.Lacking.{header_is_not, end_is_not, fields_lack, next_may}
 use Rattle.asn1.proofs.Reading.{failed_holds_none, none_held_at_end, none_not_inside}
 use Rattle.asn1.proofs.Typed.{next_typed, typed_header}
 
@@ -28,10 +30,10 @@ seen : {C : Type 0} → (C → Reading) → MutBor C → Reading → MutBor Read
 seen view p i = record { ref_ptr = p.ref_ptr; ghost_name = p.ghost_name; now = i }
 
 module _ {C T X : Type 0} (view : C → Reading) (post : Tag → MutBor C → Result T (DecodeError X) → MutBor C → Type 0) (tag : Tag)
-    (Takes : Mode → Trees → T → Trees → Type 0)
+    (Takes : Mode → Trees → T → Trees → Type 0) (lacks : Bool)
     (form : (x : C) → (view x).kind ≢ Octets) (within : (x : C) → IsWithinOwed (view x))
     (reads : (t : Tag) (p : MutBor C) (r : Result T (DecodeError X)) (q : MutBor C) → post t p r q
-    → ReadsFields (Takes (view p.now).mode) (view p.now) r (view q.now)) where
+    → ReadsFields (Takes (view p.now).mode) lacks (view p.now) r (view q.now)) where
   abbrev Inside : Mode → Tree → T → Type 0
   Inside mode = AreInside (Takes mode)
 
@@ -43,11 +45,11 @@ module _ {C T X : Type 0} (view : C → Reading) (post : Tag → MutBor C → Re
   same c = c
 
   answered_fields : (m : Mode) (t : Tag) (i j : Reading) (r : Result T (DecodeError X)) → Answered {R = Result T (DecodeError X)} view (post t) i r j
-      → i.mode ≡ m → ReadsFields (Takes m) i r j
+      → i.mode ≡ m → ReadsFields (Takes m) lacks i r j
   answered_fields m t i j r a e =
-      subst (λ z. ReadsFields (Takes z) i r j) e
-      (subst (λ z. ReadsFields (Takes z.mode) z r j) a.handed_is
-      (subst (λ z. ReadsFields (Takes (view a.handed.now).mode) (view a.handed.now) r z) a.left_is (reads t a.handed r a.left a.called)))
+      subst (λ z. ReadsFields (Takes z) lacks i r j) e
+      (subst (λ z. ReadsFields (Takes z.mode) lacks z r j) a.handed_is
+      (subst (λ z. ReadsFields (Takes (view a.handed.now).mode) lacks (view a.handed.now) r z) a.left_is (reads t a.handed r a.left a.called)))
 
   left_form : (t : Tag) (i j : Reading) (r : Result T (DecodeError X)) → Answered {R = Result T (DecodeError X)} view (post t) i r j → j.kind ≢ Octets
   left_form t i j r a = subst (λ z. z.kind ≢ Octets) a.left_is (form a.left.now)
@@ -61,7 +63,7 @@ module _ {C T X : Type 0} (view : C → Reading) (post : Tag → MutBor C → Re
 
   -- ---- all was taken
 
-  tree_read : (u : Tag) (i l : Reading) (x : T) (after : List ℕ) → ReadsFields (Takes i.mode) {X = X} i (Ok x) l → l.kind ≢ Octets → EndsBefore l after
+  tree_read : (u : Tag) (i l : Reading) (x : T) (after : List ℕ) → ReadsFields (Takes i.mode) lacks {X = X} i (Ok x) l → l.kind ≢ Octets → EndsBefore l after
       → ReadsTree u (Inside i.mode) i x
   tree_read u i l x after r k e =
       let f : TakesFields (Takes i.mode) i x l = r.value in
@@ -69,7 +71,7 @@ module _ {C T X : Type 0} (view : C → Reading) (post : Tag → MutBor C → Re
       record { tree = constructed u b.0; holds = (refl, b.1); means = b.2 }
 
   module _ (i j : Reading) (t : Tag) (x : T) (u : i.marked ≡ false) (a : AnswersDone {R = Result T (DecodeError X)} view post t i (Ok x) j) where
-    fields_read : ReadsFields (Takes i.mode) {X = X} i (Ok x) a.left
+    fields_read : ReadsFields (Takes i.mode) lacks {X = X} i (Ok x) a.left
     fields_read = answered_fields i.mode t i a.left (Ok x) a.answered refl
 
     end_marked : j.marked ≡ false
@@ -113,9 +115,9 @@ module _ {C T X : Type 0} (view : C → Reading) (post : Tag → MutBor C → Re
     none_held v n (primitive w b) x h k = k
     none_held v n (constructed w ts) x h k = n ts no_trees x h.1 k
 
-    fields_refused : RefusesFields (Takes i.mode) i e j → (cause_of e ≡ of_memory) ⊎ ((v : Tag) → RefusesToRead v (Inside i.mode) i e j)
+    fields_refused : RefusesFields (Takes i.mode) lacks i e j → (cause_of e ≡ of_memory) ⊎ ((v : Tag) → RefusesToRead v (Inside i.mode) i e j)
     fields_refused (types.RefusesFields.source s g) = inr (λ v. valued.RefusesToRead.source s g)
-    fields_refused (types.RefusesFields.memory s) = inl s
+    fields_refused (types.RefusesFields.memory s l) = inl s
     fields_refused (types.RefusesFields.broken n a) = inr (λ v. valued.RefusesToRead.nothing (none_held v n) a)
 
     none_to_the_end : (v : Tag) (l : Reading) (x : T) → TakesFields (Takes i.mode) i x l → (HoldsValues l no_trees → ⊥) → (y : Tree) (z : T) → HoldsTree v i y
@@ -123,7 +125,7 @@ module _ {C T X : Type 0} (view : C → Reading) (post : Tag → MutBor C → Re
     none_to_the_end v l x f n (primitive w b) z h k = k
     none_to_the_end v l x f n (constructed w ts) z h k = n (f.behind ts no_trees z h.1 k)
 
-    end_refused : (v : Tag) (l : Reading) (x : T) → IsWithinOwed l → ReadsFields (Takes i.mode) {X = X} i (Ok x) l
+    end_refused : (v : Tag) (l : Reading) (x : T) → IsWithinOwed l → ReadsFields (Takes i.mode) lacks {X = X} i (Ok x) l
         → RefusesEnd cause_of l e j → RefusesToRead v (Inside i.mode) i e j
     end_refused v l x w r (left_failed s a) =
         valued.RefusesToRead.nothing
@@ -152,6 +154,11 @@ module _ {C T X : Type 0} (view : C → Reading) (post : Tag → MutBor C → Re
           mode = later_mode l j m (k ∙ r.marked ∙ u) ∙ r.mode;
           marked = k ∙ r.marked;
         })
+
+    -- where it was so as memory ran out, it may have
+    content_lacks : RefusesContent cause_of view post t i e j → cause_of e ≡ of_memory → lacks ≡ true
+    content_lacks (by_closure a) m = fields_lack e m (answered_fields i.mode t i j (Err e) a refl).refused
+    content_lacks (unfinished x l a k n z) m = absurd (end_is_not e m z)
 
     refused_turn : RefusesContent cause_of view post t i e j → MutBor C × MutBor C
     refused_turn (by_closure a) = (a.handed, a.left)
@@ -221,33 +228,48 @@ module _ {C T X : Type 0} (view : C → Reading) (post : Tag → MutBor C → Re
         valued.RefusesTree.broken (record { usable = f.usable; value = not_primitive f; absent = λ rest. header_is_there tag c f.after rest f.usable f.front })
         (refused_behind_header (tagged tag) c (cause_of e) a f.after f.front)
 
-    next_whole : (r : Result (Option T) (DecodeError X)) → TakesNext same Whole None (tagged tag) c r d → TakesNextTyped (Only tag) (Inside c.mode) c r d
+    next_whole : (r : Result (Option T) (DecodeError X)) → TakesNext same Whole None (tagged tag) c r d → TakesNextTyped (Only tag) (Inside c.mode) true c r d
     next_whole r n = next_typed tag (Inside c.mode) c d w r (next_tree same Whole tag Inside (λ t p q z h. h) c d r w n)
 
-    pub next_inside : (r : Result (Option T) (DecodeError X)) → TakesNext view post (Some false) (tagged tag) c r d
-        → TakesNextTyped (Only tag) (Inside c.mode) c r d
-    next_inside (Ok (Some x)) n =
+    inside_at_most : (r : Result (Option T) (DecodeError X)) → TakesNext view post (Some false) (tagged tag) c r d
+        → TakesNextTyped (Only tag) (Inside c.mode) true c r d
+    inside_at_most (Ok (Some x)) n =
         next_whole (Ok (Some x)) (record { value = whole_value x n.value; shorter = n.shorter; none = tt; refused = tt; failed = tt; mode = n.mode })
-    next_inside (Ok None) n = next_typed tag (Inside c.mode) c d w (Ok None) (no_tree tag (Inside c.mode) c d n.mode n.none)
-    next_inside (Err e) n = by_cause n.refused
+    inside_at_most (Ok None) n = next_typed tag (Inside c.mode) c d w (Ok None) (no_tree tag (Inside c.mode) c d n.mode n.none)
+    inside_at_most (Err e) n = by_cause n.refused
       where
-        stopped : RefusesTake same Whole None (tagged tag) c e d → TakesNextTyped (Only tag) (Inside c.mode) c (Err e) d
+        stopped : RefusesTake same Whole None (tagged tag) c e d → TakesNextTyped (Only tag) (Inside c.mode) true c (Err e) d
         stopped q = next_whole (Err e) (record { value = tt; shorter = tt; none = tt; refused = q; failed = n.failed; mode = n.mode })
 
-        no_memory : (f : RefusesFront cause_of view post (tagged tag) c e d) → cause_of e ≡ of_memory → TakesNextTyped (Only tag) (Inside c.mode) c (Err e) d
+        no_memory : (f : RefusesFront cause_of view post (tagged tag) c e d) → cause_of e ≡ of_memory
+            → TakesNextTyped (Only tag) (Inside c.mode) true c (Err e) d
         no_memory f s = record {
           value = tt;
           none = tt;
           no_fault = tt;
-          refused = types.RefusesTyped.memory s (typed_header tag c f.after f.front);
+          refused = types.RefusesTyped.memory s refl (typed_header tag c f.after f.front);
           failed = n.failed;
           mode = n.mode;
           marked = f.marked ∙ or_false c.marked f.left.marked (refused_marked f.handed f.left f.front.tag e f.hands.marked f.refuses);
         }
 
-        by_cause : RefusesTake view post (Some false) (tagged tag) c e d → TakesNextTyped (Only tag) (Inside c.mode) c (Err e) d
+        by_cause : RefusesTake view post (Some false) (tagged tag) c e d → TakesNextTyped (Only tag) (Inside c.mode) true c (Err e) d
         by_cause (by_header h m) = stopped (by_header h m)
         by_cause (by_form f a m) =
             next_typed tag (Inside c.mode) c d w (Err e)
             (record { value = tt; none = tt; no_fault = tt; refused = refused_form e f a; failed = n.failed; mode = n.mode; marked = m })
         by_cause (by_content f) = elim (whole_front e f) [ inl s ↦ no_memory f s | inr q ↦ stopped (by_content q) ]
+
+    take_lacks : (e : DecodeError X) → RefusesTake view post (Some false) (tagged tag) c e d → cause_of e ≡ of_memory → lacks ≡ true
+    take_lacks e (by_header h k) m = absurd (header_is_not e m h)
+    take_lacks e (by_form f a k) m = absurd (refusal_is_not e m a)
+    take_lacks e (by_content f) m = content_lacks f.handed f.left f.front.tag e f.hands.marked f.refuses m
+
+    pub next_inside : (r : Result (Option T) (DecodeError X)) → TakesNext view post (Some false) (tagged tag) c r d
+        → TakesNextTyped (Only tag) (Inside c.mode) lacks c r d
+    next_inside r n = next_may (Only tag) (Inside c.mode) lacks c d r (only_so r n) (inside_at_most r n)
+      where
+        only_so : (r : Result (Option T) (DecodeError X)) → TakesNext view post (Some false) (tagged tag) c r d
+            → IfErr r (λ e. cause_of e ≡ of_memory → true ≡ true → lacks ≡ true)
+        only_so (Ok o) n = tt
+        only_so (Err e) n = λ m t. take_lacks e n.refused m

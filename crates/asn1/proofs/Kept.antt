@@ -1,5 +1,5 @@
 -- Values of any type, kept as their encodings.
-use Rattle.std.proofs.Common.{◌≡◌, ◌≢◌, [], ◌++◌, Option, Some, None, refl, sym, ◌∙◌, ap, append-nil, subst}
+use Rattle.std.proofs.Common.{◌≡◌, ◌≢◌, true, [], ◌++◌, Option, Some, None, refl, sym, ◌∙◌, ap, append-nil, subst}
 use Rattle.std.specs.Prelude.{Result, Ok, Err, option_map}
 use Rattle.bcder.specs.declared.mode.Mode.{Mode}
 use Rattle.bcder.specs.declared.decode.error.DecodeError.{DecodeError}
@@ -61,15 +61,15 @@ module _ (c d : Reading) (w : IsWithinOwed c) (form : c.kind ≢ Octets) (asked 
       of_header (record { tag = tag_of t; is_one = encoded_tag c.mode t v h.encodes; after = f.0; header = f.1 })
   allocates (capturing.HasValueOrDeep.of_depth h) = of_depth (λ t g. g) h
 
-  refused : {X : Type 0} (e : DecodeError X) → RefusesWhere (HasNoNext c) (HasValueOrDeep c) c e d → RefusesTyped (Every asked) (KeepsValue c.mode) c e d
+  refused : {X : Type 0} (e : DecodeError X) → RefusesWhere (HasNoNext c) (HasValueOrDeep c) c e d → RefusesTyped (Every asked) (KeepsValue c.mode) true c e d
   refused e (capturing.RefusesWhere.failed s a) = types.RefusesTyped.failed s a
   refused e (capturing.RefusesWhere.source s g) = types.RefusesTyped.source s g
-  refused e (capturing.RefusesWhere.memory s h) = types.RefusesTyped.memory s (allocates h)
+  refused e (capturing.RefusesWhere.memory s h) = types.RefusesTyped.memory s refl (allocates h)
   refused e (capturing.RefusesWhere.nothing n a) =
       types.RefusesTyped.broken
       (record { usable = n.usable; value = λ t v rest x h k. n.none.none t v rest h.0; absent = by_end (λ t g. g) n.some }) a.refused
 
-  pub next_kept : {X : Type 0} (r : Result (Option Kept) (DecodeError X)) → CapturesNext c r d → TakesNextTyped (Every asked) (KeepsValue c.mode) c r d
+  pub next_kept : {X : Type 0} (r : Result (Option Kept) (DecodeError X)) → CapturesNext c r d → TakesNextTyped (Every asked) (KeepsValue c.mode) true c r d
   next_kept (Ok (Some k)) n = record {
     value = kept_taken k n.captured;
     none = tt;

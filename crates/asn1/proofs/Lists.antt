@@ -1,5 +1,5 @@
 -- As many values as have one of the tags.
-use Rattle.std.proofs.Common.{◌≡◌, ◌+◌, ◌≤◌, length, List, [], ◌∷◌, ◌++◌, Some, None, refl, sym, ◌∙◌, append_assoc, append-nil, subst}
+use Rattle.std.proofs.Common.{◌≡◌, Bool, true, ◌+◌, ◌≤◌, length, List, [], ◌∷◌, ◌++◌, Some, None, refl, sym, ◌∙◌, append_assoc, append-nil, subst}
 use Rattle.std.specs.Prelude.{Result, Ok, Err}
 use Rattle.std.specs.declared.vec.Vec.{Vec}
 use Rattle.std.specs.declared.alloc.Global.{Global}
@@ -95,27 +95,28 @@ module _ {T : Type 0} (Tags : Tag → Type 0) (Means : Tree → T → Type 0) wh
       no_list : HasNoTyped Tags Means d → HoldsNoFields (AreList Tags Means) c
       no_list n ts vs xs k g = (let b = r.behind ts vs xs k g in no_list_here n b.0 vs b.1 b.2 b.3)
 
-      list_refused : {X : Type 0} (f : DecodeError X) → RefusesTyped Tags Means d f e → RefusesFields (AreList Tags Means) c f e
+      list_refused : {X : Type 0} {lacks : Bool} (f : DecodeError X) → RefusesTyped Tags Means lacks d f e → RefusesFields (AreList Tags Means) true c f e
       list_refused f (types.RefusesTyped.failed s a) =
           types.RefusesFields.broken (λ ts us y k g. (let b = r.behind ts us y k g in failed_holds_none d s b.0 b.2)) a
       list_refused f (types.RefusesTyped.source s g) = types.RefusesFields.source s (grew_in_between _ _ _ _ (as_many_are_no_fewer _ _ r.no_fault) g refl)
-      list_refused f (types.RefusesTyped.memory s h) = types.RefusesFields.memory s
+      list_refused f (types.RefusesTyped.memory s l h) = types.RefusesFields.memory s refl
       list_refused f (types.RefusesTyped.broken n a) = types.RefusesFields.broken (no_list n) a
 
 -- ---- what the reader says, after so many
 
-module _ {T X : Type 0} (Tags : Tag → Type 0) (Means : Mode → Tree → T → Type 0) (c : Reading) (l : List T) (d e : Reading) (r : Runs Tags (Means c.mode) c l d)
-    (w : IsWithinOwed d) (m : Moves d e) where
-  in_mode : (o : _) → TakesNextTyped Tags (Means d.mode) {X = X} d o e → TakesNextTyped Tags (Means c.mode) {X = X} d o e
-  in_mode o n = subst (λ z. TakesNextTyped Tags (Means z) {X = X} d o e) r.mode n
+module _ {T X : Type 0} {lacks : Bool} (Tags : Tag → Type 0) (Means : Mode → Tree → T → Type 0) (c : Reading) (l : List T) (d e : Reading)
+    (r : Runs Tags (Means c.mode) c l d) (w : IsWithinOwed d) (m : Moves d e) where
+  in_mode : (o : _) → TakesNextTyped Tags (Means d.mode) lacks {X = X} d o e → TakesNextTyped Tags (Means c.mode) lacks {X = X} d o e
+  in_mode o n = subst (λ z. TakesNextTyped Tags (Means z) lacks {X = X} d o e) r.mode n
 
-  pub more_of_list : (x : T) → TakesNextTyped Tags (Means d.mode) {X = X} d (Ok (Some x)) e → Runs Tags (Means c.mode) c (l ++ (x ∷ [])) e
+  pub more_of_list : (x : T) → TakesNextTyped Tags (Means d.mode) lacks {X = X} d (Ok (Some x)) e → Runs Tags (Means c.mode) c (l ++ (x ∷ [])) e
   more_of_list x k = (let n = in_mode (Ok (Some x)) k in runs_more Tags (Means c.mode) c l d e r w m n.mode x n.value n.no_fault n.marked)
 
-  pub shorter_list : (x : T) → TakesNextTyped Tags (Means d.mode) {X = X} d (Ok (Some x)) e → length e.stream.rest + 2 ≤ length d.stream.rest
+  pub shorter_list : (x : T) → TakesNextTyped Tags (Means d.mode) lacks {X = X} d (Ok (Some x)) e → length e.stream.rest + 2 ≤ length d.stream.rest
   shorter_list x n = shorter_by_a_value d e (passes Tags (Means d.mode) d e w m n.mode x n.value)
 
-  pub reads_list : AreTags Tags → TakesNextTyped Tags (Means d.mode) {X = X} d (Ok None) e → ReadsFields (AreList Tags (Means c.mode)) {X = X} c (Ok l) e
+  pub reads_list : AreTags Tags → TakesNextTyped Tags (Means d.mode) lacks {X = X} d (Ok None) e
+      → ReadsFields (AreList Tags (Means c.mode)) true {X = X} c (Ok l) e
   reads_list v k =
       let n = in_mode (Ok None) k in
       record {
@@ -126,7 +127,8 @@ module _ {T X : Type 0} (Tags : Tag → Type 0) (Means : Mode → Tree → T →
         marked = n.marked ∙ r.marked;
       }
 
-  pub refuses_list : AreTags Tags → (f : DecodeError X) → TakesNextTyped Tags (Means d.mode) d (Err f) e → ReadsFields (AreList Tags (Means c.mode)) c (Err f) e
+  pub refuses_list : AreTags Tags → (f : DecodeError X) → TakesNextTyped Tags (Means d.mode) lacks d (Err f) e
+      → ReadsFields (AreList Tags (Means c.mode)) true c (Err f) e
   refuses_list v f k =
       let n = in_mode (Err f) k in
       record {
@@ -137,13 +139,20 @@ module _ {T X : Type 0} (Tags : Tag → Type 0) (Means : Mode → Tree → T →
         marked = n.marked ∙ r.marked;
       }
 
-  pub keeps_no_list : (f : DecodeError X) → cause_of f ≡ of_memory → (x : T) → TakesNextTyped Tags (Means d.mode) {X = X} d (Ok (Some x)) e
-      → ReadsFields (AreList Tags (Means c.mode)) c (Err f) e
-  keeps_no_list f a x n = record { value = tt; no_fault = tt; refused = types.RefusesFields.memory a; mode = n.mode ∙ r.mode; marked = n.marked ∙ r.marked }
+  pub keeps_no_list : (f : DecodeError X) → cause_of f ≡ of_memory → (x : T) → TakesNextTyped Tags (Means d.mode) lacks {X = X} d (Ok (Some x)) e
+      → ReadsFields (AreList Tags (Means c.mode)) true c (Err f) e
+  keeps_no_list f a x n = record {
+    value = tt;
+    no_fault = tt;
+    refused = types.RefusesFields.memory a refl;
+    mode = n.mode ∙ r.mode;
+    marked = n.marked ∙ r.marked;
+  }
 
 -- the same of a vector
-pub list_as_fields : {T X : Type 0} (Tags : Tag → Type 0) (Means : Mode → Tree → T → Type 0) (c d : Reading) (r : Result (Vec T Global) (DecodeError X))
-    → ReadsFields (AreList Tags (Means c.mode)) c (items_of r) d
-    → ReadsFields (λ (ts : Trees) (y : Vec T Global) (us : Trees). AreList Tags (Means c.mode) ts y.items us) c r d
+pub list_as_fields : {T X : Type 0} {lacks : Bool} (Tags : Tag → Type 0) (Means : Mode → Tree → T → Type 0) (c d : Reading)
+    (r : Result (Vec T Global) (DecodeError X))
+    → ReadsFields (AreList Tags (Means c.mode)) lacks c (items_of r) d
+    → ReadsFields (λ (ts : Trees) (y : Vec T Global) (us : Trees). AreList Tags (Means c.mode) ts y.items us) lacks c r d
 list_as_fields Tags Means c d (Ok x) h = reads_seen (AreList Tags (Means c.mode)) (λ (z : Vec _ Global). z.items) c d x h
 list_as_fields Tags Means c d (Err e) h = refuses_seen (AreList Tags (Means c.mode)) (λ (z : Vec _ Global). z.items) c d e h

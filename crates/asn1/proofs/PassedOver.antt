@@ -1,5 +1,5 @@
 -- All values up to the end of content, passed over.
-use Rattle.std.proofs.Common.{◌≢◌, List, ℕ, Some, None, refl, sym, ◌∙◌, subst, inl, inr}
+use Rattle.std.proofs.Common.{◌≢◌, true, List, ℕ, Some, None, refl, sym, ◌∙◌, subst, inl, inr}
 use Rattle.std.specs.Prelude.{Ok, Err}
 use Rattle.bcder.specs.declared.decode.error.DecodeError.{DecodeError}
 use Rattle.bcder.specs.x690.Tree.{Trees, no_trees}
@@ -39,7 +39,7 @@ module _ {T : Type 0} (c d : Reading) (k : d.kind ≢ Octets) (x : T) where
 -- ---- one value passed, and all behind it
 
 module _ {T X A : Type 0} (x : T) (c d : Reading) (k : c.kind ≢ Octets) (l : d.kind ≢ Octets) where
-  pub none_to_skip : PassedBy {T = A} {E = DecodeError X} (RefusesOne cause_of) c (Ok None) d → ReadsFields AreAll {X = X} c (Ok x) d
+  pub none_to_skip : PassedBy {T = A} {E = DecodeError X} (RefusesOne cause_of) c (Ok None) d → ReadsFields AreAll true {X = X} c (Ok x) d
   none_to_skip p = record {
     value = all_taken c d l x no_trees (end_holds_none c k d.stream.rest p.end) p.done;
     no_fault = p.no_fault;
@@ -49,7 +49,7 @@ module _ {T X A : Type 0} (x : T) (c d : Reading) (k : c.kind ≢ Octets) (l : d
   }
 
 module _ {T X : Type 0} (c d : Reading) (k : c.kind ≢ Octets) (e : DecodeError X) where
-  refused_one : RefusesOne cause_of c e d → RefusesFields (AreAll {T = T}) c e d
+  refused_one : RefusesOne cause_of c e d → RefusesFields (AreAll {T = T}) true c e d
   refused_one (skipping.RefusesOne.by_walk (walking.RefusesWalk.failed s a)) =
       types.RefusesFields.broken (λ ts us y h i. failed_holds_none c s ts h) a
   refused_one (skipping.RefusesOne.by_walk (walking.RefusesWalk.source f g)) = types.RefusesFields.source f g
@@ -58,9 +58,9 @@ module _ {T X : Type 0} (c d : Reading) (k : c.kind ≢ Octets) (e : DecodeError
       none_held : (ts us : Trees) (y : T) → HoldsValues c ts → AreAll ts y us → ⊥
       none_held ts us y (inl h) i = no_values_without_a_first c o n m h.values
       none_held ts us y (inr h) i = open_has_not_ended c.state o h.0
-  refused_one (skipping.RefusesOne.by_depth g m) = types.RefusesFields.memory m
+  refused_one (skipping.RefusesOne.by_depth g m) = types.RefusesFields.memory m refl
 
-  pub refuses_to_skip : {A : Type 0} → PassedBy {T = A} (RefusesOne cause_of) c (Err e) d → ReadsFields (AreAll {T = T}) c (Err e) d
+  pub refuses_to_skip : {A : Type 0} → PassedBy {T = A} (RefusesOne cause_of) c (Err e) d → ReadsFields (AreAll {T = T}) true c (Err e) d
   refuses_to_skip {A} p = record {
     value = tt;
     no_fault = tt;
@@ -84,7 +84,7 @@ module _ {X A : Type 0} (c j d : Reading) (w : IsWithinOwed c) (k : j.kind ≢ O
       (v.trees, inl (record { usable = p.value.has.usable; values = v; are = refl }))
 
   pub skipped_all : {T : Type 0} (x : T) → AllBy {T = Unit {0}} {E = DecodeError X} (RefusesSkipAll cause_of) j (Ok tt) d
-      → ReadsFields AreAll {X = X} c (Ok x) d
+      → ReadsFields AreAll true {X = X} c (Ok x) d
   skipped_all {T} x q =
       let h = with_first (q.all p.value.stays) in
       record {
@@ -95,7 +95,7 @@ module _ {X A : Type 0} (c j d : Reading) (w : IsWithinOwed c) (k : j.kind ≢ O
         marked = q.marked ∙ p.marked;
       }
 
-  pub refused_behind : {T : Type 0} (e : DecodeError X) → RefusesSkipAll cause_of j e d → RefusesFields (AreAll {T = T}) c e d
+  pub refused_behind : {T : Type 0} (e : DecodeError X) → RefusesSkipAll cause_of j e d → RefusesFields (AreAll {T = T}) true c e d
   refused_behind {T} e (skipping.RefusesSkipAll.by_values (walking.RefusesValues.failed s a)) =
       absurd (open_has_not_failed j.state p.value.stays s)
   refused_behind {T} e (skipping.RefusesSkipAll.by_values (walking.RefusesValues.source f g)) =
@@ -103,10 +103,10 @@ module _ {X A : Type 0} (c j d : Reading) (w : IsWithinOwed c) (k : j.kind ≢ O
   refused_behind {T} e (skipping.RefusesSkipAll.by_values (walking.RefusesValues.broken o n a)) =
       types.RefusesFields.broken (λ ts us y h i. n (behind_first ts h)) a.refused
   refused_behind {T} e (skipping.RefusesSkipAll.by_values (walking.RefusesValues.short o s a)) = absurd (k o)
-  refused_behind {T} e (skipping.RefusesSkipAll.by_depth i v g f) = types.RefusesFields.memory f
+  refused_behind {T} e (skipping.RefusesSkipAll.by_depth i v g f) = types.RefusesFields.memory f refl
 
   pub refuses_behind : {T : Type 0} (e : DecodeError X) → AllBy {T = Unit {0}} (RefusesSkipAll cause_of) j (Err e) d
-      → ReadsFields (AreAll {T = T}) c (Err e) d
+      → ReadsFields (AreAll {T = T}) true c (Err e) d
   refuses_behind {T} e q = record {
     value = tt;
     no_fault = tt;

@@ -421,27 +421,27 @@ module _ {T : Type 0} (Tags : Tag → Type 0) (Means : Tree → T → Type 0) (c
   no_optional v n ts us (Some y) k g = no_member n ts us y k g
   no_optional v n ts us None k g = none_absent v n ts k g.0
 
-  module _ {X : Type 0} where
-    refused_member : (e : DecodeError X) → RefusesTyped Tags Means c e d → RefusesFields (IsMember Tags Means) c e d
+  module _ {X : Type 0} {lacks : Bool} where
+    refused_member : (e : DecodeError X) → RefusesTyped Tags Means lacks c e d → RefusesFields (IsMember Tags Means) lacks c e d
     refused_member e (types.RefusesTyped.failed s a) = types.RefusesFields.broken (λ ts us y k g. failed_holds_none c s ts k) a
     refused_member e (types.RefusesTyped.source s g) = types.RefusesFields.source s g
-    refused_member e (types.RefusesTyped.memory s h) = types.RefusesFields.memory s
+    refused_member e (types.RefusesTyped.memory s l h) = types.RefusesFields.memory s l
     refused_member e (types.RefusesTyped.broken n a) = types.RefusesFields.broken (no_member n) a
 
-    refused_optional : AreTags Tags → (e : DecodeError X) → RefusesTyped Tags Means c e d → RefusesFields (IsOptional Tags Means) c e d
+    refused_optional : AreTags Tags → (e : DecodeError X) → RefusesTyped Tags Means lacks c e d → RefusesFields (IsOptional Tags Means) lacks c e d
     refused_optional v e (types.RefusesTyped.failed s a) = types.RefusesFields.broken (λ ts us y k g. failed_holds_none c s ts k) a
     refused_optional v e (types.RefusesTyped.source s g) = types.RefusesFields.source s g
-    refused_optional v e (types.RefusesTyped.memory s h) = types.RefusesFields.memory s
+    refused_optional v e (types.RefusesTyped.memory s l h) = types.RefusesFields.memory s l
     refused_optional v e (types.RefusesTyped.broken n a) = types.RefusesFields.broken (no_optional v n) a
 
 -- ---- what the readers say
 
-module _ {T X : Type 0} (Tags : Tag → Type 0) (Means : Tree → T → Type 0) (c d : Reading) (w : IsWithinOwed c) (m : Moves c d) where
-  pub reads_member : (x : T) → TakesNextTyped Tags Means {X = X} c (Ok (Some x)) d → ReadsFields (IsMember Tags Means) {X = X} c (Ok x) d
+module _ {T X : Type 0} {lacks : Bool} (Tags : Tag → Type 0) (Means : Tree → T → Type 0) (c d : Reading) (w : IsWithinOwed c) (m : Moves c d) where
+  pub reads_member : (x : T) → TakesNextTyped Tags Means lacks {X = X} c (Ok (Some x)) d → ReadsFields (IsMember Tags Means) lacks {X = X} c (Ok x) d
   reads_member x n = record { value = member_taken Tags Means c d w m n.mode x n.value; no_fault = n.no_fault; refused = tt; mode = n.mode; marked = n.marked }
 
-  pub misses_member : AreTags Tags → (e : DecodeError X) → IsRefusal e → TakesNextTyped Tags Means {X = X} c (Ok None) d
-      → ReadsFields (IsMember Tags Means) c (Err e) d
+  pub misses_member : AreTags Tags → (e : DecodeError X) → IsRefusal e → TakesNextTyped Tags Means lacks {X = X} c (Ok None) d
+      → ReadsFields (IsMember Tags Means) lacks c (Err e) d
   misses_member v e r n = record {
     value = tt;
     no_fault = tt;
@@ -450,11 +450,11 @@ module _ {T X : Type 0} (Tags : Tag → Type 0) (Means : Tree → T → Type 0) 
     marked = n.marked;
   }
 
-  pub refuses_member : (e : DecodeError X) → TakesNextTyped Tags Means {X = X} c (Err e) d → ReadsFields (IsMember Tags Means) c (Err e) d
+  pub refuses_member : (e : DecodeError X) → TakesNextTyped Tags Means lacks {X = X} c (Err e) d → ReadsFields (IsMember Tags Means) lacks c (Err e) d
   refuses_member e n = record { value = tt; no_fault = tt; refused = refused_member Tags Means c d w m n.mode e n.refused; mode = n.mode; marked = n.marked }
 
-  pub reads_optional : AreTags Tags → (r : Result (Option T) (DecodeError X)) → TakesNextTyped Tags Means {X = X} c r d
-      → ReadsFields (IsOptional Tags Means) c r d
+  pub reads_optional : AreTags Tags → (r : Result (Option T) (DecodeError X)) → TakesNextTyped Tags Means lacks {X = X} c r d
+      → ReadsFields (IsOptional Tags Means) lacks c r d
   reads_optional v (Ok (Some x)) n = record {
     value = optional_taken Tags Means c d w m n.mode x n.value;
     no_fault = n.no_fault;

@@ -91,10 +91,10 @@ module _ {T : Type 0} (asked : Tag) (Takes : Trees → T → Trees → Type 0) (
   can_keep : (ts : Trees) → HoldsValues c ts → (ks : List Kept) × AreList (Every asked) (KeepsValue c.mode) ts ks no_trees
   can_keep ts h = (let e = encoding_held c ts h in keep_each c.mode asked ts e.0 e.1)
 
-  list_refused : {X : Type 0} (e : DecodeError X) → RefusesFields (AreList (Every asked) (KeepsValue c.mode)) c e d
-      → RefusesFields (AreSet c.mode Takes) c e d
+  list_refused : {X : Type 0} (e : DecodeError X) → RefusesFields (AreList (Every asked) (KeepsValue c.mode)) true c e d
+      → RefusesFields (AreSet c.mode Takes) true c e d
   list_refused e (types.RefusesFields.source s g) = types.RefusesFields.source s g
-  list_refused e (types.RefusesFields.memory s) = types.RefusesFields.memory s
+  list_refused e (types.RefusesFields.memory s l) = types.RefusesFields.memory s l
   list_refused e (types.RefusesFields.broken n a) =
       types.RefusesFields.broken (λ ts us y h g. (let k = can_keep ts h in n ts no_trees k.0 h k.1)) a
 
@@ -144,7 +144,7 @@ abbrev IsSet : {T : Type 0} → (Mode → Trees → T → Trees → Type 0) → 
 IsSet Takes mode = AreSet mode (Takes mode)
 
 module _ {T X : Type 0} (asked : Tag) (Takes : Mode → Trees → T → Trees → Type 0) (c d : Reading) where
-  pub keeps_none : (e : DecodeError X) → ReadsFields (Kepts asked c.mode) c (Err e) d → ReadsFields (IsSet Takes c.mode) c (Err e) d
+  pub keeps_none : (e : DecodeError X) → ReadsFields (Kepts asked c.mode) true c (Err e) d → ReadsFields (IsSet Takes c.mode) true c (Err e) d
   keeps_none e r = record {
     value = tt;
     no_fault = tt;
@@ -153,14 +153,14 @@ module _ {T X : Type 0} (asked : Tag) (Takes : Mode → Trees → T → Trees �
     marked = r.marked;
   }
 
-  module _ (xs : List Kept) (r : ReadsFields (Kepts asked c.mode) {X = X} c (Ok xs) d) (m : Mode) (q : m ≡ d.mode) where
+  module _ (xs : List Kept) (r : ReadsFields (Kepts asked c.mode) true {X = X} c (Ok xs) d) (m : Mode) (q : m ≡ d.mode) where
     in_mode : m ≡ c.mode
     in_mode = q ∙ r.mode
 
-    stops : (e : DecodeError X) → RefusesFields (IsSet Takes c.mode) c e d → ReadsFields (IsSet Takes c.mode) c (Err e) d
+    stops : (e : DecodeError X) → RefusesFields (IsSet Takes c.mode) true c e d → ReadsFields (IsSet Takes c.mode) true c (Err e) d
     stops e f = record { value = tt; no_fault = tt; refused = f; mode = r.mode; marked = r.marked }
 
-    pub refuses_order : (e : DecodeError X) → ((ks : List Kept) → AreKeptByTag m xs ks → ⊥) → IsRefusal e → ReadsFields (IsSet Takes c.mode) c (Err e) d
+    pub refuses_order : (e : DecodeError X) → ((ks : List Kept) → AreKeptByTag m xs ks → ⊥) → IsRefusal e → ReadsFields (IsSet Takes c.mode) true c (Err e) d
     refuses_order e n a =
         stops e
         (types.RefusesFields.broken
@@ -170,7 +170,7 @@ module _ {T X : Type 0} (asked : Tag) (Takes : Mode → Trees → T → Trees �
       ordered : AreKeptByTag c.mode xs ys
       ordered = subst (λ z. AreKeptByTag z xs ys) in_mode o
 
-      pub reads_set : (x : T) → AreFields m (Takes m) (flat (octets_of_each ys)) x → ReadsFields (IsSet Takes c.mode) {X = X} c (Ok x) d
+      pub reads_set : (x : T) → AreFields m (Takes m) (flat (octets_of_each ys)) x → ReadsFields (IsSet Takes c.mode) true {X = X} c (Ok x) d
       reads_set x a = record {
         value =
             set_taken asked (Takes c.mode) c d xs r.value ys ordered x
@@ -181,14 +181,14 @@ module _ {T X : Type 0} (asked : Tag) (Takes : Mode → Trees → T → Trees �
         marked = r.marked;
       }
 
-      members_refused : (e : DecodeError X) → RefusesMembers m (Takes m) (flat (octets_of_each ys)) e → RefusesFields (IsSet Takes c.mode) c e d
-      members_refused e (inl a) = types.RefusesFields.memory a
+      members_refused : (e : DecodeError X) → RefusesMembers m (Takes m) (flat (octets_of_each ys)) e → RefusesFields (IsSet Takes c.mode) true c e d
+      members_refused e (inl a) = types.RefusesFields.memory a refl
       members_refused e (inr a) =
           types.RefusesFields.broken
           (no_set asked (Takes c.mode) c d xs r.value ys ordered
           (λ x b. a.0 x (subst (λ z. AreFields z (Takes z) (flat (octets_of_each ys)) x) (sym in_mode) b))) a.1
 
-      pub refuses_members : (e : DecodeError X) → RefusesMembers m (Takes m) (flat (octets_of_each ys)) e → ReadsFields (IsSet Takes c.mode) c (Err e) d
+      pub refuses_members : (e : DecodeError X) → RefusesMembers m (Takes m) (flat (octets_of_each ys)) e → ReadsFields (IsSet Takes c.mode) true c (Err e) d
       refuses_members e a = stops e (members_refused e a)
 
 -- ---- kept values, joined
@@ -198,10 +198,10 @@ pub joined_octets : (mode : Mode) (ks : List Kept) (k : Kept) → HoldsMeant (Jo
 joined_octets mode ks k h = ap (λ (z : Kept). z.octets) h.holds ∙ flat_of mode ks h.what h.meant.0
 
 -- the same error of another source
-pub members_converted : {T X : Type 0} (mode : Mode) (Takes : Trees → T → Trees → Type 0) (s : Stream) (e : DecodeError Infallible) (f : DecodeError X)
-    → cause_of f ≡ cause_of e → RefusesFieldsOf mode Takes s e → RefusesMembers mode Takes s.rest f
+pub members_converted : {T X : Type 0} {lacks : Bool} (mode : Mode) (Takes : Trees → T → Trees → Type 0) (s : Stream) (e : DecodeError Infallible) (f : DecodeError X)
+    → cause_of f ≡ cause_of e → RefusesFieldsOf mode Takes lacks s e → RefusesMembers mode Takes s.rest f
 members_converted mode Takes s e f q (decoded.RefusesFieldsOf.source later c g) = absurd (never_of_source e c)
-members_converted mode Takes s e f q (decoded.RefusesFieldsOf.memory c) = inl (q ∙ c)
+members_converted mode Takes s e f q (decoded.RefusesFieldsOf.memory c l) = inl (q ∙ c)
 members_converted mode Takes s e f q (decoded.RefusesFieldsOf.broken n a) = inr (n, subst IsOfContent (sym q) a)
 
 -- ---- what sets are told apart by

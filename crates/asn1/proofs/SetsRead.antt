@@ -1,5 +1,5 @@
 -- A SET OF, read value by value up to the end of content.
-use Rattle.std.proofs.Common.{◌≡◌, ◌≢◌, ℕ, ◌+◌, ◌≤◌, List, [], ◌∷◌, ◌++◌, length, refl, ap, sym, ◌∙◌, append_assoc, subst, inl, inr}
+use Rattle.std.proofs.Common.{◌≡◌, ◌≢◌, ℕ, Bool, true, ◌+◌, ◌≤◌, List, [], ◌∷◌, ◌++◌, length, refl, ap, sym, ◌∙◌, append_assoc, subst, inl, inr}
 use Rattle.std.specs.Prelude.{Ok, Err, None}
 use Rattle.std.specs.declared.convert.Infallible.{Infallible}
 use Rattle.bcder.specs.declared.mode.Mode.{Mode}
@@ -251,7 +251,7 @@ module _ {T : Type 0} (Tags : Tag → Type 0) (Means : Tree → T → Type 0) (c
         behind = λ ts us y h g. subst (HoldsValues e) (sym g.1) (nothing_left n);
       }
 
-      pub reads_set : CapturesNext {X = X} d (Ok None) e → ReadsFields (AreSetOf c.mode Tags Means) {X = X} c (Ok xs) e
+      pub reads_set : CapturesNext {X = X} d (Ok None) e → ReadsFields (AreSetOf c.mode Tags Means) true {X = X} c (Ok xs) e
       reads_set n = record { value = whole_set n; no_fault = n.no_fault ∙ r.no_fault; refused = tt; mode = o ∙ r.mode; marked = n.marked ∙ r.marked }
 
     -- ---- an error
@@ -261,31 +261,31 @@ module _ {T : Type 0} (Tags : Tag → Type 0) (Means : Tree → T → Type 0) (c
       no_value_there n no_trees h = none_not_inside d w n.some h
       no_value_there n (t ∷ₜ us) h = (let z = next_value d t us h in n.none.none t z.0 z.1 z.2)
 
-      capture_refused : RefusesWhere (HasNoNext d) (HasValueOrDeep d) d f e → RefusesFields (AreSetOf c.mode Tags Means) c f e
+      capture_refused : RefusesWhere (HasNoNext d) (HasValueOrDeep d) d f e → RefusesFields (AreSetOf c.mode Tags Means) true c f e
       capture_refused (capturing.RefusesWhere.failed s a) =
           types.RefusesFields.broken (λ ts us y h g. (let b = r.behind ts h in failed_holds_none d s b.0 b.2)) a
       capture_refused (capturing.RefusesWhere.source s g) =
           types.RefusesFields.source s (grew_in_between _ _ _ _ (as_many_are_no_fewer _ _ r.no_fault) g refl)
       capture_refused (capturing.RefusesWhere.nothing n a) =
           types.RefusesFields.broken (λ ts us y h g. (let b = r.behind ts h in no_value_there n b.0 b.2)) a.refused
-      capture_refused (capturing.RefusesWhere.memory s h) = types.RefusesFields.memory s
+      capture_refused (capturing.RefusesWhere.memory s h) = types.RefusesFields.memory s refl
 
-      pub refuses_set : CapturesNext d (Err f) e → ReadsFields (AreSetOf c.mode Tags Means) c (Err f) e
+      pub refuses_set : CapturesNext d (Err f) e → ReadsFields (AreSetOf c.mode Tags Means) true c (Err f) e
       refuses_set n = record { value = tt; no_fault = tt; refused = capture_refused n.refused; mode = o ∙ r.mode; marked = n.marked ∙ r.marked }
 
-      pub stops_set : RefusesFields (AreSetOf c.mode Tags Means) c f e → e.marked ≡ d.marked → ReadsFields (AreSetOf c.mode Tags Means) c (Err f) e
+      pub stops_set : RefusesFields (AreSetOf c.mode Tags Means) true c f e → e.marked ≡ d.marked → ReadsFields (AreSetOf c.mode Tags Means) true c (Err f) e
       stops_set q n = record { value = tt; no_fault = tt; refused = q; mode = o ∙ r.mode; marked = n ∙ r.marked }
 
-      pub no_memory_for_set : cause_of f ≡ of_memory → e.marked ≡ d.marked → ReadsFields (AreSetOf c.mode Tags Means) c (Err f) e
-      no_memory_for_set a = stops_set (types.RefusesFields.memory a)
+      pub no_memory_for_set : cause_of f ≡ of_memory → e.marked ≡ d.marked → ReadsFields (AreSetOf c.mode Tags Means) true c (Err f) e
+      no_memory_for_set a = stops_set (types.RefusesFields.memory a refl)
 
       pub refuses_value : (k : Kept) (v : CapturesValue d k e) → RefusesOctets c.mode Tags Means k.octets f → e.marked ≡ d.marked
-          → ReadsFields (AreSetOf c.mode Tags Means) c (Err f) e
+          → ReadsFields (AreSetOf c.mode Tags Means) true c (Err f) e
       refuses_value k v (inl a) n = no_memory_for_set a n
       refuses_value k v (inr a) n = stops_set (types.RefusesFields.broken (other_value k v a.0) a.1) n
 
       pub refuses_order : (k : Kept) (v : CapturesValue d k e) → c.mode ≢ Ber → (IsNotAfter last k.octets → ⊥) → IsRefusal f → e.marked ≡ d.marked
-          → ReadsFields (AreSetOf c.mode Tags Means) c (Err f) e
+          → ReadsFields (AreSetOf c.mode Tags Means) true c (Err f) e
       refuses_order k v ne q a n = stops_set (types.RefusesFields.broken (out_of_order k v ne q) a) n
 
 -- ---- octets that are decoded
@@ -299,8 +299,8 @@ never_of_source (Content error pos) h = cc
 never_of_source NoMemory h = cc
 
 -- the same error of another source
-pub converted : {T X : Type 0} (mode : Mode) (Tags : Tag → Type 0) (Means : Tree → T → Type 0) (s : Stream) (e : DecodeError Infallible) (f : DecodeError X)
-    → cause_of f ≡ cause_of e → RefusesAll mode Tags Means s e → RefusesOctets mode Tags Means s.rest f
+pub converted : {T X : Type 0} {lacks : Bool} (mode : Mode) (Tags : Tag → Type 0) (Means : Tree → T → Type 0) (s : Stream) (e : DecodeError Infallible) (f : DecodeError X)
+    → cause_of f ≡ cause_of e → RefusesAll mode Tags Means lacks s e → RefusesOctets mode Tags Means s.rest f
 converted mode Tags Means s e f q (decoded.RefusesAll.source later c g) = absurd (never_of_source e c)
-converted mode Tags Means s e f q (decoded.RefusesAll.memory c) = inl (q ∙ c)
+converted mode Tags Means s e f q (decoded.RefusesAll.memory c l) = inl (q ∙ c)
 converted mode Tags Means s e f q (decoded.RefusesAll.broken n a) = inr (n, subst IsOfContent (sym q) a)

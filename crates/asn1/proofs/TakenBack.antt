@@ -1,5 +1,5 @@
 -- What is written is taken back, wherever it stands.
-use Rattle.std.proofs.Common.{◌≡◌, ℕ, List, ◌++◌, Option, Some, None, refl, ap, sym, ◌∙◌, append-nil, subst, inl, inr}
+use Rattle.std.proofs.Common.{◌≡◌, ℕ, Bool, List, ◌++◌, Option, Some, None, refl, ap, sym, ◌∙◌, append-nil, subst, inl, inr}
 use Rattle.std.specs.Prelude.{Result, Ok, Err}
 use Rattle.bcder.specs.declared.mode.Mode.{Mode}
 use Rattle.bcder.specs.declared.decode.error.DecodeError.{DecodeError}
@@ -34,10 +34,10 @@ module _ {T K : Type 0} (Tags : Tag → Type 0) (Means : Tree → T → Type 0) 
         let same = value_once c k.tree h.tree e.octets h.octets after d.stream.rest there.0 h.has.0 in
         (k.only y (subst (λ t. Means t y) (sym same.tree) h.means), sym same.rest)
 
-    refused : {X : Type 0} (f : DecodeError X) (d : Reading) → RefusesTyped Tags Means c f d → SourceFailedOrNoMemory c f d
+    refused : {X : Type 0} {lacks : Bool} (f : DecodeError X) (d : Reading) → RefusesTyped Tags Means lacks c f d → SourceFailedOrNoMemory c f d
     refused {X} f d (types.RefusesTyped.failed z a) = absurd (open_has_not_failed c.state s.usable z)
     refused {X} f d (types.RefusesTyped.source z g) = inl (z, g)
-    refused {X} f d (types.RefusesTyped.memory z h) = inr z
+    refused {X} f d (types.RefusesTyped.memory z l h) = inr z
     refused {X} f d (types.RefusesTyped.broken b a) = absurd (b.value k.tree e.octets after k.some there k.means)
 
     not_none : (d : Reading) → HasNoneOf Tags c d → ⊥
@@ -47,10 +47,18 @@ module _ {T K : Type 0} (Tags : Tag → Type 0) (Means : Tree → T → Type 0) 
         header_is_there u c h.0 d.stream.rest s.usable h.1 (f u k.tagged).missing.0
     not_none d (at_end every form h) = no_value_at_end c w form d.stream.rest h.missing.0 k.tree e.octets after there.0
 
-    pub taken_back : {X : Type 0} (r : Result (Option T) (DecodeError X)) (d : Reading) → TakesNextTyped Tags Means c r d
+    pub taken_back : {X : Type 0} (lacks : Bool) (r : Result (Option T) (DecodeError X)) (d : Reading) → TakesNextTyped Tags Means lacks c r d
         → AnswersSuch (HasKey key n) after c r d
-    taken_back {X} (Ok (Some y)) d t =
+    taken_back {X} lacks (Ok (Some y)) d t =
         let a = returned y d t.value in
         record { value = a.0; rest = a.1; stays = t.value.stays; no_fault = t.no_fault; fails = tt; mode = t.mode; marked = t.marked }
-    taken_back {X} (Ok None) d t = absurd (not_none d t.none)
-    taken_back {X} (Err f) d t = record { value = tt; rest = tt; stays = tt; no_fault = tt; fails = refused f d t.refused; mode = t.mode; marked = t.marked }
+    taken_back {X} lacks (Ok None) d t = absurd (not_none d t.none)
+    taken_back {X} lacks (Err f) d t = record {
+      value = tt;
+      rest = tt;
+      stays = tt;
+      no_fault = tt;
+      fails = refused f d t.refused;
+      mode = t.mode;
+      marked = t.marked;
+    }

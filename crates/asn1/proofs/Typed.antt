@@ -1,5 +1,5 @@
 -- Takes of bcder, as readers of a type with one tag.
-use Rattle.std.proofs.Common.{ℕ, List, Option, Some, None, refl, sym, subst}
+use Rattle.std.proofs.Common.{ℕ, true, List, Option, Some, None, refl, sym, subst}
 use Rattle.std.specs.Prelude.{Result, Ok, Err}
 use Rattle.bcder.specs.declared.decode.error.DecodeError.{DecodeError}
 use Rattle.bcder.specs.x690.Identifier.{Tag}
@@ -29,13 +29,13 @@ module _ {T : Type 0} (tag : Tag) (Means : Tree → T → Type 0) (c d : Reading
   needed (valued.WantsMemoryFor.of_value t v rest x h m) = (let y = header_of_tagged c w tag t v rest h in typed_header tag c y.0 y.1)
   needed (valued.WantsMemoryFor.of_header o after h f) = typed_header tag c after h
 
-  refused : {X : Type 0} (e : DecodeError X) → RefusesTree tag Means c e d → RefusesTyped (Only tag) Means c e d
+  refused : {X : Type 0} (e : DecodeError X) → RefusesTree tag Means c e d → RefusesTyped (Only tag) Means true c e d
   refused e (valued.RefusesTree.failed s a) = types.RefusesTyped.failed s a
   refused e (valued.RefusesTree.source s g) = types.RefusesTyped.source s g
-  refused e (valued.RefusesTree.memory s n) = types.RefusesTyped.memory s (needed n)
+  refused e (valued.RefusesTree.memory s n) = types.RefusesTyped.memory s refl (needed n)
   refused e (valued.RefusesTree.broken n a) = types.RefusesTyped.broken (none_there n) a.refused
 
-  pub next_typed : {X : Type 0} (r : Result (Option T) (DecodeError X)) → TakesNextTree tag Means c r d → TakesNextTyped (Only tag) Means c r d
+  pub next_typed : {X : Type 0} (r : Result (Option T) (DecodeError X)) → TakesNextTree tag Means c r d → TakesNextTyped (Only tag) Means true c r d
   next_typed (Ok (Some x)) n = record { value = taken x n.value; none = tt; no_fault = n.no_fault; refused = tt; failed = tt; mode = n.mode; marked = n.marked }
   next_typed (Ok None) n = record {
     value = tt;

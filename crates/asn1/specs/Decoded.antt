@@ -1,5 +1,5 @@
 -- A source that is one value of a type, or fields.
-use Rattle.std.specs.Prelude.{◌≡◌, ℕ, List, Ok}
+use Rattle.std.specs.Prelude.{◌≡◌, ℕ, Bool, IsTrue, List, Ok}
 use Rattle.bcder.specs.declared.mode.Mode.{Mode}
 use Rattle.bcder.specs.declared.decode.error.DecodeError.{DecodeError}
 use Rattle.bcder.specs.x690.Identifier.{Tag}
@@ -18,11 +18,11 @@ module _ {T : Type 0} (mode : Mode) (Tags : Tag → Type 0) (Means : Tree → T 
     pub tagged : Tags (tag_of tree)
     pub means : Means tree x
 
-  -- why nothing was decoded from the source s, and e was returned
-  pub data RefusesAll {X : Type 0} (s : Stream) (e : DecodeError X) : Type 0 where
-    source : (later : Stream) → cause_of e ≡ of_source → Grew s.faults later.faults → RefusesAll s e
-    memory : cause_of e ≡ of_memory → RefusesAll s e
-    broken : ((x : T) → IsValueOf s.rest x → ⊥) → IsRefusal e → RefusesAll s e
+  -- why nothing was decoded from the source s, and e was returned: memory ran out only if it may
+  pub data RefusesAll (may_lack : Bool) {X : Type 0} (s : Stream) (e : DecodeError X) : Type 0 where
+    source : (later : Stream) → cause_of e ≡ of_source → Grew s.faults later.faults → RefusesAll may_lack s e
+    memory : cause_of e ≡ of_memory → IsTrue may_lack → RefusesAll may_lack s e
+    broken : ((x : T) → IsValueOf s.rest x → ⊥) → IsRefusal e → RefusesAll may_lack s e
 
   -- the octets are those of a value that is told apart by k, and of no other
   pub record AreValueOf {K : Type 0} (key : T → K) (k : K) (octets : List ℕ) : Type 0 where
@@ -42,7 +42,7 @@ module _ {T : Type 0} (mode : Mode) (Takes : Trees → T → Trees → Type 0) w
     pub taken : Takes trees x no_trees
 
   -- why no fields were decoded from the source s, and e was returned
-  pub data RefusesFieldsOf {X : Type 0} (s : Stream) (e : DecodeError X) : Type 0 where
-    source : (later : Stream) → cause_of e ≡ of_source → Grew s.faults later.faults → RefusesFieldsOf s e
-    memory : cause_of e ≡ of_memory → RefusesFieldsOf s e
-    broken : ((x : T) → AreFields s.rest x → ⊥) → IsRefusal e → RefusesFieldsOf s e
+  pub data RefusesFieldsOf (may_lack : Bool) {X : Type 0} (s : Stream) (e : DecodeError X) : Type 0 where
+    source : (later : Stream) → cause_of e ≡ of_source → Grew s.faults later.faults → RefusesFieldsOf may_lack s e
+    memory : cause_of e ≡ of_memory → IsTrue may_lack → RefusesFieldsOf may_lack s e
+    broken : ((x : T) → AreFields s.rest x → ⊥) → IsRefusal e → RefusesFieldsOf may_lack s e

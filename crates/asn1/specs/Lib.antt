@@ -24,3 +24,4 @@ pub mod Strings
 pub mod Lawfully
 pub mod EncodeOf
 pub mod ClearOf
+pub mod Memory

@@ -1,5 +1,6 @@
 -- What types of ASN.1 say of values, and what their readers return.
-use Rattle.std.specs.Prelude.{◌≡◌, ◌≢◌, ℕ, List, [], ◌∷◌, Option, Some, None, Result, Ok, Err, IfOk, IfErr, IfSome, IfNone, OnOk, OnErr}
+use Rattle.std.specs.Prelude.{◌≡◌, ◌≢◌, ℕ, Bool, true, IsTrue, List, [], ◌∷◌, Option, Some, None, Result, Ok, Err}
+use Rattle.std.specs.Prelude.{IfOk, IfErr, IfSome, IfNone, OnOk, OnErr}
 use Rattle.std.specs.Borrow.{MutBor}
 use Rattle.std.specs.declared.vec.Vec.{Vec}
 use Rattle.std.specs.declared.alloc.Global.{Global}
@@ -83,13 +84,13 @@ module _ {T : Type 0} (Tags : Tag → Type 0) (Means : Tree → T → Type 0) wh
     pub value : (t : Tree) (w rest : List ℕ) (x : T) → HasTagged Tags c t w rest → Means t x → ⊥
     pub absent : MayHave Tags c
 
-  module _ {X : Type 0} where
-    -- why none was taken, with error e: an earlier value was refused; the source failed; memory ran out for one;
+  module _ (may_lack : Bool) {X : Type 0} where
+    -- why none was taken, with error e: an earlier value was refused; the source failed; memory ran out for one, if it may;
     -- or what comes next is nothing that is read
     pub data RefusesTyped (c : Reading) (e : DecodeError X) (d : Reading) : Type 0 where
       failed : c.state ≡ Failed → IsRefusal e → RefusesTyped c e d
       source : cause_of e ≡ of_source → Grew c.stream.faults d.stream.faults → RefusesTyped c e d
-      memory : cause_of e ≡ of_memory → AllocatesFor Tags c → RefusesTyped c e d
+      memory : cause_of e ≡ of_memory → IsTrue may_lack → AllocatesFor Tags c → RefusesTyped c e d
       broken : HasNoTyped c → IsRefusal e → RefusesTyped c e d
 
     -- the effect of a call that returns the value, or that there is none with the tags
@@ -104,8 +105,9 @@ module _ {T : Type 0} (Tags : Tag → Type 0) (Means : Tree → T → Type 0) wh
 
 -- the same of a parameter, from entry to exit
 abbrev pub TookNextTyped : {S T X : Type 0} → (S → Stream) → Both (MutBor (Constructed S)) (MutBor (Constructed S)) → (Tag → Type 0)
-    → (Mode → Tree → T → Type 0) → Result (Option T) (DecodeError X) → Type 0
-TookNextTyped stream c Tags Means r = TakesNextTyped Tags (Means (before stream c).mode) (before stream c) r (after stream c)
+    → (Mode → Tree → T → Type 0) → Bool → Result (Option T) (DecodeError X) → Type 0
+TookNextTyped stream c Tags Means may_lack r =
+    TakesNextTyped Tags (Means (before stream c).mode) may_lack (before stream c) r (after stream c)
 
 -- ---- fields: of values ts they take some from the front, as x, and leave us
 
@@ -156,11 +158,11 @@ module _ {T : Type 0} (Takes : Trees → T → Trees → Type 0) where
   abbrev pub HoldsNoFields : Reading → Type 0
   HoldsNoFields c = (ts us : Trees) (y : T) → HoldsValues c ts → Takes ts y us → ⊥
 
-  module _ {X : Type 0} where
+  module _ (may_lack : Bool) {X : Type 0} where
     -- why none were taken, and e was returned
     pub data RefusesFields (c : Reading) (e : DecodeError X) (d : Reading) : Type 0 where
       source : cause_of e ≡ of_source → Grew c.stream.faults d.stream.faults → RefusesFields c e d
-      memory : cause_of e ≡ of_memory → RefusesFields c e d
+      memory : cause_of e ≡ of_memory → IsTrue may_lack → RefusesFields c e d
       broken : HoldsNoFields c → IsRefusal e → RefusesFields c e d
 
     -- what a reader of fields did
@@ -173,18 +175,19 @@ module _ {T : Type 0} (Takes : Trees → T → Trees → Type 0) where
 
 -- the same of a parameter, from entry to exit
 abbrev pub TookFields : {S T X : Type 0} → (S → Stream) → Both (MutBor (Constructed S)) (MutBor (Constructed S))
-    → (Mode → Trees → T → Trees → Type 0) → Result T (DecodeError X) → Type 0
-TookFields stream c Takes r = ReadsFields (Takes (before stream c).mode) (before stream c) r (after stream c)
+    → (Mode → Trees → T → Trees → Type 0) → Bool → Result T (DecodeError X) → Type 0
+TookFields stream c Takes may_lack r = ReadsFields (Takes (before stream c).mode) may_lack (before stream c) r (after stream c)
 
 -- a vector's items
 abbrev pub items_of : {T X : Type 0} → Result (Vec T Global) X → Result (List T) X
 items_of (Ok x) = Ok x.items
 items_of (Err e) = Err e
 
--- as many values as have one of the tags were taken
+-- as many values as have one of the tags were taken, for which memory may run out
 abbrev pub TookList : {S T X : Type 0} → (S → Stream) → Both (MutBor (Constructed S)) (MutBor (Constructed S)) → (Tag → Type 0)
     → (Mode → Tree → T → Type 0) → Result (Vec T Global) (DecodeError X) → Type 0
-TookList stream c Tags Means r = ReadsFields (AreList Tags (Means (before stream c).mode)) (before stream c) (items_of r) (after stream c)
+TookList stream c Tags Means r =
+    ReadsFields (AreList Tags (Means (before stream c).mode)) true (before stream c) (items_of r) (after stream c)
 
 -- fields of a pair
 abbrev pub Pair : {A B : Type 0} → (Trees → A → Trees → Type 0) → (Trees → B → Trees → Type 0) → Trees → A × B → Trees → Type 0

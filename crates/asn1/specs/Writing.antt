@@ -1,5 +1,5 @@
 -- What types of ASN.1 write, and that it is read back.
-use Rattle.std.specs.Prelude.{◌≡◌, ℕ, ◌≤◌, List, length, Ok, Result, Option, Some, None, MatchOption}
+use Rattle.std.specs.Prelude.{◌≡◌, ℕ, Bool, ◌≤◌, List, length, Ok, Result, Option, Some, None, MatchOption}
 use Rattle.bcder.specs.declared.decode.error.DecodeError.{DecodeError}
 use Rattle.bcder.specs.x690.Identifier.{Tag, AreOctets}
 use Rattle.bcder.specs.x690.Tree.{Tree, Trees, no_trees, ◌∷ₜ◌, ◌+++◌}
@@ -62,8 +62,8 @@ HasKey key k o = MatchOption o ⊥ (λ y. key y ≡ k)
 -- and what follows is left, unless the source fails or memory runs out
 abbrev pub IsTakenBack : {T K : Type 0} → Type 0 → (Tag → Type 0) → (Tree → T → Type 0) → (T → K) → Mode → (Meaning → Type 0) → T → Type 0
 IsTakenBack {T} X Tags Means key mode Writes x = (e : Encoded) → Writes (Ok e) → (c : Reading) (after : List ℕ) → IsWhole c
-    → StandsIn mode e.octets after c → (r : Result (Option T) (DecodeError X)) (d : Reading) → TakesNextTyped Tags Means c r d
-    → AnswersSuch (HasKey key (key x)) after c r d
+    → StandsIn mode e.octets after c → (may_lack : Bool) (r : Result (Option T) (DecodeError X)) (d : Reading)
+    → TakesNextTyped Tags Means may_lack c r d → AnswersSuch (HasKey key (key x)) after c r d
 
 pub each_lawful : {T : Type 0} {mode : Mode} (M : T → Meaning → Type 0) → ((x : T) → IsLawful mode (M x)) → (xs : List T)
     → IsLawful mode (Joined (EachOf M xs))

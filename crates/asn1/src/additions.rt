@@ -1,4 +1,5 @@
 //! What a later version adds to a SEQUENCE (X.680, 25.1, 52).
+ghost use Rattle.std.specs.Prelude.{true};
 ghost use Rattle.bcder.specs.calls.Views.{Moved};
 ghost use Rattle.asn1.specs.Types.{TookFields, AreAll};
 
@@ -27,6 +28,9 @@ impl Fields for ExtensionAdditions {
 }
 
 impl<S: Source> DecodeFields<S> for ExtensionAdditions {
+    /// Values that are passed over may be deep.
+    ghost may_lack = { true };
+
     fn trace_fields<P: Trace>(
         alloc: Global,
         cons: &mut Constructed<'_, S>,

@@ -1,5 +1,5 @@
 //! A value of any type, kept as its encoding.
-ghost use Rattle.std.specs.Prelude.{◌≡◌, IfOk, IfErr, Option};
+ghost use Rattle.std.specs.Prelude.{◌≡◌, IfOk, IfErr, Option, true};
 ghost use Rattle.bcder.specs.calls.Captured.{kept_stream};
 ghost use Rattle.bcder.specs.calls.CapturingValues.{CapturedNext, ExactlyNextCaptured};
 ghost use Rattle.bcder.specs.calls.Gathered.{KeptMeans};
@@ -105,7 +105,8 @@ impl Any {
     ///
     /// # Errors
     ///
-    /// Returns an error if it is no value of the type, or if memory runs out.
+    /// Returns an error if it is no value of the type, or if memory runs out, which only a type
+    /// that may lack it returns.
     pub fn decode_as<T: Type + Decode<BytesSource>>(
         self,
         alloc: Global,
@@ -113,7 +114,8 @@ impl Any {
         ensures value { IfOk result (λ x.
             IsValueOf self.mode (T.tags T.TAG) (T.means self.mode) self.octets x) }
         ensures refused { IfErr result (λ e.
-            RefusesAll self.mode (T.tags T.TAG) (T.means self.mode) (kept_stream self) e) }
+            RefusesAll self.mode (T.tags T.TAG) (T.means self.mode) T.may_lack (kept_stream self)
+            e) }
     {
         let mode = self.mode;
         decode(alloc, mode, self.captured)
@@ -168,6 +170,8 @@ impl Type for Any {
 }
 
 impl<S: Source> Decode<S> for Any {
+    ghost may_lack = { true };
+
     #[inline(always)]
     fn trace_opt_if<P: Trace>(
         alloc: Global,

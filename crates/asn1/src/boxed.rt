@@ -1,4 +1,5 @@
 //! Values in memory of their own.
+ghost use Rattle.std.specs.Prelude.{true};
 ghost use Rattle.bcder.specs.calls.Views.{Moved};
 ghost use Rattle.asn1.specs.Types.{TookNextTyped};
 
@@ -48,6 +49,8 @@ impl<T: FixedTag> FixedTag for Box<T> {
 }
 
 impl<S: Source, T: Decode<S>> Decode<S> for Box<T> {
+    ghost may_lack = { true };
+
     fn trace_opt_if<P: Trace>(
         alloc: Global,
         cons: &mut Constructed<'_, S>,

@@ -1,5 +1,6 @@
 //! One of several types: CHOICE (X.680, 29; X.690, 8.13).
 ghost use Rattle.std.proofs.Common.{inl};
+ghost use Rattle.std.specs.Prelude.{◌||◌};
 ghost use Rattle.bcder.specs.calls.Views.{Moved};
 ghost use Rattle.asn1.specs.Types.{TookNextTyped};
 ghost use Rattle.asn1.specs.Choices.{EitherTag, IsChoice, choice_key, either_tagged};
@@ -57,6 +58,8 @@ impl<A: Type, B: Type> Type for Choice2<A, B> {
 }
 
 impl<S: Source, A: Decode<S>, B: Decode<S>> Decode<S> for Choice2<A, B> {
+    ghost may_lack = { A.may_lack || B.may_lack };
+
     #[inline(always)]
     fn trace_opt_if<P: Trace>(
         alloc: Global,

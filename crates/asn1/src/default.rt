@@ -1,5 +1,5 @@
 //! A value that may be left out, and then is the default (X.680, 25.10; X.690, 11.5).
-ghost use Rattle.std.specs.Prelude.{◌≡◌, ◌≢◌, ◌↔◌, IsTrue, IfOk, true, false};
+ghost use Rattle.std.specs.Prelude.{◌≡◌, ◌≢◌, ◌↔◌, ◌||◌, Bool, IsTrue, IfErr, IfOk, true, false};
 ghost use Rattle.bcder.specs.declared.mode.Mode.TheVariants.{Ber};
 ghost use Rattle.bcder.specs.calls.Views.{Moved};
 ghost use Rattle.asn1.specs.Types.{TookFields};
@@ -16,6 +16,9 @@ pub trait DefaultValue<T: Type> {
     /// The default, in clauses.
     ghost default: { T };
 
+    /// Whether memory may run out when it is made. By default it doesn't.
+    ghost may_lack: { Bool } = { false };
+
     /// Returns whether a value is the default.
     fn is_default(value: &T) -> bool
         ensures { IsTrue result ↔ (T.key value.now ≡ T.key default) };
@@ -24,9 +27,10 @@ pub trait DefaultValue<T: Type> {
     ///
     /// # Errors
     ///
-    /// Returns an error if memory runs out.
+    /// Returns an error if memory runs out, which it only does if it may.
     fn make(alloc: Global) -> Result<T, NoMemory>
-        ensures { IfOk result (λ x. T.key x ≡ T.key default) };
+        ensures made { IfOk result (λ x. T.key x ≡ T.key default) }
+        ensures lacks { IfErr result (λ _. IsTrue may_lack) };
 }
 
 /// A value that is the default if none stands there.
@@ -91,6 +95,8 @@ impl<T: Type, D: DefaultValue<T>> Fields for OrDefault<T, D> {
 }
 
 impl<S: Source, T: Decode<S>, D: DefaultValue<T>> DecodeFields<S> for OrDefault<T, D> {
+    ghost may_lack = { T.may_lack || D.may_lack };
+
     #[inline(always)]
     fn trace_fields<P: Trace>(
         alloc: Global,

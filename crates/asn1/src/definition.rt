@@ -59,6 +59,8 @@ impl<D: Definition> Parts for D {
 pub trait DecodeDefinition<S: Source>: Definition<As: Decode<S>> {}
 
 impl<S: Source, D: Definition + DecodeDefinition<S>> DecodeParts<S> for D {
+    ghost may_lack = { D.As.may_lack };
+
     #[inline(always)]
     fn trace_parts<P: Trace>(
         alloc: Global,

@@ -2,7 +2,7 @@
 ghost use Rattle.bcder.specs.declared.mode.Mode.{Mode};
 ghost use Rattle.bcder.specs.x690.Tree.{Trees};
 ghost use Rattle.bcder.specs.calls.Views.{Moved};
-ghost use Rattle.std.specs.Prelude.{⊤, ◌≢◌, Option};
+ghost use Rattle.std.specs.Prelude.{⊤, ◌≢◌, ◌||◌, Bool, false, Option};
 ghost use Rattle.bcder.specs.declared.mode.Mode.TheVariants.{Ber};
 ghost use Rattle.asn1.specs.Types.{TookFields, IsMember, IsOptional, AreBoth};
 ghost use Rattle.asn1.specs.Keys.{TakeOne, LeaveEncodings, AreTakenOnce, option_key};
@@ -41,21 +41,24 @@ pub trait Fields: Drop + Sized {
 
 /// Fields that are read from a source.
 pub trait DecodeFields<S: Source>: Fields {
+    /// Whether memory may run out when they are read. By default it doesn't.
+    ghost may_lack: { Bool } = { false };
+
     /// Takes them.
     ///
     /// # Errors
     ///
     /// Returns an error if they do not stand in front of values up to the end of the content; if
-    /// an earlier value was refused; if the source fails; if memory runs out. Which field it was,
-    /// and in which part of it, is noted in the path. A missing value is refused at the position
-    /// where it is missing.
+    /// an earlier value was refused; if the source fails; if memory runs out, which only fields
+    /// that may lack it return. Which field it was, and in which part of it, is noted in the path.
+    /// A missing value is refused at the position where it is missing.
     fn trace_fields<P: Trace>(
         alloc: Global,
         cons: &mut Constructed<'_, S>,
         path: &mut P,
     ) -> Result<Self, DecodeError<S::Error>>
         ensures moves { Moved S.stream cons }
-        ensures took { TookFields S.stream cons Self.takes result };
+        ensures took { TookFields S.stream cons Self.takes may_lack result };
 
     /// Takes them, as [`trace_fields`](Self::trace_fields) does.
     ///
@@ -68,7 +71,7 @@ pub trait DecodeFields<S: Source>: Fields {
         cons: &mut Constructed<'_, S>,
     ) -> Result<Self, DecodeError<S::Error>>
         ensures moves { Moved S.stream cons }
-        ensures took { TookFields S.stream cons Self.takes result }
+        ensures took { TookFields S.stream cons Self.takes may_lack result }
     {
         Self::trace_fields(alloc, cons, &mut ())
     }
@@ -90,6 +93,8 @@ impl<T: Type> Fields for T {
 }
 
 impl<S: Source, T: Type + Decode<S>> DecodeFields<S> for T {
+    ghost may_lack = { T.may_lack };
+
     #[inline(always)]
     fn trace_fields<P: Trace>(
         alloc: Global,
@@ -127,6 +132,8 @@ impl<T: Type> Fields for Option<T> {
 }
 
 impl<S: Source, T: Decode<S>> DecodeFields<S> for Option<T> {
+    ghost may_lack = { T.may_lack };
+
     #[inline(always)]
     fn trace_fields<P: Trace>(
         alloc: Global,
@@ -160,6 +167,8 @@ impl<A: Fields, B: Fields> Fields for (A, B) {
 }
 
 impl<S: Source, A: DecodeFields<S>, B: DecodeFields<S>> DecodeFields<S> for (A, B) {
+    ghost may_lack = { A.may_lack || B.may_lack };
+
     #[inline(always)]
     fn trace_fields<P: Trace>(
         alloc: Global,

@@ -192,6 +192,8 @@ impl<M: TagMarker, T: FixedTag> Type for Implicit<M, T> {
 }
 
 impl<S: Source, M: TagMarker, T: FixedTag + Decode<S>> Decode<S> for Implicit<M, T> {
+    ghost may_lack = { T.may_lack };
+
     #[inline(always)]
     fn trace_opt_if<P: Trace>(
         alloc: Global,

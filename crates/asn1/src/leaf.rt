@@ -1,5 +1,5 @@
 //! Primitive types of a user's own, read from their contents octets (X.690, 8.1.4).
-ghost use Rattle.std.specs.Prelude.{◌≡◌, ◌≢◌, ℕ, List, MatchOption, refl};
+ghost use Rattle.std.specs.Prelude.{◌≡◌, ◌≢◌, ℕ, List, MatchOption, false, refl};
 ghost use Rattle.bcder.specs.declared.mode.Mode.{Mode as Rules};
 ghost use Rattle.bcder.specs.declared.mode.Mode.TheVariants.{Ber};
 ghost use Rattle.bcder.specs.calls.Readers.{ReadOctets};
@@ -87,7 +87,7 @@ fn take_contents_if<V: FromContents, S: Source>(
 ) -> Result<Option<V>, DecodeError<S::Error>>
     ensures moves { Moved S.stream cons }
     ensures took { TookNextTyped S.stream cons (Only tag)
-        (λ mode. IsLeaf (V.means mode)) result }
+        (λ mode. IsLeaf (V.means mode)) false result }
 {
     cons.take_opt_primitive_if(tag, |octets| read_contents::<V, S>(octets))
 }

@@ -1,6 +1,6 @@
 //! Octets that are lent.
 ghost use Rattle.bcder.specs.x690.OctetString.{octet_string_tag};
-ghost use Rattle.std.specs.Prelude.{◌≡◌, ℕ, List, not, refl};
+ghost use Rattle.std.specs.Prelude.{◌≡◌, ℕ, List, false, not, refl};
 ghost use Rattle.bcder.specs.calls.Readers.{ReadOctets};
 ghost use Rattle.bcder.specs.calls.StringMeaning.{is_cut};
 ghost use Rattle.bcder.specs.calls.Views.{octets_before, Moved, MovedOctets};
@@ -108,7 +108,7 @@ fn take_lent_if<S: LendingSource>(
 ) -> Result<Option<S::Lent>, DecodeError<S::Error>>
     ensures moves { Moved S.stream cons }
     ensures took { TookNextTyped S.stream cons (Only tag)
-        (λ mode. IsLeaf (IsLent S.Lent.items mode)) result }
+        (λ mode. IsLeaf (IsLent S.Lent.items mode)) false result }
 {
     cons.take_opt_primitive_if(tag, |octets| lend_piece(octets))
 }

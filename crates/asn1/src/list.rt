@@ -1,5 +1,5 @@
 //! As many values of a type as stand there: SEQUENCE OF (X.680, 26; X.690, 8.10).
-ghost use Rattle.std.specs.Prelude.{List, refl};
+ghost use Rattle.std.specs.Prelude.{List, refl, true};
 ghost use Rattle.bcder.specs.x690.Identifier.{sequence_tag};
 ghost use Rattle.bcder.specs.calls.Views.{Moved};
 ghost use Rattle.asn1.specs.Types.{AreInside, AreList, Only, TookFields, TookNextTyped};
@@ -68,6 +68,8 @@ impl<T: Type> FixedTag for SequenceOf<T> {
 }
 
 impl<S: Source, T: Decode<S>> Decode<S> for SequenceOf<T> {
+    ghost may_lack = { true };
+
     #[inline(always)]
     fn trace_opt_if<P: Trace>(
         alloc: Global,
@@ -102,6 +104,8 @@ impl<T: Type> Fields for Vec<T> {
 }
 
 impl<S: Source, T: Decode<S>> DecodeFields<S> for Vec<T> {
+    ghost may_lack = { true };
+
     #[inline(always)]
     fn trace_fields<P: Trace>(
         alloc: Global,

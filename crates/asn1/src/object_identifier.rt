@@ -1,5 +1,5 @@
 //! OBJECT IDENTIFIER, as a type that owns its octets (X.680, 32; X.690, 8.19).
-ghost use Rattle.std.specs.Prelude.{◌≡◌, ℕ, List, refl};
+ghost use Rattle.std.specs.Prelude.{◌≡◌, ℕ, List, refl, true};
 ghost use Rattle.bcder.specs.calls.Meaning.{ExactlyOctets, ValueMeans, primitive_meaning};
 ghost use Rattle.bcder.specs.laws.Meanings.{ExactlyOctets_lawful, primitive_lawful};
 ghost use Rattle.bcder.specs.x690.ObjectIdentifier.{identifier_tag, IsComplete};
@@ -66,6 +66,8 @@ impl FixedTag for ObjectIdentifier {
 }
 
 impl<S: Source> Decode<S> for ObjectIdentifier {
+    ghost may_lack = { true };
+
     #[inline(always)]
     fn trace_opt_if<P: Trace>(
         alloc: Global,

@@ -1,5 +1,5 @@
 //! A user's own type that stands for itself, by what its values are made of.
-ghost use Rattle.std.specs.Prelude.{◌≡◌, ◌≢◌, ⊤, refl};
+ghost use Rattle.std.specs.Prelude.{◌≡◌, ◌≢◌, ⊤, Bool, refl, true};
 ghost use Rattle.bcder.specs.declared.mode.Mode.{Mode};
 ghost use Rattle.bcder.specs.declared.mode.Mode.TheVariants.{Ber};
 ghost use Rattle.bcder.specs.x690.Identifier.{sequence_tag};
@@ -88,6 +88,10 @@ impl<D: Parts> Type for D {
 
 /// [`Parts`] that are read from a source.
 pub trait DecodeParts<S: Source>: Parts {
+    /// Whether memory may run out for the type behind the `::=`. By default it may. If it can't, as
+    /// for numbers alone, it is `false`.
+    ghost may_lack: { Bool } = { true };
+
     /// Takes the next value if it has this tag, as one of the type behind the `::=`. It calls
     /// `trace_opt_if` of that type.
     ///
@@ -101,10 +105,13 @@ pub trait DecodeParts<S: Source>: Parts {
         path: &mut P,
     ) -> Result<Option<Self::As>, DecodeError<S::Error>>
         ensures moves { Moved S.stream cons }
-        ensures took { TookNextTyped S.stream cons (Self.Tags.tags tag) Self.typed.means result };
+        ensures took { TookNextTyped S.stream cons (Self.Tags.tags tag) Self.typed.means may_lack
+            result };
 }
 
 impl<S: Source, D: Parts + DecodeParts<S>> Decode<S> for D {
+    ghost may_lack = { D.may_lack };
+
     #[inline(always)]
     fn trace_opt_if<P: Trace>(
         alloc: Global,

@@ -21,7 +21,7 @@ pub(crate) fn take_inside<S: Source, F: DecodeFields<S>, P: Trace>(
 ) -> Result<Option<F>, DecodeError<S::Error>>
     ensures moves { Moved S.stream cons }
     ensures took { TookNextTyped S.stream cons (Only tag)
-        (λ mode. AreInside (F.takes mode)) result }
+        (λ mode. AreInside (F.takes mode)) F.may_lack result }
 {
     cons.take_opt_constructed_if(tag, |cons| F::trace_fields(alloc, cons, path))
 }
@@ -66,6 +66,8 @@ impl<F: Fields> Type for Sequence<F> {
 }
 
 impl<S: Source, F: DecodeFields<S>> Decode<S> for Sequence<F> {
+    ghost may_lack = { F.may_lack };
+
     #[inline(always)]
     fn trace_opt_if<P: Trace>(
         alloc: Global,

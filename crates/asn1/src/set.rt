@@ -181,7 +181,7 @@ fn take_members<S: Source, F: DecodeFields<BytesSource>, P: Trace>(
     path: &mut P,
 ) -> Result<F, DecodeError<S::Error>>
     ensures moves { Moved S.stream cons }
-    ensures took { TookFields S.stream cons (λ mode. AreSet mode (F.takes mode)) result }
+    ensures took { TookFields S.stream cons (λ mode. AreSet mode (F.takes mode)) true result }
 {
     let mut values = match take_list::<S, Any, ()>(alloc, cons, &mut ()) {
         Ok(values) => values,
@@ -206,18 +206,21 @@ fn take_set<S: Source, F: DecodeFields<BytesSource>, P: Trace>(
 ) -> Result<Option<F>, DecodeError<S::Error>>
     ensures moves { Moved S.stream cons }
     ensures took { TookNextTyped S.stream cons (Only tag)
-        (λ mode. AreInside (AreSet mode (F.takes mode))) result }
+        (λ mode. AreInside (AreSet mode (F.takes mode))) true result }
 {
     cons.take_opt_constructed_if(
         tag,
         |cons|
             ensures moves { Moved S.stream cons }
-            ensures took { TookFields S.stream cons (λ mode. AreSet mode (F.takes mode)) result }
+            ensures took { TookFields S.stream cons (λ mode. AreSet mode (F.takes mode)) true
+                result }
         { take_members(alloc, cons, path) },
     )
 }
 
 impl<S: Source, F: DecodeFields<BytesSource>> Decode<S> for Set<F> {
+    ghost may_lack = { true };
+
     #[inline(always)]
     fn trace_opt_if<P: Trace>(
         alloc: Global,

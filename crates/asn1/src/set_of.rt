@@ -137,7 +137,7 @@ fn take_values<S: Source, T: Decode<BytesSource>, P: Trace>(
 ) -> Result<Vec<T>, DecodeError<S::Error>>
     ensures moves { Moved S.stream cons }
     ensures took { TookFields S.stream cons (λ mode ts x us.
-        AreSetOf mode (T.tags T.TAG) (T.means mode) ts x.items us) result }
+        AreSetOf mode (T.tags T.TAG) (T.means mode) ts x.items us) true result }
 {
     let mode = cons.mode();
     let mut all = Vec::new(alloc);
@@ -184,19 +184,21 @@ fn take_set_of<S: Source, T: Decode<BytesSource>, P: Trace>(
     ensures moves { Moved S.stream cons }
     ensures took { TookNextTyped S.stream cons (Only tag) (λ mode t x.
         AreInside (λ ts y us. AreSetOf mode (T.tags T.TAG) (T.means mode) ts y.items us) t x)
-        result }
+        true result }
 {
     cons.take_opt_constructed_if(
         tag,
         |cons|
             ensures moves { Moved S.stream cons }
             ensures took { TookFields S.stream cons (λ mode ts x us.
-                AreSetOf mode (T.tags T.TAG) (T.means mode) ts x.items us) result }
+                AreSetOf mode (T.tags T.TAG) (T.means mode) ts x.items us) true result }
         { take_values(alloc, cons, path) },
     )
 }
 
 impl<S: Source, T: Decode<BytesSource>> Decode<S> for SetOf<T> {
+    ghost may_lack = { true };
+
     #[inline(always)]
     fn trace_opt_if<P: Trace>(
         alloc: Global,

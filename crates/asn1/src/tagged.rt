@@ -138,6 +138,8 @@ impl<M: TagMarker, T: Type> Type for Explicit<M, T> {
 }
 
 impl<S: Source, M: TagMarker, T: Decode<S>> Decode<S> for Explicit<M, T> {
+    ghost may_lack = { T.may_lack };
+
     #[inline(always)]
     fn trace_opt_if<P: Trace>(
         alloc: Global,

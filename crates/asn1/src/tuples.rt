@@ -30,6 +30,8 @@ impl<A: Fields, B: Fields, C: Fields> Fields for (A, B, C) {
 
 impl<S: Source, A: DecodeFields<S>, B: DecodeFields<S>, C: DecodeFields<S>> DecodeFields<S>
     for (A, B, C) {
+    ghost may_lack = { ⟦<(A, (B, C)) as DecodeFields<S>>⟧.may_lack };
+
     #[inline(always)]
     fn trace_fields<P: Trace>(
         alloc: Global,
@@ -72,6 +74,8 @@ impl<
     C: DecodeFields<S>,
     D: DecodeFields<S>,
 > DecodeFields<S> for (A, B, C, D) {
+    ghost may_lack = { ⟦<(A, (B, C, D)) as DecodeFields<S>>⟧.may_lack };
+
     #[inline(always)]
     fn trace_fields<P: Trace>(
         alloc: Global,
@@ -115,6 +119,8 @@ impl<
     D: DecodeFields<S>,
     E: DecodeFields<S>,
 > DecodeFields<S> for (A, B, C, D, E) {
+    ghost may_lack = { ⟦<(A, (B, C, D, E)) as DecodeFields<S>>⟧.may_lack };
+
     #[inline(always)]
     fn trace_fields<P: Trace>(
         alloc: Global,
@@ -160,6 +166,8 @@ impl<
     E: DecodeFields<S>,
     F: DecodeFields<S>,
 > DecodeFields<S> for (A, B, C, D, E, F) {
+    ghost may_lack = { ⟦<(A, (B, C, D, E, F)) as DecodeFields<S>>⟧.may_lack };
+
     #[inline(always)]
     fn trace_fields<P: Trace>(
         alloc: Global,
@@ -206,6 +214,8 @@ impl<
     F: DecodeFields<S>,
     G: DecodeFields<S>,
 > DecodeFields<S> for (A, B, C, D, E, F, G) {
+    ghost may_lack = { ⟦<(A, (B, C, D, E, F, G)) as DecodeFields<S>>⟧.may_lack };
+
     #[inline(always)]
     fn trace_fields<P: Trace>(
         alloc: Global,
@@ -253,6 +263,8 @@ impl<
     G: DecodeFields<S>,
     H: DecodeFields<S>,
 > DecodeFields<S> for (A, B, C, D, E, F, G, H) {
+    ghost may_lack = { ⟦<(A, (B, C, D, E, F, G, H)) as DecodeFields<S>>⟧.may_lack };
+
     #[inline(always)]
     fn trace_fields<P: Trace>(
         alloc: Global,
@@ -310,6 +322,8 @@ impl<
     H: DecodeFields<S>,
     I: DecodeFields<S>,
 > DecodeFields<S> for (A, B, C, D, E, F, G, H, I) {
+    ghost may_lack = { ⟦<(A, (B, C, D, E, F, G, H, I)) as DecodeFields<S>>⟧.may_lack };
+
     #[inline(always)]
     fn trace_fields<P: Trace>(
         alloc: Global,
@@ -369,6 +383,8 @@ impl<
     I: DecodeFields<S>,
     J: DecodeFields<S>,
 > DecodeFields<S> for (A, B, C, D, E, F, G, H, I, J) {
+    ghost may_lack = { ⟦<(A, (B, C, D, E, F, G, H, I, J)) as DecodeFields<S>>⟧.may_lack };
+
     #[inline(always)]
     fn trace_fields<P: Trace>(
         alloc: Global,
@@ -430,6 +446,8 @@ impl<
     J: DecodeFields<S>,
     K: DecodeFields<S>,
 > DecodeFields<S> for (A, B, C, D, E, F, G, H, I, J, K) {
+    ghost may_lack = { ⟦<(A, (B, C, D, E, F, G, H, I, J, K)) as DecodeFields<S>>⟧.may_lack };
+
     #[inline(always)]
     fn trace_fields<P: Trace>(
         alloc: Global,
@@ -493,6 +511,8 @@ impl<
     K: DecodeFields<S>,
     L: DecodeFields<S>,
 > DecodeFields<S> for (A, B, C, D, E, F, G, H, I, J, K, L) {
+    ghost may_lack = { ⟦<(A, (B, C, D, E, F, G, H, I, J, K, L)) as DecodeFields<S>>⟧.may_lack };
+
     #[inline(always)]
     fn trace_fields<P: Trace>(
         alloc: Global,

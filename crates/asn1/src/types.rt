@@ -1,5 +1,5 @@
 //! Types, and their readers.
-ghost use Rattle.std.specs.Prelude.{⊤, ◌≢◌, ◌≡◌};
+ghost use Rattle.std.specs.Prelude.{⊤, ◌≢◌, ◌≡◌, Bool, false};
 ghost use Rattle.bcder.specs.declared.mode.Mode.{Mode};
 ghost use Rattle.bcder.specs.x690.Tree.{Tree};
 ghost use Rattle.bcder.specs.x690.Identifier.{Tag as TagValue, IsValueTag};
@@ -66,14 +66,17 @@ pub trait Type: Drop + Sized {
 
 /// A type that is read from a source.
 pub trait Decode<S: Source>: Type {
+    /// Whether memory may run out when a value is read. By default it doesn't.
+    ghost may_lack: { Bool } = { false };
+
     /// Takes the next value if it has this tag, or returns `None` at the end and at a value of
     /// another tag, which stays.
     ///
     /// # Errors
     ///
     /// Returns an error if a value of the tag comes next that means nothing, or octets that are no
-    /// value; if an earlier value was refused; if the source fails; if memory runs out. In which
-    /// part of the value it was is noted in the path.
+    /// value; if an earlier value was refused; if the source fails; if memory runs out, which only
+    /// a type that may lack it returns. In which part of the value it was is noted in the path.
     fn trace_opt_if<P: Trace>(
         alloc: Global,
         cons: &mut Constructed<'_, S>,
@@ -81,7 +84,7 @@ pub trait Decode<S: Source>: Type {
         path: &mut P,
     ) -> Result<Option<Self>, DecodeError<S::Error>>
         ensures moves { Moved S.stream cons }
-        ensures took { TookNextTyped S.stream cons (Self.tags tag) Self.means result };
+        ensures took { TookNextTyped S.stream cons (Self.tags tag) Self.means may_lack result };
 
     /// Takes the next value of the type, with the type's own tag, as
     /// [`trace_opt_if`](Self::trace_opt_if) does.
@@ -96,7 +99,8 @@ pub trait Decode<S: Source>: Type {
         path: &mut P,
     ) -> Result<Option<Self>, DecodeError<S::Error>>
         ensures moves { Moved S.stream cons }
-        ensures took { TookNextTyped S.stream cons (Self.tags Self.TAG) Self.means result }
+        ensures took { TookNextTyped S.stream cons (Self.tags Self.TAG) Self.means may_lack
+            result }
     {
         Self::trace_opt_if(alloc, cons, Self::tag(), path)
     }
@@ -114,7 +118,7 @@ pub trait Decode<S: Source>: Type {
         tag: Tag,
     ) -> Result<Option<Self>, DecodeError<S::Error>>
         ensures moves { Moved S.stream cons }
-        ensures took { TookNextTyped S.stream cons (Self.tags tag) Self.means result }
+        ensures took { TookNextTyped S.stream cons (Self.tags tag) Self.means may_lack result }
     {
         Self::trace_opt_if(alloc, cons, tag, &mut ())
     }
@@ -130,7 +134,8 @@ pub trait Decode<S: Source>: Type {
         cons: &mut Constructed<'_, S>,
     ) -> Result<Option<Self>, DecodeError<S::Error>>
         ensures moves { Moved S.stream cons }
-        ensures took { TookNextTyped S.stream cons (Self.tags Self.TAG) Self.means result }
+        ensures took { TookNextTyped S.stream cons (Self.tags Self.TAG) Self.means may_lack
+            result }
     {
         Self::take_opt_if(alloc, cons, Self::tag())
     }

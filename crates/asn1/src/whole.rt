@@ -16,7 +16,7 @@ use std::convert::Infallible;
 /// # Errors
 ///
 /// Returns an error if the octets are not one value of the type in this mode; if the source fails;
-/// if memory runs out.
+/// if memory runs out, which only a type that may lack it returns.
 #[inline(always)]
 pub fn decode<T, I: IntoSource>(
     alloc: Global,
@@ -29,7 +29,7 @@ where
     ensures value { IfOk result (λ x.
         IsValueOf mode (T.tags T.TAG) (T.means mode) (I.gives source).rest x) }
     ensures refused { IfErr result (λ e.
-        RefusesAll mode (T.tags T.TAG) (T.means mode) (I.gives source) e) }
+        RefusesAll mode (T.tags T.TAG) (T.means mode) T.may_lack (I.gives source) e) }
 {
     decode_traced::<T, I, ()>(alloc, mode, source, &mut ())
 }
@@ -47,7 +47,7 @@ where
     ensures value { IfOk result (λ x.
         IsValueOf mode (T.tags T.TAG) (T.means mode) (I.gives source).rest x) }
     ensures refused { IfErr result (λ e.
-        RefusesAll mode (T.tags T.TAG) (T.means mode) (I.gives source) e) }
+        RefusesAll mode (T.tags T.TAG) (T.means mode) T.may_lack (I.gives source) e) }
 {
     let value = decode_fields::<T, I::Source, P>(alloc, mode, source.into_source(), path);
     path.note_if(value.is_err(), Part::Only);
@@ -65,13 +65,13 @@ pub(crate) fn decode_fields<F: DecodeFields<S>, S: Source + Drop, P: Trace>(
     ensures value { IfOk result (λ x.
         AreFields mode (F.takes mode) (S.stream source).rest x) }
     ensures refused { IfErr result (λ e.
-        RefusesFieldsOf mode (F.takes mode) (S.stream source) e) }
+        RefusesFieldsOf mode (F.takes mode) F.may_lack (S.stream source) e) }
 {
     mode.decode_all(
         source,
         |cons|
             ensures moves { Moved S.stream cons }
-            ensures took { TookFields S.stream cons F.takes result }
+            ensures took { TookFields S.stream cons F.takes F.may_lack result }
         { F::trace_fields(alloc, cons, path) },
     )
 }
@@ -85,7 +85,7 @@ pub(crate) fn decode_fields<F: DecodeFields<S>, S: Source + Drop, P: Trace>(
 /// # Errors
 ///
 /// Returns an error if the octets are not one value of the type in this mode, or if memory runs
-/// out.
+/// out, which only a type that may lack it returns.
 #[inline(always)]
 pub fn decode_octets<'a, T: Type + Decode<SliceSource<'a>>>(
     alloc: Global,
@@ -95,7 +95,7 @@ pub fn decode_octets<'a, T: Type + Decode<SliceSource<'a>>>(
     ensures value { IfOk result (λ x.
         IsValueOf mode (T.tags T.TAG) (T.means mode) octets.now x) }
     ensures refused { IfErr result (λ e.
-        RefusesAll mode (T.tags T.TAG) (T.means mode) (at_hand octets.now) e.error) }
+        RefusesAll mode (T.tags T.TAG) (T.means mode) T.may_lack (at_hand octets.now) e.error) }
 {
     match decode::<T, &'a [u8]>(alloc, mode, octets) {
         Ok(value) => Ok(value),

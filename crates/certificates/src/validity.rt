@@ -1,5 +1,5 @@
 //! When a certificate is valid.
-ghost use Rattle.std.specs.Prelude.{refl};
+ghost use Rattle.std.specs.Prelude.{false, refl};
 ghost use Rattle.asn1.specs.declared.choice.Choice2.TheVariants.{One, Two};
 
 use crate::time::{GeneralizedTime, UtcTime};
@@ -55,6 +55,8 @@ impl Parts for Validity {
 }
 
 impl<S: Source> DecodeParts<S> for Validity {
+    ghost may_lack = { false };
+
     fn trace_parts<P: Trace>(
         alloc: Global,
         cons: &mut Constructed<'_, S>,

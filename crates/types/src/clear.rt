@@ -111,6 +111,8 @@ impl Parts for Span {
 }
 
 impl<S: Source> DecodeParts<S> for Span {
+    ghost may_lack = { false };
+
     fn trace_parts<P: Trace>(
         alloc: Global,
         cons: &mut Constructed<'_, S>,

@@ -33,6 +33,7 @@ mod lent;
 mod lists;
 #[cfg(test)]
 mod members;
+mod memory;
 #[cfg(test)]
 mod numbers;
 #[cfg(test)]

@@ -1,5 +1,5 @@
 //! BIT STRING (X.680, 22; X.690, 8.6, 9.2, 11.2.1).
-ghost use Rattle.std.specs.Prelude.{refl};
+ghost use Rattle.std.specs.Prelude.{refl, true};
 ghost use Rattle.bcder.specs.x690.BitString.{bit_string_tag, Bits, IsBitString};
 ghost use Rattle.asn1.specs.Types.{IsLeaf, Only};
 ghost use Rattle.asn1.specs.Tags.{bit_string_tagged, only_tagged};
@@ -35,6 +35,8 @@ impl Type for BitString {
 }
 
 impl<S: Source> Decode<S> for BitString {
+    ghost may_lack = { true };
+
     #[inline(always)]
     fn trace_opt_if<P: Trace>(
         alloc: Global,

@@ -1,5 +1,5 @@
 //! Restricted character strings (X.680, 41; X.690, 8.23).
-ghost use Rattle.std.specs.Prelude.{ℕ, List, refl};
+ghost use Rattle.std.specs.Prelude.{ℕ, List, refl, true};
 ghost use Rattle.bcder.specs.calls.RestrictedString.{MeansRestricted};
 ghost use Rattle.bcder.specs.calls.StringOctets.{octets_of};
 ghost use Rattle.bcder.specs.x690.Identifier.{IsValueTag};
@@ -70,7 +70,7 @@ fn take_own<S: Source, L: TaggedCharSet>(
     cons: &mut Constructed<'_, S>,
 ) -> Result<Option<RestrictedString<L>>, DecodeError<S::Error>>
     ensures moves { Moved S.stream cons }
-    ensures took { TookNextTyped S.stream cons (Only L.TAG) (MeansRestricted L.step) result }
+    ensures took { TookNextTyped S.stream cons (Only L.TAG) (MeansRestricted L.step) true result }
 {
     RestrictedString::<L>::take_opt_from(alloc, cons)
 }
@@ -83,7 +83,7 @@ fn take_tagged<S: Source, L: TaggedCharSet>(
     tag: Tag,
 ) -> Result<Option<RestrictedString<L>>, DecodeError<S::Error>>
     ensures moves { Moved S.stream cons }
-    ensures took { TookNextTyped S.stream cons (Only tag) (MeansRestricted L.step) result }
+    ensures took { TookNextTyped S.stream cons (Only tag) (MeansRestricted L.step) true result }
 {
     cons.take_opt_value_if(
         tag,
@@ -92,6 +92,8 @@ fn take_tagged<S: Source, L: TaggedCharSet>(
 }
 
 impl<S: Source, L: TaggedCharSet> Decode<S> for RestrictedString<L> {
+    ghost may_lack = { true };
+
     #[inline(always)]
     fn trace_opt_if<P: Trace>(
         alloc: Global,

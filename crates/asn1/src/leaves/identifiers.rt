@@ -1,5 +1,5 @@
 //! OBJECT IDENTIFIER (X.680, 32; X.690, 8.19).
-ghost use Rattle.std.specs.Prelude.{◌≡◌, ℕ, List, refl};
+ghost use Rattle.std.specs.Prelude.{◌≡◌, ℕ, List, refl, true};
 ghost use Rattle.bcder.specs.x690.ObjectIdentifier.{identifier_tag, IsComplete};
 ghost use Rattle.asn1.specs.Types.{IsLeaf, Only};
 ghost use Rattle.asn1.specs.Tags.{identifier_tagged, only_tagged};
@@ -36,6 +36,8 @@ impl<T: AsSlice<u8> + Drop> Type for Oid<T> {
 }
 
 impl<S: Source> Decode<S> for Oid<Bytes> {
+    ghost may_lack = { true };
+
     #[inline(always)]
     fn trace_opt_if<P: Trace>(
         alloc: Global,

@@ -1,5 +1,5 @@
 //! INTEGER, as a number of any size (X.680, 19; X.690, 8.3).
-ghost use Rattle.std.specs.Prelude.{ℕ, ℤ, pos, refl};
+ghost use Rattle.std.specs.Prelude.{ℕ, ℤ, pos, refl, true};
 ghost use Rattle.bcder.specs.x690.Identifier.{integer_tag};
 ghost use Rattle.bcder.specs.x690.Integer.{AreInteger};
 ghost use Rattle.asn1.specs.Types.{IsLeaf, Only};
@@ -35,6 +35,8 @@ impl Type for Integer {
 }
 
 impl<S: Source> Decode<S> for Integer {
+    ghost may_lack = { true };
+
     #[inline(always)]
     fn trace_opt_if<P: Trace>(
         alloc: Global,
@@ -71,6 +73,8 @@ impl Type for Unsigned {
 }
 
 impl<S: Source> Decode<S> for Unsigned {
+    ghost may_lack = { true };
+
     #[inline(always)]
     fn trace_opt_if<P: Trace>(
         alloc: Global,

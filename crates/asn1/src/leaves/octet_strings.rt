@@ -1,5 +1,5 @@
 //! OCTET STRING (X.680, 23; X.690, 8.7, 9.2, 10.2).
-ghost use Rattle.std.specs.Prelude.{ℕ, List, refl};
+ghost use Rattle.std.specs.Prelude.{ℕ, List, refl, true};
 ghost use Rattle.bcder.specs.calls.StringOctets.{MeansString, octets_of};
 ghost use Rattle.bcder.specs.x690.OctetString.{octet_string_tag};
 ghost use Rattle.asn1.specs.Types.{Only};
@@ -36,6 +36,8 @@ impl Type for OctetString {
 }
 
 impl<S: Source> Decode<S> for OctetString {
+    ghost may_lack = { true };
+
     #[inline(always)]
     fn trace_opt_if<P: Trace>(
         alloc: Global,

@@ -1,5 +1,5 @@
 //! Character strings that are lent (X.680, 41; X.690, 8.23).
-ghost use Rattle.std.specs.Prelude.{◌≡◌, ◌↔◌, IsTrue, MatchResult, List, ℕ, refl};
+ghost use Rattle.std.specs.Prelude.{◌≡◌, ◌↔◌, IsTrue, MatchResult, List, ℕ, false, refl};
 ghost use Rattle.bcder.specs.calls.Readers.{ReadOctets};
 ghost use Rattle.bcder.specs.calls.Views.{octets_before, Moved, MovedOctets};
 ghost use Rattle.std.specs.Str.{chars};
@@ -153,7 +153,7 @@ fn take_characters_if<S: LendingSource, C: TaggedCharSet>(
 ) -> Result<Option<RestrictedStringRef<C, S::Lent>>, DecodeError<S::Error>>
     ensures moves { Moved S.stream cons }
     ensures took { TookNextTyped S.stream cons (Only tag)
-        (λ mode. IsLeaf (IsLentOfSet S.Lent.items C.step mode)) result }
+        (λ mode. IsLeaf (IsLentOfSet S.Lent.items C.step mode)) false result }
 {
     cons.take_opt_primitive_if(tag, |octets| lend_characters::<S, C>(octets))
 }

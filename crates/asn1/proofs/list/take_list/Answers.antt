@@ -23,7 +23,7 @@ loop-value-preserved g c =
     let r : Runs Tags (g.T.Type.means i.mode) i c.loop-value.all.items d = c.loop-value.invariant in
     let w = constructed_is_within_owed g.S.Source.stream g.met.S.Source.sound c.loop-value.cons in
     let m = c.trace_opt_from.ensures.moves d (untouched_is_moved d) in
-    let n : TakesNextTyped Tags (g.T.Type.means d.mode) {X = g.row.S-Error.Denot} d (Ok (Some c.in-Ok-Some.value)) e =
+    let n : TakesNextTyped Tags (g.T.Type.means d.mode) g.T.Decode.may_lack {X = g.row.S-Error.Denot} d (Ok (Some c.in-Ok-Some.value)) e =
     rw c.in-Ok-Some.field-0-is at c.in-Ok-Some.ensures.took in
     let q : c.push.new.self.items ≡ c.loop-value.all.items ++ (c.in-Ok-Some.value ∷ []) = search rules in
     subst (λ z. Runs Tags (g.T.Type.means i.mode) i z e) (sym q) (more_of_list Tags g.T.Type.means i c.loop-value.all.items d e r w m c.in-Ok-Some.value n)
@@ -37,7 +37,7 @@ loop-value-smaller g c =
     let r : Runs Tags (g.T.Type.means i.mode) i c.loop-value.all.items d = c.loop-value.invariant in
     let w = constructed_is_within_owed g.S.Source.stream g.met.S.Source.sound c.loop-value.cons in
     let m = c.trace_opt_from.ensures.moves d (untouched_is_moved d) in
-    let n : TakesNextTyped Tags (g.T.Type.means d.mode) {X = g.row.S-Error.Denot} d (Ok (Some c.in-Ok-Some.value)) e =
+    let n : TakesNextTyped Tags (g.T.Type.means d.mode) g.T.Decode.may_lack {X = g.row.S-Error.Denot} d (Ok (Some c.in-Ok-Some.value)) e =
     rw c.in-Ok-Some.field-0-is at c.in-Ok-Some.ensures.took in
     let h = shorter_list Tags g.T.Type.means i c.loop-value.all.items d e r w m c.in-Ok-Some.value n in
     omega (arith, h)
@@ -57,7 +57,8 @@ returns-in-Ok-None-clause-took g c =
     let w = constructed_is_within_owed g.S.Source.stream g.met.S.Source.sound c.loop-value.cons in
     let m = c.trace_opt_from.ensures.moves d (untouched_is_moved d) in
     let v : AreTags Tags = record { own = g.T.Type.TAG; is_own = g.met.T.Type.tagged; value_tags = g.met.T.Type.value_tags } in
-    let n : TakesNextTyped Tags (g.T.Type.means d.mode) {X = g.row.S-Error.Denot} d (Ok None) e = rw c.in-Ok-None.field-0-is at c.in-Ok-None.ensures.took in
+    let n : TakesNextTyped Tags (g.T.Type.means d.mode) g.T.Decode.may_lack {X = g.row.S-Error.Denot} d (Ok None) e =
+    rw c.in-Ok-None.field-0-is at c.in-Ok-None.ensures.took in
     reads_list Tags g.T.Type.means i c.loop-value.all.items d e r w m v n
 
 pub returns-in-Err-clause-moves : goal.returns-in-Err-clause-moves
@@ -91,6 +92,6 @@ returns-then-is_err-clause-took g c =
     let r : Runs Tags (g.T.Type.means i.mode) i c.loop-value.all.items d = c.loop-value.invariant in
     let w = constructed_is_within_owed g.S.Source.stream g.met.S.Source.sound c.loop-value.cons in
     let m = c.trace_opt_from.ensures.moves d (untouched_is_moved d) in
-    let n : TakesNextTyped Tags (g.T.Type.means d.mode) {X = g.row.S-Error.Denot} d (Ok (Some c.in-Ok-Some.value)) e =
+    let n : TakesNextTyped Tags (g.T.Type.means d.mode) g.T.Decode.may_lack {X = g.row.S-Error.Denot} d (Ok (Some c.in-Ok-Some.value)) e =
     rw c.in-Ok-Some.field-0-is at c.in-Ok-Some.ensures.took in
     keeps_no_list Tags g.T.Type.means i c.loop-value.all.items d e r w m c.no_memory.result c.no_memory.ensures c.in-Ok-Some.value n

@@ -21,6 +21,6 @@ returns-in-Err-clause-refused g c =
     let e = c.in-Err.error in
     let f = c.convert.result in
     let k = c.in-Ok.joined in
-    let r = subst (λ z. RefusesFieldsOf mode Takes z e) c.into_source.ensures c.in-Err.ensures.refused in
+    let r = subst (λ z. RefusesFieldsOf mode Takes g.F.DecodeFields.may_lack z e) c.into_source.ensures c.in-Err.ensures.refused in
     subst (λ z. RefusesMembers mode Takes z f) (joined_octets mode c.args.values.now.items k c.in-Ok.ensures)
     (members_converted mode Takes (kept_stream k) e f c.convert.ensures.cause r)

@@ -20,5 +20,5 @@ returns-clause-refused g c =
     let Tags = g.T.Type.tags g.T.Type.TAG in
     let Means = g.T.Type.means mode in
     let r = c.decode_fields-value.result in
-    one_refused mode Tags Means (g.I.IntoSource.gives c.args.source) r
-    (subst (λ s. IfErr r (λ e. RefusesFieldsOf mode (IsMember Tags Means) s e)) c.into_source.ensures c.decode_fields-value.ensures.refused)
+    one_refused mode Tags Means (g.I.IntoSource.gives c.args.source) g.T.Decode.may_lack r
+    (subst (λ s. IfErr r (λ e. RefusesFieldsOf mode (IsMember Tags Means) g.T.Decode.may_lack s e)) c.into_source.ensures c.decode_fields-value.ensures.refused)

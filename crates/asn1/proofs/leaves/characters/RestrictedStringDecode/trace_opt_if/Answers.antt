@@ -1,4 +1,4 @@
-use Rattle.std.proofs.Common.{◌≡◌, subst, sym, rules}
+use Rattle.std.proofs.Common.{◌≡◌, true, subst, sym, rules}
 use Rattle.bcder.specs.calls.RestrictedString.{MeansRestricted}
 use Rattle.bcder.specs.calls.Views.{of_constructed}
 use Rattle.asn1.specs.Types.{Only, TakesNextTyped}
@@ -9,4 +9,4 @@ returns-then-eq-clause-took g c =
     let i = of_constructed g.S.Source.stream c.args.cons.now in
     let j = of_constructed g.S.Source.stream c.take_own.new.cons in
     let own : c.args.tag ≡ g.L.CharSet.TAG = search rules in
-    subst (λ t. TakesNextTyped (Only t) (MeansRestricted g.L.CharSet.step i.mode) i c.take_own.result j) (sym own) c.take_own.ensures.took
+    subst (λ t. TakesNextTyped (Only t) (MeansRestricted g.L.CharSet.step i.mode) true i c.take_own.result j) (sym own) c.take_own.ensures.took
