@@ -116,14 +116,14 @@ module _ {C T X S : Type 0} (view : C → Reading) (post : Tag → MutBor C → 
   next_stopped stopped s e same m f (inr x) =
       record { value = tt; shorter = tt; none = tt; refused = by_form x.0 (subst IsOfContent (sym same) x.1) m; failed = f; mode = mode }
 
-  -- the same of an answer
+  -- a result that is an error of this cause refuses the next value
   pub next_stops : (stopped : S → Cause ContentError) (s : S) (r : Result (Option T) (DecodeError X)) → IsErrAnd r (IsOfCause (stopped s)) → d.marked ≡ c.marked
       → d.state ≡ Failed → RefusesHeader stopped (tagged t) c s d ⊎ HasForm true (tagged t) c × IsOfContent (stopped s)
       → TakesNext view post (Some true) (tagged t) c r d
   next_stops stopped s (Err e) y m f h = next_stopped stopped s e y m f h
   next_stops stopped s (Ok _) y m f h = elim y [ ]
 
--- the same of a value of any form
+-- a value of any form was refused at its header
 module _ {C T X S : Type 0} (view : C → Reading) (post : Tag → MutBor C → Result T (DecodeError X) → MutBor C → Type 0) (form : Option Bool) (asked : Asked)
     (c d : Reading) (mode : d.mode ≡ c.mode) where
   pub next_answered : (stopped : S → Cause ContentError) (s : S) (r : Result (Option T) (DecodeError X)) → IsErrAnd r (IsOfCause (stopped s))

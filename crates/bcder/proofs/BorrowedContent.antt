@@ -15,7 +15,7 @@ use Rattle.bcder.specs.calls.Skipping.{WereCalls, RefusesOne}
 use Rattle.bcder.specs.calls.Skipping as skipping
 use Rattle.bcder.proofs.Naming.{Alike, ends_alike, front_named}
 
--- the same content, behind a borrow of this name
+-- content c, behind a borrow of this name
 abbrev pub named : GName → Reading → Reading
 named n c = record { stream = c.stream; owed = c.owed; kind = c.kind; state = c.state; mode = c.mode; marked = c.marked; name = n }
 

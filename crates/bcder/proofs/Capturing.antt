@@ -166,7 +166,7 @@ module _ {C X : Type 0} (view : C → Reading) (post : MutBor C → Result (Unit
     };
   }
 
--- the same of what these streams and limits are
+-- captures over streams and limits that equal those of a run
 module _ {C X : Type 0} (view : C → Reading) (post : MutBor C → Result (Unit {0}) (DecodeError X) → MutBor C → Type 0) (s t v w s' t' : Stream)
     (o p o' : Option ℕ) (k : Kind) (st st' : State) (m : Mode) (mark : Bool) (name name' z n i : ℕ) (fresh : z ≡ 0) (is_s : s ≡ t) (is_o : o ≡ p) (is_v : v ≡ w)
     (is_left : s' ≡ t') (r : Result (Unit {0}) (DecodeError X))
@@ -237,7 +237,7 @@ whole_around m c d p false inner w = w
 whole_around m c d p true true w = w
 whole_around m c d p true false w = whole_in_ber m c d p w
 
--- the same octets passed, of other content in the same states
+-- octets that passed whole in content i did so in content c in equal states
 pub whole_of : (m : Mode) (c i d j : Reading) (p : List ℕ) → c.kind ≡ i.kind → c.state ≡ i.state → d.state ≡ j.state → Whole m i p j → Whole m c p d
 whole_of m c i d j p k s t w = record {
   trees = w.trees;

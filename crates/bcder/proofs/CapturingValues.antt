@@ -191,7 +191,7 @@ exactly_one c d (Err e) h g m t w after v = absurd (refuted h.refused)
 
 -- ---- the next value, if there is one
 
--- the same content, failed
+-- content c, failed
 abbrev pub as_failed : Reading → Reading
 as_failed c = record { stream = c.stream; owed = c.owed; kind = c.kind; state = Failed; mode = c.mode; marked = c.marked; name = c.name }
 

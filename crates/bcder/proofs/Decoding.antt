@@ -55,7 +55,7 @@ module _ {C T E : Type 0} (why : E → Cause ContentError) (view : C → Reading
   not_decoded (Ok x) h = tt
   not_decoded (Err e) h = record { handed = h.handed; left = h.left; hands = hands_all s s' m h.handed h.left o o' n h.runs; refuses = h.refuses }
 
-  -- the same, whatever is left of a source that was handed over
+  -- a source that was handed over was decoded, whatever is left of it
   pub decoded_once : (t : Stream) → s ≡ t → (r : Result T E) → RanOn why view post (limited o s) o m r (limited o' s') o'
       → IfOk r (λ x. (left : Stream) × Decodes view post t m x left)
   decoded_once t e (Ok x) h = (s', subst (λ y. Decodes view post y m x s') e (decoded (Ok x) h))
@@ -130,7 +130,7 @@ module _ {C T X : Type 0} (view : C → Reading) (post : MutBor C → Result T (
   pub not_decoded_at_all : (w : DecodeError X) → RanOn cause_of view post (limited o s) o m (Err w) (limited o' s') o' → RefusesWhole view post t m w
   not_decoded_at_all w h = by_decoding s' (subst (λ y. RefusesDecode cause_of view post y m w s') e (not_decoded cause_of view post s s' m o o' n (Err w) h))
 
--- the same refusal of a source that is known by another name
+-- a refusal over a stream and in a mode that equal these
 pub refuses_same : {C T X : Type 0} (view : C → Reading) (post : MutBor C → Result T (DecodeError X) → MutBor C → Type 0) (s t : Stream) (m n : Mode) → s ≡ t
     → m ≡ n → (r : Result T (DecodeError X)) → IfErr r (λ e. RefusesWhole view post s m e) → IfErr r (λ e. RefusesWhole view post t n e)
 refuses_same view post s t m n e f r h = subst (λ x. IfErr r (λ e. RefusesWhole view post x n e)) e

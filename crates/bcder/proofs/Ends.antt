@@ -123,7 +123,7 @@ definite_there mode es t n z y m out l r = rw (le-ltb _ _ l, r.within, r.missing
     go (Some ts) = rw add-one
         (sym (two_calls (record { tag = t; constructed = true; depth = length es } ∷ []) (preorders ts.0 (suc (length es))) (ends mode es (drop n z) m y)))
 
--- the same where the content isn't all there: nothing on either side
+-- definite content that isn't all there: nothing on either side
 pub definite_short : (mode : Mode) (es : List Entry) (t : Tag) (n : ℕ) (x z y v : List ℕ) (m k : ℕ) (out : Option ℕ) → length z < n → 0 < k
     → next_to mode es (read_contents (read_list mode) t true (len.Definite n) z) m y
     ≡ after_headings (record { tag = t; constructed = true; depth = length es } ∷ []) (ends mode (Definite out ∷ es) x k v)

@@ -332,7 +332,7 @@ module _ {C T E : Type 0} (why : E → Cause ContentError) (view : C → Reading
     takes_marked hn ran = takes_indefinite hn ran
         (λ octets e mv w. encodes_indefinite c.mode h.tag h.form h.len octets ran.handed ran.left e ran.runs.state ran.runs.mode mv w hn ran.runs.kind)
 
-    -- the same of values behind a length of either kind
+    -- values behind a length of either kind were taken
     pub values_taken : {S : Type 0} (stream : S → Stream) (len : Length) (l0 l1 l2 l3 : LimitedSource S) (o : Option ℕ) → h.len ≡ len
         → c.stream ≡ limited_stream stream l0 → c.owed ≡ l0.limit → o ≡ l0.limit → l1.limit ≡ limit_inside len l0.limit → l1.source ≡ l0.source
         → l3.limit ≡ limit_outside len o l2.limit → l3.source ≡ l2.source → d.stream ≡ limited_stream stream l3 → d.owed ≡ l3.limit → FitsOwed h.len l0.limit

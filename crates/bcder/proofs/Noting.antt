@@ -39,7 +39,7 @@ noted_read {R} old new none n l is =
     let all : l ≡ n.sizes ++ [] = is ∙ n.added ∙ ap (λ b. b ++ n.sizes) none ∙ sym (append-nil n.sizes) in
     record { after = []; reads = subst (λ x. Reads R x []) (sym all) (n.reads [] (λ full. refl)) }
 
--- the same of those that are left of a tape
+-- the sizes that are left of a tape may be read
 pub left_read : {R : List ℕ → List ℕ → Type 0} (l m : List ℕ) → l ≡ m → MayRead R m → MayRead R l
 left_read {R} l m is may = subst (MayRead R) (sym is) may
 

@@ -18,14 +18,14 @@ capped_all : (o : Option ℕ) (n : ℕ) (xs : List ℕ) → n ≤ length (cut o 
 capped_all None n xs h = h
 capped_all (Some m) n xs h = grind (arith, common_steps)
 
--- the same source with all of its octets at hand
+-- source s with all of its octets at hand
 abbrev all_at_hand : Stream → Stream
 all_at_hand s = record { rest = s.rest; avail = length s.rest; faults = s.faults; position = s.position; kept = s.kept }
 
 all_sound : (s : Stream) → IsSound s → IsSound (all_at_hand s)
 all_sound s h = record { octets = h.octets; size = h.size; at_hand = omega arith }
 
--- the same content over all of them
+-- content c over all octets of a source
 abbrev with_all : Reading → Stream → Option ℕ → Reading
 with_all c s o = record { stream = limited o (all_at_hand s); owed = o; kind = c.kind; state = c.state; mode = c.mode; marked = c.marked; name = c.name }
 

@@ -39,7 +39,7 @@ module _ (c d : Reading) (s t : Stream) (o p : Option ℕ) (cs : c.stream ≡ li
       → d.state ≡ c.state → d.mode ≡ c.mode → d.marked ≡ c.marked → d.name ≡ c.name → Moves c d
   asked_moves r k f ki st mo ma na = looked_moves c d (asked_resembles r k ki st mo ma na) (omega (arith, f, ap (λ x. x.faults) cs, ap (λ x. x.faults) ds))
 
--- the same content over another stream
+-- content c over another stream
 over : Reading → Stream → Option ℕ → Reading
 over c s o = record { stream = s; owed = o; kind = c.kind; state = c.state; mode = c.mode; marked = c.marked; name = c.name }
 

@@ -147,7 +147,7 @@ module _ {F : Type 0} (step : Steps F ContentError) (mode : Mode) (h : Header) (
     no_fault = v.no_fault;
   }
 
-  -- the same of a source that stands there
+  -- a run that left a source left an equal one
   pub left_here : {X : Type 0} → (r : Result (Unit {0}) (Interrupt X)) (g : F) (t t' : Stream) (p p' : Option ℕ) → t' ≡ t → p' ≡ p
       → RanBy step {T = Unit {0}} mode h s o f r g t p → RanBy step {T = Unit {0}} mode h s o f r g t' p'
   left_here r g t t' p p' a b x =

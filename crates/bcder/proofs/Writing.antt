@@ -126,13 +126,13 @@ pub passed_on : {lacks : Type 0} {w : List ℕ} {a b : Option (List ℕ)} {e : W
 passed_on {lacks} {w} {a} {b} (Ok u) is_err h = absurd is_err.1
 passed_on {lacks} {w} {a} {b} (Err d) is_err h = subst (λ x. WroteOf lacks w a b (Err x)) (sym is_err.1) h
 
--- the same of a step that has a slot for its error
+-- a step that has a slot for its error failed, and its error is returned
 pub halts : {lacks : Type 0} {w : List ℕ} {a b : Option (List ℕ)} {f : Failed} {e : WriteError} (r : Result (Unit {0}) Failed)
     → IsErr r × IsErrAnd r (λ d. d ≡ f) → WroteOf lacks w a b (Err e) → WroteOf lacks w a b (into_result r e)
 halts (Ok u) is_err h = absurd is_err.1
 halts (Err d) is_err h = h
 
--- the same answer under another name
+-- an equal result may stand for the returned one
 pub same_answer : {lacks : Type 0} {w : List ℕ} {a b : Option (List ℕ)} {r s : Result (Unit {0}) WriteError} → s ≡ r → WroteOf lacks w a b r
     → WroteOf lacks w a b s
 same_answer {lacks} {w} {a} {b} e h = subst (λ x. WroteOf lacks w a b x) (sym e) h
@@ -140,7 +140,7 @@ same_answer {lacks} {w} {a} {b} e h = subst (λ x. WroteOf lacks w a b x) (sym e
 pub same_result : {r s : Result (Unit {0}) Failed} (why : WriteError) → r ≡ s → into_result r why ≡ into_result s why
 same_result why e = ap (λ x. into_result x why) e
 
--- the same octets under another name
+-- equal octets may stand for those that were meant
 pub same_octets : {lacks : Type 0} {v w : List ℕ} {a b : Option (List ℕ)} {r : Result (Unit {0}) WriteError} → v ≡ w → WroteOf lacks v a b r
     → WroteOf lacks w a b r
 same_octets {lacks} {v} {w} {a} {b} {r} e h = subst (λ x. WroteOf lacks x a b r) e h
